@@ -1,0 +1,72 @@
+-- The delivery rule worked by hand: what each fetch of some small histories gives.
+use Rattle.std.proofs.Common.{◌≡◌, ℕ, ◌*◌, List, [], ◌∷◌, refl}
+use Rattle.std.specs.Prelude.{pos, codes, true, false}
+use Rattle.moos_post.specs.declared.entry.Call.{Call}
+use Rattle.moos_post.specs.declared.entry.Call.TheVariants.{Register, Unregister, Post as Posts, Fetch}
+use Rattle.moos_post.specs.declared.entry.Entry.{Entry}
+use Rattle.moos_post.specs.declared.value.Pair.{Pair}
+use Rattle.moos_post.specs.declared.value.Value.TheVariants.{Num}
+use Rattle.moos_post.specs.Delivery.{mail_at}
+use Rattle.moos_post.specs.History.{History}
+use Rattle.moos_post.specs.Patterns.{matches}
+
+abbrev at : ℕ → ℕ → Call → Entry
+at stamp client call = record { stamp = stamp; client = client; call = call }
+
+abbrev asks : List ℕ → ℕ → List ℕ → Call
+asks var interval source = Register (record { var = var; source = source; interval = interval } ∷ [])
+
+abbrev says : List ℕ → ℕ → Pair
+says var units = record { var = var; value = Num (pos (1000 * units)) }
+
+-- Clients 0 to 3 are log, two, p and q. A pattern for the source lets through whom it matches; `?` wants one byte.
+abbrev patterned : History
+patterned =
+    at 0 0 (asks (codes "NAV_*") 0 (codes "p*"))
+    ∷ at 500 1 (asks (codes "NAV_?") 0 (codes "*"))
+    ∷ at 1000 2 (Posts (says (codes "NAV_") 1 ∷ says (codes "NAV_X") 2 ∷ says (codes "NAV_XY") 3 ∷ []))
+    ∷ at 2000 3 (Posts (says (codes "NAV_X") 4 ∷ []))
+    ∷ at 3000 0 Fetch ∷ at 4000 1 Fetch ∷ []
+
+abbrev patterned_names : List (List ℕ)
+patterned_names = codes "log" ∷ codes "two" ∷ codes "p" ∷ codes "q" ∷ []
+
+batch_by_source : mail_at patterned_names patterned 4 ≡ 0 ∷ 1 ∷ 2 ∷ []
+batch_by_source = refl
+
+batch_by_length : mail_at patterned_names patterned 5 ≡ 1 ∷ 3 ∷ []
+batch_by_length = refl
+
+abbrev x : ℕ → Call
+x units = Posts (says (codes "X") units ∷ [])
+
+-- The interval counts from the last post that came through, and not from the last post.
+interval : mail_at (codes "a" ∷ [])
+    (at 0 0 (asks (codes "X") 500 (codes "*")) ∷ at 0 0 (x 1) ∷ at 499 0 (x 2) ∷ at 500 0 (x 3) ∷ at 999 0 (x 4) ∷ at 1000 0 (x 5) ∷ at 2000 0 Fetch ∷ []) 6
+    ≡ 0 ∷ 2 ∷ 4 ∷ []
+interval = refl
+
+-- Registering late mails each variable's latest post once, when the registration is made.
+late : mail_at (codes "a" ∷ codes "b" ∷ [])
+    (at 0 0 (Posts (says (codes "A") 1 ∷ [])) ∷ at 1000 0 (Posts (says (codes "B") 2 ∷ [])) ∷ at 2000 0 (Posts (says (codes "A") 3 ∷ []))
+    ∷ at 3000 1 (asks (codes "A") 0 (codes "*")) ∷ at 4000 1 (asks (codes "*") 0 (codes "*")) ∷ at 5000 1 Fetch ∷ []) 5
+    ≡ 2 ∷ 1 ∷ []
+late = refl
+
+-- A post that was mailed once isn't mailed again to who withdraws and registers anew.
+anew : mail_at (codes "b" ∷ codes "a" ∷ [])
+    (at 0 0 (asks (codes "X") 10000 (codes "*")) ∷ at 1000 1 (x 1) ∷ at 2000 0 (Unregister (codes "X") (codes "*"))
+    ∷ at 3000 0 (asks (codes "X") 10000 (codes "*")) ∷ at 4000 1 (x 2) ∷ at 5000 0 Fetch ∷ []) 5
+    ≡ 0 ∷ 1 ∷ []
+anew = refl
+
+-- A fetch gives what was mailed since the one before, and an entry that is no fetch gives nothing.
+since : mail_at (codes "pA" ∷ []) (at 0 0 (asks (codes "X") 0 (codes "*")) ∷ at 1000 0 (x 5) ∷ at 2000 0 Fetch ∷ at 3000 0 Fetch ∷ []) 3 ≡ []
+since = refl
+
+-- Patterns: a star that must be tried again, and question marks at both ends.
+star_again : matches (codes "*ab?") (codes "aabab_") ≡ true
+star_again = refl
+
+no_run : matches (codes "a*b") (codes "abc") ≡ false
+no_run = refl

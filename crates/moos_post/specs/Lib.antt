@@ -1,0 +1,4 @@
+pub mod Delivery
+pub mod History
+pub mod Patterns
+pub mod Words
