@@ -1,0 +1,60 @@
+-- The lines of a file, what of a line counts, and the words that stand in it.
+use Rattle.std.specs.Prelude.{ℕ, Bool, false, not, ◌&&◌, ◌||◌, ◌==◌, if◌then◌else◌, List, [], ◌∷◌, fold, reverse}
+
+-- the byte in front of the first of these lines, or as a line of its own where there is none
+abbrev pub onto_first : ℕ → List (List ℕ) → List (List ℕ)
+onto_first byte [] = (byte ∷ []) ∷ []
+onto_first byte (line ∷ lines) = (byte ∷ line) ∷ lines
+
+-- a line ends at a line feed, or at the end of the file where bytes stand after the last line feed
+abbrev pub raw_lines : List ℕ → List (List ℕ)
+raw_lines [] = []
+raw_lines (byte ∷ bytes) = if byte == 10 then [] ∷ raw_lines bytes else onto_first byte (raw_lines bytes)
+
+-- a carriage return at the end of a line is dropped
+abbrev pub without_return : List ℕ → List ℕ
+without_return [] = []
+without_return (byte ∷ []) = if byte == 13 then [] else byte ∷ []
+without_return (byte ∷ next ∷ rest) = byte ∷ without_return (next ∷ rest)
+
+-- a `"` opens a quote, or closes the one that is open
+abbrev pub is_quoted_after : Bool → ℕ → Bool
+is_quoted_after quoted byte = if byte == 34 then not quoted else quoted
+
+-- the bytes before the first `//` outside quotes, which begins a comment
+abbrev pub uncommented : Bool → List ℕ → List ℕ
+uncommented quoted [] = []
+uncommented quoted (byte ∷ []) = byte ∷ []
+uncommented quoted (byte ∷ next ∷ rest) =
+    if not quoted && byte == 47 && next == 47 then []
+    else byte ∷ uncommented (is_quoted_after quoted byte) (next ∷ rest)
+
+-- what of a line counts
+abbrev pub content_of : List ℕ → List ℕ
+content_of raw = uncommented false (without_return raw)
+
+-- a quote is open at the end of these bytes
+abbrev pub is_unclosed : List ℕ → Bool
+is_unclosed bytes = fold is_quoted_after false bytes
+
+-- a blank is a space or a tab
+abbrev pub is_blank : ℕ → Bool
+is_blank byte = byte == 32 || byte == 9
+
+abbrev pub without_front_blanks : List ℕ → List ℕ
+without_front_blanks [] = []
+without_front_blanks (byte ∷ bytes) = if is_blank byte then without_front_blanks bytes else byte ∷ bytes
+
+-- the bytes without the blanks at both ends
+abbrev pub trimmed : List ℕ → List ℕ
+trimmed bytes = reverse (without_front_blanks (reverse (without_front_blanks bytes)))
+
+-- the byte in front of the word that goes on right after it, or as a word of its own
+abbrev pub onto_word : ℕ → List ℕ → List (List ℕ) → List (List ℕ)
+onto_word byte [] words = (byte ∷ []) ∷ words
+onto_word byte (next ∷ rest) words = if is_blank next then (byte ∷ []) ∷ words else onto_first byte words
+
+-- the words: the longest runs of bytes without a blank, in order
+abbrev pub words_of : List ℕ → List (List ℕ)
+words_of [] = []
+words_of (byte ∷ bytes) = if is_blank byte then words_of bytes else onto_word byte bytes (words_of bytes)

@@ -1,0 +1,5 @@
+// Text: the lines of a file and what of each counts, numbers in thousandths as they are read and printed, and the
+// causes for which a reader of a file refuses it.
+//
+// Of specs/ read `Lines` and `Numbers`.
+#![tactic(auto)]
