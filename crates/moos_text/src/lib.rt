@@ -3,3 +3,7 @@
 //
 // Of specs/ read `Lines` and `Numbers`.
 #![tactic(auto)]
+
+mod cause;
+
+pub use cause::{Cause, Limit, ReadFault};
