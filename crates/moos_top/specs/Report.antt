@@ -1,0 +1,73 @@
+-- The report of a history: what is printed of it, line by line.
+use Rattle.std.specs.Prelude.{ℕ, suc, ◌==◌, ◌||◌, pos, List, [], ◌∷◌, ◌++◌, length, codes, decimal, if◌then◌else◌, Option, Some, None, slice_get, flat_map}
+use Rattle.std.specs.List.{concat}
+use Rattle.moos_post.specs.declared.entry.Call.{Call}
+use Rattle.moos_post.specs.declared.entry.Call.TheVariants.{Register, Unregister, Post as Posts, Fetch}
+use Rattle.moos_post.specs.declared.entry.Entry.{Entry}
+use Rattle.moos_post.specs.declared.registration.Reg.{Reg}
+use Rattle.moos_post.specs.declared.value.Post.{Post}
+use Rattle.moos_post.specs.declared.value.Value.{Value}
+use Rattle.moos_post.specs.declared.value.Value.TheVariants.{Num, Text}
+use Rattle.moos_post.specs.Delivery.{mail_after}
+use Rattle.moos_post.specs.History.{History, posts_of, posts_of_entry, name_of}
+use Rattle.moos_text.specs.Numbers.{milli_text, unsigned_text}
+
+-- a byte of a text, with `\` before `"` and `\`
+abbrev pub escaped : ℕ → List ℕ
+escaped byte = if byte == 34 || byte == 92 then 92 ∷ byte ∷ [] else byte ∷ []
+
+-- a number as it prints, and a text between quotes
+abbrev pub value_text : Value → List ℕ
+value_text (Num number) = milli_text number
+value_text (Text text) = concat (codes "\"" ∷ flat_map escaped text ∷ codes "\"" ∷ [])
+
+-- `STAMP VAR SOURCE VALUE`, the stamp in seconds
+abbrev pub post_text : List (List ℕ) → Post → List ℕ
+post_text names post =
+    concat (unsigned_text post.stamp ∷ codes " " ∷ post.var ∷ codes " " ∷ name_of names post.source ∷ codes " " ∷ value_text post.value ∷ codes "\n" ∷ [])
+
+abbrev pub reg_text : Reg → List ℕ
+reg_text reg = concat (codes "%% reg " ∷ reg.var ∷ codes " " ∷ reg.source ∷ codes " " ∷ unsigned_text reg.interval ∷ codes "\n" ∷ [])
+
+-- a letter of a fetch: the number of a post, and the post; each number of a mail has one
+abbrev pub letter_text : List (List ℕ) → ℕ → Option Post → List ℕ
+letter_text names number None = []
+letter_text names number (Some post) = concat (codes "%% mail " ∷ decimal number ∷ codes " " ∷ post_text names post ∷ [])
+
+abbrev pub letters_text : List (List ℕ) → List Post → List ℕ → List ℕ
+letters_text names posts mail = flat_map (λ number. letter_text names number (slice_get posts number)) mail
+
+-- what an entry asks for, after the name on its line
+abbrev pub call_text : List (List ℕ) → History → Entry → Call → List ℕ
+call_text names past entry (Register regs) = codes " register\n" ++ flat_map reg_text regs
+call_text names past entry (Unregister var source) =
+    concat (codes " unregister\n%% reg " ∷ var ∷ codes " " ∷ source ∷ codes "\n" ∷ [])
+call_text names past entry (Posts batch) =
+    concat (codes " post " ∷ decimal (length (posts_of past)) ∷ codes " " ∷ decimal (length batch) ∷ codes "\n" ∷ [])
+    ++ flat_map (post_text names) (posts_of_entry entry)
+call_text names past entry Fetch = codes " fetch\n" ++ letters_text names (posts_of past) (mail_after names entry.client past)
+
+-- an entry and what belongs to it, where `past` stands before it
+abbrev pub entry_text : List (List ℕ) → History → Entry → List ℕ
+entry_text names past entry =
+    concat (codes "%% entry " ∷ decimal (length past) ∷ codes " " ∷ unsigned_text entry.stamp ∷ codes " " ∷ name_of names entry.client ∷ [])
+    ++ call_text names past entry entry.call
+
+-- these entries, where `past` stands before them
+abbrev pub entries_text : List (List ℕ) → History → History → List ℕ
+entries_text names past [] = []
+entries_text names past (entry ∷ later) = entry_text names past entry ++ entries_text names (past ++ entry ∷ []) later
+
+-- the clients from this number on
+abbrev pub clients_text : ℕ → List (List ℕ) → List ℕ
+clients_text number [] = []
+clients_text number (name ∷ names) =
+    concat (codes "%% client " ∷ decimal number ∷ codes " " ∷ name ∷ codes "\n" ∷ []) ++ clients_text (suc number) names
+
+abbrev pub end_text : History → List ℕ
+end_text history = concat (codes "%% end " ∷ decimal (length history) ∷ codes " " ∷ decimal (length (posts_of history)) ∷ codes "\n" ∷ [])
+
+-- What is printed of a history and its clients.
+abbrev pub report_text : List (List ℕ) → History → List ℕ
+report_text names history =
+    concat (codes "%% moosdb play 1\n" ∷ clients_text 0 names ∷ entries_text names [] history ∷ end_text history ∷ [])

@@ -1,0 +1,8 @@
+#![tactic(auto)]
+
+mod script;
+mod status;
+mod words;
+
+fn main(rt: HostRuntime) {
+}
