@@ -1,6 +1,6 @@
+use crate::batch::Batch;
 use crate::pattern::Pattern;
-use crate::registration::Regs;
-use crate::value::Batch;
+use crate::regs::Regs;
 
 /// What a client asks of the database.
 #[derive(Debug, Drop)]

@@ -1,5 +1,8 @@
+ghost use Rattle.std.specs.Prelude.{◌≡◌, IfOk};
+
+use crate::NoMemory;
 use crate::pattern::Pattern;
-use std::marker::Model;
+use std::alloc::Global;
 
 /// What a client asks for: the posts whose variable and whose source's name match these patterns, each variable at most
 /// once in an interval, in milliseconds.
@@ -10,17 +13,17 @@ pub struct Reg {
     pub interval: u64,
 }
 
-/// The registrations that one call makes together, in order. Contracts see the list.
-#[derive(Debug, Drop)]
-pub struct Regs {
-    regs: Vec<Reg>,
-}
-
-impl Model for Regs {
-    ghost use Rattle.std.specs.Prelude.{List};
-    ghost use Rattle.moos_post.specs.declared.registration.Reg.{Reg};
-
-    ghost Value = { List Reg };
-
-    ghost view = { λ r. r.regs.items };
+impl Reg {
+    // An equal registration.
+    pub(crate) fn copy(&self, alloc: Global) -> Result<Reg, NoMemory>
+        ensures { IfOk result (λ reg. reg ≡ self.now) }
+    {
+        let var = self.var.copy(alloc)?;
+        let source = self.source.copy(alloc)?;
+        Ok(Reg {
+            var,
+            source,
+            interval: self.interval,
+        })
+    }
 }

@@ -1,4 +1,8 @@
+ghost use Rattle.std.specs.Prelude.{◌≡◌, ◌↔◌, ◌<◌, ◌≤◌, ℕ, IsTrue, Some, IfOk, OnOk, IsErrOf, length};
+ghost use Rattle.moos_post.specs.Words.{is_control, bad_place, is_text};
+
 use crate::NoMemory;
+use std::alloc::{AllocError, Global};
 use std::marker::Model;
 use thiserror::Error;
 
@@ -33,4 +37,64 @@ pub enum TxtFault {
     /// No memory was left for them.
     #[error("no memory")]
     NoMemory,
+}
+
+impl From<AllocError> for TxtFault {
+    ghost use Rattle.moos_post.specs.declared.txt.TxtFault.TheVariants.{NoMemory};
+    ghost use Rattle.std.specs.Prelude.{◌≡◌};
+
+    ghost from_gives = { λ _ fault. fault ≡ NoMemory };
+
+    fn from(_error: AllocError) -> TxtFault {
+        TxtFault::NoMemory
+    }
+}
+
+impl Txt {
+    /// The text of these bytes. It is refused as `TooLong` exactly where they are more than 4,096, and else as
+    /// `BadByte` exactly where a control byte other than a tab stands among them, at the first such place.
+    pub fn new(alloc: Global, bytes: &[u8]) -> Result<Txt, TxtFault>
+        ensures ok { IfOk result (λ text. text ≡ bytes.now) }
+        ensures valid { OnOk result (IsTrue (is_text bytes.now)) }
+        ensures long { (len : ℕ) → IsErrOf result (TxtFault.TooLong len) ↔ ((4096 < len) × (len ≡ length bytes.now)) }
+        ensures bad { (place : ℕ) → IsErrOf result (TxtFault.BadByte place) ↔ ((length bytes.now ≤ 4096) × (bad_place bytes.now ≡ Some place)) }
+    {
+        if bytes.len() > 4096 {
+            return Err(TxtFault::TooLong(bytes.len()));
+        }
+        if let Some(place) = bad_place(bytes) {
+            return Err(TxtFault::BadByte(place));
+        }
+        let bytes = Vec::from_slice(alloc, bytes)?;
+        Ok(Txt { bytes })
+    }
+
+    /// Its bytes.
+    pub fn bytes(&self) -> &[u8]
+        ensures value { result.now ≡ self.now }
+        ensures text { IsTrue (is_text self.now) }
+    {
+        self.bytes.as_slice()
+    }
+
+    /// An equal text.
+    pub fn copy(&self, alloc: Global) -> Result<Txt, NoMemory>
+        ensures { IfOk result (λ text. text ≡ self.now) }
+    {
+        let bytes = Vec::from_slice(alloc, self.bytes.as_slice())?;
+        Ok(Txt { bytes })
+    }
+}
+
+// Each is the definition of its name.
+fn is_control(byte: u8) -> bool
+    ensures { result ≡ is_control byte }
+{
+    (byte <= 31 && byte != b'\t') || byte == 127
+}
+
+fn bad_place(bytes: &[u8]) -> Option<usize>
+    ensures { result ≡ bad_place bytes.now }
+{
+    bytes.iter().position(|&byte| is_control(byte))
 }

@@ -1,7 +1,10 @@
+ghost use Rattle.std.specs.Prelude.{◌≡◌, IfOk};
+
+use crate::NoMemory;
 use crate::milli::Milli;
 use crate::name::Name;
 use crate::txt::Txt;
-use std::marker::Model;
+use std::alloc::Global;
 
 /// What a post says: a number or a text.
 #[derive(Debug, Drop)]
@@ -29,17 +32,25 @@ pub struct Post {
     pub value: Value,
 }
 
-/// The pairs that one call posts together, in order. Contracts see the list.
-#[derive(Debug, Drop)]
-pub struct Batch {
-    pairs: Vec<Pair>,
+impl Value {
+    /// An equal value.
+    pub fn copy(&self, alloc: Global) -> Result<Value, NoMemory>
+        ensures { IfOk result (λ value. value ≡ self.now) }
+    {
+        match self {
+            Value::Num(number) => Ok(Value::Num(*number)),
+            Value::Text(text) => Ok(Value::Text(text.copy(alloc)?)),
+        }
+    }
 }
 
-impl Model for Batch {
-    ghost use Rattle.std.specs.Prelude.{List};
-    ghost use Rattle.moos_post.specs.declared.value.Pair.{Pair};
-
-    ghost Value = { List Pair };
-
-    ghost view = { λ b. b.pairs.items };
+impl Pair {
+    /// An equal pair.
+    pub fn copy(&self, alloc: Global) -> Result<Pair, NoMemory>
+        ensures { IfOk result (λ pair. pair ≡ self.now) }
+    {
+        let var = self.var.copy(alloc)?;
+        let value = self.value.copy(alloc)?;
+        Ok(Pair { var, value })
+    }
 }
