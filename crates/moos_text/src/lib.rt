@@ -5,5 +5,7 @@
 #![tactic(auto)]
 
 mod cause;
+mod number;
 
 pub use cause::{Cause, Limit, ReadFault};
+pub use number::read_milli;

@@ -1,0 +1,16 @@
+-- How a number is read in one pass: the digits at its front, and what stands behind them.
+use Rattle.std.specs.Prelude.{◌≡◌, ℕ, suc, ◌<◌, ◌≤◌, true, false, List, length, take, drop, slice_index}
+use Rattle.std.specs.List.{list_all}
+use Rattle.moos_post.specs.Words.{is_digit}
+use Rattle.moos_text.specs.Numbers.{point_of}
+
+-- the first so many bytes are digits, and the next one is none
+pub record IsFront (count : ℕ) (text : List ℕ) : Type 0 where
+  pub within : count ≤ length text
+  pub digits : list_all is_digit (take count text) ≡ true
+  pub ends : count < length text → is_digit (slice_index text count) ≡ false
+
+-- the first so many bytes stand before the first point, and these after it
+pub record IsParted (text : List ℕ) (count : ℕ) (decimals : List ℕ) : Type 0 where
+  pub whole : take (point_of text) text ≡ take count text
+  pub rest : drop (suc (point_of text)) text ≡ decimals
