@@ -5,7 +5,9 @@
 #![tactic(auto)]
 
 mod cause;
+mod milli_text;
 mod number;
 
 pub use cause::{Cause, Limit, ReadFault};
+pub use milli_text::{MilliText, print_milli};
 pub use number::read_milli;

@@ -1,0 +1,120 @@
+-- Reading a printed number gives it back.
+use Rattle.std.proofs.Common.{◌≡◌, ℕ, suc, ◌+◌, ◌-◌, ◌*◌, ◌/◌, ◌%◌, ◌^◌, ◌<◌, ◌≤◌, ◌⊎◌, inl, inr, Bool, true, false, ◌==◌, List, [], ◌∷◌, ◌++◌, length, take, drop, refl, ap, ◌∙◌, sym, arith, length-append, append-nil, add-one}
+use Rattle.std.specs.Prelude.{ℤ, pos, negsuc, decimal, fold, codes, nat_le, Option, Some, None, option_map, if◌then◌else◌}
+use Rattle.std.specs.List.{list_all}
+use Rattle.std.proofs.lemmas.Fmt.{decimal_nonempty, length-decimal-le, digits_decimal, digits_value-decimal}
+use Rattle.std.proofs.lemmas.Grind.{common_steps}
+use Rattle.std.proofs.lemmas.Str.Parse.{IsNumeralModel, IsDigitsTest, numerals_by_fold}
+use Rattle.std.proofs.Math.Seq.{take-append_seam, drop-append-add, take-length}
+use Rattle.std.proofs.Math.ListN.{drop_of_length-le}
+use Rattle.moos_post.specs.Words.{is_digit, IsMilli}
+use Rattle.moos_text.specs.Numbers.{digits_value, thousandths_of, is_numeral, point_of, unsigned_of, milli_of, decimals_text, unsigned_text, milli_text}
+use Rattle.moos_text.proofs.Numerals.{point_behind}
+
+-- the whole part of a number is short
+pub whole_short : (n : ℕ) → n ≤ 10 ^ 12 → length (decimal (n / 1000)) ≤ 10
+whole_short n within = length-decimal-le 10 (n / 1000) (omega arith) (omega arith) (omega arith)
+
+digits_test : IsDigitsTest (λ text. list_all is_digit text ≡ true)
+digits_test = record {
+  empty = refl;
+  parts = λ byte text digits. (grind arith, grind arith);
+  more = λ byte text digit digits. grind arith;
+}
+
+own : IsNumeralModel (λ text. list_all is_digit text ≡ true) digits_value
+own = numerals_by_fold (λ text. list_all is_digit text ≡ true) digits_test (fold (λ value digit. value * 10 + (digit - 48))) (record { empty = λ n. refl; more = λ n byte text digit. refl })
+
+-- what the two parts of a number make
+made : List ℕ → List ℕ → Option ℕ
+made whole decimals = if is_numeral whole decimals then Some (thousandths_of whole decimals) else None
+
+made_of : (whole decimals : List ℕ) → list_all is_digit whole ≡ true → list_all is_digit decimals ≡ true → 0 < length whole → thousandths_of whole decimals ≤ 10 ^ 12 → made whole decimals ≡ Some (thousandths_of whole decimals)
+unfolding made
+made_of whole decimals digits further some within =
+    let long : nat_le 1 (length whole + length decimals) ≡ true = grind arith in
+    let small : nat_le (thousandths_of whole decimals) (10 ^ 12) ≡ true = grind arith in
+    rw digits (rw further (rw long (rw small refl)))
+
+-- digits without a point
+unsigned_whole : (whole : List ℕ) → list_all is_digit whole ≡ true → unsigned_of whole ≡ made whole []
+unfolding made
+unsigned_whole whole digits =
+    let at : point_of whole ≡ length whole = point_behind (length whole) whole (omega arith) (rw take-length digits) (λ lt. absurd (omega arith)) in
+    let front : take (point_of whole) whole ≡ whole = rw at (take-length whole) in
+    let back : drop (suc (point_of whole)) whole ≡ [] = drop_of_length-le whole {i = suc (point_of whole)} (omega (arith, at)) in
+    ap (λ w. made w (drop (suc (point_of whole)) whole)) front ∙ ap (λ d. made whole d) back
+
+-- digits on both sides of a point
+unsigned_parts : (whole decimals : List ℕ) → list_all is_digit whole ≡ true → unsigned_of (whole ++ 46 ∷ decimals) ≡ made whole decimals
+unfolding made
+unsigned_parts whole decimals digits =
+    let text : List ℕ = whole ++ 46 ∷ decimals in
+    let at : point_of text ≡ length whole = point_behind (length whole) text (omega (arith, length-append whole (46 ∷ decimals))) (rw take-append_seam digits) (λ lt. grind (arith, common_steps)) in
+    let front : take (point_of text) text ≡ whole = rw at (take-append_seam whole (46 ∷ decimals)) in
+    let back : drop (suc (point_of text)) text ≡ decimals = rw at (ap (λ i. drop i text) (sym (add-one (length whole))) ∙ drop-append-add whole (46 ∷ decimals) 1) in
+    ap (λ w. made w (drop (suc (point_of text)) text)) front ∙ ap (λ d. made whole d) back
+
+-- the decimals of a number below 1,000: none where it is 0, and else digits behind a point that stand for it
+Shape : ℕ → Type 0
+Shape rest = ((decimals_text rest ≡ []) × (rest ≡ 0))
+    ⊎ ((decimals : List ℕ) × (decimals_text rest ≡ 46 ∷ decimals) × (list_all is_digit decimals ≡ true) × (digits_value (take 3 (decimals ++ codes "000")) ≡ rest))
+
+glyph : (digit : ℕ) → digit < 10 → is_digit (48 + digit) ≡ true
+glyph digit small = grind arith
+
+shape : (none tenths hundredths : Bool) (rest : ℕ) → (rest == 0) ≡ none → (rest % 100 == 0) ≡ tenths → (rest % 10 == 0) ≡ hundredths → rest < 1000 → Shape rest
+unfolding Shape
+shape true tenths hundredths rest e0 e1 e2 small = inl (rw e0 refl, grind arith)
+shape false true hundredths rest e0 e1 e2 small =
+    let a = glyph (rest / 100) (omega arith) in
+    let even : rest % 100 ≡ 0 = grind arith in
+    inr ((48 + rest / 100) ∷ [], rw e0 (rw e1 refl), rw a refl, omega (arith, even))
+shape false false true rest e0 e1 e2 small =
+    let a = glyph (rest / 100) (omega arith) in
+    let b = glyph (rest / 10 % 10) (omega arith) in
+    let even : rest % 10 ≡ 0 = grind arith in
+    inr ((48 + rest / 100) ∷ (48 + rest / 10 % 10) ∷ [], rw e0 (rw e1 (rw e2 refl)), rw a (rw b refl), omega (arith, even))
+shape false false false rest e0 e1 e2 small =
+    let a = glyph (rest / 100) (omega arith) in
+    let b = glyph (rest / 10 % 10) (omega arith) in
+    let d = glyph (rest % 10) (omega arith) in
+    inr ((48 + rest / 100) ∷ (48 + rest / 10 % 10) ∷ (48 + rest % 10) ∷ [], rw e0 (rw e1 (rw e2 refl)), rw a (rw b (rw d refl)), omega arith)
+
+-- a number without a sign, printed by its whole part and decimals of this shape
+shaped_back : (n : ℕ) → n ≤ 10 ^ 12 → Shape (n % 1000) → unsigned_of (unsigned_text n) ≡ Some n
+unfolding Shape
+shaped_back n within (inl h) =
+    let whole : List ℕ = decimal (n / 1000) in
+    let digits = digits_decimal own (n / 1000) (omega arith) in
+    let spelt : digits_value whole ≡ n / 1000 = digits_value-decimal own (n / 1000) (omega arith) in
+    let value : thousandths_of whole [] ≡ n = omega (arith, spelt, h.1) in
+    ap (λ d. unsigned_of (whole ++ d)) h.0 ∙ ap (λ t. unsigned_of t) (append-nil whole) ∙ unsigned_whole whole digits
+    ∙ made_of whole [] digits refl (decimal_nonempty (n / 1000) (omega arith)) (omega (arith, value)) ∙ ap (λ v. Some v) value
+shaped_back n within (inr h) =
+    let whole : List ℕ = decimal (n / 1000) in
+    let digits = digits_decimal own (n / 1000) (omega arith) in
+    let spelt : digits_value whole ≡ n / 1000 = digits_value-decimal own (n / 1000) (omega arith) in
+    let value : thousandths_of whole h.0 ≡ n = omega (arith, spelt, h.3) in
+    ap (λ d. unsigned_of (whole ++ d)) h.1 ∙ unsigned_parts whole h.0 digits
+    ∙ made_of whole h.0 digits h.2 (decimal_nonempty (n / 1000) (omega arith)) (omega (arith, value)) ∙ ap (λ v. Some v) value
+
+-- a printed number without a sign
+unsigned_back : (n : ℕ) → n ≤ 10 ^ 12 → unsigned_of (unsigned_text n) ≡ Some n
+unsigned_back n within =
+    shaped_back n within (shape (n % 1000 == 0) (n % 1000 % 100 == 0) (n % 1000 % 10 == 0) (n % 1000) refl refl refl (omega arith))
+
+-- a text that begins with a digit has no sign
+unsigned_front : (whole rest : List ℕ) → 0 < length whole → list_all is_digit whole ≡ true → milli_of (whole ++ rest) ≡ option_map pos (unsigned_of (whole ++ rest))
+unsigned_front [] rest some digits = absurd (omega arith)
+unsigned_front (first ∷ whole) rest some digits =
+    let no_plus : (first == 43) ≡ false = grind arith in
+    let no_minus : (first == 45) ≡ false = grind arith in
+    rw no_plus (rw no_minus refl)
+
+pub milli_back : (value : ℤ) → IsMilli value → milli_of (milli_text value) ≡ Some value
+milli_back (pos n) within =
+    let small : n ≤ 10 ^ 12 = grind (arith, within.1) in
+    unsigned_front (decimal (n / 1000)) (decimals_text (n % 1000)) (decimal_nonempty (n / 1000) (omega arith)) (digits_decimal own (n / 1000) (omega arith))
+    ∙ ap (λ o. option_map pos o) (unsigned_back n small)
+milli_back (negsuc n) within = let small : n ≤ 10 ^ 12 - 1 = grind (arith, within.0) in rw (unsigned_back (suc n) (omega arith)) refl
