@@ -1,5 +1,6 @@
 -- The lines of a file, what of a line counts, and the words that stand in it.
 use Rattle.std.specs.Prelude.{ℕ, Bool, false, not, ◌&&◌, ◌||◌, ◌==◌, if◌then◌else◌, List, [], ◌∷◌, fold, reverse}
+use Rattle.std.specs.List.{before_first}
 
 -- the byte in front of the first of these lines, or as a line of its own where there is none
 abbrev pub onto_first : ℕ → List (List ℕ) → List (List ℕ)
@@ -11,6 +12,10 @@ abbrev pub raw_lines : List ℕ → List (List ℕ)
 raw_lines [] = []
 raw_lines (byte ∷ bytes) = if byte == 10 then [] ∷ raw_lines bytes else onto_first byte (raw_lines bytes)
 
+-- the first of the lines: the bytes before the first line feed
+abbrev pub first_line : List ℕ → List ℕ
+first_line bytes = before_first (λ byte. byte == 10) bytes
+
 -- a carriage return at the end of a line is dropped
 abbrev pub without_return : List ℕ → List ℕ
 without_return [] = []
@@ -21,13 +26,18 @@ without_return (byte ∷ next ∷ rest) = byte ∷ without_return (next ∷ rest
 abbrev pub is_quoted_after : Bool → ℕ → Bool
 is_quoted_after quoted byte = if byte == 34 then not quoted else quoted
 
--- the bytes before the first `//` outside quotes, which begins a comment
+-- a `//` begins a comment
+abbrev pub begins_comment : List ℕ → Bool
+begins_comment [] = false
+begins_comment (byte ∷ []) = false
+begins_comment (byte ∷ next ∷ rest) = byte == 47 && next == 47
+
+-- the bytes before the first comment outside quotes
 abbrev pub uncommented : Bool → List ℕ → List ℕ
 uncommented quoted [] = []
-uncommented quoted (byte ∷ []) = byte ∷ []
-uncommented quoted (byte ∷ next ∷ rest) =
-    if not quoted && byte == 47 && next == 47 then []
-    else byte ∷ uncommented (is_quoted_after quoted byte) (next ∷ rest)
+uncommented quoted (byte ∷ rest) =
+    if not quoted && begins_comment (byte ∷ rest) then []
+    else byte ∷ uncommented (is_quoted_after quoted byte) rest
 
 -- what of a line counts
 abbrev pub content_of : List ℕ → List ℕ

@@ -5,9 +5,11 @@
 #![tactic(auto)]
 
 mod cause;
+mod line;
 mod milli_text;
 mod number;
 
 pub use cause::{Cause, Limit, ReadFault};
+pub use line::{Line, next_line};
 pub use milli_text::{MilliText, print_milli};
 pub use number::read_milli;

@@ -1,0 +1,131 @@
+ghost use Rattle.std.specs.Prelude.{◌≡◌, ◌+◌, ◌<◌, ◌≤◌, ◌==◌, ◌∷◌, false, length, take, drop, slice_range, position};
+ghost use Rattle.std.specs.List.{position_or_len};
+ghost use Rattle.moos_text.specs.Lines.{raw_lines, first_line, without_return, begins_comment, is_quoted_after, uncommented, content_of, is_unclosed};
+
+/// One line of a file.
+#[derive(Clone, Copy, Debug, PartialEq, Eq)]
+pub struct Line {
+    /// Where the line begins.
+    pub from: usize,
+    /// Where what counts of it ends: before its comment, and before its end.
+    pub to: usize,
+    /// Whether a quote is open there.
+    pub unclosed: bool,
+    /// Where the next line begins, or the end of the file.
+    pub next: usize,
+}
+
+/// The line that begins at this place of a file. At the end of the file there is no line, and it is empty.
+#[tactic(auto, using(crate::proofs::LineSteps::lines_at, crate::proofs::LineSteps::last_line_at))]
+pub fn next_line(bytes: &[u8], from: usize) -> Line
+    requires { from ≤ length bytes.now }
+    ensures content { slice_range bytes.now result.from result.to ≡ content_of (first_line (drop from bytes.now)) }
+    ensures unclosed { result.unclosed ≡ is_unclosed (content_of (first_line (drop from bytes.now))) }
+    ensures lines { from < length bytes.now → raw_lines (drop from bytes.now) ≡ first_line (drop from bytes.now) ∷ raw_lines (drop result.next bytes.now) }
+
+    // It goes on from this place, and on to the end of the file.
+    ensures start { result.from ≡ from }
+    ensures order { (result.from ≤ result.to) × (result.to ≤ result.next) × (result.next ≤ length bytes.now) }
+    ensures further { from < length bytes.now → from < result.next }
+{
+    let line = first_line(bytes, from);
+    let content = content_of(without_return(line));
+    let end = from + line.len();
+    Line {
+        from,
+        to: from + content.len,
+        unclosed: content.unclosed,
+        next: if end < bytes.len() {
+            end + 1
+        } else {
+            bytes.len()
+        },
+    }
+}
+
+// The bytes before the first line feed from this place on.
+fn first_line(bytes: &[u8], from: usize) -> &[u8]
+    requires { from ≤ length bytes.now }
+    ensures value { result.now ≡ first_line (drop from bytes.now) }
+    ensures front { result.now ≡ take (length result.now) (drop from bytes.now) }
+    ensures within { from + length result.now ≤ length bytes.now }
+{
+    let rest = &bytes[from..];
+    &rest[..line_end(rest)]
+}
+
+// Where the first line feed stands, or the end.
+#[tactic(auto, using(crate::proofs::LineSteps::line_end_within))]
+fn line_end(bytes: &[u8]) -> usize
+    ensures end { result ≡ position_or_len (λ byte. byte == 10) bytes.now }
+    ensures within { result ≤ length bytes.now }
+{
+    match line_feed(bytes) {
+        Some(place) => place,
+        None => bytes.len(),
+    }
+}
+
+fn line_feed(bytes: &[u8]) -> Option<usize>
+    ensures { result ≡ position (λ byte. byte == 10) bytes.now }
+{
+    bytes.iter().position(|&byte| byte == b'\n')
+}
+
+#[tactic(auto, using(crate::proofs::LineSteps::with_return, crate::proofs::LineSteps::no_return))]
+fn without_return(line: &[u8]) -> &[u8]
+    ensures value { result.now ≡ without_return line.now }
+    ensures front { result.now ≡ take (length result.now) line.now }
+    ensures within { length result.now ≤ length line.now }
+{
+    if line.len() == 0 {
+        return line;
+    }
+    let last = line.len() - 1;
+    if line[last] == b'\r' {
+        &line[..last]
+    } else {
+        line
+    }
+}
+
+// How many bytes of a line count, and whether a quote is open behind them.
+#[derive(Clone, Copy)]
+struct Content {
+    len: usize,
+    unclosed: bool,
+}
+
+#[tactic(auto, using(crate::proofs::LineSteps::without_comment, crate::proofs::LineSteps::byte_more))]
+fn content_of(line: &[u8]) -> Content
+    ensures content { take result.len line.now ≡ uncommented false line.now }
+    ensures unclosed { result.unclosed ≡ is_unclosed (uncommented false line.now) }
+    ensures within { result.len ≤ length line.now }
+{
+    let mut quoted = false;
+    for (len, byte) in line.iter().enumerate() {
+        if !quoted && begins_comment(&line[len..]) {
+            return Content {
+                len,
+                unclosed: false,
+            };
+        }
+        quoted = is_quoted_after(quoted, *byte);
+    }
+    Content {
+        len: line.len(),
+        unclosed: quoted,
+    }
+}
+
+fn begins_comment(bytes: &[u8]) -> bool
+    ensures { result ≡ begins_comment bytes.now }
+{
+    matches!(bytes, [b'/', b'/', ..])
+}
+
+fn is_quoted_after(quoted: bool, byte: u8) -> bool
+    ensures { result ≡ is_quoted_after quoted byte }
+{
+    if byte == b'"' { !quoted } else { quoted }
+}
