@@ -1,0 +1,60 @@
+-- The definitions on worked examples.
+use Rattle.std.proofs.Common.{◌≡◌, ℕ, Bool, true, false, Option, Some, None, Result, Ok, Err, ℤ, pos, neg_ℤ, List, [], ◌∷◌, length, refl}
+use Rattle.std.specs.Prelude.{codes, slice_get}
+use Rattle.ivp_domain.specs.declared.axis.Axis.{Axis}
+use Rattle.ivp_domain.specs.declared.boxes.BoxN.{BoxN}
+use Rattle.ivp_domain.specs.declared.boxes.Point.{Point}
+use Rattle.ivp_domain.specs.declared.domain.DomainFault.TheVariants.{BadAxis, TooLarge, SameName}
+use Rattle.ivp_domain.specs.AxisNames.{is_axis_name}
+use Rattle.ivp_domain.specs.Axes.{value_on}
+use Rattle.ivp_domain.specs.Boxes.{meet_of, point_of, points_in, volume_of}
+use Rattle.ivp_domain.specs.Domains.{domain_of, index_of, points_of}
+
+abbrev axis : List ℕ → ℕ → ℕ → ℕ → Axis
+axis name low high points = record { name = name; low = pos low; high = pos high; points = points }
+
+-- domain a:0:2:3, domain b:0:1:2
+abbrev six : List Axis
+six = axis (codes "a") 0 2000 3 ∷ axis (codes "b") 0 1000 2 ∷ []
+
+six_is_a_domain : domain_of six ≡ Ok six
+six_is_a_domain = refl
+
+points_of_six : points_of six ≡ point_of 0 0 0 0 ∷ point_of 0 1 0 0 ∷ point_of 1 0 0 0 ∷ point_of 1 1 0 0 ∷ point_of 2 0 0 0 ∷ point_of 2 1 0 0 ∷ []
+points_of_six = refl
+
+index_in_six : index_of six (point_of 2 1 0 0) ≡ 5
+index_in_six = refl
+
+-- bad axes come before the size, and the size before a repeated name
+first_bad : domain_of (axis (codes "a") 0 1 2097153 ∷ axis (codes "a") 0 1 2 ∷ axis (codes "b") 5 5 2 ∷ axis (codes "c") 0 1 1 ∷ []) ≡ Err (BadAxis 2)
+first_bad = refl
+
+then_size : domain_of (axis (codes "a") 0 1 2097153 ∷ axis (codes "a") 0 1 2 ∷ []) ≡ Err TooLarge
+then_size = refl
+
+then_name : domain_of (axis (codes "a") 0 1 2097152 ∷ axis (codes "a") 0 1 2 ∷ []) ≡ Err (SameName 1)
+then_name = refl
+
+-- course:0:359:360 in steps of one, and a value that is rounded down towards the low end
+course : value_on (axis (codes "course") 0 359000 360) 90 ≡ pos 90000
+course = refl
+
+rounded : value_on (record { name = codes "x"; low = neg_ℤ (pos 10); high = pos 0; points = 4 }) 1 ≡ neg_ℤ (pos 7)
+rounded = refl
+
+abbrev area : ℕ → ℕ → ℕ → ℕ → BoxN
+area low high low' high' = record { low = low ∷ low' ∷ 0 ∷ 0 ∷ []; high = high ∷ high' ∷ 0 ∷ 0 ∷ [] }
+
+-- boxes that share one index touch, and their meet has it
+touching : meet_of (area 0 2 0 4) (area 2 5 3 9) ≡ Some (area 2 2 3 4)
+touching = refl
+
+apart : meet_of (area 0 2 0 4) (area 3 5 0 4) ≡ None
+apart = refl
+
+counted : (volume_of (area 2 2 3 4) ≡ 2) × (length (points_in (area 2 2 3 4)) ≡ 2)
+counted = (refl, refl)
+
+names : (is_axis_name (codes "x_1") ≡ true) × (is_axis_name (codes "1x") ≡ false) × (is_axis_name [] ≡ false) × (is_axis_name (codes "abcdefghijklmnopq") ≡ false) × (is_axis_name (codes "a-b") ≡ false)
+names = (refl, refl, refl, refl, refl)

@@ -1,0 +1,4 @@
+pub mod AxisNames
+pub mod Axes
+pub mod Boxes
+pub mod Domains

@@ -1,0 +1,114 @@
+ghost use Rattle.std.specs.Prelude.{◌≡◌, ℕ, ℤ, ◌-◌, ◌≤◌, ◌↔◌, List, ◌++◌, length, take, replicate, IsTrue, IsSome, IfSome, nat_le, slice_index};
+ghost use Rattle.std.specs.List.{list_all};
+ghost use Rattle.ivp_domain.specs.AxisNames.{is_axis_name, is_letter, is_word_byte};
+ghost use Rattle.ivp_domain.specs.Axes.{is_good_axis, no_axis};
+
+use std::marker::Model;
+
+/// The name of an axis: 1 to 16 letters, digits or `_`, the first a letter.
+#[derive(Clone, Copy, Debug, PartialEq, Eq)]
+pub struct AxisName {
+    letters: [u8; 16],
+    count: usize,
+}
+
+impl Model for AxisName {
+    ghost use Rattle.std.specs.Prelude.{◌≡◌, ℕ, ◌-◌, ◌≤◌, List, ◌++◌, length, take, replicate, IsTrue};
+    ghost use Rattle.ivp_domain.specs.AxisNames.{is_axis_name};
+
+    ghost Value = { List ℕ };
+
+    ghost view = { λ n. take n.count n.letters };
+
+    ghost invariant = { λ n. IsTrue (is_axis_name (take n.count n.letters)) × (n.count ≡ length (take n.count n.letters)) × (n.letters ≡ take n.count n.letters ++ replicate (16 - length (take n.count n.letters)) 0) };
+
+    ghost inverse = { λ name. record { letters = name ++ replicate (16 - length name) 0; count = length name } };
+}
+
+fn letter(byte: u8) -> bool
+    ensures { result ≡ is_letter byte }
+{
+    (byte >= 65 && byte <= 90) || (byte >= 97 && byte <= 122)
+}
+
+fn word_byte(byte: u8) -> bool
+    ensures { result ≡ is_word_byte byte }
+{
+    letter(byte) || (byte >= 48 && byte <= 57) || byte == 95
+}
+
+fn word_bytes(bytes: &[u8]) -> bool
+    ensures { result ≡ list_all is_word_byte bytes.now }
+{
+    bytes.iter().all(|byte| word_byte(*byte))
+}
+
+fn axis_name(bytes: &[u8]) -> bool
+    ensures { result ≡ is_axis_name bytes.now }
+{
+    bytes.len() > 0 && letter(bytes[0]) && bytes.len() <= 16 && word_bytes(bytes)
+}
+
+impl AxisName {
+    /// The name that these bytes spell. `None` exactly where they are no name of an axis.
+    pub fn new(bytes: &[u8]) -> Option<AxisName>
+        ensures name { IsSome result ↔ IsTrue (is_axis_name bytes.now) }
+        ensures bytes { IfSome result (λ name. name ≡ bytes.now) }
+    {
+        if !axis_name(bytes) {
+            return None;
+        }
+        let mut letters = [0; 16];
+        letters[..bytes.len()].copy_from_slice(bytes);
+        Some(AxisName {
+            letters,
+            count: bytes.len(),
+        })
+    }
+
+    /// The bytes of the name.
+    pub fn bytes(&self) -> &[u8]
+        ensures value { result.now ≡ self.now }
+        ensures name { IsTrue (is_axis_name result.now) }
+    {
+        &self.letters[..self.count]
+    }
+}
+
+/// One axis of a domain: `points` places, evenly from `low` to `high`, in thousandths of the unit.
+#[derive(Clone, Copy, Debug, PartialEq, Eq)]
+pub struct Axis {
+    pub name: AxisName,
+    pub low: i64,
+    pub high: i64,
+    pub points: u32,
+}
+
+/// How far from 0 an end of an axis may lie, in thousandths.
+const REACH: i64 = 1_000_000_000_000;
+
+/// At least two points, and both ends within reach of 0, the low one below the high one.
+pub(crate) fn good_axis(axis: &Axis) -> bool
+    ensures { result ≡ is_good_axis axis.now }
+{
+    axis.points >= 2
+        && axis.low < axis.high
+        && -REACH <= axis.low
+        && axis.low <= REACH
+        && -REACH <= axis.high
+        && axis.high <= REACH
+}
+
+/// What stands past the last axis of a domain: an axis of one point.
+pub(crate) fn filler() -> Axis
+    ensures { result ≡ no_axis }
+{
+    let mut letters = [0; 16];
+    letters[0] = 120;
+    Axis {
+        name: AxisName { letters, count: 1 },
+        low: 0,
+        high: 1,
+        points: 1,
+    }
+}

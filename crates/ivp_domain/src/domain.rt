@@ -1,0 +1,195 @@
+ghost use Rattle.std.specs.Prelude.{◌≡◌, ℕ, ◌+◌, ◌*◌, ◌^◌, ◌<◌, ◌≤◌, List, [], ◌∷◌, ◌++◌, length, take, replicate, Some, IsTrue, IfSome, min, nat_le, slice_get, slice_index_or, ◌-◌};
+ghost use Rattle.std.specs.List.{list_any};
+ghost use Rattle.ivp_domain.specs.Axes.{is_good_axis, no_axis, value_on};
+ghost use Rattle.ivp_domain.specs.Domains.{bad_place, domain_of, index_of, is_domain, is_point, points_of, repeated_place, same_name, size_of, size_on};
+
+use crate::axis::{Axis, filler, good_axis};
+use crate::boxes::Point;
+use std::marker::Model;
+
+/// The most points that a domain may have: 2^22.
+const MOST_POINTS: u64 = 4_194_304;
+
+/// Why axes make no domain. A place is the number of an axis, from 0.
+#[derive(Clone, Copy, Debug, PartialEq, Eq)]
+pub enum DomainFault {
+    BadAxis(u32),
+    TooLarge,
+    SameName(u32),
+}
+
+/// The decision space of one to four axes, with at most 2^22 points.
+#[derive(Clone, Copy, Debug, PartialEq, Eq)]
+pub struct Domain {
+    axes: [Axis; 4],
+    count: u32,
+}
+
+impl Model for Domain {
+    ghost use Rattle.std.specs.Prelude.{◌≡◌, ◌-◌, List, ◌++◌, length, take, replicate, IsTrue};
+    ghost use Rattle.ivp_domain.specs.declared.axis.Axis.{Axis};
+
+    ghost Value = { List Axis };
+
+    ghost use Rattle.ivp_domain.specs.Domains.{is_domain};
+    ghost use Rattle.ivp_domain.specs.Axes.{no_axis};
+
+    ghost view = { λ d. take d.count d.axes };
+
+    ghost invariant = { λ d. IsTrue (is_domain (take d.count d.axes)) × (d.count ≡ length (take d.count d.axes)) × (d.axes ≡ take d.count d.axes ++ replicate (4 - length (take d.count d.axes)) no_axis) };
+
+    ghost inverse = { λ axes. record { axes = axes ++ replicate (4 - length axes) no_axis; count = length axes } };
+}
+
+/// The place of the first axis that is not good.
+fn bad_place(axes: &[Axis]) -> Option<usize>
+    ensures { result ≡ bad_place axes.now }
+{
+    axes.iter().position(|axis| !good_axis(axis))
+}
+
+/// Adds a factor to a product, up to one above the most points that a domain may have.
+fn times(product: u64, points: u32) -> u64
+    requires product { product ≤ MOST_POINTS + 1 }
+    requires points { 0 < points }
+    ensures { result ≡ min (product * points) (MOST_POINTS + 1) }
+{
+    (product * points as u64).min(MOST_POINTS + 1)
+}
+
+/// The four axes of a domain: these, and then such of one point.
+fn padded(axes: &[Axis]) -> [Axis; 4]
+    requires { length axes.now ≤ 4 }
+    ensures { result ≡ axes.now ++ replicate (4 - length axes.now) no_axis }
+{
+    let mut all = [filler(); 4];
+    all[..axes.len()].copy_from_slice(axes);
+    all
+}
+
+/// At most as many points as a domain may have.
+fn few_points(axes: &[Axis; 4]) -> bool
+    requires { (k : ℕ) → k < 4 → 0 < (slice_index_or axes.now k no_axis).points }
+    ensures { result ≡ nat_le (size_of axes.now) (2 ^ 22) }
+{
+    let two = times(axes[0].points as u64, axes[1].points);
+    times(times(two, axes[2].points), axes[3].points) <= MOST_POINTS
+}
+
+/// Two axes have the same name.
+fn same_name(a: &Axis, b: &Axis) -> bool
+    ensures { result ≡ same_name a.now b.now }
+{
+    a.name.bytes() == b.name.bytes()
+}
+
+/// Whether an axis is named as one of these.
+fn is_named_as_one(axes: &[Axis], axis: &Axis) -> bool
+    ensures { result ≡ list_any (same_name axis.now) axes.now }
+{
+    axes.iter().any(|other| same_name(axis, other))
+}
+
+/// The place of the first axis that is named as one before it.
+fn repeated_place(axes: &[Axis]) -> Option<usize>
+    ensures { result ≡ repeated_place axes.now }
+{
+    for (place, axis) in axes.iter().enumerate() {
+        if is_named_as_one(&axes[..place], axis) {
+            return Some(place);
+        }
+    }
+    None
+}
+
+impl Domain {
+    /// The domain of these axes, or the first refusal: `BadAxis` at the first axis with fewer than
+    /// two points, ends out of order or an end beyond 10^12 thousandths; `TooLarge` above 2^22
+    /// points; `SameName` at the first axis named as an earlier one.
+    pub fn make(axes: &[Axis]) -> Result<Domain, DomainFault>
+        requires { (0 < length axes.now) × (length axes.now ≤ 4) }
+        ensures { result ≡ domain_of axes.now }
+    {
+        if let Some(place) = bad_place(axes) {
+            return Err(DomainFault::BadAxis(place as u32));
+        }
+        let all = padded(axes);
+        if !few_points(&all) {
+            return Err(DomainFault::TooLarge);
+        }
+        if let Some(place) = repeated_place(axes) {
+            return Err(DomainFault::SameName(place as u32));
+        }
+        Ok(Domain {
+            axes: all,
+            count: axes.len() as u32,
+        })
+    }
+
+    /// How many axes there are.
+    pub fn axes(&self) -> u32
+        ensures count { result ≡ length self.now }
+        ensures lawful { IsTrue (is_domain self.now) }
+    {
+        self.count
+    }
+
+    /// An axis by its number, from 0.
+    pub fn axis(&self, a: u32) -> Axis
+        requires { a < length self.now }
+        ensures axis { slice_get self.now a ≡ Some result }
+        ensures good { IsTrue (is_good_axis result) }
+    {
+        self.axes[a as usize]
+    }
+
+    /// The number of points.
+    pub fn points(&self) -> u32
+        ensures points { result ≡ length (points_of self.now) }
+        ensures product { result ≡ size_of self.now }
+        ensures bound { result ≤ 2 ^ 22 }
+    {
+        self.axes[0].points * self.axes[1].points * self.axes[2].points * self.axes[3].points
+    }
+
+    /// The number at a place of an axis, in thousandths of the unit: `low + floor(i * (high - low)
+    /// / (points - 1))`.
+    pub fn value(&self, axis: u32, i: u32) -> i64
+        requires axis { axis < length self.now }
+        requires place { i < size_on axis self.now }
+        ensures { IfSome (slice_get self.now axis) (λ one. result ≡ value_on one i) }
+    {
+        let one = self.axes[axis as usize];
+        one.low + i as i64 * (one.high - one.low) / (one.points as i64 - 1)
+    }
+
+    /// The index of a point: mixed radix, the first axis counting most. It is the place of the
+    /// point in the list of all points.
+    pub fn index_of(&self, p: &Point) -> u32
+        requires { IsTrue (is_point self.now p.now) }
+        ensures index { result ≡ index_of self.now p.now }
+        ensures listed { slice_get (points_of self.now) result ≡ Some p.now }
+    {
+        let [one, two, three, four] = p.at;
+        ((one * self.axes[1].points + two) * self.axes[2].points + three) * self.axes[3].points
+            + four
+    }
+
+    /// The point of an index, the inverse of `index_of`.
+    pub fn point_at(&self, index: u32) -> Point
+        requires { index < length (points_of self.now) }
+        ensures listed { slice_get (points_of self.now) index ≡ Some result }
+        ensures index { index_of self.now result ≡ index }
+        ensures inside { IsTrue (is_point self.now result) }
+    {
+        let four = index % self.axes[3].points;
+        let rest = index / self.axes[3].points;
+        let three = rest % self.axes[2].points;
+        let rest = rest / self.axes[2].points;
+        let two = rest % self.axes[1].points;
+        let one = rest / self.axes[1].points;
+        Point {
+            at: [one, two, three, four],
+        }
+    }
+}
