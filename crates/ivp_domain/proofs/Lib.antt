@@ -1,1 +1,5 @@
 mod Rows
+pub mod Ranges
+pub mod BoxLemmas
+pub mod Sizes
+pub mod Padding

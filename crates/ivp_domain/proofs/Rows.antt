@@ -1,9 +1,8 @@
 -- The definitions on worked examples.
-use Rattle.std.proofs.Common.{◌≡◌, ℕ, Bool, true, false, Option, Some, None, Result, Ok, Err, ℤ, pos, neg_ℤ, List, [], ◌∷◌, length, refl}
-use Rattle.std.specs.Prelude.{codes, slice_get}
+use Rattle.std.proofs.Common.{◌≡◌, ℕ, true, false, Some, None, Ok, Err, pos, neg_ℤ, List, [], ◌∷◌, length, refl}
+use Rattle.std.specs.Prelude.{codes}
 use Rattle.ivp_domain.specs.declared.axis.Axis.{Axis}
 use Rattle.ivp_domain.specs.declared.boxes.BoxN.{BoxN}
-use Rattle.ivp_domain.specs.declared.boxes.Point.{Point}
 use Rattle.ivp_domain.specs.declared.domain.DomainFault.TheVariants.{BadAxis, TooLarge, SameName}
 use Rattle.ivp_domain.specs.AxisNames.{is_axis_name}
 use Rattle.ivp_domain.specs.Axes.{value_on}

@@ -1,5 +1,5 @@
 -- Axes: which are good, and the number that a place on one stands for.
-use Rattle.std.specs.Prelude.{ℕ, ℤ, pos, neg_ℤ, ◌+ℤ◌, ◌-ℤ◌, ◌*ℤ◌, ◌-◌, ◌^◌, Bool, ◌&&◌, nat_le, int_lt, int_le, int_div, [], ◌∷◌}
+use Rattle.std.specs.Prelude.{ℕ, ℤ, pos, neg_ℤ, ◌+ℤ◌, ◌-ℤ◌, nat_abs, ◌-◌, ◌*◌, ◌/◌, ◌^◌, Bool, ◌&&◌, nat_le, int_lt, int_le, [], ◌∷◌}
 use Rattle.ivp_domain.specs.declared.axis.Axis.{Axis}
 
 -- within 10^12 thousandths of 0
@@ -12,7 +12,7 @@ is_good_axis axis = nat_le 2 axis.points && int_lt axis.low axis.high && is_end 
 
 -- the number at a place: that part of the way from the low end to the high one, rounded down
 abbrev pub value_on : Axis → ℕ → ℤ
-value_on axis place = axis.low +ℤ int_div (pos place *ℤ (axis.high -ℤ axis.low)) (pos (axis.points - 1))
+value_on axis place = axis.low +ℤ pos (place * nat_abs (axis.high -ℤ axis.low) / (axis.points - 1))
 
 -- what stands past the last axis: an axis of one point
 abbrev pub no_axis : Axis

@@ -1,7 +1,7 @@
-ghost use Rattle.std.specs.Prelude.{◌≡◌, ℕ, ℤ, ◌-◌, ◌≤◌, ◌↔◌, List, ◌++◌, length, take, replicate, IsTrue, IsSome, IfSome, nat_le, slice_index};
+ghost use Rattle.std.specs.Prelude.{◌≡◌, ℕ, ℤ, ◌-◌, ◌^◌, ◌<◌, ◌≤◌, ◌↔◌, List, ◌++◌, ◌*◌, ◌/◌, ◌-ℤ◌, nat_abs, length, take, replicate, IsTrue, IsSome, IfSome, nat_le, slice_index};
 ghost use Rattle.std.specs.List.{list_all};
 ghost use Rattle.ivp_domain.specs.AxisNames.{is_axis_name, is_letter, is_word_byte};
-ghost use Rattle.ivp_domain.specs.Axes.{is_good_axis, no_axis};
+ghost use Rattle.ivp_domain.specs.Axes.{is_good_axis, no_axis, value_on};
 
 use std::marker::Model;
 
@@ -97,6 +97,38 @@ pub(crate) fn good_axis(axis: &Axis) -> bool
         && axis.low <= REACH
         && -REACH <= axis.high
         && axis.high <= REACH
+}
+
+/// That part of a span which lies below a place, rounded down.
+fn part_of(span: u64, place: u32, points: u32) -> u64
+    requires span { span ≤ 2 * 10 ^ 12 }
+    requires place { place < points }
+    requires few { points ≤ 2 ^ 22 }
+    requires some { 2 ≤ points }
+    ensures part { result ≡ place * span / (points - 1) }
+    ensures within { result ≤ span }
+{
+    place as u64 * span / (points as u64 - 1)
+}
+
+/// How far the ends of a good axis are apart.
+fn span_of(axis: &Axis) -> u64
+    requires { IsTrue (is_good_axis axis.now) }
+    ensures span { result ≡ nat_abs (axis.now.high -ℤ axis.now.low) }
+    ensures within { result ≤ 2 * 10 ^ 12 }
+    ensures some { 2 ≤ axis.now.points }
+{
+    (axis.high - axis.low) as u64
+}
+
+/// The number at a place of a good axis, in thousandths of the unit.
+pub(crate) fn number_at(axis: &Axis, place: u32) -> i64
+    requires good { IsTrue (is_good_axis axis.now) }
+    requires place { place < axis.now.points }
+    requires few { axis.now.points ≤ 2 ^ 22 }
+    ensures { result ≡ value_on axis.now place }
+{
+    axis.low + part_of(span_of(axis), place, axis.points) as i64
 }
 
 /// What stands past the last axis of a domain: an axis of one point.

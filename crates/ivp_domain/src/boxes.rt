@@ -1,5 +1,5 @@
 ghost use Rattle.std.specs.Prelude.{◌≡◌, ℕ, ◌+◌, ◌*◌, ◌^◌, ◌<◌, ◌≤◌, ◌↔◌, length, IsTrue, IsNone, IfSome, false, ◌&&◌, slice_index};
-ghost use Rattle.ivp_domain.specs.Boxes.{has_point, is_box, meet_of, points_in, side_of, volume_of};
+ghost use Rattle.ivp_domain.specs.Boxes.{common, has_point, is_box, meet_of, points_in, side_of, volume_of};
 
 /// A point: its place on each axis, 0 past the last one.
 #[derive(Clone, Copy, Debug, PartialEq, Eq)]
@@ -14,28 +14,6 @@ pub struct BoxN {
     pub high: [u32; 4],
 }
 
-/// The common points of two boxes, as a box. `None` exactly where they share none.
-pub fn meet(a: &BoxN, b: &BoxN) -> Option<BoxN>
-    ensures exact { result ≡ meet_of a.now b.now }
-    ensures shared { IfSome result (λ area. (p : Point) → has_point area p ≡ (has_point a.now p && has_point b.now p)) }
-    ensures apart { IsNone result ↔ ((p : Point) → (has_point a.now p && has_point b.now p) ≡ false) }
-{
-    let low = [
-        a.low[0].max(b.low[0]),
-        a.low[1].max(b.low[1]),
-        a.low[2].max(b.low[2]),
-        a.low[3].max(b.low[3]),
-    ];
-    let high = [
-        a.high[0].min(b.high[0]),
-        a.high[1].min(b.high[1]),
-        a.high[2].min(b.high[2]),
-        a.high[3].min(b.high[3]),
-    ];
-    let area = BoxN { low, high };
-    if is_proper(&area) { Some(area) } else { None }
-}
-
 /// On each axis `low` is at most `high`.
 fn is_proper(area: &BoxN) -> bool
     ensures { result ≡ is_box area.now }
@@ -44,6 +22,36 @@ fn is_proper(area: &BoxN) -> bool
         && area.low[1] <= area.high[1]
         && area.low[2] <= area.high[2]
         && area.low[3] <= area.high[3]
+}
+
+/// From the greater low to the lesser high on each axis.
+fn common(a: &BoxN, b: &BoxN) -> BoxN
+    ensures { result ≡ common a.now b.now }
+{
+    BoxN {
+        low: [
+            a.low[0].max(b.low[0]),
+            a.low[1].max(b.low[1]),
+            a.low[2].max(b.low[2]),
+            a.low[3].max(b.low[3]),
+        ],
+        high: [
+            a.high[0].min(b.high[0]),
+            a.high[1].min(b.high[1]),
+            a.high[2].min(b.high[2]),
+            a.high[3].min(b.high[3]),
+        ],
+    }
+}
+
+/// The common points of two boxes, as a box. `None` exactly where they share none.
+pub fn meet(a: &BoxN, b: &BoxN) -> Option<BoxN>
+    ensures exact { result ≡ meet_of a.now b.now }
+    ensures shared { IfSome result (λ area. (p : Point) → has_point area p ≡ (has_point a.now p && has_point b.now p)) }
+    ensures apart { IsNone result ↔ ((p : Point) → (has_point a.now p && has_point b.now p) ≡ false) }
+{
+    let area = common(a, b);
+    if is_proper(&area) { Some(area) } else { None }
 }
 
 /// How many places a box has on an axis.

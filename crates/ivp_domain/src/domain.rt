@@ -3,7 +3,7 @@ ghost use Rattle.std.specs.List.{list_any};
 ghost use Rattle.ivp_domain.specs.Axes.{is_good_axis, no_axis, value_on};
 ghost use Rattle.ivp_domain.specs.Domains.{bad_place, domain_of, index_of, is_domain, is_point, points_of, repeated_place, same_name, size_of, size_on};
 
-use crate::axis::{Axis, filler, good_axis};
+use crate::axis::{Axis, filler, good_axis, number_at};
 use crate::boxes::Point;
 use std::marker::Model;
 
@@ -50,8 +50,7 @@ fn bad_place(axes: &[Axis]) -> Option<usize>
 
 /// Adds a factor to a product, up to one above the most points that a domain may have.
 fn times(product: u64, points: u32) -> u64
-    requires product { product ≤ MOST_POINTS + 1 }
-    requires points { 0 < points }
+    requires { product ≤ MOST_POINTS + 1 }
     ensures { result ≡ min (product * points) (MOST_POINTS + 1) }
 {
     (product * points as u64).min(MOST_POINTS + 1)
@@ -67,13 +66,24 @@ fn padded(axes: &[Axis]) -> [Axis; 4]
     all
 }
 
+/// How many places these axes make on an axis: one past the last.
+fn size_at(axes: &[Axis], axis: usize) -> u32
+    ensures { result ≡ size_on axis axes.now }
+{
+    match axes.get(axis) {
+        Some(one) => one.points,
+        None => 1,
+    }
+}
+
 /// At most as many points as a domain may have.
-fn few_points(axes: &[Axis; 4]) -> bool
-    requires { (k : ℕ) → k < 4 → 0 < (slice_index_or axes.now k no_axis).points }
+fn few_points(axes: &[Axis]) -> bool
     ensures { result ≡ nat_le (size_of axes.now) (2 ^ 22) }
 {
-    let two = times(axes[0].points as u64, axes[1].points);
-    times(times(two, axes[2].points), axes[3].points) <= MOST_POINTS
+    let one = times(1, size_at(axes, 0));
+    let two = times(one, size_at(axes, 1));
+    let three = times(two, size_at(axes, 2));
+    times(three, size_at(axes, 3)) <= MOST_POINTS
 }
 
 /// Two axes have the same name.
@@ -92,7 +102,8 @@ fn is_named_as_one(axes: &[Axis], axis: &Axis) -> bool
 
 /// The place of the first axis that is named as one before it.
 fn repeated_place(axes: &[Axis]) -> Option<usize>
-    ensures { result ≡ repeated_place axes.now }
+    ensures place { result ≡ repeated_place axes.now }
+    ensures within { IfSome result (λ place. place < length axes.now) }
 {
     for (place, axis) in axes.iter().enumerate() {
         if is_named_as_one(&axes[..place], axis) {
@@ -113,15 +124,14 @@ impl Domain {
         if let Some(place) = bad_place(axes) {
             return Err(DomainFault::BadAxis(place as u32));
         }
-        let all = padded(axes);
-        if !few_points(&all) {
+        if !few_points(axes) {
             return Err(DomainFault::TooLarge);
         }
         if let Some(place) = repeated_place(axes) {
             return Err(DomainFault::SameName(place as u32));
         }
         Ok(Domain {
-            axes: all,
+            axes: padded(axes),
             count: axes.len() as u32,
         })
     }
@@ -139,8 +149,19 @@ impl Domain {
         requires { a < length self.now }
         ensures axis { slice_get self.now a ≡ Some result }
         ensures good { IsTrue (is_good_axis result) }
+        ensures few { result.points ≤ 2 ^ 22 }
     {
         self.axes[a as usize]
+    }
+
+    /// How many places there are on an axis: one past the last.
+    fn size(&self, axis: usize) -> u32
+        requires { axis < 4 }
+        ensures size { result ≡ size_on axis self.now }
+        ensures some { 0 < result }
+        ensures lawful { IsTrue (is_domain self.now) }
+    {
+        size_at(&self.axes[..self.count as usize], axis)
     }
 
     /// The number of points.
@@ -149,7 +170,7 @@ impl Domain {
         ensures product { result ≡ size_of self.now }
         ensures bound { result ≤ 2 ^ 22 }
     {
-        self.axes[0].points * self.axes[1].points * self.axes[2].points * self.axes[3].points
+        self.size(0) * self.size(1) * self.size(2) * self.size(3)
     }
 
     /// The number at a place of an axis, in thousandths of the unit: `low + floor(i * (high - low)
@@ -159,8 +180,8 @@ impl Domain {
         requires place { i < size_on axis self.now }
         ensures { IfSome (slice_get self.now axis) (λ one. result ≡ value_on one i) }
     {
-        let one = self.axes[axis as usize];
-        one.low + i as i64 * (one.high - one.low) / (one.points as i64 - 1)
+        let one = self.axis(axis);
+        number_at(&one, i)
     }
 
     /// The index of a point: mixed radix, the first axis counting most. It is the place of the
@@ -170,9 +191,9 @@ impl Domain {
         ensures index { result ≡ index_of self.now p.now }
         ensures listed { slice_get (points_of self.now) result ≡ Some p.now }
     {
-        let [one, two, three, four] = p.at;
-        ((one * self.axes[1].points + two) * self.axes[2].points + three) * self.axes[3].points
-            + four
+        let two = p.at[0] * self.size(1) + p.at[1];
+        let three = two * self.size(2) + p.at[2];
+        three * self.size(3) + p.at[3]
     }
 
     /// The point of an index, the inverse of `index_of`.
@@ -182,14 +203,16 @@ impl Domain {
         ensures index { index_of self.now result ≡ index }
         ensures inside { IsTrue (is_point self.now result) }
     {
-        let four = index % self.axes[3].points;
-        let rest = index / self.axes[3].points;
-        let three = rest % self.axes[2].points;
-        let rest = rest / self.axes[2].points;
-        let two = rest % self.axes[1].points;
-        let one = rest / self.axes[1].points;
+        let three = index / self.size(3);
+        let two = three / self.size(2);
+        let one = two / self.size(1);
         Point {
-            at: [one, two, three, four],
+            at: [
+                one,
+                two % self.size(1),
+                three % self.size(2),
+                index % self.size(3),
+            ],
         }
     }
 }
