@@ -10,7 +10,7 @@ use Rattle.std.proofs.lemmas.Bool.Decides.{nat_tests}
 use Rattle.ivp_domain.specs.declared.axis.Axis.{Axis}
 use Rattle.ivp_domain.specs.declared.boxes.Point.{Point}
 use Rattle.ivp_domain.specs.Axes.{is_good_axis}
-use Rattle.ivp_domain.specs.Boxes.{point_of, side_of}
+use Rattle.ivp_domain.specs.Boxes.{point_of, side_of, volume_of}
 use Rattle.ivp_domain.specs.Domains.{index_of, is_domain, is_point, points_of, repeated_place, size_of, size_of_axis, size_on, whole}
 use Rattle.ivp_domain.proofs.Ranges.{four}
 use Rattle.ivp_domain.proofs.BoxLemmas.{length-points_in, product_part, slice_get-points_in}
@@ -46,6 +46,9 @@ positive axes h k = size_positive axes (good_axes axes h) k
 -- the box of all points has the domain's sizes
 side_of-whole : (axes : List Axis) → is_domain axes ≡ true → (side_of 0 (whole axes) ≡ size_on 0 axes) × (side_of 1 (whole axes) ≡ size_on 1 axes) × (side_of 2 (whole axes) ≡ size_on 2 axes) × (side_of 3 (whole axes) ≡ size_on 3 axes)
 side_of-whole axes h = (omega (arith, positive axes h 0), omega (arith, positive axes h 1), omega (arith, positive axes h 2), omega (arith, positive axes h 3))
+
+pub volume_of-whole : (axes : List Axis) → is_domain axes ≡ true → volume_of (whole axes) ≡ size_of axes
+volume_of-whole axes h = let e = side_of-whole axes h in rw (e.0, e.1, e.2, e.3) refl
 
 pub length-points_of : (axes : List Axis) → is_domain axes ≡ true → length (points_of axes) ≡ size_of axes
 length-points_of axes h =

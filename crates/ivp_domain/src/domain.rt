@@ -1,7 +1,8 @@
 ghost use Rattle.std.specs.Prelude.{◌≡◌, ℕ, ◌+◌, ◌*◌, ◌^◌, ◌<◌, ◌≤◌, List, [], ◌∷◌, ◌++◌, length, take, replicate, Some, IsTrue, IfSome, min, nat_le, slice_get, slice_index_or, ◌-◌};
 ghost use Rattle.std.specs.List.{list_any};
 ghost use Rattle.ivp_domain.specs.Axes.{is_good_axis, no_axis, value_on};
-ghost use Rattle.ivp_domain.specs.Domains.{bad_place, domain_of, index_of, is_domain, is_point, points_of, repeated_place, same_name, size_of, size_on};
+ghost use Rattle.ivp_domain.specs.Boxes.{is_box, volume_of};
+ghost use Rattle.ivp_domain.specs.Domains.{bad_place, domain_of, index_of, is_domain, is_point, points_of, repeated_place, same_name, size_of, size_on, whole};
 
 use crate::axis::{Axis, filler, good_axis, number_at};
 use crate::boxes::Point;
@@ -169,6 +170,8 @@ impl Domain {
         ensures points { result ≡ length (points_of self.now) }
         ensures product { result ≡ size_of self.now }
         ensures bound { result ≤ 2 ^ 22 }
+        ensures volume { result ≡ volume_of (whole self.now) }
+        ensures proper { IsTrue (is_box (whole self.now)) }
     {
         self.size(0) * self.size(1) * self.size(2) * self.size(3)
     }

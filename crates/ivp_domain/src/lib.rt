@@ -17,3 +17,6 @@ pub use axis::{Axis, AxisName};
 pub use boxes::{BoxN, Point, meet, volume};
 pub use domain::{Domain, DomainFault};
 pub use steps::Steps;
+
+#[cfg(test)]
+mod tests;

@@ -1,0 +1,4 @@
+pub mod Pieces
+pub mod Covering
+pub mod Functions
+pub mod Making

@@ -1,0 +1,180 @@
+ghost use Rattle.std.specs.Prelude.{◌≡◌, ◌≢◌, ℕ, ◌-◌, ◌*◌, ◌^◌, ◌<◌, ◌≤◌, length, IsTrue, IfSome, IfNone, nat_lt, slice_index};
+ghost use Rattle.ivp_domain.specs.Boxes.{has_point, is_box, volume_of};
+ghost use Rattle.ivp_domain.specs.Domains.{is_point, size_on, whole};
+ghost use Rattle.ivp_func.specs.Covering.{covered_in, shared_with, CutOn, SameOn, Shorter};
+ghost use Rattle.ivp_func.specs.Functions.{IsPartition};
+ghost use Rattle.ivp_func.specs.Pieces.{are_pieces_of, count_at, holds};
+
+use crate::piece::{Piece, holds};
+use ivp_domain::{BoxN, Domain, Point, meet, volume};
+
+/// How many of the pieces hold the point.
+pub(crate) fn count(pieces: &[Piece], point: &Point) -> u32
+    requires { length pieces.now ≤ 4096 }
+    ensures { result ≡ count_at pieces.now point.now }
+{
+    pieces.iter().filter(|piece| holds(piece, point)).count() as u32
+}
+
+/// A point of the piece that one of these holds too.
+fn meeting(pieces: &[Piece], piece: &Piece) -> Option<Point>
+    ensures some { IfSome result (λ p. IsTrue (holds p piece.now) × (0 < count_at pieces.now p)) }
+    ensures none { IfNone result ((p : Point) → IsTrue (holds p piece.now) → count_at pieces.now p ≡ 0) }
+{
+    for other in pieces {
+        if let Some(area) = meet(&other.area, &piece.area) {
+            return Some(Point { at: area.low });
+        }
+    }
+    None
+}
+
+/// A point that several pieces hold.
+fn overlap(pieces: &[Piece]) -> Option<Point>
+    ensures some { IfSome result (λ p. 1 < count_at pieces.now p) }
+    ensures none { IfNone result ((p : Point) → count_at pieces.now p ≤ 1) }
+{
+    for (place, piece) in pieces.iter().enumerate() {
+        if let Some(point) = meeting(&pieces[..place], piece) {
+            return Some(point);
+        }
+    }
+    None
+}
+
+/// How many points the box and the piece have in common.
+fn shared(area: &BoxN, piece: &Piece) -> u64
+    requires proper { IsTrue (is_box area.now) }
+    requires few { volume_of area.now ≤ 2 ^ 22 }
+    ensures shared { result ≡ shared_with area.now piece.now }
+    ensures within { result ≤ 2 ^ 22 }
+{
+    match meet(area, &piece.area) {
+        Some(both) => volume(&both),
+        None => 0,
+    }
+}
+
+/// How many points of the box the pieces hold, each counted for itself.
+fn covered(area: &BoxN, pieces: &[Piece]) -> u64
+    requires proper { IsTrue (is_box area.now) }
+    requires few { volume_of area.now ≤ 2 ^ 22 }
+    requires pieces { length pieces.now ≤ 4096 }
+    ensures { result ≡ covered_in area.now pieces.now }
+{
+    let mut sum = 0;
+    for piece in pieces {
+        sum += shared(area, piece);
+    }
+    sum
+}
+
+/// Whether the pieces cover less than the box has.
+fn is_short(area: &BoxN, pieces: &[Piece]) -> bool
+    requires proper { IsTrue (is_box area.now) }
+    requires few { volume_of area.now ≤ 2 ^ 22 }
+    requires pieces { length pieces.now ≤ 4096 }
+    ensures { result ≡ nat_lt (covered_in area.now pieces.now) (volume_of area.now) }
+{
+    covered(area, pieces) < volume(area)
+}
+
+/// The first axis on which the box has more than one place.
+fn wide_axis(area: &BoxN) -> Option<usize>
+    ensures some { IfSome result (λ k. (k < 4) × (slice_index area.now.low k < slice_index area.now.high k)) }
+    ensures none { IfNone result ((k : ℕ) → k < 4 → slice_index area.now.high k ≤ slice_index area.now.low k) }
+{
+    for axis in 0..4 {
+        if area.low[axis] < area.high[axis] {
+            return Some(axis);
+        }
+    }
+    None
+}
+
+/// The lower and the upper half of a box along an axis.
+fn halves(area: &BoxN, axis: usize) -> (BoxN, BoxN)
+    requires axis { axis < 4 }
+    requires wide { slice_index area.now.low axis < slice_index area.now.high axis }
+    ensures cut { CutOn axis area.now result.0 result.1 }
+    ensures same { (k : ℕ) → k ≢ axis → SameOn k area.now result.0 result.1 }
+{
+    let middle = area.low[axis] + (area.high[axis] - area.low[axis]) / 2;
+    let mut left = *area;
+    left.high[axis] = middle;
+    let mut right = *area;
+    right.low[axis] = middle + 1;
+    (left, right)
+}
+
+/// A half of the box that is covered short, where the box is.
+fn short_half(area: &BoxN, axis: usize, pieces: &[Piece]) -> BoxN
+    requires axis { axis < 4 }
+    requires wide { slice_index area.now.low axis < slice_index area.now.high axis }
+    requires proper { IsTrue (is_box area.now) }
+    requires few { volume_of area.now ≤ 2 ^ 22 }
+    requires pieces { length pieces.now ≤ 4096 }
+    requires short { covered_in area.now pieces.now < volume_of area.now }
+    ensures { Shorter pieces.now area.now result }
+{
+    let (left, right) = halves(area, axis);
+    if is_short(&left, pieces) { left } else { right }
+}
+
+/// A point of the box that no piece holds, where the pieces cover less than the box has.
+fn gap(area: BoxN, pieces: &[Piece]) -> Option<Point>
+    requires proper { IsTrue (is_box area) }
+    requires few { volume_of area ≤ 2 ^ 22 }
+    requires pieces { length pieces.now ≤ 4096 }
+    ensures some { IfSome result (λ p. IsTrue (has_point area p) × (count_at pieces.now p ≡ 0)) }
+    ensures none { IfNone result (volume_of area ≤ covered_in area pieces.now) }
+{
+    if !is_short(&area, pieces) {
+        return None;
+    }
+    let mut short = area;
+    while let Some(axis) = wide_axis(&short) {
+        short = short_half(&short, axis, pieces);
+    }
+    Some(Point { at: short.low })
+}
+
+/// The last place of the domain on an axis.
+fn last_place(domain: &Domain, axis: u32) -> u32
+    ensures { result ≡ size_on axis domain.now - 1 }
+{
+    if axis < domain.axes() {
+        domain.axis(axis).points - 1
+    } else {
+        0
+    }
+}
+
+/// The box of all points of the domain.
+fn whole(domain: &Domain) -> BoxN
+    ensures { result ≡ whole domain.now }
+{
+    BoxN {
+        low: [0; 4],
+        high: [
+            last_place(domain, 0),
+            last_place(domain, 1),
+            last_place(domain, 2),
+            last_place(domain, 3),
+        ],
+    }
+}
+
+/// A point of the domain that no piece holds, or several.
+pub(crate) fn misfit(domain: &Domain, pieces: &[Piece]) -> Option<Point>
+    requires few { length pieces.now ≤ 4096 }
+    requires fit { IsTrue (are_pieces_of domain.now pieces.now) }
+    ensures some { IfSome result (λ p. IsTrue (is_point domain.now p) × (count_at pieces.now p ≢ 1)) }
+    ensures none { IfNone result (IsPartition domain.now pieces.now) }
+{
+    if let Some(point) = overlap(pieces) {
+        return Some(point);
+    }
+    let _points = domain.points();
+    gap(whole(domain), pieces)
+}

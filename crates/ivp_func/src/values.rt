@@ -1,0 +1,98 @@
+ghost use Rattle.std.specs.Prelude.{◌≡◌, ◌≤ℤ◌, false, IsTrue, IfSome, IfNone};
+ghost use Rattle.ivp_domain.specs.Boxes.{is_box};
+ghost use Rattle.ivp_domain.specs.Domains.{is_point};
+ghost use Rattle.ivp_func.specs.Functions.{HasValues, IsPartition, IsTop};
+ghost use Rattle.ivp_func.specs.Pieces.{are_pieces_of, holds, is_small, is_value, value_at, value_of};
+
+use crate::piece::{Piece, holds, value};
+use ivp_domain::{Domain, Point};
+
+/// The greatest value that a function may have.
+const MOST: i64 = 100_000;
+
+/// The value at a point: that of the first piece that holds it, 0 where none does.
+pub(crate) fn value_at(domain: &Domain, pieces: &[Piece], point: &Point) -> i64
+    requires { IsTrue (are_pieces_of domain.now pieces.now) }
+    ensures { result ≡ value_at pieces.now point.now }
+{
+    match pieces.iter().find(|piece| holds(piece, point)) {
+        Some(piece) => value(piece, point),
+        None => 0,
+    }
+}
+
+/// The corner of the piece's box where its value is greatest.
+fn high_corner(piece: &Piece) -> Point
+    requires { IsTrue (is_box piece.now.area) }
+    ensures inside { IsTrue (holds result piece.now) }
+    ensures greatest { (p : Point) → IsTrue (holds p piece.now) → value_of piece.now p ≤ℤ value_of piece.now result }
+{
+    let mut point = Point { at: piece.area.low };
+    for axis in 0..4 {
+        if piece.slope[axis] > 0 {
+            point.at[axis] = piece.area.high[axis];
+        }
+    }
+    point
+}
+
+/// The corner of the piece's box where its value is least.
+fn low_corner(piece: &Piece) -> Point
+    requires { IsTrue (is_box piece.now.area) }
+    ensures inside { IsTrue (holds result piece.now) }
+    ensures least { (p : Point) → IsTrue (holds p piece.now) → value_of piece.now result ≤ℤ value_of piece.now p }
+{
+    let mut point = Point { at: piece.area.low };
+    for axis in 0..4 {
+        if piece.slope[axis] < 0 {
+            point.at[axis] = piece.area.high[axis];
+        }
+    }
+    point
+}
+
+/// A point of the piece whose value is out of range.
+fn out_in(piece: &Piece) -> Option<Point>
+    requires proper { IsTrue (is_box piece.now.area) }
+    requires small { IsTrue (is_small piece.now) }
+    ensures some { IfSome result (λ p. IsTrue (holds p piece.now) × (is_value (value_of piece.now p) ≡ false)) }
+    ensures none { IfNone result ((p : Point) → IsTrue (holds p piece.now) → IsTrue (is_value (value_of piece.now p))) }
+{
+    let high = high_corner(piece);
+    if value(piece, &high) > MOST {
+        return Some(high);
+    }
+    let low = low_corner(piece);
+    if value(piece, &low) < 0 {
+        return Some(low);
+    }
+    None
+}
+
+/// A point of the domain where the value is out of range.
+pub(crate) fn point_out(domain: &Domain, pieces: &[Piece]) -> Option<Point>
+    requires fit { IsTrue (are_pieces_of domain.now pieces.now) }
+    requires partition { IsPartition domain.now pieces.now }
+    ensures some { IfSome result (λ p. IsTrue (is_point domain.now p) × (is_value (value_at pieces.now p) ≡ false)) }
+    ensures none { IfNone result (HasValues domain.now pieces.now) }
+{
+    for piece in pieces {
+        if let Some(point) = out_in(piece) {
+            return Some(point);
+        }
+    }
+    None
+}
+
+/// The greatest value.
+pub(crate) fn top(domain: &Domain, pieces: &[Piece]) -> i64
+    requires fit { IsTrue (are_pieces_of domain.now pieces.now) }
+    requires partition { IsPartition domain.now pieces.now }
+    ensures { IsTop domain.now pieces.now result }
+{
+    let mut top = value_at(domain, pieces, &Point { at: [0; 4] });
+    for piece in pieces {
+        top = top.max(value(piece, &high_corner(piece)));
+    }
+    top
+}
