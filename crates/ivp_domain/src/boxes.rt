@@ -47,6 +47,7 @@ fn common(a: &BoxN, b: &BoxN) -> BoxN
 /// The common points of two boxes, as a box. `None` exactly where they share none.
 pub fn meet(a: &BoxN, b: &BoxN) -> Option<BoxN>
     ensures exact { result ≡ meet_of a.now b.now }
+    ensures proper { IfSome result (λ area. IsTrue (is_box area)) }
     ensures shared { IfSome result (λ area. (p : Point) → has_point area p ≡ (has_point a.now p && has_point b.now p)) }
     ensures apart { IsNone result ↔ ((p : Point) → (has_point a.now p && has_point b.now p) ≡ false) }
 {

@@ -1,0 +1,5 @@
+pub mod Facts
+pub mod Counting
+pub mod Cover
+pub mod Bounds
+pub mod Rises

@@ -16,6 +16,13 @@ pub(crate) fn count(pieces: &[Piece], point: &Point) -> u32
     pieces.iter().filter(|piece| holds(piece, point)).count() as u32
 }
 
+/// The point of a box with the least index.
+fn first_point(area: &BoxN) -> Point
+    ensures { result.at ≡ area.now.low }
+{
+    Point { at: area.low }
+}
+
 /// A point of the piece that one of these holds too.
 fn meeting(pieces: &[Piece], piece: &Piece) -> Option<Point>
     ensures some { IfSome result (λ p. IsTrue (holds p piece.now) × (0 < count_at pieces.now p)) }
@@ -23,7 +30,7 @@ fn meeting(pieces: &[Piece], piece: &Piece) -> Option<Point>
 {
     for other in pieces {
         if let Some(area) = meet(&other.area, &piece.area) {
-            return Some(Point { at: area.low });
+            return Some(first_point(&area));
         }
     }
     None
@@ -136,7 +143,7 @@ fn gap(area: BoxN, pieces: &[Piece]) -> Option<Point>
     while let Some(axis) = wide_axis(&short) {
         short = short_half(&short, axis, pieces);
     }
-    Some(Point { at: short.low })
+    Some(first_point(&short))
 }
 
 /// The last place of the domain on an axis.

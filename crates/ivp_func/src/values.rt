@@ -1,8 +1,8 @@
-ghost use Rattle.std.specs.Prelude.{◌≡◌, ◌≤ℤ◌, false, IsTrue, IfSome, IfNone};
+ghost use Rattle.std.specs.Prelude.{◌≡◌, ℕ, ◌<◌, ◌≤◌, pos, ◌*ℤ◌, ◌≤ℤ◌, slice_index, false, IsTrue, IfSome, IfNone};
 ghost use Rattle.ivp_domain.specs.Boxes.{is_box};
 ghost use Rattle.ivp_domain.specs.Domains.{is_point};
 ghost use Rattle.ivp_func.specs.Functions.{HasValues, IsPartition, IsTop};
-ghost use Rattle.ivp_func.specs.Pieces.{are_pieces_of, holds, is_small, is_value, value_at, value_of};
+ghost use Rattle.ivp_func.specs.Pieces.{are_pieces_of, holds, is_small, is_value, slope_on, value_at, value_of};
 
 use crate::piece::{Piece, holds, value};
 use ivp_domain::{Domain, Point};
@@ -21,19 +21,49 @@ pub(crate) fn value_at(domain: &Domain, pieces: &[Piece], point: &Point) -> i64
     }
 }
 
+/// The place of a box on an axis where a piece rises to its most there.
+fn high_place(piece: &Piece, axis: usize) -> u32
+    requires axis { axis < 4 }
+    requires some { slice_index piece.now.area.low axis ≤ slice_index piece.now.area.high axis }
+    ensures low { slice_index piece.now.area.low axis ≤ result }
+    ensures high { result ≤ slice_index piece.now.area.high axis }
+    ensures most { (x : ℕ) → slice_index piece.now.area.low axis ≤ x → x ≤ slice_index piece.now.area.high axis → (slope_on axis piece.now *ℤ pos x) ≤ℤ (slope_on axis piece.now *ℤ pos result) }
+{
+    if piece.slope[axis] > 0 {
+        piece.area.high[axis]
+    } else {
+        piece.area.low[axis]
+    }
+}
+
+/// The place of a box on an axis where a piece falls to its least there.
+fn low_place(piece: &Piece, axis: usize) -> u32
+    requires axis { axis < 4 }
+    requires some { slice_index piece.now.area.low axis ≤ slice_index piece.now.area.high axis }
+    ensures low { slice_index piece.now.area.low axis ≤ result }
+    ensures high { result ≤ slice_index piece.now.area.high axis }
+    ensures least { (x : ℕ) → slice_index piece.now.area.low axis ≤ x → x ≤ slice_index piece.now.area.high axis → (slope_on axis piece.now *ℤ pos result) ≤ℤ (slope_on axis piece.now *ℤ pos x) }
+{
+    if piece.slope[axis] > 0 {
+        piece.area.low[axis]
+    } else {
+        piece.area.high[axis]
+    }
+}
+
 /// The corner of the piece's box where its value is greatest.
 fn high_corner(piece: &Piece) -> Point
     requires { IsTrue (is_box piece.now.area) }
     ensures inside { IsTrue (holds result piece.now) }
     ensures greatest { (p : Point) → IsTrue (holds p piece.now) → value_of piece.now p ≤ℤ value_of piece.now result }
 {
-    let mut point = Point { at: piece.area.low };
-    for axis in 0..4 {
-        if piece.slope[axis] > 0 {
-            point.at[axis] = piece.area.high[axis];
-        }
+    let one = high_place(piece, 0);
+    let two = high_place(piece, 1);
+    let three = high_place(piece, 2);
+    let four = high_place(piece, 3);
+    Point {
+        at: [one, two, three, four],
     }
-    point
 }
 
 /// The corner of the piece's box where its value is least.
@@ -42,13 +72,13 @@ fn low_corner(piece: &Piece) -> Point
     ensures inside { IsTrue (holds result piece.now) }
     ensures least { (p : Point) → IsTrue (holds p piece.now) → value_of piece.now result ≤ℤ value_of piece.now p }
 {
-    let mut point = Point { at: piece.area.low };
-    for axis in 0..4 {
-        if piece.slope[axis] < 0 {
-            point.at[axis] = piece.area.high[axis];
-        }
+    let one = low_place(piece, 0);
+    let two = low_place(piece, 1);
+    let three = low_place(piece, 2);
+    let four = low_place(piece, 3);
+    Point {
+        at: [one, two, three, four],
     }
-    point
 }
 
 /// A point of the piece whose value is out of range.
