@@ -1,3 +1,4 @@
 pub mod Files
 pub mod Pieces
 mod Rows
+pub mod Writing

@@ -5,3 +5,4 @@ pub mod Pieces
 pub mod SinkState
 pub mod Puts
 pub mod Loads
+pub mod Writing

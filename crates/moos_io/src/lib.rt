@@ -4,10 +4,12 @@
 //! memory. The contract for the layers above: what a folder or a sink tells is what was read and what was written,
 //! and it fails only where its count of faults rose.
 //!
-//! Reading order: `folder`, `sink` and `gate` have the traits and `put_all`; `mem_folder` and `mem_sink` keep them in
-//! memory; `dir_folder` and `out_sink` are the few lines that meet the real system.
+//! Reading order: `folder`, `sink` and `gate` have the traits and `put_all`; `buffer` gathers bytes on their way to a
+//! sink; `mem_folder` and `mem_sink` keep folders and sinks in memory; `dir_folder` and `out_sink` are the few lines that
+//! meet the real system.
 #![tactic(auto)]
 
+mod buffer;
 mod dir_folder;
 mod folder;
 mod gate;
@@ -16,6 +18,7 @@ mod mem_sink;
 mod out_sink;
 mod sink;
 
+pub use buffer::Buffer;
 pub use dir_folder::{DirFolder, MAX_FILE_LEN};
 pub use folder::{Folder, LoadFault};
 pub use gate::{Gate, NoGate};
