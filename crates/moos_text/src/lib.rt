@@ -13,3 +13,6 @@ pub use cause::{Cause, Limit, ReadFault};
 pub use line::{Line, next_line};
 pub use milli_text::{MilliText, print_milli};
 pub use number::read_milli;
+
+#[cfg(test)]
+mod tests;

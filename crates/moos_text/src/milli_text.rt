@@ -1,4 +1,4 @@
-ghost use Rattle.std.specs.Prelude.{◌≡◌, ◌++◌, codes, ◌<◌, ◌≤◌, ◌^◌, drop, length, decimal, Some};
+ghost use Rattle.std.specs.Prelude.{◌≡◌, ◌++◌, codes, ◌<◌, ◌≤◌, ◌^◌, drop, length, Some};
 ghost use Rattle.moos_post.specs.Words.{IsMilli};
 ghost use Rattle.moos_text.specs.Numbers.{decimals_text, unsigned_text, milli_text, milli_of};
 
@@ -46,8 +46,7 @@ pub fn print_milli(value: Milli) -> MilliText
     ensures text { result ≡ milli_text value }
     ensures read_back { milli_of result ≡ Some value }
 {
-    let text = print_signed(value.get());
-    text
+    print_signed(value.get())
 }
 
 fn print_signed(thousandths: i64) -> MilliText

@@ -1,0 +1,114 @@
+// What each call gives, on values worked by hand.
+use crate::{Cause, Limit, Line, next_line, print_milli, read_milli};
+use moos_post::Milli;
+use std::test::Fail;
+
+#[test]
+fn numbers(rt: HostRuntime) {
+    for (text, thousandths) in [
+        (b"2.5".as_slice(), Some(2_500)),
+        (b"-0.0009", Some(0)),
+        (b"-0.001", Some(-1)),
+        (b"-1.0589", Some(-1_058)),
+        (b"+.5", Some(500)),
+        (b"5.", Some(5_000)),
+        (
+            b"0000000000000000000000000000007.00000000000000000000000000000001",
+            Some(7_000),
+        ),
+        (b"1000000000", Some(1_000_000_000_000)),
+        (b"1000000000.0009", Some(1_000_000_000_000)),
+        (b"-1000000000.000", Some(-1_000_000_000_000)),
+        (b"1000000000.001", None),
+        (b"-1000000001", None),
+        (b"340282366920938463463374607431768211457", None),
+        (b"1e3", None),
+        (b"1.2.3", None),
+        (b"1.2x", None),
+        (b"1-", None),
+        (b"+-1", None),
+        (b" 1", None),
+        (b"-", None),
+        (b"+", None),
+        (b".", None),
+        (b"-.", None),
+        (b"", None),
+    ] {
+        assert_eq!(rt;
+            read_milli(text).map(|milli| milli.get()),
+            thousandths,
+            "{text:?}"
+        );
+    }
+}
+
+#[test]
+fn printed(rt: HostRuntime) -> Result<(), Fail> {
+    for (thousandths, text) in [
+        (0, b"0".as_slice()),
+        (7, b"0.007"),
+        (-50, b"-0.05"),
+        (500, b"0.5"),
+        (40_000, b"40"),
+        (-1_050, b"-1.05"),
+        (123_456, b"123.456"),
+        (1_000_000_000_000, b"1000000000"),
+        (-999_999_999_999, b"-999999999.999"),
+    ] {
+        let number = Milli::new(thousandths).ok_or("no number")?;
+        let printed = print_milli(number);
+        assert_eq!(rt; printed.bytes(), text);
+    }
+    Ok(())
+}
+
+#[test]
+fn lines(rt: HostRuntime) {
+    let bytes = b"a b\r\n\n// c\nx \"//\" // d\r\ny \"z // e\n/ \r f\r".as_slice();
+    let mut from = 0;
+    for (to, unclosed, next) in [
+        (3, false, 5),
+        (5, false, 6),
+        (6, false, 11),
+        (18, false, 24),
+        (33, true, 34),
+        (39, false, 40),
+    ] {
+        assert!(rt; from <= bytes.len());
+        let line = next_line(bytes, from);
+        let expected = Line {
+            from,
+            to,
+            unclosed,
+            next,
+        };
+        assert_eq!(rt; line, expected);
+        from = line.next;
+    }
+    assert_eq!(rt; from, bytes.len());
+    let past = next_line(b"", 0);
+    assert_eq!(rt; (past.to, past.unclosed, past.next), (0, false, 0));
+}
+
+#[test]
+fn causes(rt: HostRuntime) {
+    for (cause, text) in [
+        (Cause::S0, "S0 FirstForm"),
+        (Cause::S2, "S2 StampGoesBack"),
+        (Cause::S8(Limit::Lines), "S8 Lines"),
+        (Cause::S8(Limit::Clients), "S8 Clients"),
+        (Cause::S8(Limit::Registrations), "S8 Registrations"),
+        (Cause::S8(Limit::Batch), "S8 Batch"),
+        (Cause::S8(Limit::Text), "S8 Text"),
+        (Cause::S8(Limit::Variables), "S8 Variables"),
+        (Cause::S11, "S11 OwnName"),
+        (Cause::M8, "M8 TooManyTicks"),
+        (Cause::B11, "B11 ParamMissing"),
+        (Cause::P10, "P10 BadPoint"),
+        (Cause::G4, "G4 NameTooLong"),
+        (Cause::V2, "V2 BadNumber"),
+        (Cause::C3, "C3 BadRanges"),
+    ] {
+        assert_eq!(rt; cause.text(), text);
+    }
+}
