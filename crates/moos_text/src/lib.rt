@@ -8,11 +8,13 @@ mod cause;
 mod line;
 mod milli_text;
 mod number;
+mod word;
 
 pub use cause::{Cause, Limit, ReadFault};
 pub use line::{Line, next_line};
 pub use milli_text::{MilliText, print_milli};
 pub use number::read_milli;
+pub use word::{is_blank, next_word};
 
 #[cfg(test)]
 mod tests;
