@@ -1,12 +1,12 @@
 -- Lines one after another, and what of a line counts byte by byte.
-use Rattle.std.proofs.Common.{◌≡◌, ◌≢◌, ℕ, zero, suc, ◌+◌, ◌-◌, ◌<◌, ◌≤◌, Bool, true, false, ◌&&◌, ◌==◌, List, [], ◌∷◌, ◌++◌, length, take, drop, get_or, refl, ap, ◌∙◌, sym, arith, one-add, add-one, append-nil, append_assoc}
+use Rattle.std.proofs.Common.{◌≡◌, ℕ, suc, ◌+◌, ◌<◌, ◌≤◌, Bool, true, false, ◌&&◌, ◌==◌, List, [], ◌∷◌, ◌++◌, length, take, drop, get_or, refl, ap, ◌∙◌, sym, arith, one-add, add-one, append-nil, append_assoc}
 use Rattle.std.specs.Prelude.{not}
 use Rattle.std.proofs.Math.ListN.{drop_of_length-le}
 use Rattle.std.proofs.lemmas.List.Folds.{length-prefix_len}
 use Rattle.std.specs.List.{after_first, position_or_len}
 use Rattle.std.proofs.lemmas.List.{take_more, drop_more, drop-drop, length-drop}
 use Rattle.std.proofs.lemmas.List.Sums.{prefix_len-le-length}
-use Rattle.moos_text.specs.Lines.{raw_lines, onto_first, first_line, without_return, begins_comment, is_quoted_after, uncommented}
+use Rattle.moos_text.specs.Lines.{raw_lines, onto_first, first_line, begins_comment, is_quoted_after, uncommented}
 
 -- the lines of a file that isn't empty: its first, and those behind the first line feed
 split_line : (feeds : Bool) (byte : ℕ) (rest : List ℕ) → (byte == 10) ≡ feeds → raw_lines (byte ∷ rest) ≡ first_line (byte ∷ rest) ∷ raw_lines (after_first (λ b. b == 10) (byte ∷ rest))
@@ -26,27 +26,6 @@ split_line false byte (next ∷ rest) e =
 pub line_at : (bytes : List ℕ) → 0 < length bytes → raw_lines bytes ≡ first_line bytes ∷ raw_lines (after_first (λ b. b == 10) bytes)
 line_at [] some = absurd (omega arith)
 line_at (byte ∷ rest) some = split_line (byte == 10) byte rest refl
-
-return_at : (count : ℕ) (line : List ℕ) → length line ≡ suc count → get_or line count 0 ≡ 13 → without_return line ≡ take count line
-return_at count [] long last = absurd (omega arith)
-return_at zero (byte ∷ []) long last = grind arith
-return_at zero (byte ∷ next ∷ rest) long last = absurd (omega arith)
-return_at (suc count) (byte ∷ []) long last = absurd (omega arith)
-return_at (suc count) (byte ∷ next ∷ rest) long last = ap (λ bytes. byte ∷ bytes) (return_at count (next ∷ rest) (omega arith) last)
-
-no_return_at : (count : ℕ) (line : List ℕ) → length line ≡ suc count → get_or line count 0 ≢ 13 → without_return line ≡ line
-no_return_at count [] long last = absurd (omega arith)
-no_return_at zero (byte ∷ []) long last = grind arith
-no_return_at zero (byte ∷ next ∷ rest) long last = absurd (omega arith)
-no_return_at (suc count) (byte ∷ []) long last = absurd (omega arith)
-no_return_at (suc count) (byte ∷ next ∷ rest) long last = ap (λ bytes. byte ∷ bytes) (no_return_at count (next ∷ rest) (omega arith) last)
-
--- a carriage return that is the last byte of a line, and another byte
-pub with_return : (line : List ℕ) → 0 < length line → get_or line (length line - 1) 0 ≡ 13 → without_return line ≡ take (length line - 1) line
-with_return line some last = return_at (length line - 1) line (omega arith) last
-
-pub no_return : (line : List ℕ) → 0 < length line → get_or line (length line - 1) 0 ≢ 13 → without_return line ≡ line
-no_return line some last = no_return_at (length line - 1) line (omega arith) last
 
 comment_ends : (text : List ℕ) → begins_comment text ≡ true → uncommented false text ≡ []
 comment_ends [] comment = refl

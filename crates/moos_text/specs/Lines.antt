@@ -16,11 +16,21 @@ raw_lines (byte ∷ bytes) = if byte == 10 then [] ∷ raw_lines bytes else onto
 abbrev pub first_line : List ℕ → List ℕ
 first_line bytes = before_first (λ byte. byte == 10) bytes
 
+-- the bytes end with this one
+abbrev pub ends_with : ℕ → List ℕ → Bool
+ends_with last [] = false
+ends_with last (byte ∷ []) = byte == last
+ends_with last (byte ∷ next ∷ rest) = ends_with last (next ∷ rest)
+
+-- the bytes, without this one where they end with it
+abbrev pub without_last : ℕ → List ℕ → List ℕ
+without_last last [] = []
+without_last last (byte ∷ []) = if byte == last then [] else byte ∷ []
+without_last last (byte ∷ next ∷ rest) = byte ∷ without_last last (next ∷ rest)
+
 -- a carriage return at the end of a line is dropped
 abbrev pub without_return : List ℕ → List ℕ
-without_return [] = []
-without_return (byte ∷ []) = if byte == 13 then [] else byte ∷ []
-without_return (byte ∷ next ∷ rest) = byte ∷ without_return (next ∷ rest)
+without_return line = without_last 13 line
 
 -- a `"` opens a quote, or closes the one that is open
 abbrev pub is_quoted_after : Bool → ℕ → Bool

@@ -1,6 +1,8 @@
 ghost use Rattle.std.specs.Prelude.{◌≡◌, ◌+◌, ◌<◌, ◌≤◌, ◌==◌, ◌∷◌, false, length, take, drop, slice_range, position};
 ghost use Rattle.std.specs.List.{position_or_len};
-ghost use Rattle.moos_text.specs.Lines.{raw_lines, first_line, without_return, begins_comment, is_quoted_after, uncommented, content_of, is_unclosed};
+ghost use Rattle.moos_text.specs.Lines.{raw_lines, first_line, begins_comment, is_quoted_after, uncommented, content_of, is_unclosed};
+
+use crate::end::without_last;
 
 /// One line of a file.
 #[derive(Clone, Copy, Debug, PartialEq, Eq)]
@@ -29,7 +31,7 @@ pub fn next_line(bytes: &[u8], from: usize) -> Line
     ensures further { from < length bytes.now → from < result.next }
 {
     let line = first_line(bytes, from);
-    let content = content_of(without_return(line));
+    let content = content_of(without_last(line, b'\r'));
     let end = from + line.len();
     Line {
         from,
@@ -70,23 +72,6 @@ fn line_feed(bytes: &[u8]) -> Option<usize>
     ensures { result ≡ position (λ byte. byte == 10) bytes.now }
 {
     bytes.iter().position(|&byte| byte == b'\n')
-}
-
-#[tactic(auto, using(crate::proofs::LineSteps::with_return, crate::proofs::LineSteps::no_return))]
-fn without_return(line: &[u8]) -> &[u8]
-    ensures value { result.now ≡ without_return line.now }
-    ensures front { result.now ≡ take (length result.now) line.now }
-    ensures within { length result.now ≤ length line.now }
-{
-    if line.len() == 0 {
-        return line;
-    }
-    let last = line.len() - 1;
-    if line[last] == b'\r' {
-        &line[..last]
-    } else {
-        line
-    }
 }
 
 // How many bytes of a line count, and whether a quote is open behind them.
