@@ -1,5 +1,5 @@
 -- Pairs of a variable and its value, as the lines of a file give them, and the parts of a line that gives several.
-use Rattle.std.specs.Prelude.{ℕ, ℤ, ◌+◌, Bool, ◌==◌, nat_lt, if◌then◌else◌, List, [], ◌∷◌, length, Option, Some, None, is_some, Result, Ok, Err}
+use Rattle.std.specs.Prelude.{ℕ, ℤ, ◌+◌, Bool, false, not, ◌&&◌, ◌==◌, nat_lt, if◌then◌else◌, List, [], ◌∷◌, length, Option, Some, None, is_some, Result, Ok, Err}
 use Rattle.std.specs.List.{before_first, after_first, position_or_len}
 use Rattle.moos_post.specs.Words.{is_name, bad_place}
 use Rattle.moos_post.specs.declared.value.Pair.{Pair}
@@ -7,7 +7,7 @@ use Rattle.moos_post.specs.declared.value.Value.{Value}
 use Rattle.moos_post.specs.declared.value.Value.TheVariants.{Num, Text}
 use Rattle.moos_text.specs.declared.pair.PairFault.{PairFault}
 use Rattle.moos_text.specs.declared.pair.PairFault.TheVariants.{NoEquals, BadName, BadValue, TooLong}
-use Rattle.moos_text.specs.Lines.{trimmed, without_last, ends_with}
+use Rattle.moos_text.specs.Lines.{trimmed, without_last, ends_with, is_quoted_after, onto_first}
 use Rattle.moos_text.specs.Numbers.{milli_of}
 
 abbrev pub is_equals : ℕ → Bool
@@ -53,3 +53,14 @@ pair_of text =
     if nat_lt (position_or_len is_equals text) (length text)
     then sides_pair (trimmed (without_last 58 side)) (ends_with 58 side) (trimmed (after_first is_equals text))
     else Err NoEquals
+
+-- the parts of a text from a place on, inside or outside quotes
+abbrev pub parts_from : Bool → List ℕ → List (List ℕ)
+parts_from quoted [] = [] ∷ []
+parts_from quoted (byte ∷ rest) =
+    if not quoted && byte == 35 then [] ∷ parts_from false rest
+    else onto_first byte (parts_from (is_quoted_after quoted byte) rest)
+
+-- The parts of a text that gives several: it is cut at each `#` outside quotes.
+abbrev pub parts_of : List ℕ → List (List ℕ)
+parts_of text = parts_from false text

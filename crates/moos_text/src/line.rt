@@ -109,7 +109,7 @@ fn begins_comment(bytes: &[u8]) -> bool
     matches!(bytes, [b'/', b'/', ..])
 }
 
-fn is_quoted_after(quoted: bool, byte: u8) -> bool
+pub(crate) fn is_quoted_after(quoted: bool, byte: u8) -> bool
     ensures { result ≡ is_quoted_after quoted byte }
 {
     if byte == b'"' { !quoted } else { quoted }

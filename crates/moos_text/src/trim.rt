@@ -1,5 +1,7 @@
 ghost use Rattle.std.specs.Prelude.{◌≡◌, reverse};
-ghost use Rattle.moos_text.specs.Lines.{is_blank, without_front_blanks, trimmed};
+ghost use Rattle.moos_text.specs.Lines.{without_front_blanks, trimmed};
+
+use crate::word::is_blank;
 
 // The bytes without the blanks at both ends.
 pub(crate) fn trimmed(bytes: &[u8]) -> &[u8]
@@ -30,10 +32,4 @@ fn without_back_blanks(bytes: &[u8]) -> &[u8]
         len -= 1;
     }
     &bytes[..len]
-}
-
-fn is_blank(byte: u8) -> bool
-    ensures { result ≡ is_blank byte }
-{
-    byte == b' ' || byte == b'\t'
 }
