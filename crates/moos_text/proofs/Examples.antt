@@ -1,9 +1,12 @@
 -- Lines, words and numbers worked by hand.
 use Rattle.std.proofs.Common.{◌≡◌, [], ◌∷◌, refl}
-use Rattle.std.specs.Prelude.{pos, negsuc, codes, Some, None, true}
+use Rattle.std.specs.Prelude.{pos, negsuc, codes, Some, None, Ok, Err, true}
 use Rattle.std.specs.Fmt.{digits}
 use Rattle.moos_text.specs.Lines.{raw_lines, content_of, is_unclosed, trimmed, words_of}
 use Rattle.moos_text.specs.Numbers.{milli_of, milli_text}
+use Rattle.moos_text.specs.Pairs.{pair_of, parts_of}
+use Rattle.moos_text.specs.declared.pair.PairFault.TheVariants.{BadName, BadValue}
+use Rattle.moos_post.specs.declared.value.Value.TheVariants.{Num, Text}
 
 lines_end : raw_lines (codes "a\nb\n") ≡ codes "a" ∷ codes "b" ∷ []
 lines_end = refl
@@ -61,3 +64,21 @@ printed_small = refl
 printed_whole : milli_text (pos 40000) ≡ codes "40"
 unfolding digits
 printed_whole = refl
+
+number_pair : pair_of (codes " X\t= -1.5 ") ≡ Ok (record { var = codes "X"; value = Num (negsuc 1499) })
+number_pair = refl
+
+text_pair : pair_of (codes "X:=1.5") ≡ Ok (record { var = codes "X"; value = Text (codes "1.5") })
+text_pair = refl
+
+quoted_pair : pair_of (codes "X=\" a=b \"") ≡ Ok (record { var = codes "X"; value = Text (codes " a=b ") })
+quoted_pair = refl
+
+third_quote : pair_of (codes "X=\"a\"\"") ≡ Err BadValue
+third_quote = refl
+
+apart_colon : pair_of (codes "X : = 1") ≡ Err BadName
+apart_colon = refl
+
+three_parts : parts_of (codes "A=\"#\"#B=1#") ≡ codes "A=\"#\"" ∷ codes "B=1" ∷ [] ∷ []
+three_parts = refl

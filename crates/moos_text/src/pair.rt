@@ -149,3 +149,6 @@ fn is_control(byte: u8) -> bool
 {
     byte.is_ascii_control() && byte != b'\t'
 }
+
+#[cfg(test)]
+mod tests;

@@ -1,5 +1,5 @@
 // What each call gives, on values worked by hand.
-use crate::{Cause, Limit, Line, next_line, print_milli, read_milli};
+use crate::{Cause, Limit, Line, Part, next_line, next_part, print_milli, read_milli};
 use moos_post::Milli;
 use std::test::Fail;
 
@@ -94,21 +94,79 @@ fn lines(rt: HostRuntime) {
 fn causes(rt: HostRuntime) {
     for (cause, text) in [
         (Cause::S0, "S0 FirstForm"),
+        (Cause::S1, "S1 BadStamp"),
         (Cause::S2, "S2 StampGoesBack"),
-        (Cause::S8(Limit::Lines), "S8 Lines"),
+        (Cause::S3, "S3 UnknownOp"),
+        (Cause::S4, "S4 BadName"),
+        (Cause::S5, "S5 BadValue"),
+        (Cause::S6, "S6 BadPattern"),
+        (Cause::S7, "S7 BadInterval"),
         (Cause::S8(Limit::Clients), "S8 Clients"),
         (Cause::S8(Limit::Registrations), "S8 Registrations"),
+        (Cause::S8(Limit::Variables), "S8 Variables"),
+        (Cause::S8(Limit::Lines), "S8 Lines"),
         (Cause::S8(Limit::Batch), "S8 Batch"),
         (Cause::S8(Limit::Text), "S8 Text"),
-        (Cause::S8(Limit::Variables), "S8 Variables"),
+        (Cause::S9, "S9 HelmName"),
+        (Cause::S10, "S10 ShareName"),
         (Cause::S11, "S11 OwnName"),
+        (Cause::M1, "M1 BadLine"),
+        (Cause::M2, "M2 Unclosed"),
+        (Cause::M3, "M3 BadDomain"),
+        (Cause::M4, "M4 DomainTooLarge"),
+        (Cause::M5, "M5 NoDomain"),
+        (Cause::M6, "M6 BadTick"),
+        (Cause::M7, "M7 NoBehaviors"),
         (Cause::M8, "M8 TooManyTicks"),
+        (Cause::B1, "B1 BadLine"),
+        (Cause::B2, "B2 Unclosed"),
+        (Cause::B3, "B3 UnknownBehavior"),
+        (Cause::B4, "B4 SameName"),
+        (Cause::B5, "B5 BadCondition"),
+        (Cause::B6, "B6 BadParam"),
+        (Cause::B7, "B7 UnknownParent"),
+        (Cause::B8, "B8 AmbiguousParent"),
+        (Cause::B9, "B9 TooMany"),
+        (Cause::B10, "B10 NoAxis"),
         (Cause::B11, "B11 ParamMissing"),
+        (Cause::P1, "P1 BadLine"),
+        (Cause::P2, "P2 BadDomain"),
+        (Cause::P3, "P3 BadBox"),
+        (Cause::P4, "P4 NotPartition"),
+        (Cause::P5, "P5 ValueOut"),
+        (Cause::P6, "P6 BadWeight"),
+        (Cause::P7, "P7 TooMany"),
+        (Cause::P8, "P8 NoFunction"),
+        (Cause::P9, "P9 NoEnd"),
         (Cause::P10, "P10 BadPoint"),
+        (Cause::G1, "G1 BadLine"),
+        (Cause::G2, "G2 BadPattern"),
+        (Cause::G3, "G3 BadInterval"),
         (Cause::G4, "G4 NameTooLong"),
+        (Cause::G5, "G5 BadPrefix"),
+        (Cause::G6, "G6 TooMany"),
+        (Cause::V1, "V1 BadLine"),
         (Cause::V2, "V2 BadNumber"),
+        (Cause::C1, "C1 BadLine"),
+        (Cause::C2, "C2 BadNumber"),
         (Cause::C3, "C3 BadRanges"),
     ] {
         assert_eq!(rt; cause.text(), text);
+    }
+}
+
+#[test]
+fn parts(rt: HostRuntime) {
+    let text = b"A=1#B=\"#\"##C".as_slice();
+    for (from, to, next) in [
+        (0, 3, Some(4)),
+        (4, 9, Some(10)),
+        (10, 10, Some(11)),
+        (11, 12, None),
+        (12, 12, None),
+    ] {
+        assert!(rt; from <= text.len());
+        let part = next_part(text, from);
+        assert_eq!(rt; part, Part { from, to, next });
     }
 }
