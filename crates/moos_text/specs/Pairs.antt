@@ -18,11 +18,15 @@ is_quote byte = byte == 34
 
 -- a text as a value: no byte that a text can't hold, and at most 4,096 in all
 abbrev pub text_value : List ℕ → Result Value PairFault
-text_value bytes = if is_some (bad_place bytes) then Err BadValue else if nat_lt 4096 (length bytes) then Err TooLong else Ok (Text bytes)
+text_value bytes =
+    if is_some (bad_place bytes) then Err BadValue
+    else if nat_lt 4096 (length bytes) then Err TooLong
+    else Ok (Text bytes)
 
 -- what stands behind a `"` is a text up to another `"`, which is the last byte and has no third before it
 abbrev pub quoted_value : List ℕ → Result Value PairFault
-quoted_value rest = if position_or_len is_quote rest + 1 == length rest then text_value (before_first is_quote rest) else Err BadValue
+quoted_value rest =
+    if position_or_len is_quote rest + 1 == length rest then text_value (before_first is_quote rest) else Err BadValue
 
 -- a number where the bytes are one, and else a text
 abbrev pub plain_value : Option ℤ → List ℕ → Result Value PairFault

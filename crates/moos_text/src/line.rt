@@ -23,7 +23,8 @@ pub fn next_line(bytes: &[u8], from: usize) -> Line
     requires { from ≤ length bytes.now }
     ensures content { slice_range bytes.now result.from result.to ≡ content_of (first_line (drop from bytes.now)) }
     ensures unclosed { result.unclosed ≡ is_unclosed (content_of (first_line (drop from bytes.now))) }
-    ensures lines { from < length bytes.now → raw_lines (drop from bytes.now) ≡ first_line (drop from bytes.now) ∷ raw_lines (drop result.next bytes.now) }
+    ensures lines { from < length bytes.now →
+        raw_lines (drop from bytes.now) ≡ first_line (drop from bytes.now) ∷ raw_lines (drop result.next bytes.now) }
 
     // It goes on from this place, and on to the end of the file.
     ensures start { result.from ≡ from }

@@ -39,8 +39,8 @@ struct Filled {
     start: usize,
 }
 
-/// The number as it prints: `-` where it is below zero, the whole part without leading zeros, and where the rest isn't 0
-/// a point and the decimals without trailing zeros. Reading it with [`read_milli`](crate::read_milli) gives the number.
+/// The number as it prints: `-` where it is below zero, the whole part without leading zeros, and where the rest isn't
+/// 0 a point and the decimals without trailing zeros. [`read_milli`](crate::read_milli) of it gives the number back.
 #[tactic(auto, using(crate::proofs::RoundTrip::milli_back))]
 pub fn print_milli(value: Milli) -> MilliText
     ensures text { result ≡ milli_text value }

@@ -17,7 +17,10 @@ pub struct Part {
 /// The part that begins at this place of a text.
 pub fn next_part(text: &[u8], from: usize) -> Part
     requires { from ≤ length text.now }
-    ensures parts { MatchOption result.next (parts_of (drop from text.now) ≡ slice_range text.now result.from result.to ∷ []) (λ next. parts_of (drop from text.now) ≡ slice_range text.now result.from result.to ∷ parts_of (drop next text.now)) }
+    ensures parts { let part = slice_range text.now result.from result.to in
+        MatchOption result.next
+        (parts_of (drop from text.now) ≡ part ∷ [])
+        (λ next. parts_of (drop from text.now) ≡ part ∷ parts_of (drop next text.now)) }
 
     // It goes on from this place, and stays within the text.
     ensures start { result.from ≡ from }
