@@ -12,8 +12,8 @@ use Rattle.moos_text.specs.Numbers.{digits_value, thousandths_of, is_numeral, po
 use Rattle.moos_text.proofs.Numerals.{point_behind}
 
 -- the whole part of a number is short
-pub whole_short : (n : ℕ) → n ≤ 10 ^ 12 → length (decimal (n / 1000)) ≤ 10
-whole_short n within = length-decimal-le 10 (n / 1000) (omega arith) (omega arith) (omega arith)
+pub whole_short : (n : ℕ) → n < 2 ^ 64 → length (decimal (n / 1000)) ≤ 17
+whole_short n within = length-decimal-le 17 (n / 1000) (omega arith) (omega arith) (omega arith)
 
 digits_test : IsDigitsTest (λ text. list_all is_digit text ≡ true)
 digits_test = record {

@@ -20,7 +20,7 @@ mod word;
 
 pub use cause::{Cause, Limit, ReadFault};
 pub use line::{Line, next_line};
-pub use milli_text::{MilliText, print_milli};
+pub use milli_text::{MilliText, print_milli, print_seconds};
 pub use number::read_milli;
 pub use pair::{PairFault, read_pair};
 pub use part::{Part, next_part};

@@ -49,6 +49,16 @@ pub fn print_milli(value: Milli) -> MilliText
     print_signed(value.get())
 }
 
+/// Milliseconds as they print in seconds: the whole seconds without leading zeros, and where the rest isn't 0 a point and
+/// the decimals without trailing zeros.
+pub fn print_seconds(milliseconds: u64) -> MilliText
+    ensures { result ≡ unsigned_text milliseconds }
+{
+    MilliText {
+        filled: print_unsigned(milliseconds),
+    }
+}
+
 fn print_signed(thousandths: i64) -> MilliText
     requires { IsMilli thousandths }
     ensures { result ≡ milli_text thousandths }
@@ -78,7 +88,6 @@ fn with_minus(filled: Filled) -> Filled
 
 // Thousandths without a sign as they print, with room for a sign in front.
 fn print_unsigned(n: u64) -> Filled
-    requires { n ≤ 10 ^ 12 }
     ensures text { drop result.start result.buffer ≡ unsigned_text n }
     ensures room { 0 < result.start }
     ensures within { result.start ≤ 24 }

@@ -1,5 +1,7 @@
 // What each call gives, on values worked by hand.
-use crate::{Cause, Limit, Line, Part, next_line, next_part, print_milli, read_milli};
+use crate::{
+    Cause, Limit, Line, Part, next_line, next_part, print_milli, print_seconds, read_milli,
+};
 use moos_post::Milli;
 use std::test::Fail;
 
@@ -60,6 +62,18 @@ fn printed(rt: HostRuntime) -> Result<(), Fail> {
         assert_eq!(rt; printed.bytes(), text);
     }
     Ok(())
+}
+
+#[test]
+fn printed_seconds(rt: HostRuntime) {
+    for (milliseconds, text) in [
+        (0, "0"),
+        (500, "0.5"),
+        (1_000_000_000, "1000000"),
+        (u64::MAX, "18446744073709551.615"),
+    ] {
+        assert_eq!(rt; print_seconds(milliseconds).bytes(), text.as_bytes());
+    }
 }
 
 #[test]
