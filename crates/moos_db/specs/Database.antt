@@ -1,0 +1,37 @@
+-- What a database stands for: its clients' names and the history of the calls that it answered with Ok.
+use Rattle.std.specs.Prelude.{◌≡◌, ℕ, List, [], ◌∷◌, ◌++◌, map, Option, Some, option_map, slice_get}
+use Rattle.moos_post.specs.declared.entry.Entry.{Entry}
+use Rattle.moos_post.specs.declared.value.Pair.{Pair}
+use Rattle.moos_post.specs.declared.value.Post.{Post}
+use Rattle.moos_post.specs.History.{History}
+use Rattle.moos_db.specs.declared.mail.Letter.{Letter}
+use Rattle.moos_db.specs.declared.mail.Origin.{Origin}
+
+-- the clients' names by number, and the history
+pub record Database : Type 0 where
+  pub names : List (List ℕ)
+  pub history : History
+
+-- the database after one entry more
+abbrev pub with_entry : Database → Entry → Database
+with_entry database entry = record database { history = database.history ++ entry ∷ [] }
+
+-- what a post says, without when and by whom
+abbrev pub pair_of : Post → Pair
+pair_of post = record { var = post.var; value = post.value }
+
+-- when a post was made, and by which client
+abbrev pub origin_of : Post → Origin
+origin_of post = record { stamp = post.stamp; client = post.source }
+
+-- the letter with this post and its number
+abbrev pub letter_of : ℕ → Post → Letter
+letter_of number post = record { number = number; post = post }
+
+-- the letter with the post that has this number, where there is such a post
+abbrev pub letter_at : List Post → ℕ → Option Letter
+letter_at posts number = option_map (letter_of number) (slice_get posts number)
+
+-- the mail is the posts with these numbers, in this order
+abbrev pub AreLetters : List Post → List ℕ → List Letter → Type 0
+AreLetters posts numbers mail = map (λ letter. Some letter) mail ≡ map (letter_at posts) numbers

@@ -1,0 +1,150 @@
+-- What is kept of one client: its inbox of the delivery rule, without the posts themselves.
+use Rattle.std.specs.Prelude.{◌≡◌, ℕ, suc, ◌≤◌, Bool, ◌&&◌, ◌==◌, not, if◌then◌else◌, List, [], ◌∷◌, ◌++◌, length, map, filter, fold, find, take, Option, option_map, bytes_eq}
+use Rattle.std.specs.List.{list_any}
+use Rattle.moos_post.specs.declared.entry.Call.{Call}
+use Rattle.moos_post.specs.declared.entry.Call.TheVariants.{Register, Unregister, Post as Posts, Fetch}
+use Rattle.moos_post.specs.declared.entry.Entry.{Entry}
+use Rattle.moos_post.specs.declared.registration.Reg.{Reg}
+use Rattle.moos_post.specs.declared.value.Pair.{Pair}
+use Rattle.moos_post.specs.declared.value.Post.{Post}
+use Rattle.moos_post.specs.Delivery.{Inbox, Live, inbox_of, is_past, is_latest, waiting}
+use Rattle.moos_post.specs.History.{History, name_of}
+use Rattle.moos_post.specs.Patterns.{matches}
+use Rattle.moos_db.specs.declared.live.Last.{Last}
+
+-- the last stamp is of this variable
+abbrev pub is_of : List ℕ → Last → Bool
+is_of var last = bytes_eq last.var var
+
+-- the stamp that is kept for the variable
+abbrev pub last_in : List ℕ → List Last → Option ℕ
+last_in var lasts = option_map (λ last. last.stamp) (find (is_of var) lasts)
+
+-- the last stamps after a post of the variable
+abbrev pub with_last : List ℕ → ℕ → List Last → List Last
+with_last var stamp [] = record { var = var; stamp = stamp } ∷ []
+with_last var stamp (last ∷ lasts) = if is_of var last then record last { stamp = stamp } ∷ lasts else last ∷ with_last var stamp lasts
+
+-- the last stamps of the posts that came
+abbrev pub lasts_of : List Post → List Last
+lasts_of came = fold (λ lasts post. with_last post.var post.stamp lasts) [] came
+
+-- a live registration as it is kept: the last stamp of each variable in place of the posts that came through
+pub record Held : Type 0 where
+  pub reg : Reg
+  pub made : ℕ
+  pub lasts : List Last
+
+abbrev pub held_of : Live → Held
+held_of live = record { reg = live.reg; made = live.made; lasts = lasts_of live.came }
+
+-- a registration made at this entry, with nothing come through
+abbrev pub held_of_reg : ℕ → Reg → Held
+held_of_reg made reg = record { reg = reg; made = made; lasts = [] }
+
+-- the registration selects a post of the variable from the source
+abbrev pub picks : Reg → List ℕ → List ℕ → Bool
+picks reg var source = matches reg.var var && matches reg.source source
+
+abbrev pub is_due_held : ℕ → List ℕ → List ℕ → Held → Bool
+is_due_held stamp var source held = picks held.reg var source && is_past (last_in var held.lasts) stamp held.reg.interval
+
+abbrev pub with_stamp : ℕ → List ℕ → Held → Held
+with_stamp stamp var held = record held { lasts = with_last var stamp held.lasts }
+
+-- after a post, which comes through where it is due
+abbrev pub passed : ℕ → List ℕ → List ℕ → Held → Held
+passed stamp var source held = if is_due_held stamp var source held then with_stamp stamp var held else held
+
+abbrev pub is_new_held : ℕ → List ℕ → List ℕ → Held → Bool
+is_new_held made var source held = held.made == made && picks held.reg var source
+
+-- after a post that catches up, which comes through where the registration is new and selects it
+abbrev pub caught : ℕ → ℕ → List ℕ → List ℕ → Held → Held
+caught made stamp var source held = if is_new_held made var source held then with_stamp stamp var held else held
+
+abbrev pub has_patterns : List ℕ → List ℕ → Held → Bool
+has_patterns var source held = bytes_eq held.reg.var var && bytes_eq held.reg.source source
+
+abbrev pub without_held : List ℕ → List ℕ → List Held → List Held
+without_held var source helds = filter (λ held. not (has_patterns var source held)) helds
+
+abbrev pub with_held : ℕ → List Held → Reg → List Held
+with_held made helds reg = without_held reg.var reg.source helds ++ held_of_reg made reg ∷ []
+
+-- an inbox as it is kept: how many entries it has seen and how many posts were in them, the live registrations, the
+-- numbers of all posts ever mailed, and those of the posts that wait for the client's next fetch
+pub record Kept : Type 0 where
+  pub seen : ℕ
+  pub posts : ℕ
+  pub lives : List Held
+  pub mailed : List ℕ
+  pub waits : List ℕ
+
+abbrev pub kept_of : Inbox → Kept
+kept_of inbox = record {
+  seen = inbox.entries;
+  posts = length inbox.posts;
+  lives = map held_of inbox.lives;
+  mailed = map (λ one. one.number) inbox.mailed;
+  waits = waiting inbox;
+}
+
+abbrev pub empty_kept : Kept
+empty_kept = record { seen = 0; posts = 0; lives = []; mailed = []; waits = [] }
+
+-- the post with this number is mailed
+abbrev pub with_mailed : ℕ → Kept → Kept
+with_mailed number kept = record kept { mailed = kept.mailed ++ number ∷ []; waits = kept.waits ++ number ∷ [] }
+
+-- after one post more, of this stamp and from the source with this name
+abbrev pub kept_post : ℕ → List ℕ → Kept → List ℕ → Kept
+kept_post stamp source kept var =
+    let mailed = if list_any (is_due_held stamp var source) kept.lives then with_mailed kept.posts kept else kept
+    in record mailed { posts = suc kept.posts; lives = map (passed stamp var source) kept.lives }
+
+abbrev pub kept_batch : ℕ → List ℕ → Kept → List Pair → Kept
+kept_batch stamp source kept pairs = fold (λ now pair. kept_post stamp source now pair.var) kept pairs
+
+-- an earlier post catches up: it is the latest of its variable, a new registration selects it, and it wasn't mailed
+abbrev pub catches_kept : List (List ℕ) → Kept → ℕ → Post → List Post → Bool
+catches_kept names kept number post later =
+    is_latest post later && list_any (is_new_held kept.seen post.var (name_of names post.source)) kept.lives && not (list_any (λ one. one == number) kept.mailed)
+
+abbrev pub with_caught : List (List ℕ) → Kept → ℕ → Post → Kept
+with_caught names kept number post =
+    record (with_mailed number kept) { lives = map (caught kept.seen post.stamp post.var (name_of names post.source)) kept.lives }
+
+abbrev pub kept_catching : List (List ℕ) → ℕ → Kept → List Post → Kept
+kept_catching names number kept [] = kept
+kept_catching names number kept (post ∷ later) =
+    kept_catching names (suc number) (if catches_kept names kept number post later then with_caught names kept number post else kept) later
+
+-- after a Register entry of the client, where these are the posts before it
+abbrev pub kept_regs : List (List ℕ) → List Post → Kept → List Reg → Kept
+kept_regs names posts kept regs = kept_catching names 0 (record kept { lives = fold (with_held kept.seen) kept.lives regs }) posts
+
+-- what the client's own entries change beside the posts
+abbrev pub kept_own : List (List ℕ) → List Post → Kept → Call → Kept
+kept_own names posts kept (Register regs) = kept_regs names posts kept regs
+kept_own names posts kept (Unregister var source) = record kept { lives = without_held var source kept.lives }
+kept_own names posts kept (Posts batch) = kept
+kept_own names posts kept Fetch = record kept { waits = [] }
+
+-- what the posts of anybody's entry change
+abbrev pub kept_posts : List (List ℕ) → ℕ → ℕ → Kept → Call → Kept
+kept_posts names stamp client kept (Register regs) = kept
+kept_posts names stamp client kept (Unregister var source) = kept
+kept_posts names stamp client kept (Posts batch) = kept_batch stamp (name_of names client) kept batch
+kept_posts names stamp client kept Fetch = kept
+
+-- after one entry more, where these are the posts before it
+abbrev pub kept_entry : List (List ℕ) → ℕ → List Post → Kept → Entry → Kept
+kept_entry names client posts kept entry =
+    let own = if entry.client == client then kept_own names posts kept entry.call else kept
+    in record (kept_posts names entry.stamp entry.client own entry.call) { seen = suc kept.seen }
+
+-- the inbox of the client stands where the history's first entries, as many as it has seen, have brought it
+pub record IsInbox (names : List (List ℕ)) (history : History) (client : ℕ) (kept : Kept) : Type 0 where
+  pub within : kept.seen ≤ length history
+  pub same : kept ≡ kept_of (inbox_of names client (take kept.seen history))

@@ -1,0 +1,3 @@
+pub mod Database
+pub mod Kept
+pub mod Places

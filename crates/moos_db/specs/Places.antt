@@ -1,0 +1,32 @@
+-- How posts are found by number, and what is known of a database's parts.
+use Rattle.std.specs.Prelude.{◌≡◌, ℕ, ◌<◌, ◌^◌, List, [], map, length, Option, Some, option_and_then, slice_get, slice_index_or}
+use Rattle.moos_post.specs.declared.entry.Entry.{Entry}
+use Rattle.moos_post.specs.declared.value.Post.{Post}
+use Rattle.moos_post.specs.History.{History, posts_of, posts_of_entry}
+use Rattle.moos_post.specs.Delivery.{mail_at}
+use Rattle.moos_db.specs.declared.log.Place.{Place}
+use Rattle.moos_db.specs.Kept.{Kept, IsInbox}
+
+-- the entries, and what each of them gave
+pub record Journal : Type 0 where
+  pub entries : History
+  pub letters : List (List ℕ)
+
+-- the post that stands at this place of an entry's batch
+abbrev pub post_in : History → Place → Option Post
+post_in history place = option_and_then (λ entry. slice_get (posts_of_entry entry) place.pair) (slice_get history place.entry)
+
+abbrev pub place_at : ℕ → ℕ → Place
+place_at entry pair = record { entry = entry; pair = pair }
+
+-- each post of the history, by number, stands at the place that is kept for it, and each entry has its letters
+pub record IsLog (entries : History) (letters : List (List ℕ)) (places : List Place) : Type 0 where
+  pub each : length letters ≡ length entries
+  pub placed : map (post_in entries) places ≡ map (λ post. Some post) (posts_of entries)
+
+-- each client has an inbox, and each entry's letters are its mail
+pub record IsDb (names : List (List ℕ)) (journal : Journal) (inboxes : List Kept) : Type 0 where
+  pub few : length names < 2 ^ 32
+  pub each : length inboxes ≡ length names
+  pub kept : (client : ℕ) (kept : Kept) → slice_get inboxes client ≡ Some kept → IsInbox names journal.entries client kept
+  pub given : (k : ℕ) → k < length journal.entries → slice_index_or journal.letters k [] ≡ mail_at names journal.entries k

@@ -1,0 +1,221 @@
+ghost use Rattle.std.specs.Prelude.{◌≡◌, ◌≢◌, ◌^◌, ◌<◌, [], length, map, replicate, All, AllPairs, false, IfOk, OnOk, OnErr, Some, option_map, slice_get, slice_set};
+ghost use Rattle.moos_post.specs.Delivery.{mail_after, mail_at, is_fetch};
+ghost use Rattle.moos_post.specs.History.{posts_of};
+ghost use Rattle.moos_db.specs.Kept.{empty_kept};
+ghost use Rattle.moos_db.specs.Database.{letter_at, AreLetters};
+
+use crate::inbox::{Inbox, caught_up};
+use crate::log::Log;
+use crate::mail::{Letter, Mail, Origin};
+use moos_post::{Batch, Call, Entry, Name, Names, NoMemory, Pair, Pattern, Post, Regs};
+use std::alloc::Global;
+use std::marker::Model;
+use std::mem;
+
+/// The database of a community's messages.
+///
+/// Contracts see its clients' names by number and the history of the calls that it answered with Ok.
+#[derive(Drop)]
+pub struct Db {
+    names: Names,
+    log: Log,
+    inboxes: Vec<Inbox>,
+}
+
+impl Model for Db {
+    ghost use Rattle.moos_db.specs.Database.{Database};
+    ghost use Rattle.moos_db.specs.Places.{IsDb};
+
+    ghost Value = { Database };
+
+    ghost view = { λ db. record { names = db.names; history = db.log.entries } };
+
+    ghost invariant = { λ db. IsDb db.names db.log db.inboxes.items };
+}
+
+// As many inboxes that have seen no entry.
+fn empty_inboxes(alloc: Global, clients: usize) -> Result<Vec<Inbox>, NoMemory>
+    ensures { IfOk result (λ inboxes. inboxes.items ≡ replicate clients empty_kept) }
+{
+    let mut inboxes = Vec::with_capacity(alloc, clients)?;
+    for _ in 0..clients {
+        inboxes.push(Inbox::new(alloc))?;
+    }
+    Ok(inboxes)
+}
+
+// Puts the inbox in its place and gives the one that stood there.
+fn replaced(inboxes: &mut [Inbox], client: usize, inbox: Inbox) -> Inbox
+    requires { client < length inboxes.old }
+    ensures before { slice_get inboxes.old client ≡ Some result }
+    ensures after { inboxes.new ≡ slice_set inboxes.old client inbox }
+{
+    mem::replace(&mut inboxes[client], inbox)
+}
+
+// The letter with the post that has this number.
+fn letter_at(alloc: Global, log: &Log, number: u64) -> Result<Letter, NoMemory>
+    requires { number < length (posts_of log.now.entries) }
+    ensures { IfOk result (λ letter. letter_at (posts_of log.now.entries) number ≡ Some letter) }
+{
+    let pair = log.pair(number as usize);
+    let origin = log.origin(number as usize);
+    let var = pair.var.copy(alloc)?;
+    let value = pair.value.copy(alloc)?;
+    let post = Post {
+        stamp: origin.stamp,
+        source: origin.client,
+        var,
+        value,
+    };
+    Ok(Letter { number, post })
+}
+
+// The letters with the posts that have these numbers.
+fn letters_of(alloc: Global, log: &Log, numbers: &[u64]) -> Result<Mail, NoMemory>
+    requires { All (λ number. number < length (posts_of log.now.entries)) numbers.now }
+    ensures { IfOk result (AreLetters (posts_of log.now.entries) numbers.now) }
+{
+    let mut letters = Vec::with_capacity(alloc, numbers.len())?;
+    for &number in numbers {
+        letters.push(letter_at(alloc, log, number)?)?;
+    }
+    Ok(Mail::of(letters))
+}
+
+impl Db {
+    ghost use Rattle.moos_db.specs.Database.{with_entry, pair_of, origin_of, AreLetters};
+
+    /// A database of clients with these names, where nothing has happened yet.
+    pub fn make(alloc: Global, names: Names) -> Result<Db, NoMemory>
+        requires differ { AllPairs (λ one other. one ≢ other) names }
+        requires few { length names < 2 ^ 32 }
+        ensures { IfOk result (λ db. db ≡ record { names = names; history = [] }) }
+    {
+        let inboxes = empty_inboxes(alloc, names.len())?;
+        Ok(Db {
+            names,
+            log: Log::new(alloc),
+            inboxes,
+        })
+    }
+
+    // Adds an entry that is no fetch.
+    fn add(&mut self, alloc: Global, entry: Entry) -> Result<(), NoMemory>
+        requires { is_fetch entry.call ≡ false }
+        ensures ok { OnOk result (self.new ≡ with_entry self.old entry) }
+        ensures same { OnErr result (self.new ≡ self.old) }
+    {
+        self.log.append(alloc, entry, Vec::new(alloc))
+    }
+
+    /// The client makes these registrations together. One with the patterns of a live one takes its place.
+    pub fn register(&mut self, alloc: Global, client: u32, stamp: u64, regs: Regs) -> Result<(), NoMemory>
+        requires { client < length self.old.names }
+        ensures ok { OnOk result (self.new ≡ with_entry self.old (record { stamp = stamp; client = client; call = Call.Register regs })) }
+        ensures same { OnErr result (self.new ≡ self.old) }
+    {
+        let call = Call::Register(regs);
+        self.add(alloc, Entry { stamp, client, call })
+    }
+
+    /// The client withdraws its live registration with these patterns, if it has one.
+    pub fn unregister(&mut self, alloc: Global, client: u32, stamp: u64, var: Pattern, source: Pattern) -> Result<(), NoMemory>
+        requires { client < length self.old.names }
+        ensures ok { OnOk result (self.new ≡ with_entry self.old (record { stamp = stamp; client = client; call = Call.Unregister var source })) }
+        ensures same { OnErr result (self.new ≡ self.old) }
+    {
+        let call = Call::Unregister(var, source);
+        self.add(alloc, Entry { stamp, client, call })
+    }
+
+    /// The client posts these pairs.
+    pub fn post(&mut self, alloc: Global, client: u32, stamp: u64, batch: Batch) -> Result<(), NoMemory>
+        requires { client < length self.old.names }
+        ensures ok { OnOk result (self.new ≡ with_entry self.old (record { stamp = stamp; client = client; call = Call.Post batch })) }
+        ensures same { OnErr result (self.new ≡ self.old) }
+    {
+        let call = Call::Post(batch);
+        self.add(alloc, Entry { stamp, client, call })
+    }
+
+    /// The client is given all that was mailed to it since its fetch before, in the order of mailing.
+    pub fn fetch(&mut self, alloc: Global, client: u32, stamp: u64) -> Result<Mail, NoMemory>
+        requires { client < length self.old.names }
+        ensures mail { IfOk result (AreLetters (posts_of self.old.history) (mail_after self.old.names client self.old.history)) }
+        ensures ok { OnOk result (self.new ≡ with_entry self.old (record { stamp = stamp; client = client; call = Call.Fetch })) }
+        ensures same { OnErr result (self.new ≡ self.old) }
+    {
+        // Where memory ends on the way, the inbox that has seen nothing stays, and the next fetch begins anew.
+        let place = client as usize;
+        let inbox = replaced(&mut self.inboxes, place, Inbox::new(alloc));
+        let mut inbox = caught_up(alloc, &self.names, &self.log, client, inbox)?;
+        let mail = letters_of(alloc, &self.log, inbox.waits())?;
+        let numbers = inbox.fetch(alloc);
+        let call = Call::Fetch;
+        self.log.append(alloc, Entry { stamp, client, call }, numbers)?;
+        let _ = replaced(&mut self.inboxes, place, inbox);
+        Ok(mail)
+    }
+
+    /// How many entries the history has.
+    pub fn entries(&self) -> u64
+        ensures { result ≡ length self.now.history }
+    {
+        self.log.len() as u64
+    }
+
+    /// The entry with this number, counted from 0.
+    pub fn entry(&self, k: u64) -> &Entry
+        requires { k < length self.now.history }
+        ensures { slice_get self.now.history k ≡ Some result.now }
+    {
+        self.log.entry(k as usize)
+    }
+
+    /// How many posts the history has.
+    pub fn posts(&self) -> u64
+        ensures { result ≡ length (posts_of self.now.history) }
+    {
+        self.log.posts() as u64
+    }
+
+    /// What the post with this number says. Posts are counted from 0, and those of a batch in its order.
+    pub fn pair(&self, j: u64) -> &Pair
+        requires { j < length (posts_of self.now.history) }
+        ensures { option_map pair_of (slice_get (posts_of self.now.history) j) ≡ Some result.now }
+    {
+        self.log.pair(j as usize)
+    }
+
+    /// When the post with this number was made, and by which client.
+    pub fn origin(&self, j: u64) -> Origin
+        requires { j < length (posts_of self.now.history) }
+        ensures { option_map origin_of (slice_get (posts_of self.now.history) j) ≡ Some result }
+    {
+        self.log.origin(j as usize)
+    }
+
+    /// The numbers of the posts that the entry gave: a fetch its mail, and every other entry nothing.
+    pub fn letters(&self, k: u64) -> &[u64]
+        requires { k < length self.now.history }
+        ensures { result.now ≡ mail_at self.now.names self.now.history k }
+    {
+        self.log.letters(k as usize)
+    }
+
+    /// How many clients there are.
+    pub fn clients(&self) -> u32
+        ensures { result ≡ length self.now.names }
+    {
+        self.names.len() as u32
+    }
+
+    /// The name of the client with this number, counted from 0.
+    pub fn name(&self, client: u32) -> &Name
+        requires { client < length self.now.names }
+        ensures { slice_get self.now.names client ≡ Some result.now }
+    {
+        self.names.get(client as usize)
+    }
+}

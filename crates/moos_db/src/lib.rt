@@ -1,0 +1,22 @@
+// The message database of a community: clients post to it, register for what others post, and fetch their mail.
+//
+// Contracts see a `Db` as its clients' names and its history, the list of the calls that were answered with Ok. Each
+// call adds its entry or finds no memory and changes nothing; what a fetch gives is the delivery rule's mail of the
+// history before it, the rule that stands in `moos_post`'s specs/Delivery. Nothing else tells what mail a client gets.
+//
+// Read `rule` first, the tests that the delivery rule makes of one registration and one post. Then `live` and `inbox`,
+// what is kept of one client, `log`, what is kept of the history, `mail`, and last `db`.
+#![tactic(auto)]
+
+mod db;
+mod inbox;
+mod live;
+mod log;
+mod mail;
+mod rule;
+
+pub use db::Db;
+pub use mail::{Letter, Mail, Origin};
+
+#[cfg(test)]
+mod tests;

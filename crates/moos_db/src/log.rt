@@ -1,0 +1,157 @@
+ghost use Rattle.std.specs.Prelude.{◌≡◌, ◌<◌, ◌++◌, ◌∷◌, [], map, length, IfOk, OnOk, OnErr, Some, option_map, slice_get, vec_len, vec_capacity};
+ghost use Rattle.std.specs.List.{range_with_len};
+ghost use Rattle.moos_post.specs.History.{posts_of, posts_of_call};
+ghost use Rattle.moos_db.specs.Places.{place_at};
+
+use crate::mail::Origin;
+use moos_post::{Call, Entry, NoMemory, Pair};
+use std::alloc::Global;
+use std::marker::Model;
+
+// Where a post stands: the number of its entry, and its place in that entry's batch.
+#[derive(Clone, Copy)]
+pub(crate) struct Place {
+    pub entry: usize,
+    pub pair: usize,
+}
+
+// The numbers that an entry gave.
+#[derive(Drop)]
+pub(crate) struct Numbers {
+    numbers: Vec<u64>,
+}
+
+impl Model for Numbers {
+    ghost use Rattle.std.specs.Prelude.{List, ℕ};
+
+    ghost Value = { List ℕ };
+
+    ghost view = { λ given. given.numbers.items };
+}
+
+// The history: its entries in order, the numbers that each of them gave, and for each post where it stands.
+#[derive(Drop)]
+pub(crate) struct Log {
+    entries: Vec<Entry>,
+    letters: Vec<Numbers>,
+    places: Vec<Place>,
+}
+
+impl Model for Log {
+    ghost use Rattle.moos_db.specs.Places.{Journal, IsLog};
+
+    ghost Value = { Journal };
+
+    ghost view = { λ log. record { entries = log.entries.items; letters = log.letters.items } };
+
+    ghost invariant = { λ log. IsLog log.entries.items log.letters.items log.places.items };
+}
+
+// Adds the value, for which there is room.
+fn push_reserved<T: Drop>(list: &mut Vec<T>, value: T)
+    requires { vec_len list.old < vec_capacity list.old }
+    ensures { list.new.items ≡ list.old.items ++ value ∷ [] }
+{
+    let _ = list.push(value);
+}
+
+// How many posts the call makes.
+fn posts_in(call: &Call) -> usize
+    ensures { result ≡ length (posts_of_call 0 0 call.now) }
+{
+    match call {
+        Call::Post(batch) => batch.len(),
+        _ => 0,
+    }
+}
+
+// The places of an entry's posts.
+fn places_in(alloc: Global, entry: usize, posts: usize) -> Result<Vec<Place>, NoMemory>
+    ensures { IfOk result (λ places. places.items ≡ map (place_at entry) (range_with_len 0 posts)) }
+{
+    (0..posts).map(|pair| Place { entry, pair }).collect(alloc)
+}
+
+impl Log {
+    ghost use Rattle.moos_db.specs.Places.{Journal};
+    ghost use Rattle.moos_db.specs.Database.{pair_of, origin_of};
+
+    // The empty history.
+    pub fn new(alloc: Global) -> Log
+        ensures { result ≡ record { entries = []; letters = [] } }
+    {
+        Log {
+            entries: Vec::new(alloc),
+            letters: Vec::new(alloc),
+            places: Vec::new(alloc),
+        }
+    }
+
+    // How many entries there are.
+    pub fn len(&self) -> usize
+        ensures { result ≡ length self.now.entries }
+    {
+        self.entries.len()
+    }
+
+    // The entry with this number.
+    pub fn entry(&self, number: usize) -> &Entry
+        requires { number < length self.now.entries }
+        ensures { slice_get self.now.entries number ≡ Some result.now }
+    {
+        &self.entries[number]
+    }
+
+    // The numbers that the entry gave.
+    pub fn letters(&self, number: usize) -> &[u64]
+        requires { number < length self.now.entries }
+        ensures { slice_get self.now.letters number ≡ Some result.now }
+    {
+        self.letters[number].numbers.as_slice()
+    }
+
+    // How many posts there are.
+    pub fn posts(&self) -> usize
+        ensures { result ≡ length (posts_of self.now.entries) }
+    {
+        self.places.len()
+    }
+
+    // What the post with this number says.
+    pub fn pair(&self, number: usize) -> &Pair
+        requires { number < length (posts_of self.now.entries) }
+        ensures { option_map pair_of (slice_get (posts_of self.now.entries) number) ≡ Some result.now }
+    {
+        let place = self.places[number];
+        match &self.entries[place.entry].call {
+            Call::Post(batch) => batch.get(place.pair),
+            _ => unreachable!(),
+        }
+    }
+
+    // When the post with this number was made, and by which client.
+    pub fn origin(&self, number: usize) -> Origin
+        requires { number < length (posts_of self.now.entries) }
+        ensures { option_map origin_of (slice_get (posts_of self.now.entries) number) ≡ Some result }
+    {
+        let entry = &self.entries[self.places[number].entry];
+        Origin {
+            stamp: entry.stamp,
+            client: entry.client,
+        }
+    }
+
+    // Adds an entry that gave these numbers. All memory is taken before anything changes.
+    pub fn append(&mut self, alloc: Global, entry: Entry, numbers: Vec<u64>) -> Result<(), NoMemory>
+        ensures ok { OnOk result (self.new ≡ record { entries = self.old.entries ++ entry ∷ []; letters = self.old.letters ++ numbers.items ∷ [] }) }
+        ensures same { OnErr result (self.new ≡ self.old) }
+    {
+        let mut places = places_in(alloc, self.entries.len(), posts_in(&entry.call))?;
+        self.entries.reserve(1)?;
+        self.letters.reserve(1)?;
+        self.places.append(&mut places)?;
+        push_reserved(&mut self.entries, entry);
+        push_reserved(&mut self.letters, Numbers { numbers });
+        Ok(())
+    }
+}
