@@ -97,11 +97,14 @@ empty_kept = record { seen = 0; posts = 0; lives = []; mailed = []; waits = [] }
 abbrev pub with_mailed : ℕ → Kept → Kept
 with_mailed number kept = record kept { mailed = kept.mailed ++ number ∷ []; waits = kept.waits ++ number ∷ [] }
 
--- after one post more, of this stamp and from the source with this name
+-- after a post of this stamp from the source with this name, which is mailed where it is due
+abbrev pub with_due : ℕ → List ℕ → Kept → List ℕ → Kept
+with_due stamp source kept var =
+    record (if list_any (is_due_held stamp var source) kept.lives then with_mailed kept.posts kept else kept) { lives = map (passed stamp var source) kept.lives }
+
+-- and which counts as one post more
 abbrev pub kept_post : ℕ → List ℕ → Kept → List ℕ → Kept
-kept_post stamp source kept var =
-    let mailed = if list_any (is_due_held stamp var source) kept.lives then with_mailed kept.posts kept else kept
-    in record mailed { posts = suc kept.posts; lives = map (passed stamp var source) kept.lives }
+kept_post stamp source kept var = record (with_due stamp source kept var) { posts = suc kept.posts }
 
 abbrev pub kept_batch : ℕ → List ℕ → Kept → List Pair → Kept
 kept_batch stamp source kept pairs = fold (λ now pair. kept_post stamp source now pair.var) kept pairs
@@ -111,9 +114,12 @@ abbrev pub catches_kept : List (List ℕ) → Kept → ℕ → Post → List Pos
 catches_kept names kept number post later =
     is_latest post later && list_any (is_new_held kept.seen post.var (name_of names post.source)) kept.lives && not (list_any (λ one. one == number) kept.mailed)
 
+-- after the post with this number, of this stamp from the source with this name, caught up
+abbrev pub with_missed : ℕ → ℕ → List ℕ → Kept → List ℕ → Kept
+with_missed number stamp source kept var = record (with_mailed number kept) { lives = map (caught kept.seen stamp var source) kept.lives }
+
 abbrev pub with_caught : List (List ℕ) → Kept → ℕ → Post → Kept
-with_caught names kept number post =
-    record (with_mailed number kept) { lives = map (caught kept.seen post.stamp post.var (name_of names post.source)) kept.lives }
+with_caught names kept number post = with_missed number post.stamp (name_of names post.source) kept post.var
 
 abbrev pub kept_catching : List (List ℕ) → ℕ → Kept → List Post → Kept
 kept_catching names number kept [] = kept

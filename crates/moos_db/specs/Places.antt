@@ -28,5 +28,6 @@ pub record IsLog (entries : History) (letters : List (List ℕ)) (places : List 
 pub record IsDb (names : List (List ℕ)) (journal : Journal) (inboxes : List Kept) : Type 0 where
   pub few : length names < 2 ^ 32
   pub each : length inboxes ≡ length names
+  pub lettered : length journal.letters ≡ length journal.entries
   pub kept : (client : ℕ) (kept : Kept) → slice_get inboxes client ≡ Some kept → IsInbox names journal.entries client kept
   pub given : (k : ℕ) → k < length journal.entries → slice_index_or journal.letters k [] ≡ mail_at names journal.entries k

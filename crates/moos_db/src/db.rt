@@ -1,4 +1,4 @@
-ghost use Rattle.std.specs.Prelude.{◌≡◌, ◌≢◌, ◌^◌, ◌<◌, [], length, map, replicate, All, AllPairs, false, IfOk, OnOk, OnErr, Some, option_map, slice_get, slice_set};
+ghost use Rattle.std.specs.Prelude.{◌≡◌, ◌^◌, ◌<◌, [], length, map, replicate, All, false, IfOk, OnOk, OnErr, Some, option_map, slice_get, slice_set};
 ghost use Rattle.moos_post.specs.Delivery.{mail_after, mail_at, is_fetch};
 ghost use Rattle.moos_post.specs.History.{posts_of};
 ghost use Rattle.moos_db.specs.Kept.{empty_kept};
@@ -38,17 +38,17 @@ fn empty_inboxes(alloc: Global, clients: usize) -> Result<Vec<Inbox>, NoMemory>
     ensures { IfOk result (λ inboxes. inboxes.items ≡ replicate clients empty_kept) }
 {
     let mut inboxes = Vec::with_capacity(alloc, clients)?;
-    for _ in 0..clients {
+    for client in 0..clients {
         inboxes.push(Inbox::new(alloc))?;
     }
     Ok(inboxes)
 }
 
 // Puts the inbox in its place and gives the one that stood there.
-fn replaced(inboxes: &mut [Inbox], client: usize, inbox: Inbox) -> Inbox
-    requires { client < length inboxes.old }
-    ensures before { slice_get inboxes.old client ≡ Some result }
-    ensures after { inboxes.new ≡ slice_set inboxes.old client inbox }
+fn replaced(inboxes: &mut Vec<Inbox>, client: usize, inbox: Inbox) -> Inbox
+    requires { client < length inboxes.old.items }
+    ensures before { slice_get inboxes.old.items client ≡ Some result }
+    ensures after { inboxes.new.items ≡ slice_set inboxes.old.items client inbox }
 {
     mem::replace(&mut inboxes[client], inbox)
 }
@@ -88,8 +88,7 @@ impl Db {
 
     /// A database of clients with these names, where nothing has happened yet.
     pub fn make(alloc: Global, names: Names) -> Result<Db, NoMemory>
-        requires differ { AllPairs (λ one other. one ≢ other) names }
-        requires few { length names < 2 ^ 32 }
+        requires { length names < 2 ^ 32 }
         ensures { IfOk result (λ db. db ≡ record { names = names; history = [] }) }
     {
         let inboxes = empty_inboxes(alloc, names.len())?;
@@ -106,37 +105,78 @@ impl Db {
         ensures ok { OnOk result (self.new ≡ with_entry self.old entry) }
         ensures same { OnErr result (self.new ≡ self.old) }
     {
-        self.log.append(alloc, entry, Vec::new(alloc))
+        self.log.append(alloc, entry, Vec::new(alloc))?;
+        Ok(())
     }
 
     /// The client makes these registrations together. One with the patterns of a live one takes its place.
-    pub fn register(&mut self, alloc: Global, client: u32, stamp: u64, regs: Regs) -> Result<(), NoMemory>
+    pub fn register(
+        &mut self,
+        alloc: Global,
+        client: u32,
+        stamp: u64,
+        regs: Regs,
+    ) -> Result<(), NoMemory>
         requires { client < length self.old.names }
         ensures ok { OnOk result (self.new ≡ with_entry self.old (record { stamp = stamp; client = client; call = Call.Register regs })) }
         ensures same { OnErr result (self.new ≡ self.old) }
     {
         let call = Call::Register(regs);
-        self.add(alloc, Entry { stamp, client, call })
+        self.add(
+            alloc,
+            Entry {
+                stamp,
+                client,
+                call,
+            },
+        )
     }
 
     /// The client withdraws its live registration with these patterns, if it has one.
-    pub fn unregister(&mut self, alloc: Global, client: u32, stamp: u64, var: Pattern, source: Pattern) -> Result<(), NoMemory>
+    pub fn unregister(
+        &mut self,
+        alloc: Global,
+        client: u32,
+        stamp: u64,
+        var: Pattern,
+        source: Pattern,
+    ) -> Result<(), NoMemory>
         requires { client < length self.old.names }
         ensures ok { OnOk result (self.new ≡ with_entry self.old (record { stamp = stamp; client = client; call = Call.Unregister var source })) }
         ensures same { OnErr result (self.new ≡ self.old) }
     {
         let call = Call::Unregister(var, source);
-        self.add(alloc, Entry { stamp, client, call })
+        self.add(
+            alloc,
+            Entry {
+                stamp,
+                client,
+                call,
+            },
+        )
     }
 
     /// The client posts these pairs.
-    pub fn post(&mut self, alloc: Global, client: u32, stamp: u64, batch: Batch) -> Result<(), NoMemory>
+    pub fn post(
+        &mut self,
+        alloc: Global,
+        client: u32,
+        stamp: u64,
+        batch: Batch,
+    ) -> Result<(), NoMemory>
         requires { client < length self.old.names }
         ensures ok { OnOk result (self.new ≡ with_entry self.old (record { stamp = stamp; client = client; call = Call.Post batch })) }
         ensures same { OnErr result (self.new ≡ self.old) }
     {
         let call = Call::Post(batch);
-        self.add(alloc, Entry { stamp, client, call })
+        self.add(
+            alloc,
+            Entry {
+                stamp,
+                client,
+                call,
+            },
+        )
     }
 
     /// The client is given all that was mailed to it since its fetch before, in the order of mailing.
@@ -153,7 +193,15 @@ impl Db {
         let mail = letters_of(alloc, &self.log, inbox.waits())?;
         let numbers = inbox.fetch(alloc);
         let call = Call::Fetch;
-        self.log.append(alloc, Entry { stamp, client, call }, numbers)?;
+        self.log.append(
+            alloc,
+            Entry {
+                stamp,
+                client,
+                call,
+            },
+            numbers,
+        )?;
         let _ = replaced(&mut self.inboxes, place, inbox);
         Ok(mail)
     }

@@ -1,6 +1,6 @@
-ghost use Rattle.std.specs.Prelude.{◌≡◌, suc, ◌+◌, ◌-◌, ◌^◌, ◌<◌, ◌≤◌, ◌==◌, [], ◌∷◌, ◌++◌, length, map, filter, fold, take, drop, not, bytes_eq, IfOk, IfSome, Some, slice_get, if◌then◌else◌};
+ghost use Rattle.std.specs.Prelude.{◌≡◌, suc, ◌+◌, ◌-◌, ◌^◌, ◌<◌, ◌≤◌, ◌==◌, [], ◌∷◌, ◌++◌, length, map, filter, fold, take, drop, not, ◌&&◌, bytes_eq, IfOk, IfSome, Some, slice_get, if◌then◌else◌};
 ghost use Rattle.std.specs.List.{list_any};
-ghost use Rattle.moos_post.specs.History.{name_of, posts_of};
+ghost use Rattle.moos_post.specs.History.{name_of, posts_of, posts_of_entry};
 ghost use Rattle.moos_db.specs.Kept.{IsInbox, is_due_held, passed, is_new_held, caught, without_held, with_held};
 
 use crate::live::Live;
@@ -51,7 +51,13 @@ fn any_due(lives: &[Live], stamp: u64, var: &Name, source: &[u8]) -> bool
     lives.iter().any(|live| live.is_due(stamp, var, source))
 }
 
-fn pass_due(alloc: Global, lives: &mut [Live], stamp: u64, var: &Name, source: &[u8]) -> Result<(), NoMemory>
+fn pass_due(
+    alloc: Global,
+    lives: &mut [Live],
+    stamp: u64,
+    var: &Name,
+    source: &[u8],
+) -> Result<(), NoMemory>
     ensures { IfOk result (λ _. lives.new ≡ map (passed stamp var.now source.now) lives.old) }
 {
     for live in lives.iter_mut() {
@@ -66,7 +72,14 @@ fn any_new(lives: &[Live], made: u64, var: &Name, source: &[u8]) -> bool
     lives.iter().any(|live| live.is_new_for(made, var, source))
 }
 
-fn pass_new(alloc: Global, lives: &mut [Live], made: u64, stamp: u64, var: &Name, source: &[u8]) -> Result<(), NoMemory>
+fn pass_new(
+    alloc: Global,
+    lives: &mut [Live],
+    made: u64,
+    stamp: u64,
+    var: &Name,
+    source: &[u8],
+) -> Result<(), NoMemory>
     ensures { IfOk result (λ _. lives.new ≡ map (caught made stamp var.now source.now) lives.old) }
 {
     for live in lives.iter_mut() {
@@ -76,7 +89,12 @@ fn pass_new(alloc: Global, lives: &mut [Live], made: u64, stamp: u64, var: &Name
 }
 
 // The registrations without the one that has both these patterns.
-fn without(alloc: Global, lives: Vec<Live>, var: &Pattern, source: &Pattern) -> Result<Vec<Live>, NoMemory>
+fn without(
+    alloc: Global,
+    lives: Vec<Live>,
+    var: &Pattern,
+    source: &Pattern,
+) -> Result<Vec<Live>, NoMemory>
     ensures { IfOk result (λ left. left.items ≡ without_held var.now source.now lives.items) }
 {
     let mut left = Vec::with_capacity(alloc, lives.len())?;
@@ -97,7 +115,12 @@ fn with_live(alloc: Global, lives: Vec<Live>, made: u64, reg: &Reg) -> Result<Ve
     Ok(more)
 }
 
-fn with_lives(alloc: Global, lives: Vec<Live>, made: u64, regs: &[Reg]) -> Result<Vec<Live>, NoMemory>
+fn with_lives(
+    alloc: Global,
+    lives: Vec<Live>,
+    made: u64,
+    regs: &[Reg],
+) -> Result<Vec<Live>, NoMemory>
     ensures { IfOk result (λ more. more.items ≡ fold (with_held made) lives.items regs.now) }
 {
     let mut more = lives;
@@ -128,7 +151,8 @@ fn has_post(log: &Log, var: &Name, from: usize, to: usize) -> bool
 }
 
 impl Inbox {
-    ghost use Rattle.moos_db.specs.Kept.{Kept, empty_kept, with_mailed, kept_post, kept_batch, catches_kept, with_caught, kept_catching, kept_own, kept_posts, IsInbox};
+    ghost use Rattle.moos_post.specs.declared.value.Post.{Post};
+    ghost use Rattle.moos_db.specs.Kept.{Kept, empty_kept, with_mailed, with_due, with_missed, kept_post, kept_batch, catches_kept, with_caught, kept_catching, kept_own, kept_posts, IsInbox};
 
     // The inbox that has seen no entry.
     pub fn new(alloc: Global) -> Inbox
@@ -176,21 +200,46 @@ impl Inbox {
         Ok(())
     }
 
-    // One post more, of this stamp and variable, from the client with this name.
-    fn see_post(&mut self, alloc: Global, stamp: u64, source: &[u8], var: &Name) -> Result<(), NoMemory>
+    // A post of this stamp and variable from the client with this name is mailed where it is due.
+    fn mail_due(
+        &mut self,
+        alloc: Global,
+        stamp: u64,
+        source: &[u8],
+        var: &Name,
+    ) -> Result<(), NoMemory>
+        ensures { IfOk result (λ _. self.new ≡ with_due stamp source.now self.old var.now) }
+    {
+        if any_due(&self.lives, stamp, var, source) {
+            self.mail(self.posts)?;
+            pass_due(alloc, &mut self.lives, stamp, var, source)?;
+        }
+        Ok(())
+    }
+
+    // One post more.
+    fn see_post(
+        &mut self,
+        alloc: Global,
+        stamp: u64,
+        source: &[u8],
+        var: &Name,
+    ) -> Result<(), NoMemory>
         requires { self.old.posts < 2 ^ 64 - 1 }
         ensures { IfOk result (λ _. self.new ≡ kept_post stamp source.now self.old var.now) }
     {
-        if any_due(&self.lives, stamp, var, source) {
-            let number = self.posts;
-            self.mail(number)?;
-            pass_due(alloc, &mut self.lives, stamp, var, source)?;
-        }
+        self.mail_due(alloc, stamp, source, var)?;
         self.posts += 1;
         Ok(())
     }
 
-    fn see_batch(&mut self, alloc: Global, stamp: u64, source: &[u8], pairs: &[Pair]) -> Result<(), NoMemory>
+    fn see_batch(
+        &mut self,
+        alloc: Global,
+        stamp: u64,
+        source: &[u8],
+        pairs: &[Pair],
+    ) -> Result<(), NoMemory>
         requires { self.old.posts + length pairs.now < 2 ^ 64 }
         ensures { IfOk result (λ _. self.new ≡ kept_batch stamp source.now self.old pairs.now) }
     {
@@ -200,22 +249,53 @@ impl Inbox {
         Ok(())
     }
 
-    // The post with this number catches up where it may: `posts` is the number of all posts so far.
-    fn catch_post(&mut self, alloc: Global, names: &Names, log: &Log, number: usize, posts: usize) -> Result<(), NoMemory>
+    // Whether the post with this number, of this variable and from the client with this name, catches up: `posts` is
+    // the number of all posts so far.
+    fn is_missed(&self, log: &Log, var: &Name, source: &[u8], number: usize, posts: usize) -> bool
         requires below { number < posts }
         requires within { posts ≤ length (posts_of log.now.entries) }
-        ensures {
-            IfOk result (λ _. IfSome (slice_get (posts_of log.now.entries) number) (λ post.
-                let later = drop (suc number) (take posts (posts_of log.now.entries))
-                in self.new ≡ (if catches_kept names.now self.old number post later then with_caught names.now self.old number post else self.old)))
-        }
+        ensures { result ≡ (not (list_any (λ other. bytes_eq other.var var.now) (drop (number + 1) (take posts (posts_of log.now.entries)))) && list_any (is_new_held self.now.seen var.now source.now) self.now.lives && not (list_any (λ one. one == number) self.now.mailed)) }
+    {
+        any_new(&self.lives, self.seen, var, source)
+            && !has_post(log, var, number + 1, posts)
+            && !was_mailed(&self.mailed, number as u64)
+    }
+
+    // The post with this number, of this stamp and variable and from the client with this name, catches up.
+    fn mail_missed(
+        &mut self,
+        alloc: Global,
+        number: u64,
+        stamp: u64,
+        source: &[u8],
+        var: &Name,
+    ) -> Result<(), NoMemory>
+        ensures { IfOk result (λ _. self.new ≡ with_missed number stamp source.now self.old var.now) }
+    {
+        self.mail(number)?;
+        pass_new(alloc, &mut self.lives, self.seen, stamp, var, source)
+    }
+
+    // The post with this number catches up where it may.
+    fn catch_post(
+        &mut self,
+        alloc: Global,
+        names: &Names,
+        log: &Log,
+        number: usize,
+        posts: usize,
+    ) -> Result<(), NoMemory>
+        requires below { number < posts }
+        requires within { posts ≤ length (posts_of log.now.entries) }
+        ensures { IfOk result (λ _. (post : Post) → slice_get (posts_of log.now.entries) number ≡ Some post →
+            let later = drop (number + 1) (take posts (posts_of log.now.entries))
+            in self.new ≡ (if catches_kept names.now self.old number post later then with_caught names.now self.old number post else self.old)) }
     {
         let var = &log.pair(number).var;
         let origin = log.origin(number);
         let source = source_of(names, origin.client);
-        if any_new(&self.lives, self.seen, var, source) && !has_post(log, var, number + 1, posts) && !was_mailed(&self.mailed, number as u64) {
-            self.mail(number as u64)?;
-            pass_new(alloc, &mut self.lives, self.seen, origin.stamp, var, source)?;
+        if self.is_missed(log, var, source, number, posts) {
+            self.mail_missed(alloc, number as u64, origin.stamp, source, var)?;
         }
         Ok(())
     }
@@ -233,7 +313,13 @@ impl Inbox {
     }
 
     // What a call of the client itself changes beside the posts.
-    fn see_own(&mut self, alloc: Global, names: &Names, log: &Log, call: &Call) -> Result<(), NoMemory>
+    fn see_own(
+        &mut self,
+        alloc: Global,
+        names: &Names,
+        log: &Log,
+        call: &Call,
+    ) -> Result<(), NoMemory>
         requires { self.old.posts ≤ length (posts_of log.now.entries) }
         ensures { IfOk result (λ _. self.new ≡ kept_own names.now (take self.old.posts (posts_of log.now.entries)) self.old call.now) }
     {
@@ -253,43 +339,79 @@ impl Inbox {
         Ok(())
     }
 
+    // What an entry changes beside the posts: only one of the client itself does.
+    fn see_call(
+        &mut self,
+        alloc: Global,
+        names: &Names,
+        log: &Log,
+        client: u32,
+        entry: &Entry,
+    ) -> Result<(), NoMemory>
+        requires { self.old.posts ≤ length (posts_of log.now.entries) }
+        ensures { IfOk result (λ _. self.new ≡ (if entry.now.client == client then kept_own names.now (take self.old.posts (posts_of log.now.entries)) self.old entry.now.call else self.old)) }
+    {
+        if entry.client == client {
+            self.see_own(alloc, names, log, &entry.call)?;
+        }
+        Ok(())
+    }
+
     // What the posts of anybody's entry change.
     fn see_posts(&mut self, alloc: Global, names: &Names, entry: &Entry) -> Result<(), NoMemory>
-        requires { self.old.posts + length (posts_of (entry.now ∷ [])) < 2 ^ 64 }
+        requires { self.old.posts + length (posts_of_entry entry.now) < 2 ^ 64 }
         ensures { IfOk result (λ _. self.new ≡ kept_posts names.now entry.now.stamp entry.now.client self.old entry.now.call) }
     {
         match &entry.call {
-            Call::Post(batch) => self.see_batch(alloc, entry.stamp, source_of(names, entry.client), batch.all())?,
+            Call::Post(batch) => self.see_batch(
+                alloc,
+                entry.stamp,
+                source_of(names, entry.client),
+                batch.all(),
+            )?,
             _ => {}
         }
         Ok(())
     }
 
     // The next entry.
-    fn see_entry(&mut self, alloc: Global, names: &Names, log: &Log, client: u32) -> Result<(), NoMemory>
+    fn see_entry(
+        &mut self,
+        alloc: Global,
+        names: &Names,
+        log: &Log,
+        client: u32,
+    ) -> Result<(), NoMemory>
         requires inbox { IsInbox names.now log.now.entries client self.old }
         requires more { self.old.seen < length log.now.entries }
+        requires fits { self.old.seen < 2 ^ 64 - 1 }
         ensures inbox { IfOk result (λ _. IsInbox names.now log.now.entries client self.new) }
         ensures next { IfOk result (λ _. self.new.seen ≡ suc self.old.seen) }
     {
-        let entry = log.entry(self.seen as usize);
-        if entry.client == client {
-            self.see_own(alloc, names, log, &entry.call)?;
-        }
+        let seen = self.seen;
+        let entry = log.entry(seen as usize);
+        self.see_call(alloc, names, log, client, entry)?;
         self.see_posts(alloc, names, entry)?;
-        self.seen += 1;
+        self.seen = seen + 1;
         Ok(())
     }
 }
 
 // The client's inbox after the whole history.
-pub(crate) fn caught_up(alloc: Global, names: &Names, log: &Log, client: u32, inbox: Inbox) -> Result<Inbox, NoMemory>
+pub(crate) fn caught_up(
+    alloc: Global,
+    names: &Names,
+    log: &Log,
+    client: u32,
+    inbox: Inbox,
+) -> Result<Inbox, NoMemory>
     requires { IsInbox names.now log.now.entries client inbox }
     ensures inbox { IfOk result (λ now. IsInbox names.now log.now.entries client now) }
     ensures all { IfOk result (λ now. now.seen ≡ length log.now.entries) }
+    ensures few { IfOk result (λ now. now.seen < 2 ^ 64 - 1) }
 {
     let mut inbox = inbox;
-    while inbox.seen() < log.len() as u64 {
+    'entries: while inbox.seen() < log.len() as u64 {
         inbox.see_entry(alloc, names, log, client)?;
     }
     Ok(inbox)

@@ -36,7 +36,10 @@ fn last_in(lasts: &[Last], var: &Name) -> Option<u64>
     ensures { result ≡ last_in var.now lasts.now }
 {
     let var = var.bytes();
-    lasts.iter().find(|last| is_same(last.var.bytes(), var)).map(|last| last.stamp)
+    lasts
+        .iter()
+        .find(|last| is_same(last.var.bytes(), var))
+        .map(|last| last.stamp)
 }
 
 fn place_of(lasts: &[Last], var: &Name) -> Option<usize>
@@ -84,7 +87,8 @@ impl Live {
     pub fn is_due(&self, stamp: u64, var: &Name, source: &[u8]) -> bool
         ensures { result ≡ is_due_held stamp var.now source.now self.now }
     {
-        does_select(&self.reg, var, source) && is_past(last_in(&self.lasts, var), stamp, self.reg.interval)
+        does_select(&self.reg, var, source)
+            && is_past(last_in(&self.lasts, var), stamp, self.reg.interval)
     }
 
     // Whether it was made at this entry and selects a post of this variable from the client with this name.
@@ -98,7 +102,8 @@ impl Live {
     pub fn has_patterns(&self, var: &Pattern, source: &Pattern) -> bool
         ensures { result ≡ has_patterns var.now source.now self.now }
     {
-        is_same(self.reg.var.bytes(), var.bytes()) && is_same(self.reg.source.bytes(), source.bytes())
+        is_same(self.reg.var.bytes(), var.bytes())
+            && is_same(self.reg.source.bytes(), source.bytes())
     }
 
     // A post of this stamp and variable comes through.
@@ -109,7 +114,13 @@ impl Live {
     }
 
     // The post comes through where it is due.
-    pub fn pass_if_due(&mut self, alloc: Global, stamp: u64, var: &Name, source: &[u8]) -> Result<(), NoMemory>
+    pub fn pass_if_due(
+        &mut self,
+        alloc: Global,
+        stamp: u64,
+        var: &Name,
+        source: &[u8],
+    ) -> Result<(), NoMemory>
         ensures { IfOk result (λ _. self.new ≡ passed stamp var.now source.now self.old) }
     {
         if self.is_due(stamp, var, source) {
@@ -119,7 +130,14 @@ impl Live {
     }
 
     // The post comes through where the registration is new and selects it.
-    pub fn pass_if_new(&mut self, alloc: Global, made: u64, stamp: u64, var: &Name, source: &[u8]) -> Result<(), NoMemory>
+    pub fn pass_if_new(
+        &mut self,
+        alloc: Global,
+        made: u64,
+        stamp: u64,
+        var: &Name,
+        source: &[u8],
+    ) -> Result<(), NoMemory>
         ensures { IfOk result (λ _. self.new ≡ caught made stamp var.now source.now self.old) }
     {
         if self.is_new_for(made, var, source) {

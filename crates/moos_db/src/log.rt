@@ -1,7 +1,8 @@
-ghost use Rattle.std.specs.Prelude.{◌≡◌, ◌<◌, ◌++◌, ◌∷◌, [], map, length, IfOk, OnOk, OnErr, Some, option_map, slice_get, vec_len, vec_capacity};
+ghost use Rattle.std.specs.Prelude.{◌≡◌, ◌<◌, ◌^◌, ◌-◌, ◌++◌, ◌∷◌, [], map, length, IfOk, OnOk, OnErr, Some, option_map, slice_get, vec_len, vec_capacity};
 ghost use Rattle.std.specs.List.{range_with_len};
-ghost use Rattle.moos_post.specs.History.{posts_of, posts_of_call};
+ghost use Rattle.moos_post.specs.History.{posts_of, posts_of_call, posts_of_entry};
 ghost use Rattle.moos_db.specs.Places.{place_at};
+ghost use Rattle.moos_db.specs.Database.{pair_of, origin_of};
 
 use crate::mail::Origin;
 use moos_post::{Call, Entry, NoMemory, Pair};
@@ -65,6 +66,17 @@ fn posts_in(call: &Call) -> usize
     }
 }
 
+// The pair at this place of an entry's batch.
+fn pair_in(entry: &Entry, place: usize) -> &Pair
+    requires { place < length (posts_of_entry entry.now) }
+    ensures { option_map pair_of (slice_get (posts_of_entry entry.now) place) ≡ Some result.now }
+{
+    match &entry.call {
+        Call::Post(batch) => batch.get(place),
+        _ => unreachable!(),
+    }
+}
+
 // The places of an entry's posts.
 fn places_in(alloc: Global, entry: usize, posts: usize) -> Result<Vec<Place>, NoMemory>
     ensures { IfOk result (λ places. places.items ≡ map (place_at entry) (range_with_len 0 posts)) }
@@ -73,9 +85,6 @@ fn places_in(alloc: Global, entry: usize, posts: usize) -> Result<Vec<Place>, No
 }
 
 impl Log {
-    ghost use Rattle.moos_db.specs.Places.{Journal};
-    ghost use Rattle.moos_db.specs.Database.{pair_of, origin_of};
-
     // The empty history.
     pub fn new(alloc: Global) -> Log
         ensures { result ≡ record { entries = []; letters = [] } }
@@ -89,7 +98,8 @@ impl Log {
 
     // How many entries there are.
     pub fn len(&self) -> usize
-        ensures { result ≡ length self.now.entries }
+        ensures value { result ≡ length self.now.entries }
+        ensures few { length self.now.entries < 2 ^ 64 - 1 }
     {
         self.entries.len()
     }
@@ -97,7 +107,8 @@ impl Log {
     // The entry with this number.
     pub fn entry(&self, number: usize) -> &Entry
         requires { number < length self.now.entries }
-        ensures { slice_get self.now.entries number ≡ Some result.now }
+        ensures value { slice_get self.now.entries number ≡ Some result.now }
+        ensures few { length (posts_of self.now.entries) < 2 ^ 64 }
     {
         &self.entries[number]
     }
@@ -123,10 +134,7 @@ impl Log {
         ensures { option_map pair_of (slice_get (posts_of self.now.entries) number) ≡ Some result.now }
     {
         let place = self.places[number];
-        match &self.entries[place.entry].call {
-            Call::Post(batch) => batch.get(place.pair),
-            _ => unreachable!(),
-        }
+        pair_in(&self.entries[place.entry], place.pair)
     }
 
     // When the post with this number was made, and by which client.
@@ -134,7 +142,8 @@ impl Log {
         requires { number < length (posts_of self.now.entries) }
         ensures { option_map origin_of (slice_get (posts_of self.now.entries) number) ≡ Some result }
     {
-        let entry = &self.entries[self.places[number].entry];
+        let place = self.places[number];
+        let entry = &self.entries[place.entry];
         Origin {
             stamp: entry.stamp,
             client: entry.client,

@@ -1,0 +1,79 @@
+-- The database as a whole: what is kept of all clients and entries, when an inbox is put and when an entry is added.
+use Rattle.std.proofs.Common.{◌≡◌, ℕ, zero, suc, ◌+◌, ◌<◌, ◌≤◌, false, List, [], ◌∷◌, ◌++◌, length, set, get_or, take, drop, slice_get, slice_index_or, Option, Some, None, inl, inr, refl, ap, sym, ◌∙◌, arith, subst, length-set, replicate}
+use Rattle.std.proofs.lemmas.Bool.{cases_lt, cond-false}
+use Rattle.std.proofs.lemmas.List.{take-append-le, get_or_append_left}
+use Rattle.std.proofs.Math.Seq.{take-append_seam, get_or-append_seam}
+use Rattle.moos_post.specs.declared.entry.Entry.{Entry}
+use Rattle.moos_post.specs.Delivery.{is_fetch, mail_after, mail_of_entry, mail_at}
+use Rattle.moos_post.specs.History.{History}
+use Rattle.moos_db.specs.Kept.{Kept, IsInbox, empty_kept}
+use Rattle.moos_db.specs.Places.{Journal, IsDb}
+use Rattle.moos_db.proofs.Catching.{slice_get-some}
+use Rattle.moos_db.proofs.Growth.{IsInbox-stays, IsInbox-empty}
+use Rattle.moos_db.proofs.Orderly.{length-push}
+use Rattle.moos_db.proofs.Standing.{slice_get-front, slice_get-seam}
+
+-- what stands somewhere after a write: the value written, or what stood there
+slice_get-set : {X : Type 0} (xs : List X) (i j : ℕ) (v x : X) (P : ℕ → X → Type 0) → P i v → ((k : ℕ) (y : X) → slice_get xs k ≡ Some y → P k y) → slice_get (set xs i v) j ≡ Some x → P j x
+slice_get-set [] i j v x P new old there = absurd (let e : None ≡ Some x = there in cc)
+slice_get-set (y ∷ xs) zero zero v x P new old there = let e : v ≡ x = cc in subst (P zero) e new
+slice_get-set (y ∷ xs) zero (suc j) v x P new old there = old (suc j) x there
+slice_get-set (y ∷ xs) (suc i) zero v x P new old there = old zero x there
+slice_get-set (y ∷ xs) (suc i) (suc j) v x P new old there = slice_get-set xs i j v x (λ k z. P (suc k) z) new (λ k z h. old (suc k) z h) there
+
+pub IsDb-set : (names : List (List ℕ)) (journal : Journal) (inboxes : List Kept) (client : ℕ) (kept : Kept) → IsInbox names journal.entries client kept →
+    IsDb names journal inboxes → IsDb names journal (set inboxes client kept)
+IsDb-set names journal inboxes client kept inbox db =
+    record {
+      few = db.few;
+      each = length-set inboxes client kept ∙ db.each;
+      lettered = db.lettered;
+      kept = λ other there h. slice_get-set inboxes client other kept there (λ k one. IsInbox names journal.entries k one) inbox db.kept h;
+      given = db.given;
+    }
+
+pub IsDb-empty : (names : List (List ℕ)) (journal : Journal) (inboxes : List Kept) (client : ℕ) → IsDb names journal inboxes → IsDb names journal (set inboxes client empty_kept)
+IsDb-empty names journal inboxes client db = IsDb-set names journal inboxes client empty_kept (IsInbox-empty names journal.entries client) db
+
+mail_at-stays : (names : List (List ℕ)) (history : History) (entry : Entry) (k : ℕ) → k < length history → mail_at names (history ++ entry ∷ []) k ≡ mail_at names history k
+mail_at-stays names history entry k below =
+    let found : (one : Entry) × (slice_get history k ≡ Some one) = slice_get-some history k below in
+    ap (λ h. mail_of_entry names h (slice_get (history ++ entry ∷ []) k)) (take-append-le k history (entry ∷ []) (omega arith))
+    ∙ ap (mail_of_entry names (take k history)) (slice_get-front history (entry ∷ []) k found.0 found.1 ∙ sym found.1)
+
+mail_at-seam : (names : List (List ℕ)) (history : History) (entry : Entry) → mail_at names (history ++ entry ∷ []) (length history) ≡ mail_of_entry names history (Some entry)
+mail_at-seam names history entry =
+    ap (λ h. mail_of_entry names h (slice_get (history ++ entry ∷ []) (length history))) (take-append_seam history (entry ∷ []))
+    ∙ ap (mail_of_entry names history) (slice_get-seam history entry [])
+
+-- One entry more, with its letters.
+pub IsDb-push : (names : List (List ℕ)) (journal : Journal) (inboxes : List Kept) (entry : Entry) (numbers : List ℕ) → numbers ≡ mail_of_entry names journal.entries (Some entry) →
+    IsDb names journal inboxes → IsDb names (record { entries = journal.entries ++ entry ∷ []; letters = journal.letters ++ numbers ∷ [] }) inboxes
+IsDb-push names journal inboxes entry numbers mail db =
+    record {
+      few = db.few;
+      each = db.each;
+      lettered = length-push journal.letters numbers ∙ ap suc db.lettered ∙ sym (length-push journal.entries entry);
+      kept = λ client kept there. IsInbox-stays names journal.entries client kept entry (db.kept client kept there);
+      given = λ k below. elim (cases_lt k (length journal.entries)) [
+        | inl before ↦
+            let h : length journal.letters ≡ length journal.entries = db.lettered in
+            get_or_append_left journal.letters (numbers ∷ []) [] k (omega arith) ∙ db.given k before ∙ sym (mail_at-stays names journal.entries entry k before)
+        | inr after ↦
+            let h : length journal.letters ≡ length journal.entries = db.lettered in
+            let last : k ≡ length journal.entries = omega (arith, length-push journal.entries entry) in
+            ap (λ n. get_or (journal.letters ++ numbers ∷ []) n []) (last ∙ sym h) ∙ get_or-append_seam journal.letters numbers [] []
+            ∙ mail ∙ sym (mail_at-seam names journal.entries entry) ∙ ap (mail_at names (journal.entries ++ entry ∷ [])) (sym last)
+      ];
+    }
+
+-- An entry that is no fetch gives nothing.
+pub IsDb-add : (names : List (List ℕ)) (journal : Journal) (inboxes : List Kept) (entry : Entry) → is_fetch entry.call ≡ false →
+    IsDb names journal inboxes → IsDb names (record { entries = journal.entries ++ entry ∷ []; letters = journal.letters ++ [] ∷ [] }) inboxes
+IsDb-add names journal inboxes entry other db = IsDb-push names journal inboxes entry [] (sym (cond-false (is_fetch entry.call) _ _ other)) db
+
+-- Where nothing has happened, each inbox is empty.
+empty-kept : (clients client : ℕ) (kept : Kept) → slice_get (replicate clients empty_kept) client ≡ Some kept → kept ≡ empty_kept
+empty-kept zero client kept there = absurd (let e : None ≡ Some kept = there in cc)
+empty-kept (suc clients) zero kept there = cc
+empty-kept (suc clients) (suc client) kept there = empty-kept clients client kept there

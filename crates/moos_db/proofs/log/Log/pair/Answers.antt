@@ -1,0 +1,23 @@
+use Rattle.std.proofs.Common.{◌≡◌, ◌<◌, ◌∙◌, length, ap, sym, subst, Some, option_map, slice_get, arith, rules}
+use Rattle.moos_post.specs.History.{posts_of}
+use Rattle.moos_db.specs.Database.{pair_of}
+use Rattle.moos_db.specs.Places.{Journal}
+use Rattle.moos_db.proofs.Standing.{StandsIn, stands, stands-within, stands-pair, stands-post}
+use Rattle.moos_db.proofs.log.Log.pair.Goals as goal
+
+pub index-requires : goal.index-requires
+index-requires c =
+    let below : c.args.number < length (posts_of c.self.inside.entries.items) = subst (λ (v : Journal). c.args.number < length (posts_of v.entries)) (sym c.self.view_is) c.requires in
+    let within : c.index-place.result.now.entry < length c.self.inside.entries.items = stands-within _ _ _ (stands _ _ _ _ _ c.self.invariant below c.index-place.ensures) in
+    search rules
+
+pub pair_in-requires : goal.pair_in-requires
+pair_in-requires c =
+    let below : c.args.number < length (posts_of c.self.inside.entries.items) = subst (λ (v : Journal). c.args.number < length (posts_of v.entries)) (sym c.self.view_is) c.requires in
+    stands-pair _ _ _ _ (stands _ _ _ _ _ c.self.invariant below c.index-place.ensures) c.index.ensures
+
+pub returns : goal.returns
+returns c =
+    let below : c.args.number < length (posts_of c.self.inside.entries.items) = subst (λ (v : Journal). c.args.number < length (posts_of v.entries)) (sym c.self.view_is) c.requires in
+    let Told : Journal → Type 0 = λ v. option_map pair_of (slice_get (posts_of v.entries) c.args.number) ≡ Some c.pair_in.result.now in
+    subst Told c.self.view_is (ap (option_map pair_of) (stands-post _ _ _ _ (stands _ _ _ _ _ c.self.invariant below c.index-place.ensures) c.index.ensures) ∙ c.pair_in.ensures)
