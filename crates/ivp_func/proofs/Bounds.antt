@@ -1,41 +1,41 @@
 -- Disjoint pieces cover no more of a box than it has, and less where they miss a point of it.
-use Rattle.std.proofs.Common.{◌≡◌, ◌≢◌, ℕ, zero, suc, ◌+◌, ◌-◌, ◌<◌, ◌≤◌, Bool, true, false, List, [], ◌∷◌, refl, ap, sym, ◌∙◌, subst, inl, inr, ◌⊎◌, arith}
+use Rattle.std.proofs.Common.{◌≡◌, ◌≢◌, ℕ, zero, suc, ◌+◌, ◌-◌, ◌<◌, ◌≤◌, true, List, [], ◌∷◌, refl, sym, ◌∙◌, subst, inl, inr, arith}
 use Rattle.std.specs.Prelude.{slice_index}
 use Rattle.std.proofs.lemmas.Bool.{cases_lt, cases_eq}
 use Rattle.ivp_domain.specs.declared.boxes.BoxN.{BoxN}
 use Rattle.ivp_domain.specs.declared.boxes.Point.{Point}
 use Rattle.ivp_domain.specs.Boxes.{has_point, is_box, volume_of}
 use Rattle.ivp_func.specs.declared.piece.Piece.{Piece}
-use Rattle.ivp_func.specs.Covering.{covered_in, CutOn, SameOn}
+use Rattle.ivp_func.specs.Covering.{covered_in, SameOn, Shorter}
 use Rattle.ivp_func.specs.Pieces.{count_at, holds}
 use Rattle.ivp_func.proofs.Counting.{count_at-cons}
 use Rattle.ivp_func.proofs.Cover.{covered_in-cut, covered_in-single, Cut, IsSingle, volume_of-cut, volume_of-single}
-use Rattle.ivp_func.proofs.Facts.{has_point-from, low_le_high, place_in}
+use Rattle.ivp_func.proofs.Facts.{has_point-from, is_box-from, low_le_high, place_in, volume_positive}
 
 -- a point of the whole is one of a part, and the other way round
 pub in_left : (k : ℕ) (whole left right : BoxN) (p : Point) → Cut k whole left right → has_point whole p ≡ true → slice_index p.at k ≤ slice_index left.high k → has_point left p ≡ true
 in_left k whole left right p h inside below = has_point-from left p (λ j within. let at = place_in whole p inside j within in elim (cases_eq j k) [
-      inl here ↦ let cut = h.cut in let low : slice_index whole.low k ≤ slice_index p.at k = subst (λ i. slice_index whole.low i ≤ slice_index p.at i) here at.0 in subst (λ i. (slice_index left.low i ≤ slice_index p.at i) × (slice_index p.at i ≤ slice_index left.high i)) (sym here) (omega arith, below)
-    | inr other ↦ let same = h.same j other in (omega arith, omega arith)
-    ])
+  | inl here ↦ let cut = h.cut in let low : slice_index whole.low k ≤ slice_index p.at k = subst (λ i. slice_index whole.low i ≤ slice_index p.at i) here at.0 in subst (λ i. (slice_index left.low i ≤ slice_index p.at i) × (slice_index p.at i ≤ slice_index left.high i)) (sym here) (omega arith, below)
+  | inr other ↦ let same = h.same j other in (omega arith, omega arith)
+])
 
 pub in_right : (k : ℕ) (whole left right : BoxN) (p : Point) → Cut k whole left right → has_point whole p ≡ true → slice_index left.high k < slice_index p.at k → has_point right p ≡ true
 in_right k whole left right p h inside above = has_point-from right p (λ j within. let at = place_in whole p inside j within in elim (cases_eq j k) [
-      inl here ↦ let cut = h.cut in let high : slice_index p.at k ≤ slice_index whole.high k = subst (λ i. slice_index p.at i ≤ slice_index whole.high i) here at.1 in subst (λ i. (slice_index right.low i ≤ slice_index p.at i) × (slice_index p.at i ≤ slice_index right.high i)) (sym here) (omega arith, omega arith)
-    | inr other ↦ let same = h.same j other in (omega arith, omega arith)
-    ])
+  | inl here ↦ let cut = h.cut in let high : slice_index p.at k ≤ slice_index whole.high k = subst (λ i. slice_index p.at i ≤ slice_index whole.high i) here at.1 in subst (λ i. (slice_index right.low i ≤ slice_index p.at i) × (slice_index p.at i ≤ slice_index right.high i)) (sym here) (omega arith, omega arith)
+  | inr other ↦ let same = h.same j other in (omega arith, omega arith)
+])
 
 pub left_in : (k : ℕ) (whole left right : BoxN) (p : Point) → Cut k whole left right → has_point left p ≡ true → has_point whole p ≡ true
 left_in k whole left right p h inside = has_point-from whole p (λ j within. let at = place_in left p inside j within in elim (cases_eq j k) [
-      inl here ↦ let cut = h.cut in let at' = subst (λ i. (slice_index left.low i ≤ slice_index p.at i) × (slice_index p.at i ≤ slice_index left.high i)) here at in subst (λ i. (slice_index whole.low i ≤ slice_index p.at i) × (slice_index p.at i ≤ slice_index whole.high i)) (sym here) (omega arith, omega arith)
-    | inr other ↦ let same = h.same j other in (omega arith, omega arith)
-    ])
+  | inl here ↦ let cut = h.cut in let at' = subst (λ i. (slice_index left.low i ≤ slice_index p.at i) × (slice_index p.at i ≤ slice_index left.high i)) here at in subst (λ i. (slice_index whole.low i ≤ slice_index p.at i) × (slice_index p.at i ≤ slice_index whole.high i)) (sym here) (omega arith, omega arith)
+  | inr other ↦ let same = h.same j other in (omega arith, omega arith)
+])
 
 pub right_in : (k : ℕ) (whole left right : BoxN) (p : Point) → Cut k whole left right → has_point right p ≡ true → has_point whole p ≡ true
 right_in k whole left right p h inside = has_point-from whole p (λ j within. let at = place_in right p inside j within in elim (cases_eq j k) [
-      inl here ↦ let cut = h.cut in let at' = subst (λ i. (slice_index right.low i ≤ slice_index p.at i) × (slice_index p.at i ≤ slice_index right.high i)) here at in subst (λ i. (slice_index whole.low i ≤ slice_index p.at i) × (slice_index p.at i ≤ slice_index whole.high i)) (sym here) (omega arith, omega arith)
-    | inr other ↦ let same = h.same j other in (omega arith, omega arith)
-    ])
+  | inl here ↦ let cut = h.cut in let at' = subst (λ i. (slice_index right.low i ≤ slice_index p.at i) × (slice_index p.at i ≤ slice_index right.high i)) here at in subst (λ i. (slice_index whole.low i ≤ slice_index p.at i) × (slice_index p.at i ≤ slice_index whole.high i)) (sym here) (omega arith, omega arith)
+  | inr other ↦ let same = h.same j other in (omega arith, omega arith)
+])
 
 -- the claim, of one box
 pub record Bounded (xs : List Piece) (area : BoxN) : Type 0 where
@@ -67,9 +67,9 @@ bounded-cut xs k whole left right h l r =
     record {
       most = omega (arith, volume, covered, l.most, r.most);
       short = λ p inside none. elim (cases_lt (slice_index left.high k) (slice_index p.at k)) [
-          inl above ↦ omega (arith, volume, covered, l.most, r.short p (in_right k whole left right p h inside above) none)
+        | inl above ↦ omega (arith, volume, covered, l.most, r.short p (in_right k whole left right p h inside above) none)
         | inr below ↦ omega (arith, volume, covered, r.most, l.short p (in_left k whole left right p h inside below) none)
-        ];
+      ];
     }
 
 -- what holds at each number, and of a span where it holds of its two parts, holds of each span
@@ -123,14 +123,14 @@ cut3 a b c d e f g h m p q = record { axis = omega arith; cut = record { left_lo
 bounded-span : (xs : List Piece) → ((p : Point) → count_at xs p ≤ 1) → (a b c d e f g h : ℕ) → a ≤ b → c ≤ d → e ≤ f → g ≤ h → Bounded xs (span_box a b c d e f g h)
 bounded-span xs one a b c d e f g h p q r s =
     over_span (λ i j. Bounded xs (span_box i j c d e f g h))
-      (λ i. over_span (λ j k. Bounded xs (span_box i i j k e f g h))
-        (λ j. over_span (λ k l. Bounded xs (span_box i i j j k l g h))
-          (λ k. over_span (λ l m. Bounded xs (span_box i i j j k k l m))
-            (λ l. bounded-single xs (span_box i i j j k k l l) one (single i j k l))
-            (λ l m n t u left right. bounded-cut xs 3 _ _ _ (cut3 i i j j k k l n m t u) left right) g h s)
-          (λ l m n t u left right. bounded-cut xs 2 _ _ _ (cut2 i i j j l n g h m t u) left right) e f r)
-        (λ l m n t u left right. bounded-cut xs 1 _ _ _ (cut1 i i l n e f g h m t u) left right) c d q)
-      (λ l m n t u left right. bounded-cut xs 0 _ _ _ (cut0 l n c d e f g h m t u) left right) a b p
+    (λ i. over_span (λ j k. Bounded xs (span_box i i j k e f g h))
+    (λ j. over_span (λ k l. Bounded xs (span_box i i j j k l g h))
+    (λ k. over_span (λ l m. Bounded xs (span_box i i j j k k l m))
+    (λ l. bounded-single xs (span_box i i j j k k l l) one (single i j k l))
+    (λ l m n t u left right. bounded-cut xs 3 _ _ _ (cut3 i i j j k k l n m t u) left right) g h s)
+    (λ l m n t u left right. bounded-cut xs 2 _ _ _ (cut2 i i j j l n g h m t u) left right) e f r)
+    (λ l m n t u left right. bounded-cut xs 1 _ _ _ (cut1 i i l n e f g h m t u) left right) c d q)
+    (λ l m n t u left right. bounded-cut xs 0 _ _ _ (cut0 l n c d e f g h m t u) left right) a b p
   where
     single : (i j k l : ℕ) → IsSingle (span_box i i j j k k l l)
     single i j k l zero within = refl
@@ -150,6 +150,44 @@ pub exactly_one : (xs : List Piece) (area : BoxN) → ((p : Point) → count_at 
 exactly_one xs area one proper all p inside =
     let bound = bounded xs area one proper in
     elim (cases_lt 0 (count_at xs p)) [
-      inl some ↦ omega (arith, one p)
-    | inr none ↦ absurd (omega (arith, bound.short p inside (omega arith), all))
+      | inl some ↦ omega (arith, one p)
+      | inr none ↦ absurd (omega (arith, bound.short p inside (omega arith), all))
     ]
+
+-- the parts of a cut are boxes
+pub left_box : (k : ℕ) (whole left right : BoxN) → Cut k whole left right → is_box whole ≡ true → is_box left ≡ true
+left_box k whole left right h proper = is_box-from left (λ j within. let side = low_le_high whole proper j within in elim (cases_eq j k) [
+  | inl here ↦ let cut = h.cut in subst (λ i. slice_index left.low i ≤ slice_index left.high i) (sym here) (omega arith)
+  | inr other ↦ let same = h.same j other in omega arith
+])
+
+pub right_box : (k : ℕ) (whole left right : BoxN) → Cut k whole left right → is_box whole ≡ true → is_box right ≡ true
+right_box k whole left right h proper = is_box-from right (λ j within. let side = low_le_high whole proper j within in elim (cases_eq j k) [
+  | inl here ↦ let cut = h.cut in subst (λ i. slice_index right.low i ≤ slice_index right.high i) (sym here) (omega arith)
+  | inr other ↦ let same = h.same j other in omega arith
+])
+
+-- the half of a box that is covered short
+pub left_short : (xs : List Piece) (k : ℕ) (whole left right : BoxN) → Cut k whole left right → is_box whole ≡ true → covered_in left xs < volume_of left → Shorter xs whole left
+left_short xs k whole left right h proper short =
+    record {
+      proper = left_box k whole left right h proper;
+      smaller = omega (arith, volume_of-cut k whole left right h, volume_positive right (right_box k whole left right h proper));
+      short = short;
+      inside = λ p. left_in k whole left right p h;
+    }
+
+pub right_short : (xs : List Piece) (k : ℕ) (whole left right : BoxN) → Cut k whole left right → is_box whole ≡ true → covered_in whole xs < volume_of whole → volume_of left ≤ covered_in left xs → Shorter xs whole right
+right_short xs k whole left right h proper short full =
+    record {
+      proper = right_box k whole left right h proper;
+      smaller = omega (arith, volume_of-cut k whole left right h, volume_positive left (left_box k whole left right h proper));
+      short = omega (arith, volume_of-cut k whole left right h, covered_in-cut k whole left right xs h, short, full);
+      inside = λ p. right_in k whole left right p h;
+    }
+
+-- a single point that is covered short is in no piece
+pub gap_at : (xs : List Piece) (area : BoxN) (p : Point) → is_box area ≡ true → ((k : ℕ) → k < 4 → slice_index area.high k ≤ slice_index area.low k) → covered_in area xs < volume_of area → p.at ≡ area.low → count_at xs p ≡ 0
+gap_at xs area p proper narrow short e =
+    let single : IsSingle area = λ k within. let side = low_le_high area proper k within in let other = narrow k within in omega arith in
+    omega (arith, covered_in-single area p xs single e, volume_of-single area single, short)

@@ -1,15 +1,18 @@
 -- Volumes of boxes and of what pieces cover in them, added up over a cut.
-use Rattle.std.proofs.Common.{◌≡◌, ◌≢◌, ℕ, zero, suc, ◌+◌, ◌-◌, ◌*◌, ◌<◌, ◌≤◌, min, max, Bool, true, false, cond, ◌&&◌, nat_le, List, [], ◌∷◌, refl, ap, sym, ◌∙◌, arith}
+use Rattle.std.proofs.Common.{◌≡◌, ◌≢◌, ℕ, zero, suc, ◌+◌, ◌-◌, ◌*◌, ◌<◌, ◌≤◌, min, max, Bool, true, false, cond, ◌&&◌, nat_le, Some, None, List, [], ◌∷◌, refl, ap, ◌∙◌, inl, inr, arith}
 use Rattle.std.specs.Prelude.{slice_index}
 use Rattle.std.proofs.lemmas.List.Sums.{sum_by-cons}
+use Rattle.std.proofs.Math.Nat.{mul-le-mul}
+use Rattle.std.proofs.lemmas.Bool.{cases_lt}
 use Rattle.std.proofs.lemmas.Bool.Decides.{nat_tests}
 use Rattle.ivp_domain.specs.declared.boxes.BoxN.{BoxN}
 use Rattle.ivp_domain.specs.declared.boxes.Point.{Point}
-use Rattle.ivp_domain.specs.Boxes.{common, has_point, has_place, is_box, side_of, volume_of}
+use Rattle.ivp_domain.specs.Boxes.{common, meet_of, is_box, side_of, volume_of}
 use Rattle.ivp_func.specs.declared.piece.Piece.{Piece}
 use Rattle.ivp_func.specs.Covering.{covered_in, shared_with, CutOn, SameOn}
 use Rattle.ivp_func.specs.Pieces.{count_at, holds}
 use Rattle.ivp_func.proofs.Counting.{count_at-cons, one_if}
+use Rattle.ivp_func.proofs.Facts.{is_box-from}
 
 -- a product of four numbers of which one is a sum
 merged : (k : ℕ) → k < 4 → (s l r : ℕ → ℕ) → s k ≡ l k + r k → ((j : ℕ) → j ≢ k → (l j ≡ s j) × (r j ≡ s j)) → s 0 * s 1 * s 2 * s 3 ≡ l 0 * l 1 * l 2 * l 3 + r 0 * r 1 * r 2 * r 3
@@ -78,7 +81,7 @@ one_if-and false false = refl
 ones : (s : ℕ → ℕ) (t : ℕ → Bool) → ((k : ℕ) → k < 4 → s k ≡ one_if (t k)) → s 0 * s 1 * s 2 * s 3 ≡ one_if (t 0 && t 1 && t 2 && t 3)
 ones s t h =
     rw (h 0 (omega arith), h 1 (omega arith), h 2 (omega arith), h 3 (omega arith))
-      (ap (λ n. n * one_if (t 2) * one_if (t 3)) (one_if-and (t 0) (t 1)) ∙ (ap (λ n. n * one_if (t 3)) (one_if-and (t 0 && t 1) (t 2)) ∙ one_if-and (t 0 && t 1 && t 2) (t 3)))
+    (ap (λ n. n * one_if (t 2) * one_if (t 3)) (one_if-and (t 0) (t 1)) ∙ (ap (λ n. n * one_if (t 3)) (one_if-and (t 0 && t 1) (t 2)) ∙ one_if-and (t 0 && t 1 && t 2) (t 3)))
 
 -- a single point: each place of the box is the low one
 abbrev pub IsSingle : BoxN → Type 0
@@ -97,3 +100,38 @@ pub volume_of-single : (area : BoxN) → IsSingle area → volume_of area ≡ 1
 volume_of-single area h =
     let side : (k : ℕ) → k < 4 → side_of k area ≡ 1 = λ k within. let one = h k within in omega arith in
     rw (side 0 (omega arith), side 1 (omega arith), side 2 (omega arith), side 3 (omega arith)) refl
+
+-- no more in common with a piece than the box has
+pub shared_with-le : (area : BoxN) (x : Piece) → shared_with area x ≤ volume_of area
+shared_with-le area x =
+    let side : (k : ℕ) → shared_side area x.area k ≤ side_of k area = λ k. omega arith in
+    mul-le-mul (mul-le-mul (mul-le-mul (side 0) (side 1)) (side 2)) (side 3)
+
+-- nothing where they do not meet
+pub shared_with-none : (area : BoxN) (x : Piece) → is_box (common area x.area) ≡ false → shared_with area x ≡ 0
+shared_with-none area x h =
+    elim (cases_lt 0 (shared_with area x)) [
+      | inl some ↦ let e : is_box (common area x.area) ≡ true = is_box-from (common area x.area) (meets area x.area some) in absurd (cc)
+      | inr none ↦ omega arith
+    ]
+  where
+    factor : (a b c d : ℕ) → 0 < a * b * c * d → (0 < a) × (0 < b) × (0 < c) × (0 < d)
+    factor zero b c d h = absurd (omega arith)
+    factor (suc a) zero c d h = absurd (omega arith)
+    factor (suc a) (suc b) zero d h = absurd (omega arith)
+    factor (suc a) (suc b) (suc c) zero h = absurd (omega arith)
+    factor (suc a) (suc b) (suc c) (suc d) h = (omega arith, omega arith, omega arith, omega arith)
+
+    meets : (a b : BoxN) → 0 < volume_of (common a b) → (k : ℕ) → k < 4 → slice_index (common a b).low k ≤ slice_index (common a b).high k
+    meets a b h zero within = omega (arith, (factor (shared_side a b 0) (shared_side a b 1) (shared_side a b 2) (shared_side a b 3) h).0)
+    meets a b h (suc zero) within = omega (arith, (factor (shared_side a b 0) (shared_side a b 1) (shared_side a b 2) (shared_side a b 3) h).1)
+    meets a b h (suc (suc zero)) within = omega (arith, (factor (shared_side a b 0) (shared_side a b 1) (shared_side a b 2) (shared_side a b 3) h).2)
+    meets a b h (suc (suc (suc zero))) within = omega (arith, (factor (shared_side a b 0) (shared_side a b 1) (shared_side a b 2) (shared_side a b 3) h).3)
+    meets a b h (suc (suc (suc (suc k)))) within = absurd (omega arith)
+
+-- what a meet says of the common box
+pub common_of : (a b c : BoxN) → Some c ≡ meet_of a b → c ≡ common a b
+common_of a b c h = elim (is_box (common a b)) as (λ t. Some c ≡ cond t (Some (common a b)) None → c ≡ common a b) [ true ↦ λ e. cc | false ↦ λ e. absurd (cc) ] h
+
+pub none_of : (a b : BoxN) → None ≡ meet_of a b → is_box (common a b) ≡ false
+none_of a b h = elim (is_box (common a b)) as (λ t. None ≡ cond t (Some (common a b)) None → t ≡ false) [ true ↦ λ e. absurd (cc) | false ↦ λ e. refl ] h

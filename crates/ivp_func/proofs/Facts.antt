@@ -1,9 +1,10 @@
 -- Boxes axis by axis, and what a piece that fits a domain keeps.
-use Rattle.std.proofs.Common.{◌≡◌, ◌≢◌, ℕ, zero, suc, ◌+◌, ◌*◌, ◌<◌, ◌≤◌, Bool, true, false, ◌&&◌, nat_le, nat_lt, Some, List, [], ◌∷◌, refl, ap, sym, ◌∙◌, cond, leb-true, ltb-true, ◌-◌, arith}
-use Rattle.std.specs.Prelude.{slice_get, slice_index}
+use Rattle.std.proofs.Common.{◌≡◌, ℕ, zero, suc, ◌+◌, ◌<◌, ◌≤◌, Bool, true, false, ◌&&◌, nat_le, nat_lt, Option, Some, None, pos, length, get_or, take, subst, inl, inr, List, [], ◌∷◌, refl, ap, sym, ◌∙◌, leb-true, ltb-true, ◌-◌, arith}
+use Rattle.std.specs.Prelude.{slice_get, slice_index, IfNone}
 use Rattle.std.specs.List.{list_all}
 use Rattle.std.proofs.Math.Nat.{one-le-mul}
-use Rattle.std.proofs.lemmas.Bool.{and_from, and_parts}
+use Rattle.std.proofs.lemmas.Bool.{and_from, and_parts, cases_eq}
+use Rattle.std.proofs.lemmas.Option.{get_or_from_slice_get, slice_get-get_or}
 use Rattle.std.proofs.lemmas.Bool.Decides.{nat_tests}
 use Rattle.ivp_domain.specs.declared.axis.Axis.{Axis}
 use Rattle.ivp_domain.specs.declared.boxes.Point.{Point}
@@ -68,19 +69,20 @@ box_parts axes area h =
     let four = and_parts (a && b && c && d) e h in
     let three = and_parts (a && b && c) d four.0 in
     let two = and_parts (a && b) c three.0 in
-    let one = and_parts a b two.0 in
-    ( one.0,
+    let one = and_parts a b two.0 in (
+      one.0,
       ltb-true (slice_index area.high 0) (size_on 0 axes) one.1,
       ltb-true (slice_index area.high 1) (size_on 1 axes) two.1,
       ltb-true (slice_index area.high 2) (size_on 2 axes) three.1,
-      ltb-true (slice_index area.high 3) (size_on 3 axes) four.1 )
+      ltb-true (slice_index area.high 3) (size_on 3 axes) four.1,
+    )
 
 -- a point of a piece is one of the domain
 pub piece_point : (axes : List Axis) (piece : Piece) (p : Point) → is_piece_of axes piece ≡ true → holds p piece ≡ true → is_point axes p ≡ true
 piece_point axes piece p fits h =
     let high = box_parts axes piece.area (piece_parts axes piece fits).0 in
     within (slice_index p.at 0) (slice_index p.at 1) (slice_index p.at 2) (slice_index p.at 3) (size_on 0 axes) (size_on 1 axes) (size_on 2 axes) (size_on 3 axes)
-      (omega (arith, (place_in piece.area p h 0 (omega arith)).1, high.1)) (omega (arith, (place_in piece.area p h 1 (omega arith)).1, high.2)) (omega (arith, (place_in piece.area p h 2 (omega arith)).1, high.3)) (omega (arith, (place_in piece.area p h 3 (omega arith)).1, high.4))
+    (omega (arith, (place_in piece.area p h 0 (omega arith)).1, high.1)) (omega (arith, (place_in piece.area p h 1 (omega arith)).1, high.2)) (omega (arith, (place_in piece.area p h 2 (omega arith)).1, high.3)) (omega (arith, (place_in piece.area p h 3 (omega arith)).1, high.4))
   where
     within : (i j k l a b c d : ℕ) → i < a → j < b → k < c → l < d → ((nat_le 0 i && nat_le i (a - 1)) && (nat_le 0 j && nat_le j (b - 1)) && (nat_le 0 k && nat_le k (c - 1)) && (nat_le 0 l && nat_le l (d - 1))) ≡ true
     within i j k l a b c d p q r s = grind (arith, nat_tests)
@@ -90,3 +92,39 @@ pub passes_at : {X : Type 0} (t : X → Bool) (xs : List X) (k : ℕ) (x : X) �
 passes_at t [] k x h e = absurd (cc)
 passes_at t (y ∷ ys) zero x h e = let same : y ≡ x = cc in ap t (sym same) ∙ (and_parts (t y) (list_all t ys) h).0
 passes_at t (y ∷ ys) (suc k) x h e = passes_at t ys k x (and_parts (t y) (list_all t ys) h).1 e
+
+-- what stands past the end of a list of pieces
+abbrev pub blank : Piece
+blank = record { area = record { low = []; high = [] }; base = pos 0; slope = [] }
+
+pub fits_at : (axes : List Axis) (xs : List Piece) (k : ℕ) → are_pieces_of axes xs ≡ true → k < length xs → is_piece_of axes (get_or xs k blank) ≡ true
+fits_at axes xs k h within = passes_at (is_piece_of axes) xs k (get_or xs k blank) h (slice_get-get_or xs k blank within)
+
+-- what holds of each piece below a place, and of that at the place, holds below the next
+pub each_more : (P : Piece → Type 0) (xs : List Piece) (i : ℕ) → ((k : ℕ) (x : Piece) → k < i → slice_get xs k ≡ Some x → P x) → P (get_or xs i blank) → (k : ℕ) (x : Piece) → k < i + 1 → slice_get xs k ≡ Some x → P x
+each_more P xs i before here k x within e =
+    elim (cases_eq k i) [
+      | inl same ↦ let at : get_or xs i blank ≡ x = subst (λ j. get_or xs j blank ≡ x) same (get_or_from_slice_get xs k x blank e) in subst P at here
+      | inr other ↦ before k x (omega arith) e
+    ]
+
+pub left_false : (a b : Bool) → (a && b) ≡ false → b ≡ true → a ≡ false
+left_false false b h e = refl
+left_false true b h e = absurd (cc)
+
+pub if_none : {A : Type 0} (o : Option A) (P Q : Type 0) → (P → Q) → IfNone o P → IfNone o Q
+if_none None P Q f h = f h
+if_none (Some x) P Q f h = tt
+
+pub take_whole : {A : Type 0} (xs : List A) (n : ℕ) → length xs ≤ n → take n xs ≡ xs
+take_whole [] zero h = refl
+take_whole [] (suc n) h = refl
+take_whole (x ∷ xs) zero h = absurd (omega arith)
+take_whole (x ∷ xs) (suc n) h = ap (λ ys. x ∷ ys) (take_whole xs n (omega arith))
+
+-- a piece that fits is over a proper box, and small
+pub piece_at : (axes : List Axis) (xs : List Piece) (k : ℕ) → are_pieces_of axes xs ≡ true → k < length xs → (is_box (get_or xs k blank).area ≡ true) × (is_small (get_or xs k blank) ≡ true)
+piece_at axes xs k fit within =
+    let piece = get_or xs k blank in
+    let parts = piece_parts axes piece (fits_at axes xs k fit within) in
+    ((box_parts axes piece.area parts.0).0, parts.1)

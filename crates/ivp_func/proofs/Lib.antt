@@ -3,3 +3,4 @@ pub mod Counting
 pub mod Cover
 pub mod Bounds
 pub mod Rises
+pub mod Tops

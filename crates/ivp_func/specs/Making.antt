@@ -1,5 +1,5 @@
 -- What making a function answers.
-use Rattle.std.specs.Prelude.{◌≡◌, ◌≢◌, ◌≤◌, ◌<◌, ℕ, false, IsTrue, List, length, Result, Ok, Err}
+use Rattle.std.specs.Prelude.{◌≡◌, ◌≢◌, ◌≤◌, ◌<◌, false, IsTrue, List, length, Result, Ok, Err}
 use Rattle.ivp_domain.specs.declared.axis.Axis.{Axis}
 use Rattle.ivp_domain.specs.Domains.{is_point}
 use Rattle.ivp_func.specs.declared.piece.Piece.{Piece}

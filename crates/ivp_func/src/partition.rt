@@ -1,6 +1,6 @@
 ghost use Rattle.std.specs.Prelude.{◌≡◌, ◌≢◌, ℕ, ◌-◌, ◌*◌, ◌^◌, ◌<◌, ◌≤◌, length, IsTrue, IfSome, IfNone, nat_lt, slice_index};
 ghost use Rattle.ivp_domain.specs.Boxes.{has_point, is_box, volume_of};
-ghost use Rattle.ivp_domain.specs.Domains.{is_point, size_on, whole};
+ghost use Rattle.ivp_domain.specs.Domains.{is_domain, is_point, size_on, whole};
 ghost use Rattle.ivp_func.specs.Covering.{covered_in, shared_with, CutOn, SameOn, Shorter};
 ghost use Rattle.ivp_func.specs.Functions.{IsPartition};
 ghost use Rattle.ivp_func.specs.Pieces.{are_pieces_of, count_at, holds};
@@ -128,27 +128,27 @@ fn short_half(area: &BoxN, axis: usize, pieces: &[Piece]) -> BoxN
     if is_short(&left, pieces) { left } else { right }
 }
 
-/// A point of the box that no piece holds, where the pieces cover less than the box has.
-fn gap(area: BoxN, pieces: &[Piece]) -> Option<Point>
+/// A point of a box that no piece holds, where the pieces cover less than the box has: the box is
+/// halved until one point is left.
+fn gap(area: BoxN, pieces: &[Piece]) -> Point
     requires proper { IsTrue (is_box area) }
     requires few { volume_of area ≤ 2 ^ 22 }
     requires pieces { length pieces.now ≤ 4096 }
-    ensures some { IfSome result (λ p. IsTrue (has_point area p) × (count_at pieces.now p ≡ 0)) }
-    ensures none { IfNone result (volume_of area ≤ covered_in area pieces.now) }
+    requires short { covered_in area pieces.now < volume_of area }
+    ensures inside { IsTrue (has_point area result) }
+    ensures none { count_at pieces.now result ≡ 0 }
 {
-    if !is_short(&area, pieces) {
-        return None;
-    }
     let mut short = area;
     while let Some(axis) = wide_axis(&short) {
         short = short_half(&short, axis, pieces);
     }
-    Some(first_point(&short))
+    first_point(&short)
 }
 
 /// The last place of the domain on an axis.
 fn last_place(domain: &Domain, axis: u32) -> u32
-    ensures { result ≡ size_on axis domain.now - 1 }
+    ensures last { result ≡ size_on axis domain.now - 1 }
+    ensures domain { IsTrue (is_domain domain.now) }
 {
     if axis < domain.axes() {
         domain.axis(axis).points - 1
@@ -159,7 +159,8 @@ fn last_place(domain: &Domain, axis: u32) -> u32
 
 /// The box of all points of the domain.
 fn whole(domain: &Domain) -> BoxN
-    ensures { result ≡ whole domain.now }
+    ensures whole { result ≡ whole domain.now }
+    ensures domain { IsTrue (is_domain domain.now) }
 {
     BoxN {
         low: [0; 4],
@@ -178,10 +179,15 @@ pub(crate) fn misfit(domain: &Domain, pieces: &[Piece]) -> Option<Point>
     requires fit { IsTrue (are_pieces_of domain.now pieces.now) }
     ensures some { IfSome result (λ p. IsTrue (is_point domain.now p) × (count_at pieces.now p ≢ 1)) }
     ensures none { IfNone result (IsPartition domain.now pieces.now) }
+    ensures domain { IfNone result (IsTrue (is_domain domain.now)) }
 {
     if let Some(point) = overlap(pieces) {
         return Some(point);
     }
-    let _points = domain.points();
-    gap(whole(domain), pieces)
+    let area = whole(domain);
+    let points = domain.points();
+    if covered(&area, pieces) < points as u64 {
+        return Some(gap(area, pieces));
+    }
+    None
 }

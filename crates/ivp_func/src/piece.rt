@@ -46,5 +46,9 @@ pub(crate) fn value(piece: &Piece, point: &Point) -> i64
     requires { IsTrue (is_small piece.now) }
     ensures { result ≡ value_of piece.now point.now }
 {
-    piece.base + rise(piece, point, 0) + rise(piece, point, 1) + rise(piece, point, 2) + rise(piece, point, 3)
+    piece.base
+        + rise(piece, point, 0)
+        + rise(piece, point, 1)
+        + rise(piece, point, 2)
+        + rise(piece, point, 3)
 }

@@ -15,10 +15,12 @@ pub(crate) fn value_at(domain: &Domain, pieces: &[Piece], point: &Point) -> i64
     requires { IsTrue (are_pieces_of domain.now pieces.now) }
     ensures { result ≡ value_at pieces.now point.now }
 {
-    match pieces.iter().find(|piece| holds(piece, point)) {
-        Some(piece) => value(piece, point),
-        None => 0,
+    for piece in pieces {
+        if holds(piece, point) {
+            return value(piece, point);
+        }
     }
+    0
 }
 
 /// The place of a box on an axis where a piece rises to its most there.
