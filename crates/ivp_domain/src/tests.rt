@@ -118,21 +118,19 @@ fn boxes(rt: HostRuntime) {
     assert_eq!(rt; volume(&a), 15);
 }
 
-fn three_steps<L: Ledger>(blank: Blank) -> Steps<L>
+/// Counts, and gives nothing of it back: a counter's type names its ledger.
+fn count_two<L: Ledger>(blank: Blank)
     requires name { blank.name ≡ L.name }
     requires parts { blank.parts ≡ L.parts }
     requires some { 0 < blank.parts }
-    ensures { result ≡ 3 }
 {
     let mut steps = Steps::<L>::new(blank);
     steps.tick();
     steps.tick();
-    steps.tick();
-    steps
 }
 
 #[test]
 fn counting_takes_no_bytes(rt: HostRuntime) {
-    let _steps = three_steps::<Brand>(Blank::new(1));
+    count_two::<Brand>(Blank::new(1));
     assert_eq!(rt; size_of::<Steps<Brand>>(), 0);
 }
