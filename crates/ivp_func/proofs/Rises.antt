@@ -7,7 +7,7 @@ use Rattle.std.proofs.lemmas.Int.{ints}
 use Rattle.ivp_func.specs.declared.piece.Piece.{Piece}
 use Rattle.ivp_func.specs.Pieces.{is_base, is_slope, is_small, is_value, slope_on}
 
-pub rises : (s : ℤ) (x y : ℕ) → pos 0 <ℤ s → x ≤ y → (s *ℤ pos x) ≤ℤ (s *ℤ pos y)
+pub rises : (s : ℤ) (x y : ℕ) → pos 0 ≤ℤ s → x ≤ y → (s *ℤ pos x) ≤ℤ (s *ℤ pos y)
 rises (pos s) x y h le = let more = mul-le-mul_left s le in omega (arith, ints)
 rises (negsuc s) x y h le = absurd (omega (arith, ints))
 

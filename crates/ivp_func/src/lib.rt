@@ -14,3 +14,6 @@ mod values;
 
 pub use func::{Func, FuncFault};
 pub use piece::Piece;
+
+#[cfg(test)]
+mod tests;

@@ -1,5 +1,7 @@
-ghost use Rattle.std.specs.Prelude.{◌≡◌, ◌<◌, IsTrue};
-ghost use Rattle.ivp_domain.specs.Domains.{is_point};
+ghost use Rattle.std.specs.Prelude.{◌≡◌, ◌<◌, ◌≤◌, ℕ, IsTrue, nat_lt, int_le, pos, ◌&&◌};
+ghost use Rattle.ivp_domain.specs.Boxes.{is_box};
+ghost use Rattle.ivp_domain.specs.Domains.{is_point, size_on};
+ghost use Rattle.ivp_func.specs.Pieces.{are_pieces_of, is_base, is_box_of, is_flat_past, is_piece_of, is_slope, is_small, slope_on};
 
 use crate::{Func, FuncFault, Piece};
 use ivp_domain::{Axis, AxisName, BoxN, Domain, Point, Steps};
@@ -8,17 +10,243 @@ use std::marker::Brand;
 use std::sync::ledger::{Blank, Ledger};
 use std::test::Fail;
 
-/// An axis of this many points, from 0 in units of a thousandth.
-fn axis(name: &[u8], points: u32) -> Result<Axis, Fail> {
-    Ok(Axis {
-        name: AxisName::new(name).ok_or("a name")?,
-        low: 0,
-        high: points as i64,
-        points,
-    })
+fn is_proper(area: &BoxN) -> bool
+    ensures { result ≡ is_box area.now }
+{
+    area.low[0] <= area.high[0]
+        && area.low[1] <= area.high[1]
+        && area.low[2] <= area.high[2]
+        && area.low[3] <= area.high[3]
 }
 
+fn is_below(domain: &Domain, axis: u32, place: u32) -> bool
+    ensures { result ≡ nat_lt place (size_on axis domain.now) }
+{
+    if axis < domain.axes() {
+        place < domain.axis(axis).points
+    } else {
+        place < 1
+    }
+}
+
+fn is_inside(domain: &Domain, area: &BoxN) -> bool
+    ensures { result ≡ is_box_of domain.now area.now }
+{
+    is_proper(area)
+        && is_below(domain, 0, area.high[0])
+        && is_below(domain, 1, area.high[1])
+        && is_below(domain, 2, area.high[2])
+        && is_below(domain, 3, area.high[3])
+}
+
+fn is_slight(slope: i64) -> bool
+    ensures { result ≡ is_slope slope }
+{
+    -100_000 <= slope && slope <= 100_000
+}
+
+fn is_bounded(piece: &Piece) -> bool
+    ensures { result ≡ is_small piece.now }
+{
+    -1_000_000_000_000 <= piece.base
+        && piece.base <= 1_000_000_000_000
+        && is_slight(piece.slope[0])
+        && is_slight(piece.slope[1])
+        && is_slight(piece.slope[2])
+        && is_slight(piece.slope[3])
+}
+
+fn is_flat(domain: &Domain, axis: u32, piece: &Piece) -> bool
+    requires { axis < 4 }
+    ensures { result ≡ is_flat_past domain.now axis piece.now }
+{
+    axis < domain.axes() || (0 <= piece.slope[axis as usize] && piece.slope[axis as usize] <= 0)
+}
+
+fn fits(domain: &Domain, piece: &Piece) -> bool
+    ensures { result ≡ is_piece_of domain.now piece.now }
+{
+    is_inside(domain, &piece.area)
+        && is_bounded(piece)
+        && is_flat(domain, 1, piece)
+        && is_flat(domain, 2, piece)
+        && is_flat(domain, 3, piece)
+}
+
+fn all_fit(domain: &Domain, pieces: &[Piece]) -> bool
+    ensures { result ≡ are_pieces_of domain.now pieces.now }
+{
+    pieces.iter().all(|piece| fits(domain, piece))
+}
+
+/// The function that pieces make which may stand in one.
+fn made(alloc: Global, domain: &Domain, pieces: Vec<Piece>) -> Option<Result<Func, FuncFault>> {
+    if all_fit(domain, &pieces) {
+        Some(Func::make(alloc, domain, pieces))
+    } else {
+        None
+    }
+}
+
+/// A domain of one axis.
 fn line(points: u32) -> Result<Domain, Fail> {
-    let axes = [axis(b"a", points)?];
+    let axes = [Axis {
+        name: AxisName::new(b"a").ok_or("a name")?,
+        low: 0,
+        high: 1000,
+        points,
+    }];
     Ok(Domain::make(&axes).map_err(|_| "a domain")?)
+}
+
+/// The piece `LOW HIGH BASE SLOPE` on one axis.
+fn piece(low: u32, high: u32, base: i64, slope: i64) -> Piece {
+    Piece {
+        area: BoxN {
+            low: [low, 0, 0, 0],
+            high: [high, 0, 0, 0],
+        },
+        base,
+        slope: [slope, 0, 0, 0],
+    }
+}
+
+fn at(place: u32) -> Point {
+    Point {
+        at: [place, 0, 0, 0],
+    }
+}
+
+/// The fault of these pieces over a line.
+fn fault(alloc: Global, points: u32, pieces: &[Piece]) -> Result<Option<FuncFault>, Fail> {
+    let domain = line(points)?;
+    let pieces = Vec::from_slice(alloc, pieces)?;
+    Ok(made(alloc, &domain, pieces).ok_or("pieces that fit")?.err())
+}
+
+#[test]
+fn no_partition(rt: HostRuntime) -> Result<(), Fail> {
+    let pieces = [piece(0, 1, 0, 0), piece(1, 2, 0, 0)];
+    let twice = FuncFault::NotPartition {
+        point: at(1),
+        count: 2,
+    };
+    assert_eq!(rt; fault(rt.alloc(), 3, &pieces)?, Some(twice));
+    let pieces = [piece(0, 0, 0, 0), piece(2, 2, 0, 0)];
+    let missed = FuncFault::NotPartition {
+        point: at(1),
+        count: 0,
+    };
+    assert_eq!(rt; fault(rt.alloc(), 3, &pieces)?, Some(missed));
+    let pieces = [piece(0, 0, 0, 0), piece(1, 1, 0, 0)];
+    let last = FuncFault::NotPartition {
+        point: at(2),
+        count: 0,
+    };
+    assert_eq!(rt; fault(rt.alloc(), 3, &pieces)?, Some(last));
+    let pieces = [piece(1, 1, 0, 0), piece(1, 1, 0, 0), piece(0, 2, 0, 0)];
+    let thrice = FuncFault::NotPartition {
+        point: at(1),
+        count: 3,
+    };
+    assert_eq!(rt; fault(rt.alloc(), 3, &pieces)?, Some(thrice));
+    let none = FuncFault::NotPartition {
+        point: at(0),
+        count: 0,
+    };
+    assert_eq!(rt; fault(rt.alloc(), 2, &[])?, Some(none));
+    Ok(())
+}
+
+#[test]
+fn values_out(rt: HostRuntime) -> Result<(), Fail> {
+    let pieces = [piece(0, 0, 100_000, 0), piece(1, 2, 99_999, 1)];
+    let above = FuncFault::ValueOut {
+        point: at(2),
+        value: 100_001,
+    };
+    assert_eq!(rt; fault(rt.alloc(), 3, &pieces)?, Some(above));
+    let pieces = [piece(0, 2, 1, -1)];
+    let below = FuncFault::ValueOut {
+        point: at(2),
+        value: -1,
+    };
+    assert_eq!(rt; fault(rt.alloc(), 3, &pieces)?, Some(below));
+    let pieces = [piece(0, 2, 100_000, -50_000)];
+    assert_eq!(rt; fault(rt.alloc(), 3, &pieces)?, None);
+    Ok(())
+}
+
+/// As many pieces of one point as the line has points.
+fn points_apart(alloc: Global, count: u32) -> Result<Option<FuncFault>, Fail> {
+    let mut pieces = Vec::new(alloc);
+    for place in 0..count {
+        pieces.push(piece(place, place, 0, 0))?;
+    }
+    fault(alloc, count, &pieces)
+}
+
+#[test]
+fn most_pieces(rt: HostRuntime) -> Result<(), Fail> {
+    assert_eq!(rt; points_apart(rt.alloc(), 4096)?, None);
+    assert_eq!(rt; points_apart(rt.alloc(), 4097)?, Some(FuncFault::TooMany));
+    Ok(())
+}
+
+/// The value at a point, counted by a ledger of its own.
+fn counted<L: Ledger>(func: &Func, point: &Point, blank: Blank) -> i64
+    requires point { IsTrue (is_point func.now.axes point.now) }
+    requires name { blank.name ≡ L.name }
+    requires parts { blank.parts ≡ L.parts }
+    requires some { 0 < blank.parts }
+{
+    let mut steps = Steps::<L>::new(blank);
+    func.value_at(point, &mut steps)
+}
+
+/// The value at the point of an index, where the domain has it.
+fn value(func: &Func, index: u32) -> Option<i64> {
+    let domain = func.domain();
+    if index < domain.points() {
+        let point = domain.point_at(index);
+        Some(counted::<Brand>(func, &point, Blank::new(1)))
+    } else {
+        None
+    }
+}
+
+#[test]
+fn peak_of_a_heading(rt: HostRuntime) -> Result<(), Fail> {
+    let pieces = [
+        piece(0, 1, 90_000, -10_000),
+        piece(2, 4, 106_666, -26_666),
+        piece(5, 179, 0, 0),
+        piece(180, 353, 0, 0),
+        piece(354, 356, -9_439_762, 26_666),
+        piece(357, 358, -3_490_000, 10_000),
+        piece(359, 359, 3_690_000, -10_000),
+    ];
+    let domain = line(360)?;
+    let kept = Vec::from_slice(rt.alloc(), &pieces)?;
+    let func = made(rt.alloc(), &domain, kept)
+        .ok_or("pieces that fit")?
+        .map_err(|_| "a function")?;
+    assert_eq!(rt; func.len(), 7);
+    assert!(rt; 4 < func.len());
+    assert_eq!(rt; func.piece(4), piece(354, 356, -9_439_762, 26_666));
+    assert_eq!(rt; func.top(), 100_000);
+    assert!(rt; func.domain() == domain);
+    let values = [
+        (0, 90_000),
+        (1, 80_000),
+        (4, 2),
+        (200, 0),
+        (354, 2),
+        (359, 100_000),
+    ];
+    for (index, expected) in values {
+        assert_eq!(rt; value(&func, index), Some(expected));
+    }
+    assert_eq!(rt; value(&func, 360), None);
+    Ok(())
 }

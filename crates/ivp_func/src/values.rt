@@ -46,10 +46,10 @@ fn low_place(piece: &Piece, axis: usize) -> u32
     ensures high { result ≤ slice_index piece.now.area.high axis }
     ensures least { (x : ℕ) → slice_index piece.now.area.low axis ≤ x → x ≤ slice_index piece.now.area.high axis → (slope_on axis piece.now *ℤ pos result) ≤ℤ (slope_on axis piece.now *ℤ pos x) }
 {
-    if piece.slope[axis] > 0 {
-        piece.area.low[axis]
-    } else {
+    if piece.slope[axis] < 0 {
         piece.area.high[axis]
+    } else {
+        piece.area.low[axis]
     }
 }
 
