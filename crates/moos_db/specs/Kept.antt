@@ -23,7 +23,8 @@ last_in var lasts = option_map (λ last. last.stamp) (find (is_of var) lasts)
 -- the last stamps after a post of the variable
 abbrev pub with_last : List ℕ → ℕ → List Last → List Last
 with_last var stamp [] = record { var = var; stamp = stamp } ∷ []
-with_last var stamp (last ∷ lasts) = if is_of var last then record last { stamp = stamp } ∷ lasts else last ∷ with_last var stamp lasts
+with_last var stamp (last ∷ lasts) =
+    if is_of var last then record last { stamp = stamp } ∷ lasts else last ∷ with_last var stamp lasts
 
 -- the last stamps of the posts that came
 abbrev pub lasts_of : List Post → List Last
@@ -47,7 +48,8 @@ abbrev pub picks : Reg → List ℕ → List ℕ → Bool
 picks reg var source = matches reg.var var && matches reg.source source
 
 abbrev pub is_due_held : ℕ → List ℕ → List ℕ → Held → Bool
-is_due_held stamp var source held = picks held.reg var source && is_past (last_in var held.lasts) stamp held.reg.interval
+is_due_held stamp var source held =
+    picks held.reg var source && is_past (last_in var held.lasts) stamp held.reg.interval
 
 abbrev pub with_stamp : ℕ → List ℕ → Held → Held
 with_stamp stamp var held = record held { lasts = with_last var stamp held.lasts }
@@ -100,7 +102,9 @@ with_mailed number kept = record kept { mailed = kept.mailed ++ number ∷ []; w
 -- after a post of this stamp from the source with this name, which is mailed where it is due
 abbrev pub with_due : ℕ → List ℕ → Kept → List ℕ → Kept
 with_due stamp source kept var =
-    record (if list_any (is_due_held stamp var source) kept.lives then with_mailed kept.posts kept else kept) { lives = map (passed stamp var source) kept.lives }
+    record (if list_any (is_due_held stamp var source) kept.lives then with_mailed kept.posts kept else kept) {
+      lives = map (passed stamp var source) kept.lives;
+    }
 
 -- and which counts as one post more
 abbrev pub kept_post : ℕ → List ℕ → Kept → List ℕ → Kept
@@ -112,11 +116,14 @@ kept_batch stamp source kept pairs = fold (λ now pair. kept_post stamp source n
 -- an earlier post catches up: it is the latest of its variable, a new registration selects it, and it wasn't mailed
 abbrev pub catches_kept : List (List ℕ) → Kept → ℕ → Post → List Post → Bool
 catches_kept names kept number post later =
-    is_latest post later && list_any (is_new_held kept.seen post.var (name_of names post.source)) kept.lives && not (list_any (λ one. one == number) kept.mailed)
+    is_latest post later
+    && list_any (is_new_held kept.seen post.var (name_of names post.source)) kept.lives
+    && not (list_any (λ one. one == number) kept.mailed)
 
 -- after the post with this number, of this stamp from the source with this name, caught up
 abbrev pub with_missed : ℕ → ℕ → List ℕ → Kept → List ℕ → Kept
-with_missed number stamp source kept var = record (with_mailed number kept) { lives = map (caught kept.seen stamp var source) kept.lives }
+with_missed number stamp source kept var =
+    record (with_mailed number kept) { lives = map (caught kept.seen stamp var source) kept.lives }
 
 abbrev pub with_caught : List (List ℕ) → Kept → ℕ → Post → Kept
 with_caught names kept number post = with_missed number post.stamp (name_of names post.source) kept post.var
@@ -124,11 +131,14 @@ with_caught names kept number post = with_missed number post.stamp (name_of name
 abbrev pub kept_catching : List (List ℕ) → ℕ → Kept → List Post → Kept
 kept_catching names number kept [] = kept
 kept_catching names number kept (post ∷ later) =
-    kept_catching names (suc number) (if catches_kept names kept number post later then with_caught names kept number post else kept) later
+    kept_catching names (suc number)
+    (if catches_kept names kept number post later then with_caught names kept number post else kept)
+    later
 
 -- after a Register entry of the client, where these are the posts before it
 abbrev pub kept_regs : List (List ℕ) → List Post → Kept → List Reg → Kept
-kept_regs names posts kept regs = kept_catching names 0 (record kept { lives = fold (with_held kept.seen) kept.lives regs }) posts
+kept_regs names posts kept regs =
+    kept_catching names 0 (record kept { lives = fold (with_held kept.seen) kept.lives regs }) posts
 
 -- what the client's own entries change beside the posts
 abbrev pub kept_own : List (List ℕ) → List Post → Kept → Call → Kept

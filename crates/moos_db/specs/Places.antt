@@ -14,7 +14,8 @@ pub record Journal : Type 0 where
 
 -- the post that stands at this place of an entry's batch
 abbrev pub post_in : History → Place → Option Post
-post_in history place = option_and_then (λ entry. slice_get (posts_of_entry entry) place.pair) (slice_get history place.entry)
+post_in history place =
+    option_and_then (λ entry. slice_get (posts_of_entry entry) place.pair) (slice_get history place.entry)
 
 abbrev pub place_at : ℕ → ℕ → Place
 place_at entry pair = record { entry = entry; pair = pair }
@@ -29,5 +30,7 @@ pub record IsDb (names : List (List ℕ)) (journal : Journal) (inboxes : List Ke
   pub few : length names < 2 ^ 32
   pub each : length inboxes ≡ length names
   pub lettered : length journal.letters ≡ length journal.entries
-  pub kept : (client : ℕ) (kept : Kept) → slice_get inboxes client ≡ Some kept → IsInbox names journal.entries client kept
-  pub given : (k : ℕ) → k < length journal.entries → slice_index_or journal.letters k [] ≡ mail_at names journal.entries k
+  pub kept : (client : ℕ) (kept : Kept) → slice_get inboxes client ≡ Some kept →
+      IsInbox names journal.entries client kept
+  pub given : (k : ℕ) → k < length journal.entries →
+      slice_index_or journal.letters k [] ≡ mail_at names journal.entries k

@@ -118,7 +118,11 @@ impl Db {
         regs: Regs,
     ) -> Result<(), NoMemory>
         requires { client < length self.old.names }
-        ensures ok { OnOk result (self.new ≡ with_entry self.old (record { stamp = stamp; client = client; call = Call.Register regs })) }
+        ensures ok { OnOk result (self.new ≡ with_entry self.old (record {
+          stamp = stamp;
+          client = client;
+          call = Call.Register regs;
+        })) }
         ensures same { OnErr result (self.new ≡ self.old) }
     {
         let call = Call::Register(regs);
@@ -142,7 +146,11 @@ impl Db {
         source: Pattern,
     ) -> Result<(), NoMemory>
         requires { client < length self.old.names }
-        ensures ok { OnOk result (self.new ≡ with_entry self.old (record { stamp = stamp; client = client; call = Call.Unregister var source })) }
+        ensures ok { OnOk result (self.new ≡ with_entry self.old (record {
+          stamp = stamp;
+          client = client;
+          call = Call.Unregister var source;
+        })) }
         ensures same { OnErr result (self.new ≡ self.old) }
     {
         let call = Call::Unregister(var, source);
@@ -165,7 +173,11 @@ impl Db {
         batch: Batch,
     ) -> Result<(), NoMemory>
         requires { client < length self.old.names }
-        ensures ok { OnOk result (self.new ≡ with_entry self.old (record { stamp = stamp; client = client; call = Call.Post batch })) }
+        ensures ok { OnOk result (self.new ≡ with_entry self.old (record {
+          stamp = stamp;
+          client = client;
+          call = Call.Post batch;
+        })) }
         ensures same { OnErr result (self.new ≡ self.old) }
     {
         let call = Call::Post(batch);
@@ -182,8 +194,13 @@ impl Db {
     /// The client is given all that was mailed to it since its fetch before, in the order of mailing.
     pub fn fetch(&mut self, alloc: Global, client: u32, stamp: u64) -> Result<Mail, NoMemory>
         requires { client < length self.old.names }
-        ensures mail { IfOk result (AreLetters (posts_of self.old.history) (mail_after self.old.names client self.old.history)) }
-        ensures ok { OnOk result (self.new ≡ with_entry self.old (record { stamp = stamp; client = client; call = Call.Fetch })) }
+        ensures mail { let numbers = mail_after self.old.names client self.old.history
+            in IfOk result (AreLetters (posts_of self.old.history) numbers) }
+        ensures ok { OnOk result (self.new ≡ with_entry self.old (record {
+          stamp = stamp;
+          client = client;
+          call = Call.Fetch;
+        })) }
         ensures same { OnErr result (self.new ≡ self.old) }
     {
         // Where memory ends on the way, the inbox that has seen nothing stays, and the next fetch begins anew.

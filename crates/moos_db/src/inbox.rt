@@ -1,12 +1,13 @@
-ghost use Rattle.std.specs.Prelude.{◌≡◌, suc, ◌+◌, ◌-◌, ◌^◌, ◌<◌, ◌≤◌, ◌==◌, [], ◌∷◌, ◌++◌, length, map, filter, fold, take, drop, not, ◌&&◌, bytes_eq, IfOk, IfSome, Some, slice_get, if◌then◌else◌};
+ghost use Rattle.std.specs.Prelude.{◌≡◌, suc, ◌+◌, ◌-◌, ◌^◌, ◌<◌, ◌≤◌, ◌==◌, [], length, take, drop, not, ◌&&◌, bytes_eq, IfOk, Some, slice_get, if◌then◌else◌};
 ghost use Rattle.std.specs.List.{list_any};
 ghost use Rattle.moos_post.specs.History.{name_of, posts_of, posts_of_entry};
-ghost use Rattle.moos_db.specs.Kept.{IsInbox, is_due_held, passed, is_new_held, caught, without_held, with_held};
+ghost use Rattle.moos_db.specs.Kept.{IsInbox, is_new_held};
 
 use crate::live::Live;
+use crate::lives::{any_due, any_new, pass_due, pass_new, with_lives, without};
 use crate::log::Log;
 use crate::rule::is_same;
-use moos_post::{Call, Entry, Name, Names, NoMemory, Pair, Pattern, Reg};
+use moos_post::{Call, Entry, Name, Names, NoMemory, Pair};
 use std::alloc::Global;
 use std::marker::Model;
 use std::mem;
@@ -32,7 +33,13 @@ impl Model for Inbox {
 
     ghost Value = { Kept };
 
-    ghost view = { λ inbox. record { seen = inbox.seen; posts = inbox.posts; lives = inbox.lives.items; mailed = inbox.mailed.items; waits = inbox.waits.items } };
+    ghost view = { λ inbox. record {
+      seen = inbox.seen;
+      posts = inbox.posts;
+      lives = inbox.lives.items;
+      mailed = inbox.mailed.items;
+      waits = inbox.waits.items;
+    } };
 }
 
 // The name of the client with this number.
@@ -43,91 +50,6 @@ fn source_of(names: &Names, client: u32) -> &[u8]
         Some(name) => name.bytes(),
         None => &[],
     }
-}
-
-fn any_due(lives: &[Live], stamp: u64, var: &Name, source: &[u8]) -> bool
-    ensures { result ≡ list_any (is_due_held stamp var.now source.now) lives.now }
-{
-    lives.iter().any(|live| live.is_due(stamp, var, source))
-}
-
-fn pass_due(
-    alloc: Global,
-    lives: &mut [Live],
-    stamp: u64,
-    var: &Name,
-    source: &[u8],
-) -> Result<(), NoMemory>
-    ensures { IfOk result (λ _. lives.new ≡ map (passed stamp var.now source.now) lives.old) }
-{
-    for live in lives.iter_mut() {
-        live.pass_if_due(alloc, stamp, var, source)?;
-    }
-    Ok(())
-}
-
-fn any_new(lives: &[Live], made: u64, var: &Name, source: &[u8]) -> bool
-    ensures { result ≡ list_any (is_new_held made var.now source.now) lives.now }
-{
-    lives.iter().any(|live| live.is_new_for(made, var, source))
-}
-
-fn pass_new(
-    alloc: Global,
-    lives: &mut [Live],
-    made: u64,
-    stamp: u64,
-    var: &Name,
-    source: &[u8],
-) -> Result<(), NoMemory>
-    ensures { IfOk result (λ _. lives.new ≡ map (caught made stamp var.now source.now) lives.old) }
-{
-    for live in lives.iter_mut() {
-        live.pass_if_new(alloc, made, stamp, var, source)?;
-    }
-    Ok(())
-}
-
-// The registrations without the one that has both these patterns.
-fn without(
-    alloc: Global,
-    lives: Vec<Live>,
-    var: &Pattern,
-    source: &Pattern,
-) -> Result<Vec<Live>, NoMemory>
-    ensures { IfOk result (λ left. left.items ≡ without_held var.now source.now lives.items) }
-{
-    let mut left = Vec::with_capacity(alloc, lives.len())?;
-    for live in lives {
-        if !live.has_patterns(var, source) {
-            left.push(live)?;
-        }
-    }
-    Ok(left)
-}
-
-// The registrations after this entry made another, which withdraws one with the same patterns.
-fn with_live(alloc: Global, lives: Vec<Live>, made: u64, reg: &Reg) -> Result<Vec<Live>, NoMemory>
-    ensures { IfOk result (λ more. more.items ≡ with_held made lives.items reg.now) }
-{
-    let mut more = without(alloc, lives, &reg.var, &reg.source)?;
-    more.push(Live::new(alloc, reg, made)?)?;
-    Ok(more)
-}
-
-fn with_lives(
-    alloc: Global,
-    lives: Vec<Live>,
-    made: u64,
-    regs: &[Reg],
-) -> Result<Vec<Live>, NoMemory>
-    ensures { IfOk result (λ more. more.items ≡ fold (with_held made) lives.items regs.now) }
-{
-    let mut more = lives;
-    for reg in regs {
-        more = with_live(alloc, more, made, reg)?;
-    }
-    Ok(more)
 }
 
 fn was_mailed(mailed: &[u64], number: u64) -> bool
@@ -254,7 +176,10 @@ impl Inbox {
     fn is_missed(&self, log: &Log, var: &Name, source: &[u8], number: usize, posts: usize) -> bool
         requires below { number < posts }
         requires within { posts ≤ length (posts_of log.now.entries) }
-        ensures { result ≡ (not (list_any (λ other. bytes_eq other.var var.now) (drop (number + 1) (take posts (posts_of log.now.entries)))) && list_any (is_new_held self.now.seen var.now source.now) self.now.lives && not (list_any (λ one. one == number) self.now.mailed)) }
+        ensures { let later = drop (number + 1) (take posts (posts_of log.now.entries)) in
+            result ≡ (not (list_any (λ other. bytes_eq other.var var.now) later)
+            && list_any (is_new_held self.now.seen var.now source.now) self.now.lives
+            && not (list_any (λ one. one == number) self.now.mailed)) }
     {
         any_new(&self.lives, self.seen, var, source)
             && !has_post(log, var, number + 1, posts)
@@ -289,7 +214,9 @@ impl Inbox {
         requires within { posts ≤ length (posts_of log.now.entries) }
         ensures { IfOk result (λ _. (post : Post) → slice_get (posts_of log.now.entries) number ≡ Some post →
             let later = drop (number + 1) (take posts (posts_of log.now.entries))
-            in self.new ≡ (if catches_kept names.now self.old number post later then with_caught names.now self.old number post else self.old)) }
+            in self.new ≡ (if catches_kept names.now self.old number post later
+            then with_caught names.now self.old number post
+            else self.old)) }
     {
         let var = &log.pair(number).var;
         let origin = log.origin(number);
@@ -303,7 +230,8 @@ impl Inbox {
     // All posts so far catch up where they may.
     fn catch_up(&mut self, alloc: Global, names: &Names, log: &Log) -> Result<(), NoMemory>
         requires { self.old.posts ≤ length (posts_of log.now.entries) }
-        ensures { IfOk result (λ _. self.new ≡ kept_catching names.now 0 self.old (take self.old.posts (posts_of log.now.entries))) }
+        ensures { let posts = take self.old.posts (posts_of log.now.entries)
+            in IfOk result (λ _. self.new ≡ kept_catching names.now 0 self.old posts) }
     {
         let posts = self.posts as usize;
         for number in 0..posts {
@@ -321,7 +249,8 @@ impl Inbox {
         call: &Call,
     ) -> Result<(), NoMemory>
         requires { self.old.posts ≤ length (posts_of log.now.entries) }
-        ensures { IfOk result (λ _. self.new ≡ kept_own names.now (take self.old.posts (posts_of log.now.entries)) self.old call.now) }
+        ensures { let posts = take self.old.posts (posts_of log.now.entries)
+            in IfOk result (λ _. self.new ≡ kept_own names.now posts self.old call.now) }
     {
         match call {
             Call::Register(regs) => {
@@ -349,7 +278,10 @@ impl Inbox {
         entry: &Entry,
     ) -> Result<(), NoMemory>
         requires { self.old.posts ≤ length (posts_of log.now.entries) }
-        ensures { IfOk result (λ _. self.new ≡ (if entry.now.client == client then kept_own names.now (take self.old.posts (posts_of log.now.entries)) self.old entry.now.call else self.old)) }
+        ensures { let posts = take self.old.posts (posts_of log.now.entries)
+            in IfOk result (λ _. self.new ≡ (if entry.now.client == client
+            then kept_own names.now posts self.old entry.now.call
+            else self.old)) }
     {
         if entry.client == client {
             self.see_own(alloc, names, log, &entry.call)?;
@@ -360,7 +292,8 @@ impl Inbox {
     // What the posts of anybody's entry change.
     fn see_posts(&mut self, alloc: Global, names: &Names, entry: &Entry) -> Result<(), NoMemory>
         requires { self.old.posts + length (posts_of_entry entry.now) < 2 ^ 64 }
-        ensures { IfOk result (λ _. self.new ≡ kept_posts names.now entry.now.stamp entry.now.client self.old entry.now.call) }
+        ensures { IfOk result (λ _.
+            self.new ≡ kept_posts names.now entry.now.stamp entry.now.client self.old entry.now.call) }
     {
         match &entry.call {
             Call::Post(batch) => self.see_batch(

@@ -4,13 +4,14 @@
 // call adds its entry or finds no memory and changes nothing; what a fetch gives is the delivery rule's mail of the
 // history before it, the rule that stands in `moos_post`'s specs/Delivery. Nothing else tells what mail a client gets.
 //
-// Read `rule` first, the tests that the delivery rule makes of one registration and one post. Then `live` and `inbox`,
-// what is kept of one client, `log`, what is kept of the history, `mail`, and last `db`.
+// Read `rule` first, the tests that the delivery rule makes of one registration and one post. Then `live`,
+// `lives` and `inbox`, what is kept of one client, `log`, what is kept of the history, `mail`, and last `db`.
 #![tactic(auto)]
 
 mod db;
 mod inbox;
 mod live;
+mod lives;
 mod log;
 mod mail;
 mod rule;

@@ -152,7 +152,10 @@ impl Log {
 
     // Adds an entry that gave these numbers. All memory is taken before anything changes.
     pub fn append(&mut self, alloc: Global, entry: Entry, numbers: Vec<u64>) -> Result<(), NoMemory>
-        ensures ok { OnOk result (self.new ≡ record { entries = self.old.entries ++ entry ∷ []; letters = self.old.letters ++ numbers.items ∷ [] }) }
+        ensures ok { OnOk result (self.new ≡ record {
+          entries = self.old.entries ++ entry ∷ [];
+          letters = self.old.letters ++ numbers.items ∷ [];
+        }) }
         ensures same { OnErr result (self.new ≡ self.old) }
     {
         let mut places = places_in(alloc, self.entries.len(), posts_in(&entry.call))?;

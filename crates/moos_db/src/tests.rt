@@ -1,3 +1,5 @@
+ghost use Rattle.std.specs.Prelude.{◌<◌, length};
+
 use super::*;
 use moos_post::{Batch, Call, Milli, Name, Names, Pair, Pattern, Post, Reg, Regs, Value};
 use std::alloc::Global;
@@ -25,12 +27,16 @@ fn regs_of(alloc: Global, var: &str, interval: u64, source: &str) -> Result<Regs
     Ok(regs)
 }
 
+fn pair_of(alloc: Global, var: &str, value: i64) -> Result<Pair, Fail> {
+    let var = Name::new(alloc, var.as_bytes())?;
+    let value = Value::Num(Milli::new(value).ok_or("a number")?);
+    Ok(Pair { var, value })
+}
+
 fn batch_of(alloc: Global, pairs: &[(&str, i64)]) -> Result<Batch, Fail> {
     let mut batch = Batch::new(alloc);
     for (var, value) in pairs {
-        let var = Name::new(alloc, var.as_bytes())?;
-        let value = Value::Num(Milli::new(*value).ok_or("a number")?);
-        batch.push(Pair { var, value })?;
+        batch.push(pair_of(alloc, var, *value)?)?;
     }
     Ok(batch)
 }
@@ -44,41 +50,69 @@ fn database(rt: &impl Abort, alloc: Global, names: &[&str]) -> Result<Db, Fail> 
     Ok(Db::make(alloc, list)?)
 }
 
-// One call, and what the database says of it afterwards.
+fn unregister(
+    alloc: Global,
+    db: &mut Db,
+    client: u32,
+    stamp: u64,
+    var: &str,
+    source: &str,
+) -> Result<(), Fail>
+    requires { client < length db.old.names }
+{
+    let var = Pattern::read(alloc, var.as_bytes())?;
+    let source = Pattern::read(alloc, source.as_bytes())?;
+    db.unregister(alloc, client, stamp, var, source)?;
+    Ok(())
+}
+
+fn numbers_of(alloc: Global, mail: &Mail) -> Result<Vec<u64>, Fail> {
+    let mut numbers = Vec::new(alloc);
+    for letter in mail.all() {
+        numbers.push(letter.number)?;
+    }
+    Ok(numbers)
+}
+
+fn fetch(
+    rt: &impl Abort,
+    alloc: Global,
+    db: &mut Db,
+    client: u32,
+    stamp: u64,
+    numbers: &[u64],
+) -> Result<(), Fail>
+    requires { client < length db.old.names }
+{
+    let k = db.entries();
+    let mail = db.fetch(alloc, client, stamp)?;
+    assert_eq!(rt; numbers_of(alloc, &mail)?.as_slice(), numbers);
+    assert!(rt; k < db.entries());
+    assert_eq!(rt; db.letters(k), numbers);
+    Ok(())
+}
+
 fn perform(
     rt: &impl Abort,
     alloc: Global,
     db: &mut Db,
     stamp: u64,
     client: u32,
-    step: &Step,
-) -> Result<(), Fail> {
-    let k = db.entries();
-    assert!(rt; client < db.clients());
-    match step {
+    call: &Step,
+) -> Result<(), Fail>
+    requires { client < length db.old.names }
+{
+    match call {
         Step::Register(var, interval, source) => db.register(
             alloc,
             client,
             stamp,
             regs_of(alloc, var, *interval, source)?,
         )?,
-        Step::Unregister(var, source) => {
-            let var = Pattern::read(alloc, var.as_bytes())?;
-            let source = Pattern::read(alloc, source.as_bytes())?;
-            db.unregister(alloc, client, stamp, var, source)?;
-        }
+        Step::Unregister(var, source) => unregister(alloc, db, client, stamp, var, source)?,
         Step::Post(pairs) => db.post(alloc, client, stamp, batch_of(alloc, pairs)?)?,
-        Step::Fetch(numbers) => {
-            let mail = db.fetch(alloc, client, stamp)?;
-            assert_eq!(rt; mail.len(), numbers.len());
-            for (letter, number) in mail.all().iter().zip(numbers.iter()) {
-                assert_eq!(rt; letter.number, *number);
-            }
-            assert!(rt; k < db.entries());
-            assert_eq!(rt; db.letters(k), *numbers);
-        }
+        Step::Fetch(numbers) => fetch(rt, alloc, db, client, stamp, numbers)?,
     }
-    assert_eq!(rt; db.entries(), k + 1);
     Ok(())
 }
 
@@ -90,6 +124,7 @@ fn play(
 ) -> Result<(), Fail> {
     let mut db = database(rt, alloc, names)?;
     for (stamp, client, call) in steps {
+        assert!(rt; *client < db.clients());
         perform(rt, alloc, &mut db, *stamp, *client, call)?;
     }
     Ok(())
@@ -157,28 +192,41 @@ fn registration_begins_anew(rt: HostRuntime) -> Result<(), Fail> {
     play(&rt, rt.alloc(), &["b", "a"], &steps)
 }
 
-// What a database tells of its clients, its entries, its posts and its mail, and the list of letters.
-#[test]
-fn tells_what_happened(rt: HostRuntime) -> Result<(), Fail> {
-    let alloc = rt.alloc();
-    let mut db = database(&rt, alloc, &["pA", "pB"])?;
-    perform(&rt, alloc, &mut db, 0, 1, &Step::Register("X", 0, "*"))?;
-    perform(
-        &rt,
-        alloc,
-        &mut db,
-        1000,
-        0,
-        &Step::Post(&[("Y", 4), ("X", 5)]),
-    )?;
-    perform(&rt, alloc, &mut db, 2000, 1, &Step::Post(&[("X", 6)]))?;
+// A database with a registration of the second client, a batch of the first, and a post of the second.
+fn busy(rt: &impl Abort, alloc: Global) -> Result<Db, Fail> {
+    let mut db = database(rt, alloc, &["pA", "pB"])?;
+    assert!(rt; db.clients() == 2);
+    db.register(alloc, 1, 0, regs_of(alloc, "X", 0, "*")?)?;
+    db.post(alloc, 0, 1000, batch_of(alloc, &[("Y", 4), ("X", 5)])?)?;
+    db.post(alloc, 1, 2000, batch_of(alloc, &[("X", 6)])?)?;
+    Ok(db)
+}
 
-    assert!(rt; db.clients() == 2 && db.entries() == 3 && db.posts() == 3);
-    assert_eq!(rt; db.name(1).bytes(), b"pB".as_slice());
+#[test]
+fn tells_its_entries(rt: HostRuntime) -> Result<(), Fail> {
+    let db = busy(&rt, rt.alloc())?;
+    assert_eq!(rt; db.entries(), 3);
     let entry = db.entry(1);
-    assert!(rt; entry.stamp == 1000 && entry.client == 0);
-    assert!(rt; matches!(&entry.call, Call::Post(batch) if batch.len() == 2));
+    assert_eq!(rt; entry.stamp, 1000);
+    assert_eq!(rt; entry.client, 0);
+    assert!(rt; matches!(&entry.call, Call::Post(_)));
+    assert_eq!(rt; db.letters(1).len(), 0);
+    Ok(())
+}
+
+#[test]
+fn tells_its_posts(rt: HostRuntime) -> Result<(), Fail> {
+    let db = busy(&rt, rt.alloc())?;
+    assert_eq!(rt; db.posts(), 3);
+    assert_eq!(rt; db.pair(0).var.bytes(), b"Y".as_slice());
     assert_eq!(rt; db.pair(1).var.bytes(), b"X".as_slice());
+    assert_eq!(rt;
+        db.origin(1),
+        Origin {
+            stamp: 1000,
+            client: 0
+        }
+    );
     assert_eq!(rt;
         db.origin(2),
         Origin {
@@ -186,30 +234,46 @@ fn tells_what_happened(rt: HostRuntime) -> Result<(), Fail> {
             client: 1
         }
     );
-    assert_eq!(rt; db.letters(1).len(), 0);
+    Ok(())
+}
 
-    let mail = db.fetch(alloc, 1, 3000)?;
+#[test]
+fn tells_its_clients(rt: HostRuntime) -> Result<(), Fail> {
+    let db = database(&rt, rt.alloc(), &["pA", "pB"])?;
+    assert_eq!(rt; db.clients(), 2);
+    assert_eq!(rt; db.name(1).bytes(), b"pB".as_slice());
+    Ok(())
+}
+
+#[test]
+fn letters_hold_posts(rt: HostRuntime) -> Result<(), Fail> {
+    let mut db = busy(&rt, rt.alloc())?;
+    assert!(rt; db.clients() == 2);
+    let mail = db.fetch(rt.alloc(), 1, 3000)?;
     assert_eq!(rt; mail.len(), 2);
     let letter = mail.get(0);
-    assert!(rt; letter.number == 1 && letter.post.stamp == 1000 && letter.post.source == 0);
+    assert_eq!(rt; letter.number, 1);
+    assert_eq!(rt; letter.post.stamp, 1000);
+    assert_eq!(rt; letter.post.source, 0);
     assert_eq!(rt; letter.post.var.bytes(), b"X".as_slice());
     assert!(rt; matches!(&letter.post.value, Value::Num(number) if number.get() == 5));
+    Ok(())
+}
 
-    let mut copied = Mail::new(alloc);
-    for letter in mail.all() {
-        let var = letter.post.var.copy(alloc)?;
-        let value = letter.post.value.copy(alloc)?;
-        let post = Post {
+#[test]
+fn mail_is_a_list(rt: HostRuntime) -> Result<(), Fail> {
+    let alloc = rt.alloc();
+    let Pair { var, value } = pair_of(alloc, "X", 5)?;
+    let mut mail = Mail::new(alloc);
+    mail.push(Letter {
+        number: 7,
+        post: Post {
             stamp: 0,
             source: 0,
             var,
             value,
-        };
-        copied.push(Letter {
-            number: letter.number,
-            post,
-        })?;
-    }
-    assert_eq!(rt; copied.len(), 2);
+        },
+    })?;
+    assert_eq!(rt; mail.len(), 1);
     Ok(())
 }
