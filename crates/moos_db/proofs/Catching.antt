@@ -1,5 +1,5 @@
 -- The loops over posts: one more post of a search for a variable, and one more post that may catch up.
-use Rattle.std.proofs.Common.{◌≡◌, ℕ, zero, suc, ◌+◌, ◌<◌, ◌≤◌, Bool, true, false, ◌||◌, ◌==◌, List, [], ◌∷◌, length, map, get_or, take, drop, slice_get, Option, Some, None, option_map, bytes_eq, refl, ap, sym, ◌∙◌, arith, if◌then◌else◌}
+use Rattle.std.proofs.Common.{◌≡◌, ℕ, zero, suc, ◌+◌, ◌<◌, ◌≤◌, Bool, true, false, ◌||◌, List, [], ◌∷◌, length, map, take, drop, slice_get, Option, Some, None, option_map, bytes_eq, refl, ap, sym, ◌∙◌, arith, if◌then◌else◌}
 use Rattle.std.specs.List.{list_any}
 use Rattle.std.proofs.Math.Seq.{drop-cons}
 use Rattle.std.proofs.lemmas.Option.{slice_get_within, get_or_from_slice_get}
@@ -8,7 +8,7 @@ use Rattle.moos_post.specs.declared.entry.Call.TheVariants.{Register, Unregister
 use Rattle.moos_post.specs.declared.value.Pair.{Pair}
 use Rattle.moos_post.specs.declared.value.Post.{Post}
 use Rattle.moos_db.specs.Database.{pair_of}
-use Rattle.moos_db.specs.Kept.{Kept, Held, is_due_held, with_stamp, passed, with_mailed, with_due, catches_kept, with_caught, kept_catching, kept_regs, kept_own}
+use Rattle.moos_db.specs.Kept.{Kept, Held, is_due_held, with_stamp, passed, with_mailed, with_due, catches_kept, with_caught, kept_catching, kept_own}
 
 pub slice_get-some : {X : Type 0} (xs : List X) (i : ℕ) → i < length xs → (x : X) × (slice_get xs i ≡ Some x)
 slice_get-some [] i below = absurd (omega arith)

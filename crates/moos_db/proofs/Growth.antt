@@ -1,5 +1,5 @@
 -- How an inbox of the delivery rule, and what is kept of it, grows with the history.
-use Rattle.std.proofs.Common.{◌≡◌, ℕ, zero, suc, ◌+◌, ◌<◌, ◌≤◌, Bool, true, false, ◌==◌, cond, nat_le, List, [], ◌∷◌, ◌++◌, length, map, filter, fold, take, drop, slice_get, Option, Some, None, All, get_or, flat_map, append_assoc, append-nil, refl, ap, sym, ◌∙◌, arith, subst, length-append, length-take, if◌then◌else◌}
+use Rattle.std.proofs.Common.{◌≡◌, ℕ, zero, suc, ◌+◌, ◌<◌, ◌≤◌, Bool, true, false, ◌==◌, cond, nat_le, List, [], ◌∷◌, ◌++◌, length, map, filter, fold, take, drop, slice_get, Some, All, append_assoc, append-nil, refl, ap, sym, ◌∙◌, arith, subst, length-append, if◌then◌else◌}
 use Rattle.std.specs.List.{AllByRecursion}
 use Rattle.std.proofs.lemmas.Bool.{eq-eqb}
 use Rattle.std.proofs.lemmas.List.{take-append-drop, take-append-le, take_all}
@@ -11,8 +11,8 @@ use Rattle.moos_post.specs.declared.entry.Call.{Call}
 use Rattle.moos_post.specs.declared.entry.Call.TheVariants.{Register, Unregister, Post as Posts, Fetch}
 use Rattle.moos_post.specs.declared.entry.Entry.{Entry}
 use Rattle.moos_post.specs.declared.value.Post.{Post}
-use Rattle.moos_post.specs.Delivery.{Inbox, Mailing, with_post, with_own, with_entry, empty_inbox, inbox_of, mail_after, waiting}
-use Rattle.moos_post.specs.History.{History, posts_of, posts_of_call, posts_of_entry}
+use Rattle.moos_post.specs.Delivery.{Inbox, Mailing, with_post, with_own, with_entry, empty_inbox, inbox_of, mail_after}
+use Rattle.moos_post.specs.History.{History, posts_of, posts_of_entry}
 use Rattle.moos_db.specs.Kept.{Kept, kept_of, kept_own, kept_posts, kept_entry, empty_kept, IsInbox}
 use Rattle.moos_db.proofs.Catching.{kept_posts-own}
 use Rattle.moos_db.proofs.Keeping.{kept-entry}

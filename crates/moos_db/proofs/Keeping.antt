@@ -1,7 +1,7 @@
 -- What is kept of a client after one entry more is its inbox of the delivery rule after it, in short.
-use Rattle.std.proofs.Common.{◌≡◌, ℕ, zero, suc, ◌+◌, ◌<◌, ◌≤◌, Bool, true, false, cond, ◌&&◌, ◌||◌, ◌==◌, not, nat_le, List, [], ◌∷◌, ◌++◌, length, map, filter, fold, refl, ap, sym, ◌∙◌, arith, inl, inr, if◌then◌else◌}
+use Rattle.std.proofs.Common.{◌≡◌, ℕ, suc, ◌≤◌, Bool, true, false, cond, ◌&&◌, ◌||◌, ◌==◌, not, nat_le, List, [], ◌∷◌, ◌++◌, length, map, filter, fold, refl, ap, sym, ◌∙◌, if◌then◌else◌}
 use Rattle.std.specs.List.{list_any}
-use Rattle.std.proofs.lemmas.Bool.{cases_Bool, cond-true, le-leb}
+use Rattle.std.proofs.lemmas.Bool.{le-leb}
 use Rattle.std.proofs.lemmas.List.{map-append}
 use Rattle.std.proofs.lemmas.List.Elements.{filter-append}
 use Rattle.std.proofs.lemmas.List.Sums.{fold-append}
@@ -11,9 +11,9 @@ use Rattle.moos_post.specs.declared.entry.Entry.{Entry}
 use Rattle.moos_post.specs.declared.registration.Reg.{Reg}
 use Rattle.moos_post.specs.declared.value.Pair.{Pair}
 use Rattle.moos_post.specs.declared.value.Post.{Post}
-use Rattle.moos_post.specs.Delivery.{Live, Mailing, Inbox, is_due, is_past, selects, with_came, with_post, without, with_reg, with_regs, is_new_for, is_latest, was_mailed, catches_up, with_caught_up, after_catching_up, with_own, with_entry, waiting, mailing, last_stamp}
-use Rattle.moos_post.specs.History.{name_of, post_of, posts_of_call, posts_of_entry}
-use Rattle.moos_db.specs.Kept.{Held, Kept, held_of, kept_of, held_of_reg, picks, is_due_held, with_stamp, passed, is_new_held, caught, has_patterns, without_held, with_held, with_mailed, kept_post, kept_batch, catches_kept, with_caught, kept_catching, kept_regs, kept_own, kept_posts, kept_entry}
+use Rattle.moos_post.specs.Delivery.{Live, Mailing, Inbox, is_due, is_past, selects, with_came, with_post, without, with_reg, with_regs, is_new_for, is_latest, was_mailed, catches_up, with_caught_up, after_catching_up, with_own, with_entry, waiting, mailing}
+use Rattle.moos_post.specs.History.{name_of, post_of, posts_of_call}
+use Rattle.moos_db.specs.Kept.{Kept, held_of, kept_of, held_of_reg, is_due_held, with_stamp, passed, is_new_held, caught, has_patterns, without_held, with_held, with_mailed, kept_post, kept_batch, catches_kept, with_caught, kept_catching, kept_regs, kept_own, kept_posts, kept_entry}
 use Rattle.moos_db.proofs.Lasts.{last_in-lasts_of}
 use Rattle.moos_db.proofs.Orderly.{IsOrderly, filter-past, length-push}
 

@@ -1,15 +1,12 @@
 -- What is always so of an inbox of the delivery rule: its fetches and its mailings lie in the past, and each mailed
 -- number is that of a post.
-use Rattle.std.proofs.Common.{◌≡◌, ℕ, zero, suc, ◌+◌, ◌<◌, ◌≤◌, Bool, true, false, cond, ◌==◌, nat_le, List, [], ◌∷◌, ◌++◌, length, map, filter, fold, refl, ap, sym, ◌∙◌, arith, subst, if◌then◌else◌}
-use Rattle.std.proofs.lemmas.Bool.{cases_Bool, cond-false, lt-leb}
+use Rattle.std.proofs.Common.{◌≡◌, ℕ, suc, ◌+◌, ◌<◌, ◌≤◌, Bool, true, false, ◌==◌, nat_le, List, [], ◌∷◌, ◌++◌, length, map, filter, fold, refl, ap, ◌∙◌, arith, if◌then◌else◌}
+use Rattle.std.proofs.lemmas.Bool.{cond-false, lt-leb}
 use Rattle.moos_post.specs.declared.entry.Call.{Call}
 use Rattle.moos_post.specs.declared.entry.Call.TheVariants.{Register, Unregister, Post as Posts, Fetch}
-use Rattle.moos_post.specs.declared.entry.Entry.{Entry}
-use Rattle.moos_post.specs.declared.registration.Reg.{Reg}
-use Rattle.moos_post.specs.declared.value.Pair.{Pair}
 use Rattle.moos_post.specs.declared.value.Post.{Post}
-use Rattle.moos_post.specs.Delivery.{Live, Mailing, Inbox, with_post, with_caught_up, catches_up, after_catching_up, with_regs, with_own, with_entry, mailing, empty_inbox, inbox_of, is_due, with_came, is_new_for, with_reg}
-use Rattle.moos_post.specs.History.{History, post_of, posts_of_call, posts_of_entry}
+use Rattle.moos_post.specs.Delivery.{Mailing, Inbox, with_post, with_caught_up, catches_up, after_catching_up, with_regs, with_own, with_entry, mailing, empty_inbox, inbox_of, is_due, with_reg}
+use Rattle.moos_post.specs.History.{History, post_of, posts_of_call}
 use Rattle.std.specs.List.{list_any}
 
 pub length-push : {X : Type 0} (xs : List X) (x : X) → length (xs ++ x ∷ []) ≡ suc (length xs)

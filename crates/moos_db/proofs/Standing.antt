@@ -1,5 +1,5 @@
 -- Each post stands at the place that is kept for it, also when the history grows.
-use Rattle.std.proofs.Common.{◌≡◌, ℕ, zero, suc, ◌+◌, ◌<◌, ◌≤◌, List, [], ◌∷◌, ◌++◌, length, map, get_or, slice_get, Option, Some, None, option_map, option_and_then, append_assoc, append-nil, refl, ap, sym, ◌∙◌, arith}
+use Rattle.std.proofs.Common.{◌≡◌, ℕ, zero, suc, ◌+◌, ◌<◌, List, [], ◌∷◌, ◌++◌, length, map, get_or, slice_get, Option, Some, None, option_map, option_and_then, append_assoc, append-nil, refl, ap, sym, ◌∙◌, arith}
 use Rattle.std.specs.List.{range_with_len}
 use Rattle.std.proofs.lemmas.List.{map-append, length-map}
 use Rattle.std.proofs.lemmas.List.Concat.{flat_map-append}
@@ -12,7 +12,7 @@ use Rattle.moos_post.specs.declared.value.Post.{Post}
 use Rattle.moos_post.specs.History.{History, post_of, posts_of, posts_of_call, posts_of_entry}
 use Rattle.moos_db.specs.declared.log.Place.{Place}
 use Rattle.moos_db.specs.declared.mail.Origin.{Origin}
-use Rattle.moos_db.specs.Database.{pair_of, origin_of}
+use Rattle.moos_db.specs.Database.{origin_of}
 use Rattle.moos_db.specs.Places.{post_in, place_at, IsLog}
 use Rattle.moos_db.proofs.Orderly.{length-push}
 

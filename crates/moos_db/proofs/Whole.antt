@@ -1,10 +1,10 @@
 -- The database as a whole: what is kept of all clients and entries, when an inbox is put and when an entry is added.
-use Rattle.std.proofs.Common.{◌≡◌, ℕ, zero, suc, ◌+◌, ◌<◌, ◌≤◌, false, List, [], ◌∷◌, ◌++◌, length, set, get_or, take, drop, slice_get, slice_index_or, Option, Some, None, inl, inr, refl, ap, sym, ◌∙◌, arith, subst, length-set, replicate}
+use Rattle.std.proofs.Common.{◌≡◌, ℕ, zero, suc, ◌<◌, false, List, [], ◌∷◌, ◌++◌, length, set, get_or, take, slice_get, Some, None, inl, inr, ap, sym, ◌∙◌, arith, subst, length-set, replicate}
 use Rattle.std.proofs.lemmas.Bool.{cases_lt, cond-false}
 use Rattle.std.proofs.lemmas.List.{take-append-le, get_or_append_left}
 use Rattle.std.proofs.Math.Seq.{take-append_seam, get_or-append_seam}
 use Rattle.moos_post.specs.declared.entry.Entry.{Entry}
-use Rattle.moos_post.specs.Delivery.{is_fetch, mail_after, mail_of_entry, mail_at}
+use Rattle.moos_post.specs.Delivery.{is_fetch, mail_of_entry, mail_at}
 use Rattle.moos_post.specs.History.{History}
 use Rattle.moos_db.specs.Kept.{Kept, IsInbox, empty_kept}
 use Rattle.moos_db.specs.Places.{Journal, IsDb}

@@ -1,6 +1,5 @@
 -- How posts are found by number, and what is known of a database's parts.
 use Rattle.std.specs.Prelude.{◌≡◌, ℕ, ◌<◌, ◌^◌, List, [], map, length, Option, Some, option_and_then, slice_get, slice_index_or}
-use Rattle.moos_post.specs.declared.entry.Entry.{Entry}
 use Rattle.moos_post.specs.declared.value.Post.{Post}
 use Rattle.moos_post.specs.History.{History, posts_of, posts_of_entry}
 use Rattle.moos_post.specs.Delivery.{mail_at}

@@ -1,8 +1,8 @@
-use Rattle.std.proofs.Common.{◌≡◌, ◌<◌, length, sym, subst, Some, option_map, slice_get, arith, rules}
+use Rattle.std.proofs.Common.{◌≡◌, ◌<◌, length, sym, subst, Some, option_map, slice_get, rules}
 use Rattle.moos_post.specs.History.{posts_of}
 use Rattle.moos_db.specs.Database.{origin_of}
 use Rattle.moos_db.specs.Places.{Journal}
-use Rattle.moos_db.proofs.Standing.{StandsIn, stands, stands-within, stands-origin}
+use Rattle.moos_db.proofs.Standing.{stands, stands-within, stands-origin}
 use Rattle.moos_db.proofs.log.Log.origin.Goals as goal
 
 pub index-entry-requires : goal.index-entry-requires

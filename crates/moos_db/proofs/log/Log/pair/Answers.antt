@@ -1,8 +1,8 @@
-use Rattle.std.proofs.Common.{◌≡◌, ◌<◌, ◌∙◌, length, ap, sym, subst, Some, option_map, slice_get, arith, rules}
+use Rattle.std.proofs.Common.{◌≡◌, ◌<◌, ◌∙◌, length, ap, sym, subst, Some, option_map, slice_get, rules}
 use Rattle.moos_post.specs.History.{posts_of}
 use Rattle.moos_db.specs.Database.{pair_of}
 use Rattle.moos_db.specs.Places.{Journal}
-use Rattle.moos_db.proofs.Standing.{StandsIn, stands, stands-within, stands-pair, stands-post}
+use Rattle.moos_db.proofs.Standing.{stands, stands-within, stands-pair, stands-post}
 use Rattle.moos_db.proofs.log.Log.pair.Goals as goal
 
 pub index-requires : goal.index-requires
