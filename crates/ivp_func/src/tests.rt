@@ -45,11 +45,16 @@ fn is_slight(slope: i64) -> bool
     -100_000 <= slope && slope <= 100_000
 }
 
+fn is_near(base: i64) -> bool
+    ensures { result ≡ is_base base }
+{
+    -1_000_000_000_000 <= base && base <= 1_000_000_000_000
+}
+
 fn is_bounded(piece: &Piece) -> bool
     ensures { result ≡ is_small piece.now }
 {
-    -1_000_000_000_000 <= piece.base
-        && piece.base <= 1_000_000_000_000
+    is_near(piece.base)
         && is_slight(piece.slope[0])
         && is_slight(piece.slope[1])
         && is_slight(piece.slope[2])
