@@ -1,17 +1,17 @@
 -- Boxes: how many points one has and which stands where, and the common points of two.
-use Rattle.std.proofs.Common.{◌≡◌, ℕ, ◌+◌, ◌*◌, ◌<◌, ◌≤◌, max, min, Bool, true, false, ◌&&◌, List, length, map, Some, refl, ap, ◌∙◌, sym, arith, nat_le}
+use Rattle.std.proofs.Common.{◌≡◌, ℕ, ◌+◌, ◌-◌, ◌*◌, ◌/◌, ◌%◌, ◌<◌, ◌≤◌, max, min, Bool, true, false, ◌&&◌, List, length, map, Some, refl, ap, ◌∙◌, sym, arith, nat_le}
 use Rattle.std.specs.Prelude.{slice_get, slice_index, option_map}
 use Rattle.std.specs.List.{flat_map}
 use Rattle.std.proofs.Math.Nat.{le-mul_of_pos_right}
 use Rattle.std.proofs.lemmas.List.{length-map}
 use Rattle.std.proofs.lemmas.Nat.{mul-add-lt}
 use Rattle.std.proofs.lemmas.Bool.{false_from_ne_true}
-use Rattle.std.proofs.lemmas.Option.{slice_get-map}
+use Rattle.std.proofs.lemmas.Option.{slice_get-map, slice_get_within}
 use Rattle.std.proofs.lemmas.Bool.Decides.{nat_tests}
 use Rattle.ivp_domain.specs.declared.boxes.Point.{Point}
 use Rattle.ivp_domain.specs.declared.boxes.BoxN.{BoxN}
 use Rattle.ivp_domain.specs.Boxes.{common, has_place, has_point, is_box, places_on, point_of, points_in, side_of, volume_of}
-use Rattle.ivp_domain.proofs.Ranges.{length-numbers_from, length-flat, slice_get-numbers_from, slice_get-flat}
+use Rattle.ivp_domain.proofs.Ranges.{digits, factors, four, length-numbers_from, length-flat, slice_get-numbers_from, slice_get-flat}
 
 -- the points with these places on the first axes
 abbrev last : BoxN → ℕ → ℕ → ℕ → List Point
@@ -108,3 +108,47 @@ pub volume_part : (area : BoxN) (m : ℕ) → is_box area ≡ true → volume_of
 volume_part area m h fits =
     let positive = side_positive area h in
     product_part (side_of 0 area) (side_of 1 area) (side_of 2 area) (side_of 3 area) m positive.2 positive.3 fits
+
+-- a box has the points of its list
+pub listed_point : (area : BoxN) (n : ℕ) (p : Point) → slice_get (points_in area) n ≡ Some p → has_point area p ≡ true
+listed_point area n p e =
+    let a = side_of 0 area in
+    let b = side_of 1 area in
+    let c = side_of 2 area in
+    let d = side_of 3 area in
+    let within : n < a * b * c * d = omega (arith, slice_get_within (points_in area) n p e, length-points_in area) in
+    let some = factors n a b c d within in
+    let back = digits n a b c d some.0 some.1 some.2 within in
+    let i = n / d / c / b in
+    let j = n / d / c % b in
+    let k = n / d % c in
+    let l = n % d in
+    let j_below : j < b = let q = some.0 in omega arith in
+    let k_below : k < c = let q = some.1 in omega arith in
+    let l_below : l < d = let q = some.2 in omega arith in
+    let there = slice_get-points_in area i j k l back.0 j_below k_below l_below in
+    let same : Some (point_of (slice_index area.low 0 + i) (slice_index area.low 1 + j) (slice_index area.low 2 + k) (slice_index area.low 3 + l)) ≡ Some p = sym there ∙ (ap (slice_get (points_in area)) back.1 ∙ e) in
+    let point : point_of (slice_index area.low 0 + i) (slice_index area.low 1 + j) (slice_index area.low 2 + k) (slice_index area.low 3 + l) ≡ p = cc in
+    ap (has_point area) (sym point) ∙ inside (slice_index area.low 0) (slice_index area.low 1) (slice_index area.low 2) (slice_index area.low 3) (slice_index area.high 0) (slice_index area.high 1) (slice_index area.high 2) (slice_index area.high 3) i j k l back.0 j_below k_below l_below
+  where
+    inside : (a b c d a' b' c' d' i j k l : ℕ) → i < a' + 1 - a → j < b' + 1 - b → k < c' + 1 - c → l < d' + 1 - d → ((nat_le a (a + i) && nat_le (a + i) a') && (nat_le b (b + j) && nat_le (b + j) b') && (nat_le c (c + k) && nat_le (c + k) c') && (nat_le d (d + l) && nat_le (d + l) d')) ≡ true
+    inside a b c d a' b' c' d' i j k l p q r s = grind (arith, nat_tests)
+
+-- and each of its points stands in the list
+pub point_listed : (area : BoxN) (p : Point) → length p.at ≡ 4 → has_point area p ≡ true → (n : ℕ) × (slice_get (points_in area) n ≡ Some p)
+point_listed area p four_places h =
+    let at : ℕ → ℕ = slice_index p.at in
+    let low : ℕ → ℕ = slice_index area.low in
+    let high : ℕ → ℕ = slice_index area.high in
+    let places = spans (at 0) (at 1) (at 2) (at 3) (low 0) (low 1) (low 2) (low 3) (high 0) (high 1) (high 2) (high 3) h in
+    let one : low 0 + (at 0 - low 0) ≡ at 0 = omega (arith, places.0) in
+    let two : low 1 + (at 1 - low 1) ≡ at 1 = omega (arith, places.1) in
+    let three : low 2 + (at 2 - low 2) ≡ at 2 = omega (arith, places.2) in
+    let four_th : low 3 + (at 3 - low 3) ≡ at 3 = omega (arith, places.3) in
+    let same : point_of (low 0 + (at 0 - low 0)) (low 1 + (at 1 - low 1)) (low 2 + (at 2 - low 2)) (low 3 + (at 3 - low 3)) ≡ p = rw (one, two, three, four_th) (ap (λ (places : List ℕ). let q : Point = record { at = places } in q) (sym (four p.at four_places))) in (
+      (((at 0 - low 0) * side_of 1 area + (at 1 - low 1)) * side_of 2 area + (at 2 - low 2)) * side_of 3 area + (at 3 - low 3),
+      slice_get-points_in area (at 0 - low 0) (at 1 - low 1) (at 2 - low 2) (at 3 - low 3) (omega (arith, places.0)) (omega (arith, places.1)) (omega (arith, places.2)) (omega (arith, places.3)) ∙ ap Some same,
+    )
+  where
+    spans : (i j k l a b c d a' b' c' d' : ℕ) → ((nat_le a i && nat_le i a') && (nat_le b j && nat_le j b') && (nat_le c k && nat_le k c') && (nat_le d l && nat_le l d')) ≡ true → ((a ≤ i) × (i ≤ a')) × ((b ≤ j) × (j ≤ b')) × ((c ≤ k) × (k ≤ c')) × ((d ≤ l) × (l ≤ d'))
+    spans i j k l a b c d a' b' c' d' h = ((grind (arith, nat_tests), grind (arith, nat_tests)), (grind (arith, nat_tests), grind (arith, nat_tests)), (grind (arith, nat_tests), grind (arith, nat_tests)), (grind (arith, nat_tests), grind (arith, nat_tests)))

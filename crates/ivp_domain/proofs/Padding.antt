@@ -4,12 +4,13 @@ use Rattle.std.specs.List.{list_all, position_from, slice_get}
 use Rattle.std.proofs.Math.Seq.{take-append_seam}
 use Rattle.std.proofs.lemmas.List.{get_or-take}
 use Rattle.std.proofs.lemmas.Option.{slice_get-get_or}
+use Rattle.ivp_domain.specs.Filled.{IsFilled}
 
--- what a filled list keeps of its front
-pub kept : {A : Type 0} (P : List A → Type 0) (xs all : List A) (m : ℕ) (d : A) → all ≡ xs ++ replicate (m - length xs) d → P xs → P (take (length xs) all) × (length xs ≡ length (take (length xs) all)) × (all ≡ take (length xs) all ++ replicate (m - length (take (length xs) all)) d)
+-- what a filled array keeps of its list
+pub kept : {A : Type 0} (P : List A → Type 0) (xs all : List A) (m : ℕ) (d : A) → all ≡ xs ++ replicate (m - length xs) d → P xs → P (take (length xs) all) × IsFilled m d (length xs) all
 kept P xs all m d e h =
     let t : take (length xs) all ≡ xs = ap (take (length xs)) e ∙ take-append_seam xs (replicate (m - length xs) d) in
-    rw t (h, refl, e)
+    rw t (h, (refl, e))
 
 -- where none fails, all pass
 pub none_fails : {X : Type 0} (p : X → Bool) (xs : List X) (i : ℕ) → position_from (λ x. not (p x)) i xs ≡ None → list_all p xs ≡ true

@@ -1,7 +1,8 @@
 -- Lists made over a range of numbers, and the element at a place of one.
-use Rattle.std.proofs.Common.{◌≡◌, ℕ, zero, suc, ◌+◌, ◌*◌, ◌<◌, List, [], ◌∷◌, ◌++◌, length, Some, refl, ap, ◌∙◌, arith, length-append}
+use Rattle.std.proofs.Common.{◌≡◌, ℕ, zero, suc, ◌+◌, ◌*◌, ◌/◌, ◌%◌, ◌<◌, List, [], ◌∷◌, ◌++◌, length, Some, refl, ap, ◌∙◌, arith, length-append}
 use Rattle.std.specs.Prelude.{slice_get, slice_index}
 use Rattle.std.specs.List.{flat_map}
+use Rattle.std.proofs.Math.Nat.{div-lt_iff_lt-mul}
 use Rattle.ivp_domain.specs.Boxes.{numbers_from}
 
 pub length-numbers_from : (low n : ℕ) → length (numbers_from low n) ≡ n
@@ -49,3 +50,21 @@ four (a ∷ []) h = absurd (omega arith)
 four (a ∷ b ∷ []) h = absurd (omega arith)
 four (a ∷ b ∷ c ∷ []) h = absurd (omega arith)
 four (a ∷ b ∷ c ∷ d ∷ e ∷ xs) h = absurd (omega arith)
+
+-- the digits of a number in mixed radix, by division
+pub digits : (n a b c d : ℕ) → 0 < b → 0 < c → 0 < d → n < a * b * c * d → (n / d / c / b < a) × (((n / d / c / b * b + n / d / c % b) * c + n / d % c) * d + n % d ≡ n)
+digits n a b c d p q r h =
+    let e : n / d < a * b * c = (div-lt_iff_lt-mul r).1 h in
+    let e' : n / d / c < a * b = (div-lt_iff_lt-mul q).1 e in
+    let e'' : n / d / c / b < a = (div-lt_iff_lt-mul p).1 e' in
+    let m : n / d / c / b * b + n / d / c % b ≡ n / d / c = omega arith in
+    let m' : n / d / c * c + n / d % c ≡ n / d = omega arith in
+    let m'' : n / d * d + n % d ≡ n = omega arith in
+    (e'', rw (m, m', m'') refl)
+
+-- a number below a product has factors to be below
+pub factors : (n a b c d : ℕ) → n < a * b * c * d → (0 < b) × (0 < c) × (0 < d)
+factors n a zero c d h = absurd (omega arith)
+factors n a (suc b) zero d h = absurd (omega arith)
+factors n a (suc b) (suc c) zero h = absurd (omega arith)
+factors n a (suc b) (suc c) (suc d) h = (omega arith, omega arith, omega arith)

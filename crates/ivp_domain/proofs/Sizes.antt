@@ -2,7 +2,7 @@
 use Rattle.std.proofs.Common.{◌≡◌, ℕ, zero, suc, ◌+◌, ◌-◌, ◌*◌, ◌/◌, ◌%◌, ◌<◌, ◌≤◌, ◌^◌, min, true, ◌&&◌, nat_le, None, Some, List, [], ◌∷◌, length, refl, ap, sym, ◌∙◌, arith, is_none, nat_lt, leb-true, zero-add, inl, inr}
 use Rattle.std.specs.Prelude.{slice_get, slice_index}
 use Rattle.std.specs.List.{list_all}
-use Rattle.std.proofs.Math.Nat.{le-mul_of_pos_right, div-lt_iff_lt-mul}
+use Rattle.std.proofs.Math.Nat.{le-mul_of_pos_right}
 use Rattle.std.proofs.lemmas.Nat.{mul-add-lt}
 use Rattle.std.proofs.lemmas.Bool.{and_from, and_parts, cases_lt}
 use Rattle.std.proofs.lemmas.Option.{slice_get_within}
@@ -12,7 +12,7 @@ use Rattle.ivp_domain.specs.declared.boxes.Point.{Point}
 use Rattle.ivp_domain.specs.Axes.{is_good_axis}
 use Rattle.ivp_domain.specs.Boxes.{point_of, side_of, volume_of}
 use Rattle.ivp_domain.specs.Domains.{index_of, is_domain, is_point, points_of, repeated_place, size_of, size_of_axis, size_on, whole}
-use Rattle.ivp_domain.proofs.Ranges.{four}
+use Rattle.ivp_domain.proofs.Ranges.{digits, four}
 use Rattle.ivp_domain.proofs.BoxLemmas.{length-points_in, product_part, slice_get-points_in}
 
 -- good axes have a place
@@ -76,17 +76,6 @@ radix i j k l a b c d p q r s =
     let three : (i * b + j) * c + k < c * (b * a) = mul-add-lt (i * b + j) c k (b * a) two r in
     let all : ((i * b + j) * c + k) * d + l < d * (c * (b * a)) = mul-add-lt ((i * b + j) * c + k) d l (c * (b * a)) three s in
     (omega arith, omega arith, omega arith)
-
--- and its digits come back by division
-pub digits : (n a b c d : ℕ) → 0 < b → 0 < c → 0 < d → n < a * b * c * d → (n / d / c / b < a) × (((n / d / c / b * b + n / d / c % b) * c + n / d % c) * d + n % d ≡ n)
-digits n a b c d p q r h =
-    let e : n / d < a * b * c = (div-lt_iff_lt-mul r).1 h in
-    let e' : n / d / c < a * b = (div-lt_iff_lt-mul q).1 e in
-    let e'' : n / d / c / b < a = (div-lt_iff_lt-mul p).1 e' in
-    let m : n / d / c / b * b + n / d / c % b ≡ n / d / c = omega arith in
-    let m' : n / d / c * c + n / d % c ≡ n / d = omega arith in
-    let m'' : n / d * d + n % d ≡ n = omega arith in
-    (e'', rw (m, m', m'') refl)
 
 -- a point and its index belong together
 pub record IsPointAt (axes : List Axis) (n : ℕ) (p : Point) : Type 0 where

@@ -15,12 +15,13 @@ pub struct AxisName {
 impl Model for AxisName {
     ghost use Rattle.std.specs.Prelude.{◌≡◌, ℕ, ◌-◌, ◌≤◌, List, ◌++◌, length, take, replicate, IsTrue};
     ghost use Rattle.ivp_domain.specs.AxisNames.{is_axis_name};
+    ghost use Rattle.ivp_domain.specs.Filled.{IsFilled};
 
     ghost Value = { List ℕ };
 
     ghost view = { λ n. take n.count n.letters };
 
-    ghost invariant = { λ n. IsTrue (is_axis_name (take n.count n.letters)) × (n.count ≡ length (take n.count n.letters)) × (n.letters ≡ take n.count n.letters ++ replicate (16 - length (take n.count n.letters)) 0) };
+    ghost invariant = { λ n. IsTrue (is_axis_name (take n.count n.letters)) × IsFilled 16 0 n.count n.letters };
 
     ghost inverse = { λ name. record { letters = name ++ replicate (16 - length name) 0; count = length name } };
 }

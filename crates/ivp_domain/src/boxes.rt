@@ -1,4 +1,4 @@
-ghost use Rattle.std.specs.Prelude.{◌≡◌, ℕ, ◌+◌, ◌*◌, ◌^◌, ◌<◌, ◌≤◌, ◌↔◌, length, IsTrue, IsNone, IfSome, false, ◌&&◌, slice_index};
+ghost use Rattle.std.specs.Prelude.{◌≡◌, ℕ, ◌+◌, ◌*◌, ◌^◌, ◌<◌, ◌≤◌, ◌↔◌, length, IsTrue, IsNone, IfSome, false, ◌&&◌, Some, slice_get, slice_index};
 ghost use Rattle.ivp_domain.specs.Boxes.{common, has_point, is_box, meet_of, points_in, side_of, volume_of};
 
 /// A point: its place on each axis, 0 past the last one.
@@ -70,6 +70,10 @@ pub fn volume(b: &BoxN) -> u64
     requires fits { volume_of b.now < 2 ^ 64 }
     ensures sides { result ≡ volume_of b.now }
     ensures points { result ≡ length (points_in b.now) }
+
+    // What is counted are the points that the box has.
+    ensures each { (n : ℕ) (p : Point) → slice_get (points_in b.now) n ≡ Some p → IsTrue (has_point b.now p) }
+    ensures listed { (p : Point) → length p.at ≡ 4 → IsTrue (has_point b.now p) → (n : ℕ) × (slice_get (points_in b.now) n ≡ Some p) }
 {
     side(b, 0) * side(b, 1) * side(b, 2) * side(b, 3)
 }

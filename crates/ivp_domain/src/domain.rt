@@ -34,10 +34,11 @@ impl Model for Domain {
 
     ghost use Rattle.ivp_domain.specs.Domains.{is_domain};
     ghost use Rattle.ivp_domain.specs.Axes.{no_axis};
+    ghost use Rattle.ivp_domain.specs.Filled.{IsFilled};
 
     ghost view = { λ d. take d.count d.axes };
 
-    ghost invariant = { λ d. IsTrue (is_domain (take d.count d.axes)) × (d.count ≡ length (take d.count d.axes)) × (d.axes ≡ take d.count d.axes ++ replicate (4 - length (take d.count d.axes)) no_axis) };
+    ghost invariant = { λ d. IsTrue (is_domain (take d.count d.axes)) × IsFilled 4 no_axis d.count d.axes };
 
     ghost inverse = { λ axes. record { axes = axes ++ replicate (4 - length axes) no_axis; count = length axes } };
 }
