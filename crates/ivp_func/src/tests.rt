@@ -51,14 +51,16 @@ fn is_near(base: i64) -> bool
     -1_000_000_000_000 <= base && base <= 1_000_000_000_000
 }
 
+fn begins_bounded(piece: &Piece) -> bool
+    ensures { result ≡ (is_base piece.now.base && is_slope (slope_on 0 piece.now) && is_slope (slope_on 1 piece.now)) }
+{
+    is_near(piece.base) && is_slight(piece.slope[0]) && is_slight(piece.slope[1])
+}
+
 fn is_bounded(piece: &Piece) -> bool
     ensures { result ≡ is_small piece.now }
 {
-    is_near(piece.base)
-        && is_slight(piece.slope[0])
-        && is_slight(piece.slope[1])
-        && is_slight(piece.slope[2])
-        && is_slight(piece.slope[3])
+    begins_bounded(piece) && is_slight(piece.slope[2]) && is_slight(piece.slope[3])
 }
 
 fn is_flat(domain: &Domain, axis: u32, piece: &Piece) -> bool
