@@ -86,7 +86,8 @@ fn letters_of(alloc: Global, log: &Log, numbers: &[u64]) -> Result<Mail, NoMemor
 impl Db {
     ghost use Rattle.moos_db.specs.Database.{with_entry, pair_of, origin_of, AreLetters};
 
-    /// A database of clients with these names, where nothing has happened yet.
+    /// A database of clients with these names, where nothing has happened yet. A client goes by its number, so nothing
+    /// here rests on names that differ.
     pub fn make(alloc: Global, names: Names) -> Result<Db, NoMemory>
         requires { length names < 2 ^ 32 }
         ensures { IfOk result (λ db. db ≡ record { names = names; history = [] }) }

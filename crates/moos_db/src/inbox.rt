@@ -16,9 +16,10 @@ use std::mem;
 // registrations in the order in which they were made, the numbers of all posts that were ever mailed to it, and those
 // that wait for its next fetch.
 //
-// A post or a registration changes no inbox. A fetch takes its client's inbox over the entries since the one before,
-// so each entry is gone over once for each client: a post by all of the client's live registrations, and a registration
-// by all posts before it.
+// A post or a registration changes no inbox. A fetch takes its client's inbox over the entries since the one before, so
+// each entry is gone over once for each client that fetches: a post by all of the client's live registrations, and a
+// registration by all posts before it, and by all posts mailed for each that it selects. What is kept grows with the
+// posts mailed, 16 bytes for each: its number among all, and among those that wait or in the log beside the fetch.
 #[derive(Drop)]
 pub(crate) struct Inbox {
     seen: u64,

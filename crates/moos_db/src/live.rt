@@ -15,8 +15,8 @@ pub(crate) struct Last {
 }
 
 // A live registration: what it asks for, the number of the entry that made it, and of each variable of which a post
-// came through it the last such stamp. It grows with these variables, and each post of one that it selects looks
-// through them.
+// came through it the last such stamp. It grows with these variables, and each post that it selects looks through
+// them; a table by variable comes later.
 #[derive(Drop)]
 pub(crate) struct Live {
     reg: Reg,
