@@ -19,7 +19,7 @@ rose_later before between now le (inl risen) = inl (omega arith)
 rose_later before between now le (inr greatest) = inr greatest
 
 -- one text after another
-went_on : {a b c : Way} {first second : List ℕ} → Went a b first → Went b c second → Went a c (first ++ second)
+pub went_on : {a b c : Way} {first second : List ℕ} → Went a b first → Went b c second → Went a c (first ++ second)
 went_on {a = a} {b = b} {c = c} {first = first} {second = second} one other = record {
   piece = one.piece ++ other.piece;
   took = took_then a.taken b.taken c.taken one.piece other.piece one.took other.took;
@@ -28,7 +28,7 @@ went_on {a = a} {b = b} {c = c} {first = first} {second = second} one other = re
 }
 
 -- a failure in a second text is a failure in both
-stopped_later : {a b c : Way} {first second : List ℕ} → Went a b first → Stopped b c second → Stopped a c (first ++ second)
+pub stopped_later : {a b c : Way} {first second : List ℕ} → Went a b first → Stopped b c second → Stopped a c (first ++ second)
 stopped_later {a = a} {b = b} {c = c} {first = first} {second = second} one other =
     let n = other.front.0 in
     let whole : one.piece ++ (b.held ++ second) ≡ a.held ++ (first ++ second) =
@@ -39,11 +39,12 @@ stopped_later {a = a} {b = b} {c = c} {first = first} {second = second} one othe
         rw (← whole) (omega (arith, other.front.1, length-append one.piece (b.held ++ second))),
         rw (← whole, take-append-add one.piece (b.held ++ second) n) (took_then a.taken b.taken c.taken one.piece (take n (b.held ++ second)) one.took other.front.2),
       );
+      later = omega arith;
       rose = rose_later a.faults b.faults c.faults one.later other.rose;
     }
 
 -- a failure in a text is a failure in that text and more
-stopped_before : {a c : Way} {text : List ℕ} (more : List ℕ) → Stopped a c text → Stopped a c (text ++ more)
+pub stopped_before : {a c : Way} {text : List ℕ} (more : List ℕ) → Stopped a c text → Stopped a c (text ++ more)
 stopped_before {a = a} {c = c} {text = text} more other =
     let n = other.front.0 in
     let within : n ≤ length (a.held ++ text) = omega (arith, other.front.1) in
@@ -53,6 +54,7 @@ stopped_before {a = a} {c = c} {text = text} more other =
         rw (← append_assoc a.held text more) (omega (arith, other.front.1, length-append (a.held ++ text) more)),
         rw (← append_assoc a.held text more, take-append-le n (a.held ++ text) more within) other.front.2,
       );
+      later = other.later;
       rose = other.rose;
     }
 
@@ -101,5 +103,5 @@ went_past {piece = piece} flushed empty took later =
 -- a failure in a piece that goes past the buffer once that is empty
 pub stopped_past : {a : Way} {before now : Option (List ℕ)} {held piece : List ℕ} {faults after : ℕ}
     → Went a (way before held faults) [] → held ≡ []
-    → TookFront before now piece → Rose faults after → Stopped a (way now held after) piece
-stopped_past flushed empty front rose = stopped_later flushed (record { front = rw empty front; rose = rose })
+    → TookFront before now piece → faults ≤ after → Rose faults after → Stopped a (way now held after) piece
+stopped_past flushed empty front later rose = stopped_later flushed (record { front = rw empty front; later = later; rose = rose })

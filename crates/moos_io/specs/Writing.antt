@@ -22,4 +22,5 @@ pub record Went (before after : Way) (text : List ℕ) : Type 0 where
 -- a put failed: the sink took a front of what was held and the text behind it, and not the whole of them
 pub record Stopped (before after : Way) (text : List ℕ) : Type 0 where
   pub front : TookFront before.taken after.taken (before.held ++ text)
+  pub later : before.faults ≤ after.faults
   pub rose : Rose before.faults after.faults

@@ -1,13 +1,12 @@
 -- Scripts, refusals and a report worked by hand.
-use Rattle.std.proofs.Common.{◌≡◌, ℕ, List, [], ◌∷◌, ◌++◌, refl}
-use Rattle.std.specs.Prelude.{codes, Result, Ok, Err, pos}
+use Rattle.std.proofs.Common.{◌≡◌, List, [], ◌∷◌, refl}
+use Rattle.std.specs.Prelude.{codes, Ok, Err, pos}
 use Rattle.std.specs.Fmt.{digits}
 use Rattle.moos_post.specs.declared.entry.Call.TheVariants.{Register, Post as Posts, Fetch}
 use Rattle.moos_post.specs.declared.entry.Entry.{Entry}
 use Rattle.moos_post.specs.declared.value.Value.TheVariants.{Num}
 use Rattle.moos_text.specs.declared.cause.Cause.TheVariants.{S0, S2}
 use Rattle.moos_text.specs.declared.cause.ReadFault.TheVariants.{At}
-use Rattle.moos_top.specs.declared.script.Script.{Script}
 use Rattle.moos_top.specs.Script.{script_of}
 use Rattle.moos_top.specs.Report.{report_text}
 

@@ -1,5 +1,5 @@
 -- The report of a history: what is printed of it, line by line.
-use Rattle.std.specs.Prelude.{ℕ, suc, ◌==◌, ◌||◌, pos, List, [], ◌∷◌, ◌++◌, length, codes, decimal, if◌then◌else◌, Option, Some, None, slice_get, flat_map}
+use Rattle.std.specs.Prelude.{ℕ, suc, Bool, ◌==◌, ◌||◌, List, [], ◌∷◌, ◌++◌, length, codes, decimal, if◌then◌else◌, Option, Some, None, slice_get, flat_map}
 use Rattle.std.specs.List.{concat}
 use Rattle.moos_post.specs.declared.entry.Call.{Call}
 use Rattle.moos_post.specs.declared.entry.Call.TheVariants.{Register, Unregister, Post as Posts, Fetch}
@@ -12,9 +12,13 @@ use Rattle.moos_post.specs.Delivery.{mail_after}
 use Rattle.moos_post.specs.History.{History, posts_of, posts_of_entry, name_of}
 use Rattle.moos_text.specs.Numbers.{milli_text, unsigned_text}
 
+-- `"` and `\`
+abbrev pub is_sign : ℕ → Bool
+is_sign byte = byte == 34 || byte == 92
+
 -- a byte of a text, with `\` before `"` and `\`
 abbrev pub escaped : ℕ → List ℕ
-escaped byte = if byte == 34 || byte == 92 then 92 ∷ byte ∷ [] else byte ∷ []
+escaped byte = if is_sign byte then 92 ∷ byte ∷ [] else byte ∷ []
 
 -- a number as it prints, and a text between quotes
 abbrev pub value_text : Value → List ℕ
@@ -22,9 +26,12 @@ value_text (Num number) = milli_text number
 value_text (Text text) = concat (codes "\"" ∷ flat_map escaped text ∷ codes "\"" ∷ [])
 
 -- `STAMP VAR SOURCE VALUE`, the stamp in seconds
+abbrev pub said_text : ℕ → List ℕ → List ℕ → Value → List ℕ
+said_text stamp source var value =
+    concat (unsigned_text stamp ∷ codes " " ∷ var ∷ codes " " ∷ source ∷ codes " " ∷ []) ++ (value_text value ++ codes "\n")
+
 abbrev pub post_text : List (List ℕ) → Post → List ℕ
-post_text names post =
-    concat (unsigned_text post.stamp ∷ codes " " ∷ post.var ∷ codes " " ∷ name_of names post.source ∷ codes " " ∷ value_text post.value ∷ codes "\n" ∷ [])
+post_text names post = said_text post.stamp (name_of names post.source) post.var post.value
 
 abbrev pub reg_text : Reg → List ℕ
 reg_text reg = concat (codes "%% reg " ∷ reg.var ∷ codes " " ∷ reg.source ∷ codes " " ∷ unsigned_text reg.interval ∷ codes "\n" ∷ [])
@@ -32,7 +39,7 @@ reg_text reg = concat (codes "%% reg " ∷ reg.var ∷ codes " " ∷ reg.source 
 -- a letter of a fetch: the number of a post, and the post; each number of a mail has one
 abbrev pub letter_text : List (List ℕ) → ℕ → Option Post → List ℕ
 letter_text names number None = []
-letter_text names number (Some post) = concat (codes "%% mail " ∷ decimal number ∷ codes " " ∷ post_text names post ∷ [])
+letter_text names number (Some post) = concat (codes "%% mail " ∷ decimal number ∷ codes " " ∷ []) ++ post_text names post
 
 abbrev pub letters_text : List (List ℕ) → List Post → List ℕ → List ℕ
 letters_text names posts mail = flat_map (λ number. letter_text names number (slice_get posts number)) mail
@@ -58,11 +65,13 @@ abbrev pub entries_text : List (List ℕ) → History → History → List ℕ
 entries_text names past [] = []
 entries_text names past (entry ∷ later) = entry_text names past entry ++ entries_text names (past ++ entry ∷ []) later
 
+abbrev pub client_text : ℕ → List ℕ → List ℕ
+client_text number name = concat (codes "%% client " ∷ decimal number ∷ codes " " ∷ name ∷ codes "\n" ∷ [])
+
 -- the clients from this number on
 abbrev pub clients_text : ℕ → List (List ℕ) → List ℕ
 clients_text number [] = []
-clients_text number (name ∷ names) =
-    concat (codes "%% client " ∷ decimal number ∷ codes " " ∷ name ∷ codes "\n" ∷ []) ++ clients_text (suc number) names
+clients_text number (name ∷ names) = client_text number name ++ clients_text (suc number) names
 
 abbrev pub end_text : History → List ℕ
 end_text history = concat (codes "%% end " ∷ decimal (length history) ∷ codes " " ∷ decimal (length (posts_of history)) ∷ codes "\n" ∷ [])
@@ -70,4 +79,4 @@ end_text history = concat (codes "%% end " ∷ decimal (length history) ∷ code
 -- What is printed of a history and its clients.
 abbrev pub report_text : List (List ℕ) → History → List ℕ
 report_text names history =
-    concat (codes "%% moosdb play 1\n" ∷ clients_text 0 names ∷ entries_text names [] history ∷ end_text history ∷ [])
+    codes "%% moosdb play 1\n" ++ (clients_text 0 names ++ (entries_text names [] history ++ end_text history))

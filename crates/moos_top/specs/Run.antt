@@ -1,5 +1,5 @@
 -- What a run of the program does, by the status that it ends with.
-use Rattle.std.specs.Prelude.{◌≡◌, ℕ, Bool, false, ◌&&◌, nat_le, ◌⊎◌, if◌then◌else◌, List, [], ◌∷◌, filter, ◌==◌, codes, bytes_eq, Option, Some, None, IfSome, Result, Ok, Err, IsTrue, true}
+use Rattle.std.specs.Prelude.{◌≡◌, ℕ, Bool, false, ◌&&◌, nat_le, ◌⊎◌, if◌then◌else◌, List, [], ◌∷◌, filter, ◌==◌, codes, bytes_eq, Option, Some, None, IfSome, Ok, Err, IsTrue, true}
 use Rattle.moos_io.specs.Faults.{Rose}
 use Rattle.moos_io.specs.Files.{is_among}
 use Rattle.moos_io.specs.Pieces.{Took, TookFront}
@@ -7,7 +7,8 @@ use Rattle.moos_post.specs.declared.entry.Entry.{Entry}
 use Rattle.moos_post.specs.History.{History}
 use Rattle.moos_post.specs.Words.{is_text}
 use Rattle.moos_text.specs.declared.cause.Cause.{Cause}
-use Rattle.moos_text.specs.declared.cause.ReadFault.TheVariants.{At}
+use Rattle.moos_text.specs.declared.cause.ReadFault.{ReadFault}
+use Rattle.moos_text.specs.declared.cause.ReadFault.TheVariants.{At, NoMemory as Unread}
 use Rattle.moos_top.specs.declared.script.Script.{Script}
 use Rattle.moos_top.specs.declared.status.FileKind.TheVariants.{Script as OfScript}
 use Rattle.moos_top.specs.declared.status.Refusal.{Refusal}
@@ -29,6 +30,21 @@ pub record Surroundings : Type 0 where
   pub put_faults_before : ℕ
   pub put_faults_after : ℕ
 
+abbrev pub surroundings :
+    List (List ℕ) → Option (List ℕ → Option (List ℕ)) → List (List ℕ) → ℕ → ℕ → Option (List ℕ) → Option (List ℕ) → ℕ → ℕ → Surroundings
+surroundings words told sure load_faults_before load_faults_after taken_before taken_after put_faults_before put_faults_after =
+    record {
+      words = words;
+      told = told;
+      sure = sure;
+      load_faults_before = load_faults_before;
+      load_faults_after = load_faults_after;
+      taken_before = taken_before;
+      taken_after = taken_after;
+      put_faults_before = put_faults_before;
+      put_faults_after = put_faults_after;
+    }
+
 -- the script that a command line plays: the words are `play` and one name, which a text can hold
 abbrev pub script_named : List (List ℕ) → Option (List ℕ)
 script_named [] = None
@@ -36,11 +52,22 @@ script_named (job ∷ []) = None
 script_named (job ∷ name ∷ []) = if bytes_eq job (codes "play") && is_text name then Some name else None
 script_named (job ∷ name ∷ more ∷ rest) = None
 
--- these are the bytes of the script that the words name, where the folder tells them
-pub record IsScriptFile (words : List (List ℕ)) (told : Option (List ℕ → Option (List ℕ))) (bytes : List ℕ) : Type 0 where
-  pub name : List ℕ
-  pub named : script_named words ≡ Some name
-  pub content : IfSome told (λ files. files name ≡ Some bytes)
+-- the folder's file of this name has these bytes, where the folder tells them
+abbrev pub HasBytes : Option (List ℕ → Option (List ℕ)) → List ℕ → List ℕ → Type 0
+HasBytes told name bytes = IfSome told (λ files. files name ≡ Some bytes)
+
+-- the script is what the bytes of the named file stand for
+pub record IsReadFrom (told : Option (List ℕ → Option (List ℕ))) (name : List ℕ) (script : Script) : Type 0 where
+  pub bytes : List ℕ
+  pub content : HasBytes told name bytes
+  pub read : script_of bytes ≡ Ok script
+
+-- the bytes of the named file have this first refusal
+pub record IsRefusedFrom (told : Option (List ℕ → Option (List ℕ))) (name : List ℕ) (refusal : Refusal) : Type 0 where
+  pub kind : refusal.file ≡ OfScript
+  pub bytes : List ℕ
+  pub content : HasBytes told name bytes
+  pub refused : script_of bytes ≡ Err (At refusal.line refusal.cause)
 
 -- a client's own entries, in order
 abbrev pub entries_of : ℕ → History → List Entry
@@ -59,10 +86,10 @@ pub record IsLawful (script : Script) (history : History) : Type 0 where
 
 -- the text is the report of a lawful history of the script that the words name
 pub record IsPlayed (words : List (List ℕ)) (told : Option (List ℕ → Option (List ℕ))) (text : List ℕ) : Type 0 where
-  pub bytes : List ℕ
-  pub file : IsScriptFile words told bytes
+  pub name : List ℕ
+  pub named : script_named words ≡ Some name
   pub script : Script
-  pub read : script_of bytes ≡ Ok script
+  pub read : IsReadFrom told name script
   pub history : History
   pub lawful : IsLawful script history
   pub printed : text ≡ report_text script.names history
@@ -94,10 +121,9 @@ pub record FailsToLoad (run : Surroundings) : Type 0 where
 
 -- Refused: the script's first refusal. Nothing is written.
 pub record IsRefused (run : Surroundings) (refusal : Refusal) : Type 0 where
-  pub kind : refusal.file ≡ OfScript
-  pub bytes : List ℕ
-  pub file : IsScriptFile run.words run.told bytes
-  pub refused : script_of bytes ≡ Err (At refusal.line refusal.cause)
+  pub name : List ℕ
+  pub named : script_named run.words ≡ Some name
+  pub refused : IsRefusedFrom run.told name refusal
   pub silent : IsSilent run
 
 -- WriteFault: the sink failed, and took a front of the report of a lawful history, not the whole
@@ -141,3 +167,18 @@ abbrev pub Refuses : Surroundings → Status → Type 0
 Refuses run status =
     (bytes : List ℕ) (line : ℕ) (cause : Cause) → IsServed run bytes → script_of bytes ≡ Err (At line cause)
     → IsUnlessNoMemory (Refused (record { file = OfScript; line = line; cause = cause })) status
+
+-- the status for what a reader of scripts answers in place of a script
+abbrev pub status_of : ReadFault → Status
+status_of (At line cause) = Refused (record { file = OfScript; line = line; cause = cause })
+status_of Unread = NoMemory
+
+-- why the named script can't be played: the folder failed, or the bytes have this first refusal, or no memory was left
+abbrev pub CannotRead : Option (List ℕ → Option (List ℕ)) → List (List ℕ) → ℕ → ℕ → List ℕ → Status → Type 0
+CannotRead told sure before after name LoadFault = Rose before after × (is_among sure name ≡ false)
+CannotRead told sure before after name (Refused refusal) = IsRefusedFrom told name refusal
+CannotRead told sure before after name NoMemory = Unit {0}
+CannotRead told sure before after name Done = ⊥
+CannotRead told sure before after name CheckNo = ⊥
+CannotRead told sure before after name Usage = ⊥
+CannotRead told sure before after name WriteFault = ⊥

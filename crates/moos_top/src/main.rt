@@ -1,8 +1,63 @@
+//! The program: a command line's job from its files to what is written, and how it ended.
+//!
+//! The contract that all below serves is that of `run`: whatever the words, the files and the sink, the status tells
+//! what was written. With `Done` that is the report of a lawful history of the script that the words name.
+//!
+//! Reading order: `words` and `status`, `script` with its reader, `play`, `report`, and `run` last. `main` is the
+//! trusted edge, which hands the real command line, files and standard output to `run`.
 #![tactic(auto)]
 
+mod play;
+mod report;
+mod run;
 mod script;
 mod status;
 mod words;
 
-fn main(rt: HostRuntime) {
+use crate::run::run;
+use crate::status::{Status, code};
+use crate::words::{Word, Words};
+use moos_io::{DirFolder, NoGate, OutSink};
+use std::process::ExitCode;
+use std::{env, io};
+
+fn main(rt: HostRuntime) -> ExitCode {
+    let status = match command_line(&rt) {
+        Ok(words) => {
+            let (mut folder, mut out) = (DirFolder::make(&rt), OutSink::make(&rt));
+            run(&rt, rt.alloc(), &words, &mut folder, &mut out, &NoGate)
+        }
+        Err(status) => status,
+    };
+    // Where standard error fails too, the exit status still tells.
+    let _ = tell(&rt, &status);
+    ExitCode::from(code(&status))
+}
+
+// The words behind the program's name. One that isn't UTF-8 is on no command line of the program.
+fn command_line(rt: &HostRuntime) -> Result<Words, Status> {
+    let mut words = Words::new(rt.alloc());
+    let args = match env::args(rt) {
+        Ok(args) => args,
+        Err(error) if error.kind() == io::ErrorKind::InvalidData => return Err(Status::Usage),
+        Err(_) => return Err(Status::NoMemory),
+    };
+    for text in args.skip(1) {
+        if words.push(Word::new(text)).is_err() {
+            return Err(Status::NoMemory);
+        }
+    }
+    Ok(words)
+}
+
+// The line that standard error gets where the run didn't end well.
+fn tell(rt: &impl Eprint, status: &Status) -> io::Result<()> {
+    match status {
+        Status::Done | Status::CheckNo => Ok(()),
+        Status::Usage => eprintln!(rt; "moos: usage"),
+        Status::LoadFault => eprintln!(rt; "moos: load fault"),
+        Status::WriteFault => eprintln!(rt; "moos: write fault"),
+        Status::Refused(refusal) => eprintln!(rt; "moos: {refusal}"),
+        Status::NoMemory => eprintln!(rt; "moos: no memory"),
+    }
 }

@@ -1,4 +1,8 @@
+ghost use Rattle.std.specs.Prelude.{◌≡◌};
+ghost use Rattle.moos_top.specs.Exit.{code_of};
+
 use moos_text::Cause;
+use std::fmt;
 
 /// Which file of a run a refusal speaks of.
 #[derive(Clone, Copy, Debug, PartialEq, Eq)]
@@ -18,6 +22,25 @@ pub struct Refusal {
     pub cause: Cause,
 }
 
+impl fmt::Display for FileKind {
+    fn fmt<W: fmt::Write>(&self, f: &mut fmt::Formatter<W>) -> fmt::Result {
+        let kind = match self {
+            FileKind::Script => "script",
+            FileKind::Mission => "mission",
+            FileKind::Behaviors => "behaviors",
+            FileKind::Problem => "problem",
+            FileKind::Decision => "decision",
+        };
+        write!(f, "{kind}")
+    }
+}
+
+impl fmt::Display for Refusal {
+    fn fmt<W: fmt::Write>(&self, f: &mut fmt::Formatter<W>) -> fmt::Result {
+        write!(f, "{} line {}: {}", self.file, self.line, self.cause.text())
+    }
+}
+
 /// How a run ended.
 #[derive(Clone, Copy, Debug, PartialEq, Eq)]
 pub enum Status {
@@ -35,4 +58,19 @@ pub enum Status {
     Refused(Refusal),
     /// No memory was left.
     NoMemory,
+}
+
+/// The exit status of the program: 0 for `Done`, and then in the order in which the variants stand.
+pub fn code(status: &Status) -> u8
+    ensures { result ≡ code_of status.now }
+{
+    match status {
+        Status::Done => 0,
+        Status::CheckNo => 1,
+        Status::Usage => 2,
+        Status::LoadFault => 3,
+        Status::WriteFault => 4,
+        Status::Refused(_) => 5,
+        Status::NoMemory => 6,
+    }
 }
