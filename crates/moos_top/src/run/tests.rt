@@ -72,27 +72,45 @@ fn bad_scripts_are_refused(rt: HostRuntime) -> Result<(), Fail> {
     Ok(())
 }
 
+// How a run ends beside an empty script `s.txt`, where nothing is to be written.
+fn ends<R: Threads + Wait + Sync + Abort>(
+    rt: &R,
+    alloc: Global,
+    words: &Words,
+) -> Result<Status, Fail> {
+    let mut folder = MemFolder::make(alloc);
+    folder.add(alloc, b"s.txt", b"")?;
+    let mut out = MemSink::make(alloc, 100, 100)?;
+    let status = run(rt, alloc, words, &mut folder, &mut out, &NoGate);
+    assert_eq!(rt; out.bytes(), b"".as_slice());
+    Ok(status)
+}
+
 #[test]
 fn other_words_are_usage(rt: HostRuntime) -> Result<(), Fail> {
-    let long = "x".repeat(rt.alloc(), 4097)?;
     for line in [
         [].as_slice(),
         &["play"],
         &["Play", "s.txt"],
         &["play", "s.txt", "m.moos"],
         &["play", "s\n"],
-        &["play", long.as_str()],
         &["solve", "p.txt", "--workers", "17"],
         &["--help"],
     ] {
         let words = command_line(&rt, rt.alloc(), line)?;
-        let mut folder = MemFolder::make(rt.alloc());
-        folder.add(rt.alloc(), b"s.txt", b"")?;
-        let mut out = MemSink::make(rt.alloc(), 100, 100)?;
-        let status = run(&rt, rt.alloc(), &words, &mut folder, &mut out, &NoGate);
-        assert_eq!(rt; status, Status::Usage, "{line:?}");
-        assert_eq!(rt; out.bytes(), b"".as_slice(), "{line:?}");
+        assert_eq!(rt; ends(&rt, rt.alloc(), &words)?, Status::Usage, "{line:?}");
     }
+    Ok(())
+}
+
+#[test]
+fn a_name_that_is_no_text_is_usage(rt: HostRuntime) -> Result<(), Fail> {
+    let mut words = command_line(&rt, rt.alloc(), &["play"])?;
+    let long = Word::new("x".repeat(rt.alloc(), 4097)?);
+    assert!(rt; words.push(long).is_ok());
+    assert!(rt; words.len() == 2);
+    assert_eq!(rt; words.get(1).bytes().len(), 4097);
+    assert_eq!(rt; ends(&rt, rt.alloc(), &words)?, Status::Usage);
     Ok(())
 }
 
