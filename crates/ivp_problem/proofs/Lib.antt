@@ -1,0 +1,10 @@
+mod Rows
+pub mod Slopes
+pub mod Nodes
+pub mod Linear
+pub mod Totals
+pub mod Terms
+pub mod KeyOrder
+pub mod Bounds
+pub mod Makes
+pub mod Children

@@ -1,0 +1,106 @@
+-- The definitions on worked examples.
+use Rattle.std.proofs.Common.{◌≡◌, ℕ, ◌+◌, ◌*◌, ◌-◌, ◌^◌, ◌<◌, true, false, Some, None, Ok, Err, ℤ, pos, neg_ℤ, List, [], ◌∷◌, length, replicate, refl}
+use Rattle.std.specs.Prelude.{codes}
+use Rattle.ivp_domain.specs.declared.axis.Axis.{Axis}
+use Rattle.ivp_domain.specs.declared.boxes.BoxN.{BoxN}
+use Rattle.ivp_domain.specs.Boxes.{point_of}
+use Rattle.ivp_func.specs.declared.piece.Piece.{Piece}
+use Rattle.ivp_problem.specs.declared.term.Term.{Term}
+use Rattle.ivp_problem.specs.declared.term.ProblemFault.TheVariants.{NoFunction, TooMany, BadWeight, OtherDomain}
+use Rattle.ivp_problem.specs.declared.node.Node.{Node}
+use Rattle.ivp_problem.specs.Keys.{index_of_key, key_of, sum_of}
+use Rattle.ivp_problem.specs.Problems.{problem_of, WeightedSum}
+use Rattle.ivp_problem.specs.Sums.{best_of, key_at, sum_at}
+use Rattle.ivp_problem.specs.Trees.{bound_of, child_of, children_of, node_of, root_of}
+
+abbrev axis : List ℕ → ℕ → ℕ → Axis
+axis name high points = record { name = name; low = pos 0; high = pos high; points = points }
+
+-- a piece by its low and high ends, base and slopes on three axes
+abbrev piece : ℕ → ℕ → ℕ → ℕ → ℕ → ℕ → ℤ → ℤ → ℤ → ℤ → Piece
+piece a b c d e f base s t u =
+    record {
+      area = record { low = a ∷ c ∷ e ∷ 0 ∷ []; high = b ∷ d ∷ f ∷ 0 ∷ [] };
+      base = base;
+      slope = s ∷ t ∷ u ∷ pos 0 ∷ [];
+    }
+
+-- domain a:0:2:3, b:0:1:2, d:0:1:2
+abbrev twelve : List Axis
+twelve = axis (codes "a") 2000 3 ∷ axis (codes "b") 1000 2 ∷ axis (codes "d") 1000 2 ∷ []
+
+abbrev term : List Axis → ℕ → List Piece → Term
+term axes weight pieces = record { weight = weight; func = record { axes = axes; pieces = pieces } }
+
+abbrev rising : Term
+rising = term twelve 2 (piece 0 2 0 1 0 1 (pos 0) (pos 10) (pos 0) (pos 0) ∷ [])
+
+abbrev split : Term
+split = term twelve 3 (piece 0 0 0 1 0 1 (pos 20) (pos 0) (pos 5) (pos 0) ∷ piece 1 2 0 1 0 1 (pos 0) (pos 0) (pos 5) (pos 0) ∷ [])
+
+abbrev two : WeightedSum
+two = record { axes = twelve; terms = rising ∷ split ∷ [] }
+
+two_is_a_problem : problem_of twelve (rising ∷ split ∷ []) ≡ Ok two
+two_is_a_problem = refl
+
+-- the greatest sum, 75, is that of index 2 first
+best_of_two : (best_of two ≡ point_of 0 1 0 0) × (sum_at two (point_of 0 1 0 0) ≡ 75) × (key_at two (point_of 0 1 0 0) ≡ key_of 75 2)
+best_of_two = (refl, refl, refl)
+
+-- the root's bound: nothing is chosen, and the tops are 2 * 20 and 3 * 25
+root_bound : bound_of two (root_of two) ≡ key_of 115 0
+root_bound = refl
+
+-- the one child of the root, and its two children
+abbrev first : Node
+first = record { depth = 1; area = record { low = 0 ∷ 0 ∷ 0 ∷ 0 ∷ []; high = 2 ∷ 1 ∷ 1 ∷ 0 ∷ [] }; base = pos 0; slope = pos 20 ∷ pos 0 ∷ pos 0 ∷ pos 0 ∷ [] }
+
+first_of_root : (children_of two (root_of two) ≡ first ∷ []) × (bound_of two first ≡ key_of 115 0)
+first_of_root = (refl, refl)
+
+abbrev left : Node
+left = record { depth = 2; area = record { low = 0 ∷ 0 ∷ 0 ∷ 0 ∷ []; high = 0 ∷ 1 ∷ 1 ∷ 0 ∷ [] }; base = pos 60; slope = pos 20 ∷ pos 15 ∷ pos 0 ∷ pos 0 ∷ [] }
+
+abbrev right : Node
+right = record { depth = 2; area = record { low = 1 ∷ 0 ∷ 0 ∷ 0 ∷ []; high = 2 ∷ 1 ∷ 1 ∷ 0 ∷ [] }; base = pos 0; slope = pos 20 ∷ pos 15 ∷ pos 0 ∷ pos 0 ∷ [] }
+
+leaves : (children_of two first ≡ left ∷ right ∷ []) × (node_of two (0 ∷ 1 ∷ []) ≡ Some right) × (children_of two right ≡ [])
+leaves = (refl, refl, refl)
+
+leaf_bounds : (bound_of two left ≡ key_of 75 2) × (bound_of two right ≡ key_of 55 10)
+leaf_bounds = (refl, refl)
+
+-- a piece that shares no point with the node is no child
+flat : Term
+flat = term twelve 1 (piece 0 2 0 1 0 1 (pos 0) (pos 0) (pos 0) (pos 0) ∷ [])
+
+apart : child_of (record { axes = twelve; terms = split ∷ split ∷ [] }) (record { depth = 1; area = record { low = 0 ∷ 0 ∷ 0 ∷ 0 ∷ []; high = 0 ∷ 1 ∷ 1 ∷ 0 ∷ [] }; base = pos 60; slope = pos 0 ∷ pos 15 ∷ pos 0 ∷ pos 0 ∷ [] }) 1 ≡ None
+apart = refl
+
+-- 64 functions of weight 10,000 and value 100,000
+abbrev course : List Axis
+course = axis (codes "course") 359000 360 ∷ []
+
+abbrev most : Term
+most = term course 10000 (piece 0 359 0 0 0 0 (pos 100000) (pos 0) (pos 0) (pos 0) ∷ [])
+
+sum_of_most : sum_at (record { axes = course; terms = replicate 64 most }) (point_of 0 0 0 0) ≡ 64000000000
+sum_of_most = refl
+
+-- a key gives its sum and its index back
+read_off : (sum_of (key_of 64000000000 4194303) ≡ 64000000000) × (index_of_key (key_of 64000000000 4194303) ≡ 4194303)
+read_off = (refl, refl)
+
+-- no function, then too many, then a bad weight, then another domain
+none : problem_of twelve [] ≡ Err NoFunction
+none = refl
+
+many : problem_of twelve (replicate 65 most) ≡ Err TooMany
+many = refl
+
+heavy : problem_of twelve (most ∷ rising ∷ term twelve 10001 [] ∷ []) ≡ Err (BadWeight 2)
+heavy = refl
+
+other : problem_of twelve (rising ∷ most ∷ []) ≡ Err (OtherDomain 1)
+other = refl

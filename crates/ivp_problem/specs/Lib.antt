@@ -1,0 +1,4 @@
+pub mod Keys
+pub mod Problems
+pub mod Sums
+pub mod Trees

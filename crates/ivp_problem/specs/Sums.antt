@@ -1,0 +1,43 @@
+-- The weighted sum and the key of a point, and the best point of all.
+use Rattle.std.specs.Prelude.{ℕ, ◌+◌, ◌*◌, nat_abs, max, min, nat_lt, if◌then◌else◌, List, [], ◌∷◌}
+use Rattle.std.specs.List.{fold, sum_by}
+use Rattle.ivp_domain.specs.declared.boxes.Point.{Point}
+use Rattle.ivp_domain.specs.Boxes.{point_of}
+use Rattle.ivp_domain.specs.Domains.{index_of, points_of}
+use Rattle.ivp_func.specs.Pieces.{value_at}
+use Rattle.ivp_problem.specs.declared.term.Term.{Term}
+use Rattle.ivp_problem.specs.Keys.{key_of}
+use Rattle.ivp_problem.specs.Problems.{WeightedSum}
+
+-- what a term adds at a point: its weight times the value, which is never below 0
+abbrev pub worth_at : Point → Term → ℕ
+worth_at point term = term.weight * nat_abs (value_at term.func.pieces point)
+
+-- what these terms add at a point
+abbrev pub worth_of : List Term → Point → ℕ
+worth_of terms point = sum_by (worth_at point) terms
+
+-- the weighted sum at a point
+abbrev pub sum_at : WeightedSum → Point → ℕ
+sum_at problem point = worth_of problem.terms point
+
+-- the key of a point: its weighted sum with its index
+abbrev pub key_at : WeightedSum → Point → ℕ
+key_at problem point = key_of (sum_at problem point) (index_of problem.axes point)
+
+-- the greatest of these numbers, one for each point; 0 where there is no point
+abbrev pub greatest : (Point → ℕ) → List Point → ℕ
+greatest number points = fold (λ most point. max most (number point)) 0 points
+
+-- the least of these numbers, one for each point; 0 where there is no point
+abbrev pub least : (Point → ℕ) → List Point → ℕ
+least number [] = 0
+least number (first ∷ points) = fold (λ least point. min least (number point)) (number first) points
+
+-- the one of two points that has the greater key
+abbrev pub better : WeightedSum → Point → Point → Point
+better problem one other = if nat_lt (key_at problem one) (key_at problem other) then other else one
+
+-- the best point: the one of greatest key among all points of the domain
+abbrev pub best_of : WeightedSum → Point
+best_of problem = fold (better problem) (point_of 0 0 0 0) (points_of problem.axes)

@@ -1,0 +1,31 @@
+ghost use Rattle.std.specs.Prelude.{◌≡◌, ◌<◌, ◌≤◌, ◌^◌, length, IsTrue, if◌then◌else◌, count_by};
+ghost use Rattle.ivp_domain.specs.Boxes.{has_point};
+ghost use Rattle.ivp_domain.specs.Domains.{is_point};
+ghost use Rattle.ivp_problem.specs.Sums.{best_of, key_at};
+ghost use Rattle.ivp_problem.specs.Trees.{children_of, IsNode};
+
+use crate::node::Node;
+use crate::problem::Problem;
+use ivp_domain::Point;
+
+/// What holds of the keys of a problem's points: none is 0, each is below 2^60, different points
+/// have different keys, and the best point is one whose key none exceeds. It does nothing.
+pub fn keys_law(problem: &Problem)
+    ensures some { (p : Point) → IsTrue (is_point problem.now.axes p) → 0 < key_at problem.now p }
+    ensures small { (p : Point) → IsTrue (is_point problem.now.axes p) → key_at problem.now p < 2 ^ 60 }
+    ensures distinct { (p q : Point) → IsTrue (is_point problem.now.axes p) → IsTrue (is_point problem.now.axes q) → length p.at ≡ 4 → length q.at ≡ 4 → key_at problem.now p ≡ key_at problem.now q → p ≡ q }
+    ensures point { IsTrue (is_point problem.now.axes (best_of problem.now)) }
+    ensures best { (p : Point) → IsTrue (is_point problem.now.axes p) → key_at problem.now p ≤ key_at problem.now (best_of problem.now) }
+{
+    let _ = problem.len();
+}
+
+/// What holds of the children of a node below full depth: each point of the node lies in exactly one
+/// of them, and no other point in any. It does nothing.
+pub fn children_law(problem: &Problem, node: &Node)
+    requires node { IsNode problem.now node.now }
+    requires depth { node.now.depth < length problem.now.terms }
+    ensures { (p : Point) → count_by (λ child. has_point child.area p) (children_of problem.now node.now) ≡ (if has_point node.now.area p then 1 else 0) }
+{
+    let _ = problem.len();
+}

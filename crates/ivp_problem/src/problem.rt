@@ -1,0 +1,193 @@
+ghost use Rattle.std.specs.Prelude.{◌≡◌, ℕ, ◌+◌, ◌*◌, ◌^◌, ◌<◌, ◌≤◌, length, Some, IsTrue, IfNone, IfSome, not, slice_get, drop};
+ghost use Rattle.std.specs.List.{sum_by};
+ghost use Rattle.ivp_domain.specs.Domains.{is_point};
+ghost use Rattle.ivp_func.specs.Functions.{IsFunction};
+ghost use Rattle.ivp_problem.specs.Problems.{bad_weight, IsProblem, is_weight, other_domain, problem_of, same_domain};
+ghost use Rattle.ivp_problem.specs.Sums.{sum_at, worth_at};
+ghost use Rattle.ivp_problem.specs.Trees.{top_of};
+
+use crate::same::same_domain;
+use crate::term::{ProblemFault, Term};
+use ivp_domain::{Domain, Point, Steps};
+use ivp_func::Func;
+use std::marker::{Brand, Model};
+use std::sync::ledger::{Blank, Ledger};
+
+/// The most functions that a problem may have.
+const MOST_FUNCTIONS: usize = 64;
+
+/// The greatest weight.
+const MOST_WEIGHT: u32 = 10_000;
+
+/// A problem: what is maximized over a domain is the weighted sum of 1 to 64 functions.
+#[derive(Debug, Drop)]
+pub struct Problem {
+    domain: Domain,
+    terms: Vec<Term>,
+}
+
+impl Model for Problem {
+    ghost use Rattle.ivp_problem.specs.Problems.{IsProblem, WeightedSum};
+
+    ghost Value = { WeightedSum };
+
+    ghost view = { λ p. record { axes = p.domain; terms = p.terms.items } };
+
+    ghost invariant = { λ p. IsProblem (record { axes = p.domain; terms = p.terms.items }) };
+}
+
+/// From 1 to 10,000.
+fn good_weight(weight: u32) -> bool
+    ensures { result ≡ is_weight weight }
+{
+    1 <= weight && weight <= MOST_WEIGHT
+}
+
+/// The place of the first term whose weight is out of range.
+fn bad_weight(terms: &[Term]) -> Option<usize>
+    ensures { result ≡ bad_weight terms.now }
+{
+    terms.iter().position(|term| !good_weight(term.weight))
+}
+
+/// Whether the function is over the domain. Either way it is a function.
+fn is_over(domain: &Domain, func: &Func) -> bool
+    ensures same { result ≡ same_domain domain.now func.now.axes }
+    ensures function { IsFunction func.now }
+{
+    let _ = func.len();
+    same_domain(domain, &func.domain())
+}
+
+/// The place of the first term whose function is over another domain.
+fn other_domain(domain: &Domain, terms: &[Term]) -> Option<usize>
+    ensures place { result ≡ other_domain domain.now terms.now }
+    ensures none { IfNone result ((place : ℕ) (term : Term) → slice_get terms.now place ≡ Some term → IsFunction term.func) }
+{
+    for (place, term) in terms.iter().enumerate() {
+        if !is_over(domain, &term.func) {
+            return Some(place);
+        }
+    }
+    None
+}
+
+/// What a term adds at a point: its weight times the value.
+fn worth<L: Ledger>(term: &Term, p: &Point, steps: &mut Steps<L>) -> u64
+    requires point { IsTrue (is_point term.now.func.axes p.now) }
+    requires weight { IsTrue (is_weight term.now.weight) }
+    ensures worth { result ≡ worth_at p.now term.now }
+    ensures range { result ≤ 10 ^ 9 }
+{
+    let value = term.func.value_at(p, steps);
+    term.weight as u64 * value as u64
+}
+
+/// The weighted top of a term: its weight times the greatest value.
+fn top(term: &Term) -> u64
+    requires weight { IsTrue (is_weight term.now.weight) }
+    requires function { IsFunction term.now.func }
+    ensures top { result ≡ top_of term.now.func.axes term.now }
+    ensures range { result ≤ 10 ^ 9 }
+{
+    let value = term.func.top();
+    term.weight as u64 * value as u64
+}
+
+impl Problem {
+    /// The problem of these terms over the domain, or the first refusal: `NoFunction` where there is
+    /// none; `TooMany` above 64; `BadWeight` at the first weight outside 1 to 10,000; `OtherDomain`
+    /// at the first function over another domain.
+    pub fn make(domain: Domain, terms: Vec<Term>) -> Result<Problem, ProblemFault>
+        ensures { result ≡ problem_of domain terms.items }
+    {
+        if terms.len() == 0 {
+            return Err(ProblemFault::NoFunction);
+        }
+        if terms.len() > MOST_FUNCTIONS {
+            return Err(ProblemFault::TooMany);
+        }
+        if let Some(place) = bad_weight(&terms) {
+            return Err(ProblemFault::BadWeight(place as u32));
+        }
+        if let Some(place) = other_domain(&domain, &terms) {
+            return Err(ProblemFault::OtherDomain(place as u32));
+        }
+        Ok(Problem { domain, terms })
+    }
+
+    /// The domain.
+    pub fn domain(&self) -> Domain
+        ensures { result ≡ self.now.axes }
+    {
+        self.domain
+    }
+
+    /// How many functions there are.
+    pub fn len(&self) -> u32
+        ensures len { result ≡ length self.now.terms }
+        ensures problem { IsProblem self.now }
+    {
+        self.terms.len() as u32
+    }
+
+    /// The weight of a function by its number, from 0.
+    pub fn weight(&self, i: u32) -> u32
+        requires { i < length self.now.terms }
+        ensures weight { IfSome (slice_get self.now.terms i) (λ term. result ≡ term.weight) }
+        ensures range { IsTrue (is_weight result) }
+    {
+        self.terms[i as usize].weight
+    }
+
+    /// A function by its number, from 0.
+    pub fn func(&self, i: u32) -> &Func
+        requires { i < length self.now.terms }
+        ensures func { IfSome (slice_get self.now.terms i) (λ term. result.now ≡ term.func) }
+        ensures function { IsFunction result.now }
+        ensures domain { result.now.axes ≡ self.now.axes }
+    {
+        &self.terms[i as usize].func
+    }
+
+    /// The weighted sum at a point, with its values counted by a ledger of its own.
+    fn sum_with<L: Ledger>(&self, p: &Point, blank: Blank) -> u64
+        requires point { IsTrue (is_point self.now.axes p.now) }
+        requires name { blank.name ≡ L.name }
+        requires parts { blank.parts ≡ L.parts }
+        requires some { 0 < blank.parts }
+        ensures sum { result ≡ sum_at self.now p.now }
+        ensures range { result ≤ 64000000000 }
+    {
+        let mut steps = Steps::<L>::new(blank);
+        let mut sum = 0;
+        for term in &self.terms {
+            sum += worth(term, p, &mut steps);
+        }
+        sum
+    }
+
+    /// The sum of weight times value at a point of the domain. It counts one step: the values that
+    /// it looks up are counted apart, by a counter of its own.
+    pub fn sum_at<L: Ledger>(&self, p: &Point, steps: &mut Steps<L>) -> u64
+        requires { IsTrue (is_point self.now.axes p.now) }
+        ensures sum { result ≡ sum_at self.now p.now }
+        ensures range { result ≤ 64000000000 }
+        ensures counted { steps.new ≡ steps.old + 1 }
+    {
+        steps.tick();
+        self.sum_with::<Brand>(p, Blank::new(1))
+    }
+
+    /// The sum of the weighted tops of the functions from this number on.
+    pub(crate) fn tops_from(&self, from: u32) -> u64
+        requires { from ≤ length self.now.terms }
+        ensures { result ≡ sum_by (top_of self.now.axes) (drop from self.now.terms) }
+    {
+        let mut sum = 0;
+        for term in &self.terms[from as usize..] {
+            sum += top(term);
+        }
+        sum
+    }
+}
