@@ -1,7 +1,6 @@
 -- The bound of a node: attained at the corner where each slope adds most, and no key in the node is above it.
-use Rattle.std.proofs.Common.{◌≡◌, ℕ, zero, suc, ◌+◌, ◌*◌, ◌<◌, ◌≤◌, ◌⊎◌, inl, inr, true, false, cond, Bool, nat_lt, ℤ, pos, ◌+ℤ◌, ◌*ℤ◌, ◌<ℤ◌, Some, List, [], ◌∷◌, length, take, drop, refl, ap, sym, subst, ◌∙◌, arith}
-use Rattle.std.specs.Prelude.{slice_get, slice_index}
-use Rattle.std.specs.List.{sum_by}
+use Rattle.std.proofs.Common.{◌≡◌, ℕ, ◌+◌, ◌<◌, ◌≤◌, ◌⊎◌, inl, inr, true, false, cond, Bool, nat_lt, ℤ, pos, ◌+ℤ◌, ◌<ℤ◌, List, length, take, drop, refl, sym, subst, arith}
+use Rattle.std.specs.Prelude.{slice_index}
 use Rattle.std.proofs.lemmas.Bool.Decides.{nat_tests}
 use Rattle.std.proofs.lemmas.Int.{ints}
 use Rattle.std.proofs.lemmas.List.Sums.{sum_by-take-drop}
@@ -9,17 +8,18 @@ use Rattle.ivp_domain.specs.declared.axis.Axis.{Axis}
 use Rattle.ivp_domain.specs.declared.boxes.BoxN.{BoxN}
 use Rattle.ivp_domain.specs.declared.boxes.Point.{Point}
 use Rattle.ivp_domain.specs.Boxes.{has_point, is_box, points_in}
-use Rattle.ivp_domain.specs.Domains.{index_of, is_domain, is_point, size_on}
+use Rattle.ivp_domain.specs.Domains.{index_of, size_on}
 use Rattle.ivp_domain.proofs.BoxLemmas.{listed_point}
 use Rattle.ivp_func.proofs.Facts.{box_parts, has_first_point, place_in, take_whole}
 use Rattle.ivp_problem.specs.declared.node.Node.{Node}
 use Rattle.ivp_problem.specs.Keys.{key_of}
-use Rattle.ivp_problem.specs.Problems.{IsProblem, WeightedSum}
-use Rattle.ivp_problem.specs.Sums.{greatest, key_at, least, sum_at, worth_at, worth_of}
-use Rattle.ivp_problem.specs.Trees.{Beats, bound_of, chosen_at, rest_of, slope_at}
+use Rattle.ivp_problem.specs.Problems.{WeightedSum}
+use Rattle.ivp_problem.specs.Sums.{greatest, key_at, least, sum_at, weighted_at, weighted_sum}
+use Rattle.ivp_problem.specs.Corners.{Beats}
+use Rattle.ivp_problem.specs.Trees.{bound_of, chosen_at, rest_of, slope_at}
 use Rattle.ivp_problem.proofs.KeyOrder.{index_le, key_le, key_lt, key_places}
 use Rattle.ivp_problem.proofs.Nodes.{inside_point, Keeps}
-use Rattle.ivp_problem.proofs.Terms.{at_places, listed_at, worths_places, worths_tops}
+use Rattle.ivp_problem.proofs.Terms.{at_places, listed_at, weighted_sums_places, weighted_sums_tops}
 use Rattle.ivp_problem.proofs.Totals.{greatest_each, greatest_is, least_each, least_is}
 
 -- more, or as much and P
@@ -47,33 +47,33 @@ corner_ahead node corner p h inside =
     ahead_both _ _ _ _ _ _ (ahead_both _ _ _ _ _ _ (ahead_both _ _ _ _ _ _ (ahead_both _ _ _ _ _ _ start (at 0 (omega arith))) (at 1 (omega arith))) (at 2 (omega arith))) (at 3 (omega arith))
 
 -- no chosen sum in the node is above the one at the corner, and of equal ones the corner has the least index
-pub corner_most : (problem : WeightedSum) (node : Node) (corner p : Point) → Keeps problem node → IsHighCorner node corner → has_point node.area p ≡ true → (worth_of (take node.depth problem.terms) p < worth_of (take node.depth problem.terms) corner) ⊎ ((worth_of (take node.depth problem.terms) p ≡ worth_of (take node.depth problem.terms) corner) × (index_of problem.axes corner ≤ index_of problem.axes p))
+pub corner_most : (problem : WeightedSum) (node : Node) (corner p : Point) → Keeps problem node → IsHighCorner node corner → has_point node.area p ≡ true → (weighted_sum (take node.depth problem.terms) p < weighted_sum (take node.depth problem.terms) corner) ⊎ ((weighted_sum (take node.depth problem.terms) p ≡ weighted_sum (take node.depth problem.terms) corner) × (index_of problem.axes corner ≤ index_of problem.axes p))
 corner_most problem node corner p keeps h inside =
     let there = keeps.sum p inside in
     let here = keeps.sum corner h.inside in
-    by (chosen_at node corner) (chosen_at node p) (worth_of (take node.depth problem.terms) corner) (worth_of (take node.depth problem.terms) p) here there (corner_ahead node corner p h inside)
+    by (chosen_at node corner) (chosen_at node p) (weighted_sum (take node.depth problem.terms) corner) (weighted_sum (take node.depth problem.terms) p) here there (corner_ahead node corner p h inside)
   where
     by : (a b : ℤ) (m n : ℕ) → a ≡ pos m → b ≡ pos n → Ahead a b (NoFurther corner p) → (n < m) ⊎ ((n ≡ m) × (index_of problem.axes corner ≤ index_of problem.axes p))
     by a b m n e e' (inl less) = inl (omega (arith, ints))
     by a b m n e e' (inr (same, before)) = inr (omega (arith, ints), index_le (slice_index corner.at 0) (slice_index corner.at 1) (slice_index corner.at 2) (slice_index corner.at 3) (slice_index p.at 0) (slice_index p.at 1) (slice_index p.at 2) (slice_index p.at 3) (size_on 1 problem.axes) (size_on 2 problem.axes) (size_on 3 problem.axes) before.0.0.0.1 before.0.0.1 before.0.1 before.1)
 
 -- the greatest chosen sum in the node
-pub greatest_chosen : (problem : WeightedSum) (node : Node) (corner : Point) → Keeps problem node → IsHighCorner node corner → greatest (worth_of (take node.depth problem.terms)) (points_in node.area) ≡ worth_of (take node.depth problem.terms) corner
+pub greatest_chosen : (problem : WeightedSum) (node : Node) (corner : Point) → Keeps problem node → IsHighCorner node corner → greatest (weighted_sum (take node.depth problem.terms)) (points_in node.area) ≡ weighted_sum (take node.depth problem.terms) corner
 greatest_chosen problem node corner keeps h =
     let terms = take node.depth problem.terms in
     let at = listed_at node.area corner h.inside in
-    greatest_is (worth_of terms) (points_in node.area) (worth_of terms corner) at.0 (at_places corner) at.1 (worths_places terms corner)
+    greatest_is (weighted_sum terms) (points_in node.area) (weighted_sum terms corner) at.0 (at_places corner) at.1 (weighted_sums_places terms corner)
     (λ k q e. elim (corner_most problem node corner q keeps h (listed_point node.area k q e)) [ inl less ↦ omega arith | inr (same, index) ↦ omega arith ])
 
 -- the greatest key in a node of full depth
-pub greatest_key : (problem : WeightedSum) (node : Node) (corner : Point) → Keeps problem node → IsHighCorner node corner → length problem.terms ≤ node.depth → greatest (key_at problem) (points_in node.area) ≡ key_of (worth_of (take node.depth problem.terms) corner) (index_of problem.axes corner)
+pub greatest_key : (problem : WeightedSum) (node : Node) (corner : Point) → Keeps problem node → IsHighCorner node corner → length problem.terms ≤ node.depth → greatest (key_at problem) (points_in node.area) ≡ key_of (weighted_sum (take node.depth problem.terms) corner) (index_of problem.axes corner)
 greatest_key problem node corner keeps h full =
     let all : take node.depth problem.terms ≡ problem.terms = take_whole problem.terms node.depth full in
     let at = listed_at node.area corner h.inside in
     rw all
     (greatest_is (key_at problem) (points_in node.area) (key_at problem corner) at.0 (at_places corner) at.1 (key_places problem corner)
     (λ k q e.
-    let ahead = subst (λ ts. (worth_of ts q < worth_of ts corner) ⊎ ((worth_of ts q ≡ worth_of ts corner) × (index_of problem.axes corner ≤ index_of problem.axes q))) all (corner_most problem node corner q keeps h (listed_point node.area k q e)) in
+    let ahead = subst (λ ts. (weighted_sum ts q < weighted_sum ts corner) ⊎ ((weighted_sum ts q ≡ weighted_sum ts corner) × (index_of problem.axes corner ≤ index_of problem.axes q))) all (corner_most problem node corner q keeps h (listed_point node.area k q e)) in
     elim ahead [
       | inl less ↦ omega (arith, key_lt (sum_at problem q) (sum_at problem corner) (index_of problem.axes q) (index_of problem.axes corner) less)
       | inr (same, index) ↦ let most : sum_at problem q ≤ sum_at problem corner = omega arith in key_le (sum_at problem q) (sum_at problem corner) (index_of problem.axes q) (index_of problem.axes corner) most index
@@ -93,28 +93,28 @@ pub key_bound : (problem : WeightedSum) (node : Node) (p : Point) → Keeps prob
 key_bound problem node p keeps inside =
     by (nat_lt node.depth (length problem.terms))
   where
-    by : (t : Bool) → key_at problem p ≤ cond t (key_of (greatest (worth_of (take node.depth problem.terms)) (points_in node.area) + rest_of problem node) (least (index_of problem.axes) (points_in node.area))) (greatest (key_at problem) (points_in node.area))
+    by : (t : Bool) → key_at problem p ≤ cond t (key_of (greatest (weighted_sum (take node.depth problem.terms)) (points_in node.area) + rest_of problem node) (least (index_of problem.axes) (points_in node.area))) (greatest (key_at problem) (points_in node.area))
     by true =
         let at = listed_at node.area p inside in
         let terms = take node.depth problem.terms in
-        let most : worth_of terms p ≤ greatest (worth_of terms) (points_in node.area) = subst (λ n. n ≤ greatest (worth_of terms) (points_in node.area)) (worths_places terms p) (greatest_each (worth_of terms) (points_in node.area) at.0 (at_places p) at.1) in
-        let others = worths_tops problem.axes (drop node.depth problem.terms) p (inside_point problem.axes node.area p keeps.inside inside) in
+        let most : weighted_sum terms p ≤ greatest (weighted_sum terms) (points_in node.area) = subst (λ n. n ≤ greatest (weighted_sum terms) (points_in node.area)) (weighted_sums_places terms p) (greatest_each (weighted_sum terms) (points_in node.area) at.0 (at_places p) at.1) in
+        let others = weighted_sums_tops problem.axes (drop node.depth problem.terms) p (inside_point problem.axes node.area p keeps.inside inside) in
         let first : least (index_of problem.axes) (points_in node.area) ≤ index_of problem.axes p = least_each (index_of problem.axes) (points_in node.area) at.0 (at_places p) at.1 in
-        let whole = sum_by-take-drop (worth_at p) problem.terms node.depth in
-        let sum : sum_at problem p ≤ greatest (worth_of terms) (points_in node.area) + rest_of problem node = omega arith in
-        key_le (sum_at problem p) (greatest (worth_of terms) (points_in node.area) + rest_of problem node) (index_of problem.axes p) (least (index_of problem.axes) (points_in node.area)) sum first
+        let whole = sum_by-take-drop (weighted_at p) problem.terms node.depth in
+        let sum : sum_at problem p ≤ greatest (weighted_sum terms) (points_in node.area) + rest_of problem node = omega arith in
+        key_le (sum_at problem p) (greatest (weighted_sum terms) (points_in node.area) + rest_of problem node) (index_of problem.axes p) (least (index_of problem.axes) (points_in node.area)) sum first
     by false =
         let at = listed_at node.area p inside in
         subst (λ n. n ≤ greatest (key_at problem) (points_in node.area)) (key_places problem p) (greatest_each (key_at problem) (points_in node.area) at.0 (at_places p) at.1)
 
 -- what the bound is, by the corner
-pub bound_below : (problem : WeightedSum) (node : Node) (corner first : Point) → Keeps problem node → IsHighCorner node corner → first.at ≡ node.area.low → node.depth < length problem.terms → key_of (worth_of (take node.depth problem.terms) corner + rest_of problem node) (index_of problem.axes first) ≡ bound_of problem node
+pub bound_below : (problem : WeightedSum) (node : Node) (corner first : Point) → Keeps problem node → IsHighCorner node corner → first.at ≡ node.area.low → node.depth < length problem.terms → key_of (weighted_sum (take node.depth problem.terms) corner + rest_of problem node) (index_of problem.axes first) ≡ bound_of problem node
 bound_below problem node corner first keeps h low below =
     let proper = (box_parts problem.axes node.area keeps.inside).0 in
     let test : nat_lt node.depth (length problem.terms) ≡ true = grind (arith, nat_tests) in
     rw test (sym (rw (greatest_chosen problem node corner keeps h, least_index problem.axes node.area first proper low) refl))
 
-pub bound_full : (problem : WeightedSum) (node : Node) (corner : Point) → Keeps problem node → IsHighCorner node corner → length problem.terms ≤ node.depth → key_of (worth_of (take node.depth problem.terms) corner) (index_of problem.axes corner) ≡ bound_of problem node
+pub bound_full : (problem : WeightedSum) (node : Node) (corner : Point) → Keeps problem node → IsHighCorner node corner → length problem.terms ≤ node.depth → key_of (weighted_sum (take node.depth problem.terms) corner) (index_of problem.axes corner) ≡ bound_of problem node
 bound_full problem node corner keeps h full =
     let test : nat_lt node.depth (length problem.terms) ≡ false = grind (arith, nat_tests) in
     rw test (sym (greatest_key problem node corner keeps h full))

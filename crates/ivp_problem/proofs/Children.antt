@@ -1,5 +1,5 @@
 -- The children of a node have its points, each in exactly one of them.
-use Rattle.std.proofs.Common.{◌≡◌, ℕ, zero, suc, ◌+◌, ◌<◌, Bool, true, false, cond, ◌&&◌, Option, Some, None, List, [], ◌∷◌, ◌++◌, length, refl, sym, ap, subst, ◌∙◌, arith}
+use Rattle.std.proofs.Common.{◌≡◌, ℕ, zero, suc, ◌+◌, Bool, true, false, cond, ◌&&◌, Option, Some, None, List, [], ◌∷◌, ◌++◌, length, refl, sym, ap, subst, ◌∙◌, arith}
 use Rattle.std.specs.Prelude.{slice_get, count_by}
 use Rattle.std.specs.List.{flat_map}
 use Rattle.std.specs.Option.{option_map, option_and_then, option_to_list}
@@ -15,7 +15,7 @@ use Rattle.ivp_func.proofs.Counting.{count_at-cons, one_if}
 use Rattle.ivp_problem.specs.declared.node.Node.{Node}
 use Rattle.ivp_problem.specs.declared.term.Term.{Term}
 use Rattle.ivp_problem.specs.Problems.{IsProblem, WeightedSum}
-use Rattle.ivp_problem.specs.Trees.{child_in, child_with, children_in, children_of, with_piece}
+use Rattle.ivp_problem.specs.Trees.{child_with, children_in, children_of, with_piece}
 use Rattle.ivp_problem.proofs.Nodes.{inside_point, Keeps}
 
 -- a list over the numbers of a list's elements is one over the elements

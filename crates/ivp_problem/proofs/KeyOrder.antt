@@ -1,5 +1,5 @@
 -- Keys in order: by sum, then by least index; and the keys of points.
-use Rattle.std.proofs.Common.{◌≡◌, ℕ, zero, suc, ◌+◌, ◌-◌, ◌*◌, ◌^◌, ◌<◌, ◌≤◌, true, false, cond, Bool, ◌&&◌, nat_le, nat_lt, Some, List, [], ◌∷◌, length, refl, ap, sym, subst, ◌∙◌, inl, inr, arith}
+use Rattle.std.proofs.Common.{◌≡◌, ℕ, zero, suc, ◌+◌, ◌-◌, ◌*◌, ◌^◌, ◌<◌, ◌≤◌, true, false, cond, Bool, ◌&&◌, nat_le, nat_lt, Some, List, [], ◌∷◌, length, refl, ap, sym, ◌∙◌, inl, inr, arith}
 use Rattle.std.specs.Prelude.{slice_get, slice_index}
 use Rattle.std.specs.List.{fold}
 use Rattle.std.proofs.Math.Nat.{mul-le-mul_right}
@@ -7,14 +7,14 @@ use Rattle.std.proofs.lemmas.Bool.{cases_lt}
 use Rattle.std.proofs.lemmas.Bool.Decides.{nat_tests}
 use Rattle.ivp_domain.specs.declared.axis.Axis.{Axis}
 use Rattle.ivp_domain.specs.declared.boxes.Point.{Point}
-use Rattle.ivp_domain.specs.Boxes.{has_point, point_of}
-use Rattle.ivp_domain.specs.Domains.{index_of, is_domain, is_point, points_of, size_of, size_on, whole}
+use Rattle.ivp_domain.specs.Boxes.{point_of}
+use Rattle.ivp_domain.specs.Domains.{index_of, is_domain, is_point, points_of, size_on, whole}
 use Rattle.ivp_domain.proofs.BoxLemmas.{listed_point}
 use Rattle.ivp_domain.proofs.Sizes.{few, places_below, point_in_list_at, radix}
 use Rattle.ivp_problem.specs.Keys.{key_of}
 use Rattle.ivp_problem.specs.Problems.{IsProblem, WeightedSum}
 use Rattle.ivp_problem.specs.Sums.{best_of, better, key_at, sum_at}
-use Rattle.ivp_problem.proofs.Terms.{at_places, listed_at, worths_most, worths_places}
+use Rattle.ivp_problem.proofs.Terms.{at_places, listed_at, weighted_sums_most, weighted_sums_places}
 
 -- a greater sum with a lesser index has the greater key
 pub key_le : (s s' i i' : ℕ) → s ≤ s' → i' ≤ i → key_of s i ≤ key_of s' i'
@@ -56,7 +56,7 @@ index_le i j k l i' j' k' l' b c d p q r s =
     omega arith
 
 pub sum_most : (problem : WeightedSum) (p : Point) → IsProblem problem → is_point problem.axes p ≡ true → sum_at problem p ≤ 64000000000
-sum_most problem p h inside = let few_terms = h.few in omega (arith, worths_most problem.axes problem.terms p h.terms inside)
+sum_most problem p h inside = let few_terms = h.few in omega (arith, weighted_sums_most problem.axes problem.terms p h.terms inside)
 
 -- different points have different keys
 pub key_distinct : (problem : WeightedSum) (p q : Point) → IsProblem problem → is_point problem.axes p ≡ true → is_point problem.axes q ≡ true → length p.at ≡ 4 → length q.at ≡ 4 → key_at problem p ≡ key_at problem q → p ≡ q
@@ -70,7 +70,7 @@ key_distinct problem p q h in_p in_q four four' e =
 
 -- a point has the key of its places
 pub key_places : (problem : WeightedSum) (p : Point) → key_at problem (at_places p) ≡ key_at problem p
-key_places problem p = ap (λ s. key_of s (index_of problem.axes p)) (worths_places problem.terms p)
+key_places problem p = ap (λ s. key_of s (index_of problem.axes p)) (weighted_sums_places problem.terms p)
 
 -- the better of two has a key that is none of the two's lesser
 better_first : (problem : WeightedSum) (a b : Point) → key_at problem a ≤ key_at problem (better problem a b)

@@ -1,7 +1,7 @@
 -- When terms make a problem, and what then holds of them.
-use Rattle.std.proofs.Common.{◌≡◌, ℕ, zero, suc, ◌+◌, ◌<◌, ◌≤◌, Bool, true, false, not, cond, ◌&&◌, ℤ, Some, None, List, [], ◌∷◌, length, drop, get_or, inl, inr, refl, sym, ap, subst, ◌∙◌, arith, Decides}
+use Rattle.std.proofs.Common.{◌≡◌, ℕ, zero, suc, ◌+◌, ◌<◌, Bool, true, false, not, ◌&&◌, ℤ, Some, None, List, [], ◌∷◌, length, drop, inl, inr, refl, sym, ap, subst, ◌∙◌, arith}
 use Rattle.std.specs.Prelude.{slice_get, ◌==◌}
-use Rattle.std.specs.List.{list_all, position_from}
+use Rattle.std.specs.List.{position_from}
 use Rattle.std.specs.Ordering.{int_eq}
 use Rattle.std.specs.Str.{bytes_eq}
 use Rattle.std.proofs.lemmas.Bool.{and_parts, cases_eq}
@@ -14,7 +14,7 @@ use Rattle.ivp_domain.proofs.Padding.{none_fails}
 use Rattle.ivp_func.specs.Functions.{IsFunction}
 use Rattle.ivp_func.proofs.Facts.{passes_at}
 use Rattle.ivp_problem.specs.declared.term.Term.{Term}
-use Rattle.ivp_problem.specs.Problems.{bad_weight, is_weight, IsProblem, IsTermOf, other_domain, same_axis, same_domain}
+use Rattle.ivp_problem.specs.Problems.{bad_weight, is_weight, other_domain, same_axis, same_domain}
 use Rattle.ivp_problem.proofs.Terms.{AreTerms}
 
 -- what stands at a place is the first of the rest

@@ -1,5 +1,5 @@
 -- What a node of a problem keeps: a box of the domain, small base and slopes, and the sum that its pieces make.
-use Rattle.std.proofs.Common.{◌≡◌, ℕ, zero, suc, ◌+◌, ◌-◌, ◌<◌, ◌≤◌, ◌*◌, ◌^◌, min, max, ℤ, pos, neg_ℤ, ◌+ℤ◌, ◌*ℤ◌, ◌≤ℤ◌, Bool, true, false, cond, ◌&&◌, nat_le, nat_lt, Option, Some, None, List, [], ◌∷◌, ◌++◌, length, length-drop, take, drop, get_or, refl, ap, sym, subst, ◌∙◌, arith}
+use Rattle.std.proofs.Common.{◌≡◌, ℕ, zero, suc, ◌+◌, ◌-◌, ◌<◌, ◌≤◌, ◌*◌, ◌^◌, ℤ, pos, neg_ℤ, ◌+ℤ◌, ◌*ℤ◌, ◌≤ℤ◌, Bool, true, false, cond, ◌&&◌, nat_le, nat_lt, Some, None, List, [], ◌∷◌, ◌++◌, length, length-drop, take, drop, get_or, refl, ap, sym, subst, ◌∙◌, arith}
 use Rattle.std.specs.Prelude.{slice_get, slice_index}
 use Rattle.std.specs.Option.{option_map}
 use Rattle.std.proofs.lemmas.Bool.{and_from, and_parts}
@@ -23,11 +23,12 @@ use Rattle.ivp_func.proofs.Rises.{base_within, slope_within, small_parts}
 use Rattle.ivp_problem.specs.declared.node.Node.{Node}
 use Rattle.ivp_problem.specs.declared.term.Term.{Term}
 use Rattle.ivp_problem.specs.Problems.{is_weight, IsProblem, IsTermOf, WeightedSum}
-use Rattle.ivp_problem.specs.Sums.{worth_at, worth_of}
-use Rattle.ivp_problem.specs.Trees.{child_in, child_of, child_with, chosen_at, IsNode, IsSmall, node_below, root_of, slope_at, slope_with, with_piece}
+use Rattle.ivp_problem.specs.Sums.{weighted_at, weighted_sum}
+use Rattle.ivp_problem.specs.Corners.{IsSmall}
+use Rattle.ivp_problem.specs.Trees.{child_in, child_of, child_with, chosen_at, IsNode, node_below, root_of, slope_at, slope_with, with_piece}
 use Rattle.ivp_problem.proofs.Linear.{both}
 use Rattle.ivp_problem.proofs.Slopes.{weight_most, Within, within_product}
-use Rattle.ivp_problem.proofs.Terms.{worth_signed}
+use Rattle.ivp_problem.proofs.Terms.{weighted_signed}
 
 pub small_base : (piece : Piece) → is_small piece ≡ true → Within (10 ^ 12) piece.base
 small_base piece h = let bound = base_within piece.base (small_parts piece h).0 in record { above = bound.0; below = bound.1 }
@@ -70,7 +71,7 @@ pub record Keeps (problem : WeightedSum) (node : Node) : Type 0 where
   pub depth : node.depth ≤ length problem.terms
   pub inside : is_box_of problem.axes node.area ≡ true
   pub small : IsSmall node.depth node
-  pub sum : (p : Point) → has_point node.area p ≡ true → chosen_at node p ≡ pos (worth_of (take node.depth problem.terms) p)
+  pub sum : (p : Point) → has_point node.area p ≡ true → chosen_at node p ≡ pos (weighted_sum (take node.depth problem.terms) p)
 
 -- a box of the domain, from its parts
 box_from : (axes : List Axis) (area : BoxN) → is_box area ≡ true → slice_index area.high 0 < size_on 0 axes → slice_index area.high 1 < size_on 1 axes → slice_index area.high 2 < size_on 2 axes → slice_index area.high 3 < size_on 3 axes → is_box_of axes area ≡ true
@@ -146,25 +147,25 @@ inside_point axes area p fits h =
     within i j k l a b c d p q r s = grind (arith, nat_tests)
 
 -- the sum of one more term
-pub worths_more : (terms : List Term) (n : ℕ) (term : Term) (p : Point) → slice_get terms n ≡ Some term → worth_of (take (n + 1) terms) p ≡ worth_of (take n terms) p + worth_at p term
-worths_more terms n term p e =
-    let more = sum_by_more (worth_at p) terms n term (slice_get_within terms n term e) in
+pub weighted_sums_more : (terms : List Term) (n : ℕ) (term : Term) (p : Point) → slice_get terms n ≡ Some term → weighted_sum (take (n + 1) terms) p ≡ weighted_sum (take n terms) p + weighted_at p term
+weighted_sums_more terms n term p e =
+    let more = sum_by_more (weighted_at p) terms n term (slice_get_within terms n term e) in
     let same : get_or terms n term ≡ term = get_or_from_slice_get terms n term term e in
-    more ∙ ap (λ t. worth_of (take n terms) p + worth_at p t) same
+    more ∙ ap (λ t. weighted_sum (take n terms) p + weighted_at p t) same
 
 -- the chosen sum of a child
-child_sum : (problem : WeightedSum) → IsProblem problem → (node : Node) (term : Term) (number : ℕ) (piece : Piece) → Keeps problem node → slice_get problem.terms node.depth ≡ Some term → slice_get term.func.pieces number ≡ Some piece → (p : Point) → has_point (common node.area piece.area) p ≡ true → chosen_at (with_piece term.weight piece node (common node.area piece.area)) p ≡ pos (worth_of (take (node.depth + 1) problem.terms) p)
+child_sum : (problem : WeightedSum) → IsProblem problem → (node : Node) (term : Term) (number : ℕ) (piece : Piece) → Keeps problem node → slice_get problem.terms node.depth ≡ Some term → slice_get term.func.pieces number ≡ Some piece → (p : Point) → has_point (common node.area piece.area) p ≡ true → chosen_at (with_piece term.weight piece node (common node.area piece.area)) p ≡ pos (weighted_sum (take (node.depth + 1) problem.terms) p)
 child_sum problem h node term number piece keeps stands in_term p inside =
     let axes = problem.axes in
     let in_both = and_parts (has_point node.area p) (has_point piece.area p) (sym (has_point-common node.area piece.area p) ∙ inside) in
     let in_domain = inside_point axes node.area p keeps.inside in_both.0 in
     let of_term = h.terms node.depth term stands in
     let value = value_here axes term number piece p of_term in_term in_domain in_both.1 in
-    let one : (pos term.weight *ℤ value_of piece p) ≡ pos (worth_at p term) = ap (λ z. pos term.weight *ℤ z) (sym value) ∙ worth_signed axes term p of_term in_domain in
+    let one : (pos term.weight *ℤ value_of piece p) ≡ pos (weighted_at p term) = ap (λ z. pos term.weight *ℤ z) (sym value) ∙ weighted_signed axes term p of_term in_domain in
     let sum = both term.weight node.base piece.base (slope_at node 0) (slope_at node 1) (slope_at node 2) (slope_at node 3) (slope_on 0 piece) (slope_on 1 piece) (slope_on 2 piece) (slope_on 3 piece) (slice_index p.at 0) (slice_index p.at 1) (slice_index p.at 2) (slice_index p.at 3) in
     let old = keeps.sum p in_both.0 in
-    let more = worths_more problem.terms node.depth term p stands in
-    sum ∙ joined (chosen_at node p) (pos term.weight *ℤ value_of piece p) (worth_of (take node.depth problem.terms) p) (worth_at p term) (worth_of (take (node.depth + 1) problem.terms) p) old one more
+    let more = weighted_sums_more problem.terms node.depth term p stands in
+    sum ∙ joined (chosen_at node p) (pos term.weight *ℤ value_of piece p) (weighted_sum (take node.depth problem.terms) p) (weighted_at p term) (weighted_sum (take (node.depth + 1) problem.terms) p) old one more
   where
     joined : (a b : ℤ) (m n k : ℕ) → a ≡ pos m → b ≡ pos n → k ≡ m + n → (a +ℤ b) ≡ pos k
     joined a b m n k p q r = omega (arith, ints)

@@ -1,8 +1,7 @@
 -- The definitions on worked examples.
-use Rattle.std.proofs.Common.{◌≡◌, ℕ, ◌+◌, ◌*◌, ◌-◌, ◌^◌, ◌<◌, true, false, Some, None, Ok, Err, ℤ, pos, neg_ℤ, List, [], ◌∷◌, length, replicate, refl}
+use Rattle.std.proofs.Common.{◌≡◌, ℕ, Some, None, Ok, Err, ℤ, pos, List, [], ◌∷◌, replicate, refl}
 use Rattle.std.specs.Prelude.{codes}
 use Rattle.ivp_domain.specs.declared.axis.Axis.{Axis}
-use Rattle.ivp_domain.specs.declared.boxes.BoxN.{BoxN}
 use Rattle.ivp_domain.specs.Boxes.{point_of}
 use Rattle.ivp_func.specs.declared.piece.Piece.{Piece}
 use Rattle.ivp_problem.specs.declared.term.Term.{Term}

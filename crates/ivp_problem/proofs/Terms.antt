@@ -1,5 +1,5 @@
--- What the terms of a problem keep: their worths at points of the domain, and their tops.
-use Rattle.std.proofs.Common.{◌≡◌, ℕ, zero, suc, ◌+◌, ◌*◌, ◌^◌, ◌<◌, ◌≤◌, true, false, cond, ℤ, pos, negsuc, ◌*ℤ◌, ◌≤ℤ◌, Some, None, List, [], ◌∷◌, length, take, drop, refl, sym, ap, subst, ◌∙◌, arith}
+-- What the terms of a problem keep: their weighted values at points of the domain, and their tops.
+use Rattle.std.proofs.Common.{◌≡◌, ℕ, zero, suc, ◌*◌, ◌^◌, ◌≤◌, true, false, cond, ℤ, pos, negsuc, ◌*ℤ◌, ◌≤ℤ◌, Some, List, [], ◌∷◌, length, take, drop, refl, sym, ap, subst, ◌∙◌, arith}
 use Rattle.std.specs.Prelude.{nat_abs, slice_get, slice_index}
 use Rattle.std.specs.List.{find, sum_by}
 use Rattle.std.proofs.Math.Nat.{mul-le-mul, mul-le-mul_left}
@@ -17,7 +17,7 @@ use Rattle.ivp_func.specs.Functions.{HasValues, IsTop}
 use Rattle.ivp_func.specs.Pieces.{holds, is_value, value_at, value_in}
 use Rattle.ivp_problem.specs.declared.term.Term.{Term}
 use Rattle.ivp_problem.specs.Problems.{IsTermOf}
-use Rattle.ivp_problem.specs.Sums.{greatest, worth_at, worth_of}
+use Rattle.ivp_problem.specs.Sums.{greatest, weighted_at, weighted_sum}
 use Rattle.ivp_problem.specs.Trees.{top_of}
 use Rattle.ivp_problem.proofs.Slopes.{weight_most}
 use Rattle.ivp_problem.proofs.Totals.{greatest_each, greatest_is, greatest_within}
@@ -51,12 +51,12 @@ value_places [] p = refl
 value_places (x ∷ xs) p =
     elim (holds p x) as (λ b. value_in (cond b (Some x) (find (holds (at_places p)) xs)) (at_places p) ≡ value_in (cond b (Some x) (find (holds p) xs)) p) [ true ↦ refl | false ↦ value_places xs p ]
 
-pub worth_places : (term : Term) (p : Point) → worth_at (at_places p) term ≡ worth_at p term
-worth_places term p = ap (λ z. term.weight * nat_abs z) (value_places term.func.pieces p)
+pub weighted_places : (term : Term) (p : Point) → weighted_at (at_places p) term ≡ weighted_at p term
+weighted_places term p = ap (λ z. term.weight * nat_abs z) (value_places term.func.pieces p)
 
-pub worths_places : (terms : List Term) (p : Point) → worth_of terms (at_places p) ≡ worth_of terms p
-worths_places [] p = refl
-worths_places (t ∷ ts) p = omega (arith, sum_by-cons (worth_at (at_places p)) t ts, sum_by-cons (worth_at p) t ts, worth_places t p, worths_places ts p)
+pub weighted_sums_places : (terms : List Term) (p : Point) → weighted_sum terms (at_places p) ≡ weighted_sum terms p
+weighted_sums_places [] p = refl
+weighted_sums_places (t ∷ ts) p = omega (arith, sum_by-cons (weighted_at (at_places p)) t ts, sum_by-cons (weighted_at p) t ts, weighted_places t p, weighted_sums_places ts p)
 
 -- a value is a natural number up to 100,000
 pub value_natural : (z : ℤ) → is_value z ≡ true → (pos (nat_abs z) ≡ z) × (nat_abs z ≤ 100000)
@@ -68,26 +68,26 @@ value_of_term axes term p h inside =
     let values = subst (λ (a : List Axis). HasValues a term.func.pieces) h.domain h.func.values in
     values p inside
 
--- a worth and a top are at most 10^9
-pub worth_most : (axes : List Axis) (term : Term) (p : Point) → IsTermOf axes term → is_point axes p ≡ true → worth_at p term ≤ 10 ^ 9
-worth_most axes term p h inside =
+-- a weighted value and a top are at most 10^9
+pub weighted_most : (axes : List Axis) (term : Term) (p : Point) → IsTermOf axes term → is_point axes p ≡ true → weighted_at p term ≤ 10 ^ 9
+weighted_most axes term p h inside =
     let value = nat_abs (value_at term.func.pieces p) in
     let small : value ≤ 100000 = (value_natural (value_at term.func.pieces p) (value_of_term axes term p h inside)).1 in
     let product = mul-le-mul {n₁ = term.weight} {m₁ = value} {n₂ = 10000} {m₂ = 100000} (weight_most term.weight h.weight).1 small in
     omega arith
 
 -- a weighted value as an integer
-pub worth_signed : (axes : List Axis) (term : Term) (p : Point) → IsTermOf axes term → is_point axes p ≡ true → (pos term.weight *ℤ value_at term.func.pieces p) ≡ pos (worth_at p term)
-worth_signed axes term p h inside =
+pub weighted_signed : (axes : List Axis) (term : Term) (p : Point) → IsTermOf axes term → is_point axes p ≡ true → (pos term.weight *ℤ value_at term.func.pieces p) ≡ pos (weighted_at p term)
+weighted_signed axes term p h inside =
     let natural = (value_natural (value_at term.func.pieces p) (value_of_term axes term p h inside)).0 in
     ap (λ z. pos term.weight *ℤ z) (sym natural)
 
-pub worths_most : (axes : List Axis) (terms : List Term) (p : Point) → AreTerms axes terms → is_point axes p ≡ true → worth_of terms p ≤ 10 ^ 9 * length terms
-worths_most axes [] p h inside = omega arith
-worths_most axes (t ∷ ts) p h inside =
-    let rest = worths_most axes ts p (λ k. h (suc k)) inside in
-    let first = worth_most axes t p (h 0 t refl) inside in
-    omega (arith, sum_by-cons (worth_at p) t ts)
+pub weighted_sums_most : (axes : List Axis) (terms : List Term) (p : Point) → AreTerms axes terms → is_point axes p ≡ true → weighted_sum terms p ≤ 10 ^ 9 * length terms
+weighted_sums_most axes [] p h inside = omega arith
+weighted_sums_most axes (t ∷ ts) p h inside =
+    let rest = weighted_sums_most axes ts p (λ k. h (suc k)) inside in
+    let first = weighted_most axes t p (h 0 t refl) inside in
+    omega (arith, sum_by-cons (weighted_at p) t ts)
 
 -- the greatest value of a term
 abbrev pub most_of : List Axis → Term → ℕ
@@ -99,18 +99,18 @@ top_most axes term h =
     let product = mul-le-mul {n₁ = term.weight} {m₁ = most_of axes term} {n₂ = 10000} {m₂ = 100000} (weight_most term.weight h.weight).1 small in
     omega arith
 
--- no worth is above the top
-pub worth_top : (axes : List Axis) (term : Term) (p : Point) → is_point axes p ≡ true → worth_at p term ≤ top_of axes term
-worth_top axes term p inside =
+-- no weighted value is above the top
+pub weighted_top : (axes : List Axis) (term : Term) (p : Point) → is_point axes p ≡ true → weighted_at p term ≤ top_of axes term
+weighted_top axes term p inside =
     let at = listed_at (whole axes) p inside in
     let most : nat_abs (value_at term.func.pieces p) ≤ most_of axes term = subst (λ z. nat_abs z ≤ most_of axes term) (value_places term.func.pieces p) (greatest_each (λ point. nat_abs (value_at term.func.pieces point)) (points_of axes) at.0 (at_places p) at.1) in
     mul-le-mul_left term.weight most
 
-pub worths_tops : (axes : List Axis) (terms : List Term) (p : Point) → is_point axes p ≡ true → worth_of terms p ≤ sum_by (top_of axes) terms
-worths_tops axes [] p inside = omega arith
-worths_tops axes (t ∷ ts) p inside =
-    let rest = worths_tops axes ts p inside in
-    omega (arith, sum_by-cons (worth_at p) t ts, sum_by-cons (top_of axes) t ts, worth_top axes t p inside)
+pub weighted_sums_tops : (axes : List Axis) (terms : List Term) (p : Point) → is_point axes p ≡ true → weighted_sum terms p ≤ sum_by (top_of axes) terms
+weighted_sums_tops axes [] p inside = omega arith
+weighted_sums_tops axes (t ∷ ts) p inside =
+    let rest = weighted_sums_tops axes ts p inside in
+    omega (arith, sum_by-cons (weighted_at p) t ts, sum_by-cons (top_of axes) t ts, weighted_top axes t p inside)
 
 pub tops_most : (axes : List Axis) (terms : List Term) → AreTerms axes terms → sum_by (top_of axes) terms ≤ 10 ^ 9 * length terms
 tops_most axes [] h = omega arith

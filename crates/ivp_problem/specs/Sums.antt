@@ -1,5 +1,5 @@
 -- The weighted sum and the key of a point, and the best point of all.
-use Rattle.std.specs.Prelude.{ℕ, ◌+◌, ◌*◌, nat_abs, max, min, nat_lt, if◌then◌else◌, List, [], ◌∷◌}
+use Rattle.std.specs.Prelude.{ℕ, ◌*◌, nat_abs, max, min, nat_lt, if◌then◌else◌, List, [], ◌∷◌}
 use Rattle.std.specs.List.{fold, sum_by}
 use Rattle.ivp_domain.specs.declared.boxes.Point.{Point}
 use Rattle.ivp_domain.specs.Boxes.{point_of}
@@ -9,17 +9,17 @@ use Rattle.ivp_problem.specs.declared.term.Term.{Term}
 use Rattle.ivp_problem.specs.Keys.{key_of}
 use Rattle.ivp_problem.specs.Problems.{WeightedSum}
 
--- what a term adds at a point: its weight times the value, which is never below 0
-abbrev pub worth_at : Point → Term → ℕ
-worth_at point term = term.weight * nat_abs (value_at term.func.pieces point)
+-- the weighted value of a term at a point: weight times value, which is never below 0
+abbrev pub weighted_at : Point → Term → ℕ
+weighted_at point term = term.weight * nat_abs (value_at term.func.pieces point)
 
--- what these terms add at a point
-abbrev pub worth_of : List Term → Point → ℕ
-worth_of terms point = sum_by (worth_at point) terms
+-- the weighted sum of these terms at a point
+abbrev pub weighted_sum : List Term → Point → ℕ
+weighted_sum terms point = sum_by (weighted_at point) terms
 
--- the weighted sum at a point
+-- the weighted sum of a problem at a point
 abbrev pub sum_at : WeightedSum → Point → ℕ
-sum_at problem point = worth_of problem.terms point
+sum_at problem point = weighted_sum problem.terms point
 
 -- the key of a point: its weighted sum with its index
 abbrev pub key_at : WeightedSum → Point → ℕ

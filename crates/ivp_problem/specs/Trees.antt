@@ -1,5 +1,5 @@
 -- The tree of a problem: a node is a choice of one piece from each of the first functions whose boxes share a point.
-use Rattle.std.specs.Prelude.{◌≡◌, ℕ, ◌+◌, ◌*◌, ◌^◌, ◌<◌, ◌≤◌, ◌⊎◌, ℤ, pos, neg_ℤ, ◌+ℤ◌, ◌*ℤ◌, ◌≤ℤ◌, ◌<ℤ◌, nat_abs, nat_lt, if◌then◌else◌, Option, Some, None, option_map, List, [], ◌∷◌, length, take, drop, slice_get, slice_index_or}
+use Rattle.std.specs.Prelude.{◌≡◌, ℕ, ◌+◌, ◌*◌, ℤ, pos, ◌+ℤ◌, ◌*ℤ◌, nat_abs, nat_lt, if◌then◌else◌, Option, Some, None, option_map, List, [], ◌∷◌, length, take, drop, slice_get, slice_index_or}
 use Rattle.std.specs.List.{flat_map, sum_by}
 use Rattle.std.specs.Option.{option_and_then, option_to_list}
 use Rattle.ivp_domain.specs.declared.axis.Axis.{Axis}
@@ -13,7 +13,7 @@ use Rattle.ivp_problem.specs.declared.term.Term.{Term}
 use Rattle.ivp_problem.specs.declared.node.Node.{Node}
 use Rattle.ivp_problem.specs.Keys.{key_of}
 use Rattle.ivp_problem.specs.Problems.{WeightedSum}
-use Rattle.ivp_problem.specs.Sums.{greatest, key_at, least, worth_of}
+use Rattle.ivp_problem.specs.Sums.{greatest, key_at, least, weighted_sum}
 
 -- no piece chosen yet: the whole domain
 abbrev pub root_of : WeightedSum → Node
@@ -65,15 +65,6 @@ children_of problem node = flat_map (λ term. children_in term node) (option_to_
 abbrev pub chosen_at : Node → Point → ℤ
 chosen_at node point = value_of (record { area = node.area; base = node.base; slope = node.slope }) point
 
--- base and slopes within those of this many pieces of weight 10,000
-pub record IsSmall (count : ℕ) (node : Node) : Type 0 where
-  pub base : (neg_ℤ (pos (count * 10 ^ 16)) ≤ℤ node.base) × (node.base ≤ℤ pos (count * 10 ^ 16))
-  pub slope : (axis : ℕ) → axis < 4 → (neg_ℤ (pos (count * 10 ^ 9)) ≤ℤ slope_at node axis) × (slope_at node axis ≤ℤ pos (count * 10 ^ 9))
-
--- along a slope one place adds more than another, or as much and is at most the other
-abbrev pub Beats : ℤ → ℕ → ℕ → Type 0
-Beats slope place other = ((slope *ℤ pos other) <ℤ (slope *ℤ pos place)) ⊎ (((slope *ℤ pos other) ≡ (slope *ℤ pos place)) × (place ≤ other))
-
 -- the node below this one that chooses the pieces of these numbers, one from each of these terms in turn
 abbrev pub node_below : List Term → List ℕ → Node → Option Node
 node_below terms [] node = Some node
@@ -98,10 +89,10 @@ abbrev pub rest_of : WeightedSum → Node → ℕ
 rest_of problem node = sum_by (top_of problem.axes) (drop node.depth problem.terms)
 
 -- below full depth: the greatest sum of the chosen functions in the box, with the tops of the others, and the least index in the box
-abbrev pub bound_above : WeightedSum → Node → ℕ
-bound_above problem node =
-    key_of (greatest (worth_of (take node.depth problem.terms)) (points_in node.area) + rest_of problem node) (least (index_of problem.axes) (points_in node.area))
+abbrev pub partial_bound : WeightedSum → Node → ℕ
+partial_bound problem node =
+    key_of (greatest (weighted_sum (take node.depth problem.terms)) (points_in node.area) + rest_of problem node) (least (index_of problem.axes) (points_in node.area))
 
 -- the bound of a node: at full depth the greatest key in the box
 abbrev pub bound_of : WeightedSum → Node → ℕ
-bound_of problem node = if nat_lt node.depth (length problem.terms) then bound_above problem node else greatest (key_at problem) (points_in node.area)
+bound_of problem node = if nat_lt node.depth (length problem.terms) then partial_bound problem node else greatest (key_at problem) (points_in node.area)

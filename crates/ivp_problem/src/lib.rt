@@ -6,7 +6,7 @@
 //! choice of one piece from each of the first functions whose boxes share a point; and no key of a
 //! point in a node is above the node's `bound`.
 //!
-//! Reading order: `key`, `term`, `problem`, `node`, `law`.
+//! Reading order: `key`, `term`, `same`, `problem`, `node`, `law`.
 #![tactic(auto)]
 
 mod key;

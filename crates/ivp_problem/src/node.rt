@@ -3,8 +3,9 @@ ghost use Rattle.ivp_domain.specs.Boxes.{has_point, is_box};
 ghost use Rattle.ivp_domain.specs.Domains.{is_point, size_on};
 ghost use Rattle.ivp_func.specs.Pieces.{is_small};
 ghost use Rattle.ivp_problem.specs.Problems.{is_weight};
-ghost use Rattle.ivp_problem.specs.Sums.{key_at, worth_of};
-ghost use Rattle.ivp_problem.specs.Trees.{Beats, bound_of, child_of, chosen_at, IsNode, IsSmall, next_of, root_of, slope_at, slope_with, with_piece};
+ghost use Rattle.ivp_problem.specs.Sums.{key_at, weighted_sum};
+ghost use Rattle.ivp_problem.specs.Corners.{Beats, IsSmall};
+ghost use Rattle.ivp_problem.specs.Trees.{bound_of, child_of, chosen_at, IsNode, next_of, root_of, slope_at, slope_with, with_piece};
 
 use crate::key::{Key, key_of};
 use crate::problem::Problem;
@@ -167,7 +168,7 @@ impl Problem {
     fn chosen_sum(&self, node: &Node, point: &Point) -> u64
         requires node { IsNode self.now node.now }
         requires point { IsTrue (has_point node.now.area point.now) }
-        ensures sum { result ≡ worth_of (take node.now.depth self.now.terms) point.now }
+        ensures sum { result ≡ weighted_sum (take node.now.depth self.now.terms) point.now }
         ensures range { result ≤ 10 ^ 9 * node.now.depth }
     {
         let _ = self.len();

@@ -3,7 +3,7 @@ ghost use Rattle.std.specs.List.{sum_by};
 ghost use Rattle.ivp_domain.specs.Domains.{is_point};
 ghost use Rattle.ivp_func.specs.Functions.{IsFunction};
 ghost use Rattle.ivp_problem.specs.Problems.{bad_weight, IsProblem, is_weight, other_domain, problem_of, same_domain};
-ghost use Rattle.ivp_problem.specs.Sums.{sum_at, worth_at};
+ghost use Rattle.ivp_problem.specs.Sums.{sum_at, weighted_at};
 ghost use Rattle.ivp_problem.specs.Trees.{top_of};
 
 use crate::same::same_domain;
@@ -73,10 +73,10 @@ fn other_domain(domain: &Domain, terms: &[Term]) -> Option<usize>
 }
 
 /// What a term adds at a point: its weight times the value.
-fn worth<L: Ledger>(term: &Term, p: &Point, steps: &mut Steps<L>) -> u64
+fn weighted_value<L: Ledger>(term: &Term, p: &Point, steps: &mut Steps<L>) -> u64
     requires point { IsTrue (is_point term.now.func.axes p.now) }
     requires weight { IsTrue (is_weight term.now.weight) }
-    ensures worth { result ≡ worth_at p.now term.now }
+    ensures value { result ≡ weighted_at p.now term.now }
     ensures range { result ≤ 10 ^ 9 }
 {
     let value = term.func.value_at(p, steps);
@@ -97,7 +97,7 @@ fn top(term: &Term) -> u64
 impl Problem {
     /// The problem of these terms over the domain, or the first refusal: `NoFunction` where there is
     /// none; `TooMany` above 64; `BadWeight` at the first weight outside 1 to 10,000; `OtherDomain`
-    /// at the first function over another domain.
+    /// at the first function over another domain. No memory is taken.
     pub fn make(domain: Domain, terms: Vec<Term>) -> Result<Problem, ProblemFault>
         ensures { result ≡ problem_of domain terms.items }
     {
@@ -162,7 +162,7 @@ impl Problem {
         let mut steps = Steps::<L>::new(blank);
         let mut sum = 0;
         for term in &self.terms {
-            sum += worth(term, p, &mut steps);
+            sum += weighted_value(term, p, &mut steps);
         }
         sum
     }

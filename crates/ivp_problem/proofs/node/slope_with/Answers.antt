@@ -1,7 +1,7 @@
-use Rattle.std.proofs.Common.{pos, ◌*ℤ◌, ◌*◌, ◌^◌, arith, rules}
+use Rattle.std.proofs.Common.{pos, ◌*ℤ◌, ◌*◌, ◌^◌, arith}
 use Rattle.std.proofs.lemmas.Int.{ints}
 use Rattle.ivp_func.specs.Pieces.{slope_on}
-use Rattle.ivp_problem.proofs.Slopes.{cast, cast_product, fits, weight_most, Within, within_more, within_product}
+use Rattle.ivp_problem.proofs.Slopes.{cast_product, fits, weight_most, within_more, within_product}
 use Rattle.ivp_problem.proofs.Nodes.{small_slope}
 use Rattle.ivp_problem.proofs.node.slope_with.Goals as goal
 

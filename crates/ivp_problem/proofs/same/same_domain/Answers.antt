@@ -1,4 +1,4 @@
-use Rattle.std.proofs.Common.{◌≡◌, ◌+◌, false, ◌&&◌, drop, sym, ap, ◌∙◌, arith}
+use Rattle.std.proofs.Common.{◌+◌, ◌&&◌, drop, sym, ap, ◌∙◌}
 use Rattle.ivp_problem.specs.Problems.{same_domain}
 use Rattle.ivp_problem.proofs.Makes.{other_length, same_from}
 use Rattle.ivp_problem.proofs.same.same_domain.Goals as goal

@@ -1,12 +1,11 @@
-use Rattle.std.proofs.Common.{◌≡◌, ◌<◌, Some, None, get_or, sym, ap, subst, refl, ◌∙◌, arith}
+use Rattle.std.proofs.Common.{◌≡◌, Some, get_or, sym, ap, subst, refl, ◌∙◌, arith}
 use Rattle.std.specs.Prelude.{is_some, slice_get}
 use Rattle.std.proofs.lemmas.Bool.{false≢true}
 use Rattle.std.proofs.lemmas.Option.{slice_get-get_or}
 use Rattle.ivp_domain.specs.Boxes.{meet_of}
 use Rattle.ivp_func.specs.Functions.{Function}
 use Rattle.ivp_func.proofs.Facts.{piece_parts}
-use Rattle.ivp_problem.specs.declared.term.Term.{Term}
-use Rattle.ivp_problem.specs.Trees.{child_in, with_piece}
+use Rattle.ivp_problem.specs.Trees.{with_piece}
 use Rattle.ivp_problem.proofs.Nodes.{blank_term, child_apart, child_met, child_node, child_of_in, node_keeps, small_more}
 use Rattle.ivp_problem.proofs.problem.Problem.child.Goals as goal
 
