@@ -63,6 +63,7 @@ fn good_scripts(rt: HostRuntime) {
                 assert_eq!(rt; script.stop, stop, "{text:?}");
                 assert!(rt; are_names(&script.names, names), "{text:?}");
                 assert!(rt; are_lines(&script.lines, lines), "{text:?}");
+                assert_eq!(rt; last_stamp(&script.lines), stop, "{text:?}");
             }
             Err(fault) => assert!(rt; false, "{text:?} {fault:?}"),
         }
@@ -87,6 +88,14 @@ fn are_lines(lines: &Lines, wanted: &[(u64, u32, Asked)]) -> bool {
         }
     }
     lines.len() == wanted.len()
+}
+
+// The stamp of the last line, 0 without lines.
+fn last_stamp(lines: &Lines) -> u64 {
+    match lines.len() {
+        0 => 0,
+        count => lines.get(count - 1).stamp,
+    }
 }
 
 #[test]
