@@ -1,4 +1,4 @@
-mod Rows
+mod Examples
 pub mod Ranges
 pub mod BoxLemmas
 pub mod Sizes

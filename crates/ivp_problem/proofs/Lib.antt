@@ -1,4 +1,4 @@
-mod Rows
+mod Examples
 pub mod Slopes
 pub mod Nodes
 pub mod Linear

@@ -1,4 +1,4 @@
 pub mod Files
 pub mod Pieces
-mod Rows
+mod Examples
 pub mod Writing

@@ -24,7 +24,7 @@ pub use milli_text::{MilliText, print_milli, print_seconds};
 pub use number::read_milli;
 pub use pair::{PairFault, read_pair};
 pub use part::{Part, next_part};
-pub use word::{is_blank, next_word};
+pub use word::next_word;
 
 #[cfg(test)]
 mod tests;

@@ -3,7 +3,7 @@ ghost use Rattle.std.specs.List.{position, position_or_len};
 ghost use Rattle.moos_text.specs.Lines.{is_blank, words_of};
 
 /// A blank is a space or a tab.
-pub fn is_blank(byte: u8) -> bool
+pub(crate) fn is_blank(byte: u8) -> bool
     ensures { result ≡ is_blank byte }
 {
     byte == b' ' || byte == b'\t'
