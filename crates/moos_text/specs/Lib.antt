@@ -2,3 +2,4 @@ pub mod Lines
 pub mod Numbers
 pub mod Pairs
 pub mod Reading
+pub mod Refusals

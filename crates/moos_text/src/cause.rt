@@ -1,3 +1,8 @@
+ghost use Rattle.std.specs.Prelude.{◌≡◌};
+ghost use Rattle.moos_text.specs.Refusals.{fault_at};
+
+use std::alloc::AllocError;
+
 /// A limit of a script that a line passes.
 #[derive(Clone, Copy, Debug, PartialEq, Eq)]
 pub enum Limit {
@@ -133,6 +138,38 @@ pub enum ReadFault {
     At { line: u32, cause: Cause },
     /// No memory was left.
     NoMemory,
+}
+
+/// Why one line of a file gives no value: its first refusal; or no memory was left, which says nothing of the line.
+#[derive(Clone, Copy, Debug, PartialEq, Eq)]
+pub enum LineFault {
+    /// The first refusal.
+    Refused(Cause),
+    /// No memory was left.
+    NoMemory,
+}
+
+impl From<AllocError> for LineFault {
+    ghost use Rattle.moos_text.specs.declared.cause.LineFault.TheVariants.{NoMemory};
+    ghost use Rattle.std.specs.Prelude.{◌≡◌};
+
+    ghost from_gives = { λ _ fault. fault ≡ NoMemory };
+
+    fn from(_error: AllocError) -> LineFault {
+        LineFault::NoMemory
+    }
+}
+
+impl LineFault {
+    /// The fault of the file where this is the fault of its line of this number, counted from 1.
+    pub fn at(self, line: u32) -> ReadFault
+        ensures { result ≡ fault_at line self }
+    {
+        match self {
+            LineFault::Refused(cause) => ReadFault::At { line, cause },
+            LineFault::NoMemory => ReadFault::NoMemory,
+        }
+    }
 }
 
 impl Cause {

@@ -5,7 +5,7 @@
 // that was printed is read back as it was.
 //
 // Read `line`, `word`, `number`, `milli_text`, `pair` and `part`; `end` and `trim` serve them, and `cause` names the
-// refusals. Of specs/ read `Lines`, `Numbers` and `Pairs`; `Reading` serves `number` alone.
+// refusals. Of specs/ read `Lines`, `Numbers`, `Pairs` and `Refusals`; `Reading` serves `number` alone.
 #![tactic(auto)]
 
 mod cause;
@@ -18,7 +18,7 @@ mod part;
 mod trim;
 mod word;
 
-pub use cause::{Cause, Limit, ReadFault};
+pub use cause::{Cause, Limit, LineFault, ReadFault};
 pub use line::{Line, next_line};
 pub use milli_text::{MilliText, print_milli, print_seconds};
 pub use number::read_milli;

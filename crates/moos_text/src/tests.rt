@@ -1,6 +1,7 @@
 // What each call gives, on values worked by hand.
 use crate::{
-    Cause, Limit, Line, Part, next_line, next_part, print_milli, print_seconds, read_milli,
+    Cause, Limit, Line, LineFault, Part, ReadFault, next_line, next_part, print_milli,
+    print_seconds, read_milli,
 };
 use moos_post::Milli;
 use std::test::Fail;
@@ -182,5 +183,21 @@ fn parts(rt: HostRuntime) {
         assert!(rt; from <= text.len());
         let part = next_part(text, from);
         assert_eq!(rt; part, Part { from, to, next });
+    }
+}
+
+#[test]
+fn faults_of_lines(rt: HostRuntime) {
+    for (fault, wanted) in [
+        (
+            LineFault::Refused(Cause::S2),
+            ReadFault::At {
+                line: 7,
+                cause: Cause::S2,
+            },
+        ),
+        (LineFault::NoMemory, ReadFault::NoMemory),
+    ] {
+        assert!(rt; fault.at(7) == wanted);
     }
 }
