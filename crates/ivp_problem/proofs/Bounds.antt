@@ -1,5 +1,5 @@
 -- The bound of a node: attained at the corner where each slope adds most, and no key in the node is above it.
-use Rattle.std.proofs.Common.{◌≡◌, ℕ, ◌+◌, ◌<◌, ◌≤◌, ◌⊎◌, inl, inr, true, false, cond, Bool, nat_lt, ℤ, pos, ◌+ℤ◌, ◌<ℤ◌, List, length, take, drop, refl, sym, subst, arith}
+use Rattle.std.proofs.Common.{◌≡◌, ℕ, ◌+◌, ◌<◌, ◌≤◌, ◌⊎◌, inl, inr, true, false, cond, Bool, nat_lt, ℤ, pos, ◌+ℤ◌, ◌<ℤ◌, List, length, take, drop, refl, sym, subst, ◌∙◌, arith}
 use Rattle.std.specs.Prelude.{slice_index}
 use Rattle.std.proofs.lemmas.Bool.Decides.{nat_tests}
 use Rattle.std.proofs.lemmas.Int.{ints}
@@ -9,18 +9,18 @@ use Rattle.ivp_domain.specs.declared.boxes.BoxN.{BoxN}
 use Rattle.ivp_domain.specs.declared.boxes.Point.{Point}
 use Rattle.ivp_domain.specs.Boxes.{has_point, is_box, points_in}
 use Rattle.ivp_domain.specs.Domains.{index_of, size_on}
-use Rattle.ivp_domain.proofs.BoxLemmas.{listed_point}
+use Rattle.ivp_domain.proofs.BoxLemmas.{has_low_corner, listed_point}
 use Rattle.ivp_func.proofs.Facts.{box_parts, has_first_point, place_in, take_whole}
 use Rattle.ivp_problem.specs.declared.node.Node.{Node}
 use Rattle.ivp_problem.specs.Keys.{key_of}
-use Rattle.ivp_problem.specs.Problems.{WeightedSum}
+use Rattle.ivp_problem.specs.Problems.{IsProblem, WeightedSum}
 use Rattle.ivp_problem.specs.Sums.{greatest, key_at, least, sum_at, weighted_at, weighted_sum}
 use Rattle.ivp_problem.specs.Corners.{Beats}
 use Rattle.ivp_problem.specs.Trees.{bound_of, chosen_at, rest_of, slope_at}
-use Rattle.ivp_problem.proofs.KeyOrder.{index_le, key_le, key_lt, key_places}
+use Rattle.ivp_problem.proofs.KeyOrder.{index_le, index_small, key_le, key_lt, key_places, key_some}
 use Rattle.ivp_problem.proofs.Nodes.{inside_point, Keeps}
 use Rattle.ivp_problem.proofs.Terms.{at_places, listed_at, weighted_sums_places, weighted_sums_tops}
-use Rattle.ivp_problem.proofs.Totals.{greatest_each, greatest_is, least_each, least_is}
+use Rattle.ivp_problem.proofs.Totals.{greatest_each, greatest_is, greatest_one, least_each, least_is}
 
 -- more, or as much and P
 abbrev Ahead : ℤ → ℤ → Type 0 → Type 0
@@ -118,3 +118,15 @@ pub bound_full : (problem : WeightedSum) (node : Node) (corner : Point) → Keep
 bound_full problem node corner keeps h full =
     let test : nat_lt node.depth (length problem.terms) ≡ false = grind (arith, nat_tests) in
     rw test (sym (greatest_key problem node corner keeps h full))
+
+-- at full depth the bound is the key of a point of the node
+pub bound_attained : (problem : WeightedSum) (node : Node) → IsProblem problem → Keeps problem node → length problem.terms ≤ node.depth → (p : Point) × (has_point node.area p ≡ true) × (key_at problem p ≡ bound_of problem node)
+bound_attained problem node h keeps full =
+    let low : Point = record { at = node.area.low } in
+    let inside = has_low_corner node.area (box_parts problem.axes node.area keeps.inside).0 in
+    let some : 0 < key_at problem low = key_some (sum_at problem low) (index_of problem.axes low) (index_small problem.axes low h.domain (inside_point problem.axes node.area low keeps.inside inside)) in
+    let below = key_bound problem node low keeps inside in
+    let test : nat_lt node.depth (length problem.terms) ≡ false = grind (arith, nat_tests) in
+    let greatest : bound_of problem node ≡ greatest (key_at problem) (points_in node.area) = rw test refl in
+    let one = greatest_one (key_at problem) (points_in node.area) (omega arith) in
+    (one.1, listed_point node.area one.0 one.1 one.2, one.3 ∙ sym greatest)

@@ -10,6 +10,7 @@ use Rattle.ivp_problem.specs.declared.node.Node.{Node}
 use Rattle.ivp_problem.specs.Keys.{index_of_key, key_of, sum_of}
 use Rattle.ivp_problem.specs.Problems.{problem_of, WeightedSum}
 use Rattle.ivp_problem.specs.Sums.{best_of, key_at, sum_at}
+use Rattle.ivp_problem.specs.Nodes.{nodes_of, tree_size}
 use Rattle.ivp_problem.specs.Trees.{bound_of, child_of, children_of, node_of, root_of}
 
 abbrev axis : List ℕ → ℕ → ℕ → Axis
@@ -67,6 +68,10 @@ right = record { depth = 2; area = record { low = 1 ∷ 0 ∷ 0 ∷ 0 ∷ []; hi
 leaves : (children_of two first ≡ left ∷ right ∷ []) × (node_of two (0 ∷ 1 ∷ []) ≡ Some right) × (children_of two right ≡ [])
 leaves = (refl, refl, refl)
 
+-- all nodes, depth first
+nodes_of_two : (nodes_of two ≡ root_of two ∷ first ∷ left ∷ right ∷ []) × (tree_size two ≡ 4)
+nodes_of_two = (refl, refl)
+
 leaf_bounds : (bound_of two left ≡ key_of 75 2) × (bound_of two right ≡ key_of 55 10)
 leaf_bounds = (refl, refl)
 
@@ -77,6 +82,10 @@ flat = term twelve 1 (piece 0 2 0 1 0 1 (pos 0) (pos 0) (pos 0) (pos 0) ∷ [])
 apart : child_of (record { axes = twelve; terms = split ∷ split ∷ [] }) (record { depth = 1; area = record { low = 0 ∷ 0 ∷ 0 ∷ 0 ∷ []; high = 0 ∷ 1 ∷ 1 ∷ 0 ∷ [] }; base = pos 60; slope = pos 0 ∷ pos 15 ∷ pos 0 ∷ pos 0 ∷ [] }) 1 ≡ None
 apart = refl
 
+-- so the root, two children, and one child of each
+nodes_apart : tree_size (record { axes = twelve; terms = split ∷ split ∷ [] }) ≡ 5
+nodes_apart = refl
+
 -- 64 functions of weight 10,000 and value 100,000
 abbrev course : List Axis
 course = axis (codes "course") 359000 360 ∷ []
@@ -86,6 +95,10 @@ most = term course 10000 (piece 0 359 0 0 0 0 (pos 100000) (pos 0) (pos 0) (pos 
 
 sum_of_most : sum_at (record { axes = course; terms = replicate 64 most }) (point_of 0 0 0 0) ≡ 64000000000
 sum_of_most = refl
+
+-- a node a level, and the root
+nodes_of_most : tree_size (record { axes = course; terms = replicate 64 most }) ≡ 65
+nodes_of_most = refl
 
 -- a key gives its sum and its index back
 read_off : (sum_of (key_of 64000000000 4194303) ≡ 64000000000) × (index_of_key (key_of 64000000000 4194303) ≡ 4194303)

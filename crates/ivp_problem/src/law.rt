@@ -2,7 +2,7 @@ ghost use Rattle.std.specs.Prelude.{◌≡◌, ◌<◌, ◌≤◌, ◌^◌, leng
 ghost use Rattle.ivp_domain.specs.Boxes.{has_point};
 ghost use Rattle.ivp_domain.specs.Domains.{is_point};
 ghost use Rattle.ivp_problem.specs.Sums.{best_of, key_at};
-ghost use Rattle.ivp_problem.specs.Trees.{children_of, IsNode};
+ghost use Rattle.ivp_problem.specs.Trees.{bound_of, children_of, IsNode};
 
 use crate::node::Node;
 use crate::problem::Problem;
@@ -26,6 +26,16 @@ pub fn children_law(problem: &Problem, node: &Node)
     requires node { IsNode problem.now node.now }
     requires depth { node.now.depth < length problem.now.terms }
     ensures { (p : Point) → count_by (λ child. has_point child.area p) (children_of problem.now node.now) ≡ (if has_point node.now.area p then 1 else 0) }
+{
+    let _ = problem.len();
+}
+
+/// What holds of the bound of a node at full depth: it is the key of a point of the node. It does
+/// nothing.
+pub fn bound_law(problem: &Problem, node: &Node)
+    requires node { IsNode problem.now node.now }
+    requires full { length problem.now.terms ≤ node.now.depth }
+    ensures { (p : Point) × IsTrue (has_point node.now.area p) × (key_at problem.now p ≡ bound_of problem.now node.now) }
 {
     let _ = problem.len();
 }

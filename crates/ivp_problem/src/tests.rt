@@ -5,7 +5,8 @@ ghost use Rattle.ivp_func.specs.Pieces.{are_pieces_of, is_base, is_box_of, is_fl
 ghost use Rattle.ivp_problem.specs.Trees.{IsNode, next_of};
 
 use crate::{
-    Key, Node, Problem, ProblemFault, Term, children_law, index_of_key, key_of, keys_law, sum_of,
+    Key, Node, Problem, ProblemFault, Term, bound_law, children_law, index_of_key, key_of,
+    keys_law, sum_of,
 };
 use ivp_domain::{Axis, AxisName, BoxN, Domain, Point, Steps};
 use ivp_func::{Func, Piece};
@@ -323,6 +324,9 @@ fn pieces_apart(rt: HostRuntime) -> Result<(), Fail> {
     }
     assert!(rt; child(&problem, &first, 1).is_none());
     let both = child(&problem, &first, 0).ok_or("a child")?;
+    if both.depth >= problem.len() {
+        bound_law(&problem, &both);
+    }
     assert_eq!(rt; bound(&problem, &both), (150, 2));
     Ok(())
 }

@@ -1,0 +1,294 @@
+ghost use Rattle.std.specs.Prelude.{◌≡◌, ◌<◌, ℕ, IsTrue, nat_lt, int_le, pos, ◌&&◌};
+ghost use Rattle.ivp_domain.specs.Boxes.{is_box};
+ghost use Rattle.ivp_domain.specs.Domains.{is_point, size_on};
+ghost use Rattle.ivp_func.specs.Pieces.{are_pieces_of, is_base, is_box_of, is_flat_past, is_piece_of, is_slope, is_small, slope_on};
+
+use crate::best_in_one;
+use ivp_domain::{Axis, AxisName, BoxN, Domain, Point, Steps};
+use ivp_func::{Func, Piece};
+use ivp_problem::{Key, Problem, Term, index_of_key, key_of, sum_of};
+use std::alloc::Global;
+use std::marker::Brand;
+use std::process::Abort;
+use std::sync::ledger::{Blank, Ledger};
+use std::test::Fail;
+
+fn is_proper(area: &BoxN) -> bool
+    ensures { result ≡ is_box area.now }
+{
+    area.low[0] <= area.high[0]
+        && area.low[1] <= area.high[1]
+        && area.low[2] <= area.high[2]
+        && area.low[3] <= area.high[3]
+}
+
+fn is_below(domain: &Domain, axis: u32, place: u32) -> bool
+    ensures { result ≡ nat_lt place (size_on axis domain.now) }
+{
+    if axis < domain.axes() {
+        place < domain.axis(axis).points
+    } else {
+        place < 1
+    }
+}
+
+fn is_inside(domain: &Domain, area: &BoxN) -> bool
+    ensures { result ≡ is_box_of domain.now area.now }
+{
+    is_proper(area)
+        && is_below(domain, 0, area.high[0])
+        && is_below(domain, 1, area.high[1])
+        && is_below(domain, 2, area.high[2])
+        && is_below(domain, 3, area.high[3])
+}
+
+fn is_slight(slope: i64) -> bool
+    ensures { result ≡ is_slope slope }
+{
+    -100_000 <= slope && slope <= 100_000
+}
+
+fn is_near(base: i64) -> bool
+    ensures { result ≡ is_base base }
+{
+    -1_000_000_000_000 <= base && base <= 1_000_000_000_000
+}
+
+fn begins_bounded(piece: &Piece) -> bool
+    ensures { result ≡ (is_base piece.now.base && is_slope (slope_on 0 piece.now) && is_slope (slope_on 1 piece.now)) }
+{
+    is_near(piece.base) && is_slight(piece.slope[0]) && is_slight(piece.slope[1])
+}
+
+fn is_bounded(piece: &Piece) -> bool
+    ensures { result ≡ is_small piece.now }
+{
+    begins_bounded(piece) && is_slight(piece.slope[2]) && is_slight(piece.slope[3])
+}
+
+fn is_flat(domain: &Domain, axis: u32, piece: &Piece) -> bool
+    requires { axis < 4 }
+    ensures { result ≡ is_flat_past domain.now axis piece.now }
+{
+    axis < domain.axes() || (0 <= piece.slope[axis as usize] && piece.slope[axis as usize] <= 0)
+}
+
+fn fits(domain: &Domain, piece: &Piece) -> bool
+    ensures { result ≡ is_piece_of domain.now piece.now }
+{
+    is_inside(domain, &piece.area)
+        && is_bounded(piece)
+        && is_flat(domain, 1, piece)
+        && is_flat(domain, 2, piece)
+        && is_flat(domain, 3, piece)
+}
+
+fn all_fit(domain: &Domain, pieces: &[Piece]) -> bool
+    ensures { result ≡ are_pieces_of domain.now pieces.now }
+{
+    pieces.iter().all(|piece| fits(domain, piece))
+}
+
+/// A term of these pieces, where they make a function.
+fn term(alloc: Global, domain: &Domain, weight: u32, pieces: &[Piece]) -> Result<Term, Fail> {
+    let pieces = Vec::from_slice(alloc, pieces)?;
+    if !all_fit(domain, &pieces) {
+        return Err("pieces that fit")?;
+    }
+    let func = Func::make(alloc, domain, pieces).map_err(|_| "a function")?;
+    Ok(Term { weight, func })
+}
+
+/// An axis from 0 to `high` thousandths.
+fn axis(name: &[u8], high: i64, points: u32) -> Result<Axis, Fail> {
+    Ok(Axis {
+        name: AxisName::new(name).ok_or("a name")?,
+        low: 0,
+        high,
+        points,
+    })
+}
+
+/// The domain a:0:2:3, b:0:1:2, d:0:1:2.
+fn twelve() -> Result<Domain, Fail> {
+    let axes = [
+        axis(b"a", 2000, 3)?,
+        axis(b"b", 1000, 2)?,
+        axis(b"d", 1000, 2)?,
+    ];
+    Ok(Domain::make(&axes).map_err(|_| "a domain")?)
+}
+
+/// The domain course:0:359:360.
+fn course() -> Result<Domain, Fail> {
+    let axes = [axis(b"course", 359_000, 360)?];
+    Ok(Domain::make(&axes).map_err(|_| "a domain")?)
+}
+
+/// A piece over these places of the first axis, and all of two axes of two points.
+fn slab(low: u32, high: u32, base: i64, slope: [i64; 4]) -> Piece {
+    Piece {
+        area: BoxN {
+            low: [low, 0, 0, 0],
+            high: [high, 1, 1, 0],
+        },
+        base,
+        slope,
+    }
+}
+
+/// A piece over the whole course, with one value.
+fn level(value: i64) -> Piece {
+    Piece {
+        area: BoxN {
+            low: [0; 4],
+            high: [359, 0, 0, 0],
+        },
+        base: value,
+        slope: [0; 4],
+    }
+}
+
+/// The problem of these terms.
+fn problem(domain: Domain, terms: Vec<Term>) -> Result<Problem, Fail> {
+    Ok(Problem::make(domain, terms).map_err(|_| "a problem")?)
+}
+
+/// Some functions of one weight and one value over the course.
+fn levels(alloc: Global, count: u32, weight: u32, value: i64) -> Result<Problem, Fail> {
+    let mut terms = Vec::new(alloc);
+    for _ in 0..count {
+        terms.push(term(alloc, &course()?, weight, &[level(value)])?)?;
+    }
+    problem(course()?, terms)
+}
+
+/// Functions over the twelve points, each by its weight and its two pieces: that on the low places of
+/// the first axis, and that on the others.
+fn halves(alloc: Global, all: &[(u32, [Piece; 2])]) -> Result<Problem, Fail> {
+    let mut terms = Vec::new(alloc);
+    for (weight, pieces) in all {
+        terms.push(term(alloc, &twelve()?, *weight, pieces)?)?;
+    }
+    problem(twelve()?, terms)
+}
+
+/// The best key, counted by a ledger of its own.
+fn best_by<L: Ledger>(problem: &Problem, blank: Blank) -> Key
+    requires name { blank.name ≡ L.name }
+    requires parts { blank.parts ≡ L.parts }
+    requires some { 0 < blank.parts }
+{
+    let mut steps = Steps::<L>::new(blank);
+    best_in_one(problem, &mut steps)
+}
+
+fn best(problem: &Problem) -> Key {
+    best_by::<Brand>(problem, Blank::new(1))
+}
+
+/// The sum at a point, counted by a ledger of its own.
+fn sum_by<L: Ledger>(problem: &Problem, point: &Point, blank: Blank) -> u64
+    requires point { IsTrue (is_point problem.now.axes point.now) }
+    requires name { blank.name ≡ L.name }
+    requires parts { blank.parts ≡ L.parts }
+    requires some { 0 < blank.parts }
+{
+    let mut steps = Steps::<L>::new(blank);
+    problem.sum_at(point, &mut steps)
+}
+
+/// The sum at the point of an index, where the domain has it.
+fn sum(problem: &Problem, index: u32) -> Option<u64> {
+    let domain = problem.domain();
+    if index < domain.points() {
+        let point = domain.point_at(index);
+        Some(sum_by::<Brand>(problem, &point, Blank::new(1)))
+    } else {
+        None
+    }
+}
+
+/// The greatest key, by a look at every point.
+fn listed(problem: &Problem) -> Key {
+    let mut most = 0;
+    for index in 0..problem.domain().points() {
+        if let Some(sum) = sum(problem, index)
+            && sum <= 64_000_000_000
+            && index < 4_194_304
+        {
+            most = most.max(key_of(sum, index));
+        }
+    }
+    most
+}
+
+/// The sum and the index of the best point are these, and no point has a greater key.
+fn is_best(rt: &impl Abort, problem: &Problem, sum: u64, index: u32) {
+    let key = best(problem);
+    assert_eq!(rt; sum_of(key), sum);
+    assert_eq!(rt; index_of_key(key), index);
+    assert_eq!(rt; listed(problem), key);
+}
+
+#[test]
+fn levels_of_the_course(rt: HostRuntime) -> Result<(), Fail> {
+    is_best(&rt, &levels(rt.alloc(), 1, 100, 7)?, 700, 0);
+    is_best(
+        &rt,
+        &levels(rt.alloc(), 64, 10_000, 100_000)?,
+        64_000_000_000,
+        0,
+    );
+    is_best(&rt, &levels(rt.alloc(), 3, 1, 0)?, 0, 0);
+    Ok(())
+}
+
+#[test]
+fn rising_and_split(rt: HostRuntime) -> Result<(), Fail> {
+    let alloc = rt.alloc();
+    let rising = term(alloc, &twelve()?, 2, &[slab(0, 2, 0, [10, 0, 0, 0])])?;
+    let pieces = [slab(0, 0, 20, [0, 5, 0, 0]), slab(1, 2, 0, [0, 5, 0, 0])];
+    let split = term(alloc, &twelve()?, 3, &pieces)?;
+    let mut terms = Vec::new(alloc);
+    terms.push(rising)?;
+    terms.push(split)?;
+    is_best(&rt, &problem(twelve()?, terms)?, 75, 2);
+    Ok(())
+}
+
+/// The first child has the greater indices, and a later one the best point of the same sum.
+#[test]
+fn equal_sums(rt: HostRuntime) -> Result<(), Fail> {
+    let high = slab(1, 2, 5, [0; 4]);
+    let low = slab(0, 0, 5, [0; 4]);
+    let problem = halves(rt.alloc(), &[(4, [high, low])])?;
+    is_best(&rt, &problem, 20, 0);
+    Ok(())
+}
+
+/// What the first function likes least is the best of all: the last child of the last child.
+#[test]
+fn last_of_all(rt: HostRuntime) -> Result<(), Fail> {
+    let one = (1, [slab(0, 0, 9, [0; 4]), slab(1, 2, 2, [0; 4])]);
+    let two = (
+        3,
+        [slab(0, 1, 0, [0, 0, 1, 0]), slab(2, 2, 4, [0, 0, 1, 0])],
+    );
+    let problem = halves(rt.alloc(), &[one, two])?;
+    is_best(&rt, &problem, 17, 9);
+    Ok(())
+}
+
+/// The first child is the best, and the others are dropped.
+#[test]
+fn first_of_all(rt: HostRuntime) -> Result<(), Fail> {
+    let one = (
+        2,
+        [slab(0, 0, 50, [0, -9, 0, 0]), slab(1, 2, 20, [-4, 0, 3, 0])],
+    );
+    let two = (1, [slab(0, 1, 30, [0, -7, 0, 0]), slab(2, 2, 1, [0; 4])]);
+    let problem = halves(rt.alloc(), &[one, two])?;
+    is_best(&rt, &problem, 130, 0);
+    Ok(())
+}
