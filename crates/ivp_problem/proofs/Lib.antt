@@ -8,3 +8,4 @@ pub mod KeyOrder
 pub mod Bounds
 pub mod Makes
 pub mod Children
+pub mod BestPoints

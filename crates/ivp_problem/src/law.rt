@@ -1,7 +1,8 @@
-ghost use Rattle.std.specs.Prelude.{◌≡◌, ◌<◌, ◌≤◌, ◌^◌, length, IsTrue, if◌then◌else◌, count_by};
+ghost use Rattle.std.specs.Prelude.{◌≡◌, ◌<◌, ◌≤◌, ◌^◌, length, IsTrue, if◌then◌else◌, count_by, slice_get, Some};
 ghost use Rattle.ivp_domain.specs.Boxes.{has_point};
-ghost use Rattle.ivp_domain.specs.Domains.{is_point};
-ghost use Rattle.ivp_problem.specs.Sums.{best_of, key_at};
+ghost use Rattle.ivp_domain.specs.Domains.{index_of, is_point, points_of};
+ghost use Rattle.ivp_problem.specs.Keys.{index_of_key, sum_of};
+ghost use Rattle.ivp_problem.specs.Sums.{best_of, key_at, sum_at};
 ghost use Rattle.ivp_problem.specs.Trees.{bound_of, children_of, IsNode};
 
 use crate::node::Node;
@@ -36,6 +37,16 @@ pub fn bound_law(problem: &Problem, node: &Node)
     requires node { IsNode problem.now node.now }
     requires full { length problem.now.terms ≤ node.now.depth }
     ensures { (p : Point) × IsTrue (has_point node.now.area p) × (key_at problem.now p ≡ bound_of problem.now node.now) }
+{
+    let _ = problem.len();
+}
+
+/// What holds of the best point: it stands among all points at its index, and its key gives its sum
+/// and its index. It does nothing.
+pub fn best_law(problem: &Problem)
+    ensures listed { slice_get (points_of problem.now.axes) (index_of problem.now.axes (best_of problem.now)) ≡ Some (best_of problem.now) }
+    ensures sum { sum_of (key_at problem.now (best_of problem.now)) ≡ sum_at problem.now (best_of problem.now) }
+    ensures index { index_of_key (key_at problem.now (best_of problem.now)) ≡ index_of problem.now.axes (best_of problem.now) }
 {
     let _ = problem.len();
 }

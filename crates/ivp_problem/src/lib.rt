@@ -17,7 +17,7 @@ mod same;
 mod term;
 
 pub use key::{Key, index_of_key, key_of, sum_of};
-pub use law::{bound_law, children_law, keys_law};
+pub use law::{best_law, bound_law, children_law, keys_law};
 pub use node::Node;
 pub use problem::Problem;
 pub use term::{ProblemFault, Term};

@@ -5,8 +5,8 @@ ghost use Rattle.ivp_func.specs.Pieces.{are_pieces_of, is_base, is_box_of, is_fl
 ghost use Rattle.ivp_problem.specs.Trees.{IsNode, next_of};
 
 use crate::{
-    Key, Node, Problem, ProblemFault, Term, bound_law, children_law, index_of_key, key_of,
-    keys_law, sum_of,
+    Key, Node, Problem, ProblemFault, Term, best_law, bound_law, children_law, index_of_key,
+    key_of, keys_law, sum_of,
 };
 use ivp_domain::{Axis, AxisName, BoxN, Domain, Point, Steps};
 use ivp_func::{Func, Piece};
@@ -281,6 +281,7 @@ fn child(problem: &Problem, node: &Node, piece: u32) -> Option<Node>
 fn two_functions(rt: HostRuntime) -> Result<(), Fail> {
     let problem = two(rt.alloc())?;
     keys_law(&problem);
+    best_law(&problem);
     assert!(rt; problem.domain() == twelve()?);
     assert_eq!(rt; problem.len(), 2);
     assert!(rt; 1 < problem.len());
