@@ -1,8 +1,9 @@
 -- Functions over a domain: a partition of its points, with values in range.
-use Rattle.std.specs.Prelude.{◌≡◌, ◌≤◌, ℤ, ◌≤ℤ◌, IsTrue, List, length}
+use Rattle.std.specs.Prelude.{◌≡◌, ◌≤◌, ◌==◌, Bool, ℤ, ◌≤ℤ◌, IsTrue, List, length}
+use Rattle.std.specs.List.{list_all}
 use Rattle.ivp_domain.specs.declared.axis.Axis.{Axis}
 use Rattle.ivp_domain.specs.declared.boxes.Point.{Point}
-use Rattle.ivp_domain.specs.Domains.{is_domain, is_point}
+use Rattle.ivp_domain.specs.Domains.{is_domain, is_point, points_of}
 use Rattle.ivp_func.specs.declared.piece.Piece.{Piece}
 use Rattle.ivp_func.specs.Pieces.{are_pieces_of, count_at, is_value, value_at}
 
@@ -13,6 +14,13 @@ IsPartition axes pieces = (point : Point) → IsTrue (is_point axes point) → c
 -- each value is one from 0 to 100,000
 abbrev pub HasValues : List Axis → List Piece → Type 0
 HasValues axes pieces = (point : Point) → IsTrue (is_point axes point) → IsTrue (is_value (value_at pieces point))
+
+-- the same two, as tests of all points
+abbrev pub is_partition : List Axis → List Piece → Bool
+is_partition axes pieces = list_all (λ point. count_at pieces point == 1) (points_of axes)
+
+abbrev pub has_values : List Axis → List Piece → Bool
+has_values axes pieces = list_all (λ point. is_value (value_at pieces point)) (points_of axes)
 
 -- the greatest value: some point has it, and none has a greater
 pub record IsTop (axes : List Axis) (pieces : List Piece) (top : ℤ) : Type 0 where

@@ -1,0 +1,4 @@
+pub mod Unfinished
+pub mod Words
+pub mod Pieces
+pub mod Problems

@@ -1,0 +1,13 @@
+//! The texts of problems: what the bytes of a problem's file stand for.
+//!
+//! The contract for the layer above: `read_problem` gives the problem that stands in the bytes, or the first refusal
+//! with its line and its cause.
+//!
+//! Reading order: `stage`, `unfinished`, `read`.
+#![tactic(auto)]
+
+mod read;
+mod stage;
+mod unfinished;
+
+pub use read::read_problem;
