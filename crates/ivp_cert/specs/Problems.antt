@@ -1,5 +1,5 @@
 -- What the bytes of a problem stand for: the problem, or its first refusal with its line and cause.
-use Rattle.std.specs.Prelude.{ℕ, suc, max, not, ◌&&◌, nat_le, nat_lt, if◌then◌else◌, List, [], ◌∷◌, ◌++◌, length, codes, bytes_eq, Option, Some, None, Result, Ok, Err}
+use Rattle.std.specs.Prelude.{ℕ, suc, max, ◌&&◌, nat_lt, if◌then◌else◌, List, [], ◌∷◌, ◌++◌, length, codes, bytes_eq, Option, Some, None, Result, Ok, Err}
 use Rattle.moos_text.specs.declared.cause.Cause.{Cause}
 use Rattle.moos_text.specs.declared.cause.Cause.TheVariants.{P1, P2, P3, P4, P5, P6, P7, P8, P9}
 use Rattle.moos_text.specs.declared.cause.ReadFault.{ReadFault}
@@ -41,38 +41,42 @@ with_domain axes [] = Err P1
 with_domain axes (word ∷ []) = with_axis axes (axis_of word)
 with_domain axes (word ∷ more ∷ rest) = Err P1
 
--- one function more, which has no piece yet, behind these terms; a 65th is refused, and a weight out of range
-abbrev pub with_weight : List Axis → List Term → ℕ → Option ℕ → Result Stage Cause
-with_weight axes terms line None = Err P6
-with_weight axes terms line (Some weight) =
-    if is_weight weight then Ok (Functions (record { axes = axes; terms = terms; line = line; weight = weight; pieces = [] })) else Err P6
+-- one function more, which has no piece yet; a weight out of range is refused
+abbrev pub with_weight : WeightedSum → ℕ → Option ℕ → Result Stage Cause
+with_weight before line None = Err P6
+with_weight before line (Some weight) =
+    if is_weight weight then Ok (Functions (record { before = before; line = line; weight = weight; pieces = [] })) else Err P6
 
--- what stands behind `function` is one word
-abbrev pub with_function : List Axis → List Term → ℕ → List (List ℕ) → Result Stage Cause
-with_function axes terms line [] = Err P1
-with_function axes terms line (word ∷ []) = if nat_lt (length terms) 64 then with_weight axes terms line (whole_of word) else Err P7
-with_function axes terms line (word ∷ more ∷ rest) = Err P1
+-- what stands behind `function` is one word; a 65th function is refused
+abbrev pub with_function : WeightedSum → ℕ → List (List ℕ) → Result Stage Cause
+with_function before line [] = Err P1
+with_function before line (word ∷ []) = if nat_lt (length before.terms) 64 then with_weight before line (whole_of word) else Err P7
+with_function before line (word ∷ more ∷ rest) = Err P1
 
--- one piece more of the last function: one of another form is refused, the 4,097th, and one whose box is not in the domain
+-- one piece more of the last function; the 4,097th is refused, and one whose box is empty or not in the domain
 abbrev pub with_piece : UnfinishedSum → Option Piece → Result Stage Cause
 with_piece sum None = Err P1
 with_piece sum (Some piece) =
-    if nat_le 4096 (length sum.pieces) then Err P7
-    else if is_box_of sum.axes piece.area then Ok (Functions (record sum { pieces = sum.pieces ++ piece ∷ [] }))
-    else Err P3
+    if nat_lt (length sum.pieces) 4096 then
+      (if is_box_of sum.before.axes piece.area then Ok (Functions (record sum { pieces = sum.pieces ++ piece ∷ [] })) else Err P3)
+    else Err P7
 
--- The terms with the last function, of which no piece comes any more. It is refused at its own line where its pieces
--- are no partition, and else where it has a value out of range.
-abbrev pub finished : UnfinishedSum → Result (List Term) ReadFault
+-- the last function, to which no piece is added any more
+abbrev pub last_term : UnfinishedSum → Term
+last_term sum = record { weight = sum.weight; func = record { axes = sum.before.axes; pieces = sum.pieces } }
+
+-- The functions with the last one. It is refused at its own line where its pieces are no partition, and else where a
+-- value of it is out of range.
+abbrev pub finished : UnfinishedSum → Result WeightedSum ReadFault
 finished sum =
-    if not (is_partition sum.axes sum.pieces) then Err (At sum.line P4)
-    else if not (has_values sum.axes sum.pieces) then Err (At sum.line P5)
-    else Ok (sum.terms ++ record { weight = sum.weight; func = record { axes = sum.axes; pieces = sum.pieces } } ∷ [])
+    if is_partition sum.before.axes sum.pieces then
+      (if has_values sum.before.axes sum.pieces then Ok (record sum.before { terms = sum.before.terms ++ last_term sum ∷ [] }) else Err (At sum.line P5))
+    else Err (At sum.line P4)
 
 -- no word stands behind `end`
-abbrev pub ended : List Axis → List Term → List (List ℕ) → Result Stage Cause
-ended axes terms [] = Ok (Ended (record { axes = axes; terms = terms }))
-ended axes terms (word ∷ rest) = Err P1
+abbrev pub ended : WeightedSum → List (List ℕ) → Result Stage Cause
+ended sum [] = Ok (Ended sum)
+ended sum (word ∷ rest) = Err P1
 
 -- `end` without a function
 abbrev pub ended_early : List (List ℕ) → Result Stage Cause
@@ -95,13 +99,13 @@ after_word line Begun word words = at_line line (if bytes_eq word (codes "domain
 after_word line (Axes axes) word words =
     at_line line (
     if bytes_eq word (codes "domain") then with_domain axes words
-    else if bytes_eq word (codes "function") then with_function axes [] line words
+    else if bytes_eq word (codes "function") then with_function (record { axes = axes; terms = [] }) line words
     else if bytes_eq word (codes "end") then ended_early words
     else Err P1)
 after_word line (Functions sum) word words =
-    if bytes_eq word (codes "piece") then at_line line (with_piece sum (piece_of (length sum.axes) words))
-    else if bytes_eq word (codes "function") then and_then (λ terms. at_line line (with_function sum.axes terms line words)) (finished sum)
-    else if bytes_eq word (codes "end") then and_then (λ terms. at_line line (ended sum.axes terms words)) (finished sum)
+    if bytes_eq word (codes "piece") then at_line line (with_piece sum (piece_of (length sum.before.axes) words))
+    else if bytes_eq word (codes "function") then and_then (λ before. at_line line (with_function before line words)) (finished sum)
+    else if bytes_eq word (codes "end") then and_then (λ whole. at_line line (ended whole words)) (finished sum)
     else Err (At line P1)
 after_word line (Ended problem) word words = Err (At line P1)
 

@@ -1,14 +1,12 @@
 -- The functions of a problem, as far as its lines have come.
 use Rattle.std.specs.Prelude.{ℕ, List}
-use Rattle.ivp_domain.specs.declared.axis.Axis.{Axis}
 use Rattle.ivp_func.specs.declared.piece.Piece.{Piece}
-use Rattle.ivp_problem.specs.declared.term.Term.{Term}
+use Rattle.ivp_problem.specs.Problems.{WeightedSum}
 
--- a weighted sum of which the last function may still get pieces: the axes, the terms before it, and then the line, the
--- weight and the pieces so far of this function
+-- a weighted sum of which the last function may still get pieces: the functions before it, and then the number of its
+-- line, its weight and its pieces so far
 pub record UnfinishedSum : Type 0 where
-  pub axes : List Axis
-  pub terms : List Term
+  pub before : WeightedSum
   pub line : ℕ
   pub weight : ℕ
   pub pieces : List Piece

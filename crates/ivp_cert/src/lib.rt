@@ -3,11 +3,12 @@
 //! The contract for the layer above: `read_problem` gives the problem that stands in the bytes, or the first refusal
 //! with its line and its cause.
 //!
-//! Reading order: `stage`, `unfinished`, `read`.
+//! Reading order: `stage`, `terms`, `unfinished`, `read`.
 #![tactic(auto)]
 
 mod read;
 mod stage;
+mod terms;
 mod unfinished;
 
 pub use read::read_problem;
