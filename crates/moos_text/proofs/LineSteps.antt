@@ -64,3 +64,7 @@ lines_at bytes from within =
 pub last_line_at : (bytes : List ℕ) (from : ℕ) → from < length bytes → length bytes ≤ from + length (first_line (drop from bytes)) → raw_lines (drop from bytes) ≡ first_line (drop from bytes) ∷ raw_lines (drop (length bytes) bytes)
 last_line_at bytes from within last =
     lines_at bytes from within ∙ ap (λ rest. first_line (drop from bytes) ∷ raw_lines rest) (drop_of_length-le bytes {i = from + length (first_line (drop from bytes)) + 1} (omega arith) ∙ sym (drop_of_length-le bytes {i = length bytes} (omega arith)))
+
+-- the lines of a text by its first one, which has so many bytes
+pub lines_behind : (text : List ℕ) (len : ℕ) → 0 < length text → len ≡ length (first_line text) → raw_lines text ≡ first_line text ∷ raw_lines (drop (len + 1) text)
+lines_behind text len some long = lines_at text 0 some ∙ ap (λ i. first_line text ∷ raw_lines (drop i text)) (omega arith)

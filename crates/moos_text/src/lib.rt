@@ -19,11 +19,12 @@ mod trim;
 mod word;
 
 pub use cause::{Cause, Limit, LineFault, ReadFault};
-pub use line::{Line, next_line};
+pub use line::{Line, next_line, next_whole_line};
 pub use milli_text::{MilliText, print_milli, print_seconds};
 pub use number::read_milli;
 pub use pair::{PairFault, read_pair};
 pub use part::{Part, next_part};
+pub use trim::trimmed;
 pub use word::next_word;
 
 #[cfg(test)]

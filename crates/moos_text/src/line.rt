@@ -1,6 +1,6 @@
-ghost use Rattle.std.specs.Prelude.{◌≡◌, ◌+◌, ◌<◌, ◌≤◌, ◌==◌, ◌∷◌, false, length, take, drop, slice_range, position};
+ghost use Rattle.std.specs.Prelude.{◌≡◌, ◌+◌, ◌<◌, ◌≤◌, ◌==◌, [], ◌∷◌, IfNone, IfSome, false, length, take, drop, slice_range, position};
 ghost use Rattle.std.specs.List.{position_or_len};
-ghost use Rattle.moos_text.specs.Lines.{raw_lines, first_line, begins_comment, is_quoted_after, uncommented, content_of, is_unclosed};
+ghost use Rattle.moos_text.specs.Lines.{raw_lines, first_line, begins_comment, is_quoted_after, uncommented, content_of, is_unclosed, without_return};
 
 use crate::end::without_last;
 
@@ -43,6 +43,36 @@ pub fn next_line(bytes: &[u8], from: usize) -> Line
         } else {
             bytes.len()
         },
+    }
+}
+
+/// The first line of a text, without its end and with all that may be a comment, and what stands behind it; `None`
+/// exactly where the text is empty.
+pub fn next_whole_line(text: &[u8]) -> Option<(&[u8], &[u8])>
+    ensures none { IfNone result (text.now ≡ []) }
+    ensures line { IfSome result (λ found. found.0.now ≡ without_return (first_line text.now)) }
+    ensures lines { IfSome result (λ found. raw_lines text.now ≡ first_line text.now ∷ raw_lines found.1.now) }
+    ensures shorter { IfSome result (λ found. length found.1.now < length text.now) }
+{
+    if text.len() == 0 {
+        return None;
+    }
+    let line = first_line(text, 0);
+    Some((without_last(line, b'\r'), behind_first(text, line.len())))
+}
+
+// What stands behind the first line, which has so many bytes without its end.
+fn behind_first(text: &[u8], len: usize) -> &[u8]
+    requires some { 0 < length text.now }
+    requires len { len ≡ length (first_line text.now) }
+    requires within { len ≤ length text.now }
+    ensures lines { raw_lines text.now ≡ first_line text.now ∷ raw_lines result.now }
+    ensures shorter { length result.now < length text.now }
+{
+    if len < text.len() {
+        &text[len + 1..]
+    } else {
+        &text[len..]
     }
 }
 

@@ -3,8 +3,8 @@ ghost use Rattle.moos_text.specs.Lines.{without_front_blanks, trimmed};
 
 use crate::word::is_blank;
 
-// The bytes without the blanks at both ends.
-pub(crate) fn trimmed(bytes: &[u8]) -> &[u8]
+/// The bytes without the blanks at both ends.
+pub fn trimmed(bytes: &[u8]) -> &[u8]
     ensures { result.now ≡ trimmed bytes.now }
 {
     without_back_blanks(without_front_blanks(bytes))
