@@ -4,3 +4,4 @@ pub mod Cover
 pub mod Bounds
 pub mod Rises
 pub mod Tops
+pub mod PointTests

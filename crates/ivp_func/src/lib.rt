@@ -4,15 +4,19 @@
 //! partition the domain, with every value within 0 to 100,000; `value_at` is the value at a point
 //! and `top` the greatest one; `Func::make` refuses every other list, with the point that shows why.
 //!
-//! Reading order: `piece`, `partition`, `values`, `func`.
+//! Reading order: `piece`, `fit`, `partition`, `values`, `func`, `law`.
 #![tactic(auto)]
 
+mod fit;
 mod func;
+mod law;
 mod partition;
 mod piece;
 mod values;
 
+pub use fit::{are_pieces_of, is_piece_of};
 pub use func::{Func, FuncFault};
+pub use law::tests_law;
 pub use piece::Piece;
 
 #[cfg(test)]
