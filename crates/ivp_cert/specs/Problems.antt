@@ -58,7 +58,7 @@ abbrev pub with_piece : UnfinishedSum → Option Piece → Result Stage Cause
 with_piece sum None = Err P1
 with_piece sum (Some piece) =
     if nat_lt (length sum.pieces) 4096 then
-      (if is_box_of sum.before.axes piece.area then Ok (Functions (record sum { pieces = sum.pieces ++ piece ∷ [] })) else Err P3)
+    (if is_box_of sum.before.axes piece.area then Ok (Functions (record sum { pieces = sum.pieces ++ piece ∷ [] })) else Err P3)
     else Err P7
 
 -- the last function, to which no piece is added any more
@@ -70,7 +70,7 @@ last_term sum = record { weight = sum.weight; func = record { axes = sum.before.
 abbrev pub finished : UnfinishedSum → Result WeightedSum ReadFault
 finished sum =
     if is_partition sum.before.axes sum.pieces then
-      (if has_values sum.before.axes sum.pieces then Ok (record sum.before { terms = sum.before.terms ++ last_term sum ∷ [] }) else Err (At sum.line P5))
+    (if has_values sum.before.axes sum.pieces then Ok (record sum.before { terms = sum.before.terms ++ last_term sum ∷ [] }) else Err (At sum.line P5))
     else Err (At sum.line P4)
 
 -- no word stands behind `end`

@@ -6,9 +6,11 @@
 //! Reading order: `stage`, `terms`, `unfinished`, `read`.
 #![tactic(auto)]
 
+mod piece;
 mod read;
 mod stage;
 mod terms;
 mod unfinished;
+mod words;
 
 pub use read::read_problem;

@@ -1,0 +1,51 @@
+-- The fields of a word, which is cut at each `:`.
+use Rattle.std.proofs.Common.{◌≡◌, ℕ, ◌+◌, ◌==◌, Some, None, List, [], ◌∷◌, length, take, drop, refl, ap, sym, ◌∙◌, arith, Bool, true, false, cond, not, nat_lt, ◌-◌, ◌≤◌}
+use Rattle.std.specs.List.{onto_first, position, position_or_len}
+use Rattle.std.proofs.lemmas.Bool.Decides.{nat_tests}
+use Rattle.std.proofs.lemmas.List.{length-drop, take_all}
+use Rattle.std.proofs.lemmas.List.Quantifiers.{position-Some}
+use Rattle.std.proofs.lemmas.List.Splits.{slice_split_first}
+use Rattle.std.proofs.lemmas.List.Sums.{position_or_len_is}
+use Rattle.ivp_cert.specs.Words.{axis_from, axis_of, fields_of}
+
+-- the first `:` ends the first field
+pub fields_cut : (text : List ℕ) (place : ℕ) → position (λ byte. byte == 58) text ≡ Some place → fields_of text ≡ take place text ∷ fields_of (drop (place + 1) text)
+fields_cut text place found =
+    let facts = position-Some (λ byte. byte == 58) text place 0 found in
+    let same : position_or_len (λ byte. byte == 58) text ≡ place = position_or_len_is (λ byte. byte == 58) text place 0 (omega (arith, facts.0)) facts.2 (λ lt. facts.1) in
+    slice_split_first (λ byte. byte == 58) text 0 (omega (arith, facts.0)) ∙ ap (λ i. take i text ∷ fields_of (drop (i + 1) text)) same
+
+one_field : (text : List ℕ) → length text ≤ position_or_len (λ byte. byte == 58) text → fields_of text ≡ text ∷ []
+one_field [] none = refl
+one_field (byte ∷ text) none = at (byte == 58) none (one_field text)
+  where
+    at : (b : Bool) → length (byte ∷ text) ≤ cond (not b) (1 + position_or_len (λ x. x == 58) text) 0 → (length text ≤ position_or_len (λ x. x == 58) text → fields_of text ≡ text ∷ []) → cond b ([] ∷ fields_of text) (onto_first byte (fields_of text)) ≡ (byte ∷ text) ∷ []
+    at true h more = absurd (omega (arith, h))
+    at false h more = ap (onto_first byte) (more (omega (arith, h)))
+
+-- where none stands there is one field
+pub fields_one : (text : List ℕ) → position (λ byte. byte == 58) text ≡ None → fields_of text ≡ text ∷ []
+fields_one text none = one_field text (past (nat_lt (position_or_len (λ byte. byte == 58) text) (length text)) refl none)
+  where
+    past : (b : Bool) → nat_lt (position_or_len (λ byte. byte == 58) text) (length text) ≡ b → cond b (Some (position_or_len (λ byte. byte == 58) text)) None ≡ None → length text ≤ position_or_len (λ byte. byte == 58) text
+    past true e h = absurd (cc)
+    past false e h = grind (arith, nat_tests)
+
+-- a text has a field
+pub fields_some : (text : List ℕ) → (first : List ℕ) × (rest : List (List ℕ)) × (fields_of text ≡ first ∷ rest)
+fields_some [] = ([], [], refl)
+fields_some (byte ∷ text) = at (byte == 58) (fields_some text)
+  where
+    at : (b : Bool) → ((first : List ℕ) × (rest : List (List ℕ)) × (fields_of text ≡ first ∷ rest)) → (first : List ℕ) × (rest : List (List ℕ)) × (cond b ([] ∷ fields_of text) (onto_first byte (fields_of text)) ≡ first ∷ rest)
+    at true more = ([], fields_of text, refl)
+    at false more = (byte ∷ more.0, more.1, ap (onto_first byte) more.2)
+
+-- what a slice from a place to the end holds
+pub from_place : (place : ℕ) (text : List ℕ) → drop place text ≡ take (length text - place) (drop place text)
+from_place place text = sym (take_all (length text - place) (drop place text) (omega (arith, length-drop place text)))
+
+-- more than four fields make no axis
+pub fifth_field : (word name low high points one two three four : List ℕ) → fields_of word ≡ name ∷ fields_of one → fields_of one ≡ low ∷ fields_of two → fields_of two ≡ high ∷ fields_of three → fields_of three ≡ points ∷ fields_of four → None ≡ axis_of word
+fifth_field word name low high points one two three four a b c d =
+    let more = fields_some four in
+    let all : fields_of word ≡ name ∷ low ∷ high ∷ points ∷ more.0 ∷ more.1 = cc in sym (ap axis_from all)

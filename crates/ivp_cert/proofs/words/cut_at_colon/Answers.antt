@@ -1,0 +1,10 @@
+use Rattle.std.proofs.Common.{◌+◌, ◌∷◌, take, ap, sym, ◌∙◌}
+use Rattle.ivp_cert.specs.Words.{fields_of}
+use Rattle.ivp_cert.proofs.Fields.{fields_cut, from_place}
+use Rattle.ivp_cert.proofs.words.cut_at_colon.Goals as goal
+
+pub returns-in-Some : goal.returns-in-Some
+returns-in-Some c =
+    let text = c.args.text.now in
+    let place = c.in-Some.place in
+    fields_cut text place (sym c.in-Some.ensures) ∙ ap (λ rest. take place text ∷ fields_of rest) (from_place (place + 1) text)
