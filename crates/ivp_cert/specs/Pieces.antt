@@ -1,7 +1,8 @@
 -- The piece that the words of its line spell: low and high on each axis, the base, and a slope on each axis.
-use Rattle.std.specs.Prelude.{ℕ, ◌^◌, ℤ, pos, Bool, true, false, nat_lt, List, [], ◌∷◌, ◌==◌, if◌then◌else◌, length, Option, Some, None, option_map, option_and_then}
+use Rattle.std.specs.Prelude.{ℕ, ◌^◌, ℤ, pos, Bool, true, false, ◌&&◌, ◌||◌, int_le, slice_index_or, nat_lt, List, [], ◌∷◌, ◌==◌, if◌then◌else◌, length, Option, Some, None, option_map, option_and_then}
 use Rattle.ivp_domain.specs.declared.boxes.BoxN.{BoxN}
 use Rattle.ivp_func.specs.declared.piece.Piece.{Piece}
+use Rattle.ivp_func.specs.Pieces.{is_slope}
 use Rattle.ivp_cert.specs.Words.{integer_of, place_of}
 
 -- low and high on an axis, and the words behind them
@@ -37,6 +38,16 @@ abbrev pub slope_of : Bool → List (List ℕ) → Option Slope
 slope_of false words = Some (record { slope = pos 0; rest = words })
 slope_of true [] = None
 slope_of true (word ∷ rest) = option_map (λ slope. record { slope = slope; rest = rest }) (integer_of 100000 word)
+
+-- a slope within its bounds along an axis that is there, and 0 along one that isn't
+abbrev pub is_slope_where : Bool → ℤ → Bool
+is_slope_where present slope = is_slope slope && (present || (int_le (pos 0) slope && int_le slope (pos 0)))
+
+-- such slopes on all four axes, of which so many are there
+abbrev pub are_slopes : ℕ → List ℤ → Bool
+are_slopes axes slopes =
+    is_slope_where (nat_lt 0 axes) (slice_index_or slopes 0 (pos 0)) && is_slope_where (nat_lt 1 axes) (slice_index_or slopes 1 (pos 0))
+    && is_slope_where (nat_lt 2 axes) (slice_index_or slopes 2 (pos 0)) && is_slope_where (nat_lt 3 axes) (slice_index_or slopes 3 (pos 0))
 
 -- the slopes along all four axes, where no word is left
 abbrev pub slopes_with : Slope → Slope → Slope → Slope → Option (List ℤ)

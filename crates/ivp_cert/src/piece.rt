@@ -1,7 +1,7 @@
-ghost use Rattle.std.specs.Prelude.{◌≡◌, ◌≤◌, ◌^◌, ◌&&◌, ◌||◌, IsTrue, IfSome, MatchOption, None, Some, int_le, nat_lt, pos, slice_index_or};
+ghost use Rattle.std.specs.Prelude.{◌≡◌, ◌≤◌, ◌^◌, ◌&&◌, IsTrue, IfSome, MatchOption, None, Some};
 ghost use Rattle.moos_text.specs.Lines.{words_of};
-ghost use Rattle.ivp_func.specs.Pieces.{is_flat_past, is_slope, is_small};
-ghost use Rattle.ivp_cert.specs.Pieces.{piece_of, range_of, slope_of, sloped, slopes_of};
+ghost use Rattle.ivp_func.specs.Pieces.{is_base};
+ghost use Rattle.ivp_cert.specs.Pieces.{are_slopes, is_slope_where, piece_of, range_of, slope_of, sloped, slopes_of};
 
 use crate::words::{integer_of, place_of};
 use ivp_domain::BoxN;
@@ -31,8 +31,7 @@ fn range_of(present: bool, text: &[u8]) -> Option<(u32, u32, &[u8])>
 fn slope_of(present: bool, text: &[u8]) -> Option<(i64, &[u8])>
     ensures value { MatchOption result (slope_of present (words_of text.now) ≡ None)
         (λ slope. slope_of present (words_of text.now) ≡ Some (record { slope = slope.0; rest = words_of slope.1.now })) }
-    ensures small { IfSome result (λ slope. IsTrue (is_slope slope.0)) }
-    ensures flat { IfSome result (λ slope. IsTrue (present || (int_le (pos 0) slope.0 && int_le slope.0 (pos 0)))) }
+    ensures good { IfSome result (λ slope. IsTrue (is_slope_where present slope.0)) }
 {
     if !present {
         return Some((0, text));
@@ -44,6 +43,7 @@ fn slope_of(present: bool, text: &[u8]) -> Option<(i64, &[u8])>
 // The slopes along so many axes, and no word behind them.
 fn slopes_of(axes: u32, text: &[u8]) -> Option<[i64; 4]>
     ensures value { result ≡ slopes_of axes (words_of text.now) }
+    ensures good { IfSome result (λ slopes. IsTrue (are_slopes axes slopes)) }
 {
     let (one, rest) = slope_of(0 < axes, text)?;
     let (two, rest) = slope_of(1 < axes, rest)?;
@@ -58,6 +58,7 @@ fn slopes_of(axes: u32, text: &[u8]) -> Option<[i64; 4]>
 // A piece on this box, with its base and its slopes.
 fn sloped(axes: u32, area: BoxN, text: &[u8]) -> Option<Piece>
     ensures value { result ≡ sloped axes area (words_of text.now) }
+    ensures good { IfSome result (λ piece. IsTrue (is_base piece.base && are_slopes axes piece.slope)) }
 {
     let (word, rest) = next_word(text)?;
     let base = integer_of(word, MOST_BASE)?;
@@ -68,6 +69,7 @@ fn sloped(axes: u32, area: BoxN, text: &[u8]) -> Option<Piece>
 /// The piece over so many axes that the words of a text spell.
 pub fn piece_of(axes: u32, text: &[u8]) -> Option<Piece>
     ensures value { result ≡ piece_of axes (words_of text.now) }
+    ensures good { IfSome result (λ piece. IsTrue (is_base piece.base && are_slopes axes piece.slope)) }
 {
     let (low_one, high_one, rest) = range_of(0 < axes, text)?;
     let (low_two, high_two, rest) = range_of(1 < axes, rest)?;
