@@ -1,4 +1,5 @@
 pub mod Unfinished
 pub mod Words
+pub mod Making
 pub mod Pieces
 pub mod Problems

@@ -92,21 +92,32 @@ abbrev pub and_then : {A B E : Type 0} → (A → Result B E) → Result A E →
 and_then next (Ok value) = next value
 and_then next (Err fault) = Err fault
 
--- the lines up to this one, by the first word of it and those behind
-abbrev pub after_word : ℕ → Stage → List ℕ → List (List ℕ) → Result Stage ReadFault
-after_word line Start word words = at_line line (begun word words)
-after_word line Begun word words = at_line line (if bytes_eq word (codes "domain") then with_domain [] words else Err P1)
-after_word line (Axes axes) word words =
-    at_line line (
+-- behind the first line stands an axis
+abbrev pub after_begun : List ℕ → List (List ℕ) → Result Stage Cause
+after_begun word words = if bytes_eq word (codes "domain") then with_domain [] words else Err P1
+
+-- behind an axis stands another one, a function or the end
+abbrev pub after_axes : List Axis → ℕ → List ℕ → List (List ℕ) → Result Stage Cause
+after_axes axes line word words =
     if bytes_eq word (codes "domain") then with_domain axes words
     else if bytes_eq word (codes "function") then with_function (record { axes = axes; terms = [] }) line words
     else if bytes_eq word (codes "end") then ended_early words
-    else Err P1)
-after_word line (Functions sum) word words =
+    else Err P1
+
+-- in a function stands a piece of it, or another function or the end, which finish it first
+abbrev pub after_functions : UnfinishedSum → ℕ → List ℕ → List (List ℕ) → Result Stage ReadFault
+after_functions sum line word words =
     if bytes_eq word (codes "piece") then at_line line (with_piece sum (piece_of (length sum.before.axes) words))
     else if bytes_eq word (codes "function") then and_then (λ before. at_line line (with_function before line words)) (finished sum)
     else if bytes_eq word (codes "end") then and_then (λ whole. at_line line (ended whole words)) (finished sum)
     else Err (At line P1)
+
+-- the lines up to this one, by its first word and those behind
+abbrev pub after_word : ℕ → Stage → List ℕ → List (List ℕ) → Result Stage ReadFault
+after_word line Start word words = at_line line (begun word words)
+after_word line Begun word words = at_line line (after_begun word words)
+after_word line (Axes axes) word words = at_line line (after_axes axes line word words)
+after_word line (Functions sum) word words = after_functions sum line word words
 after_word line (Ended problem) word words = Err (At line P1)
 
 -- the lines up to this one, which says nothing where it is blank

@@ -1,6 +1,29 @@
+ghost use Rattle.std.specs.Prelude.{◌≡◌, ◌+◌, ◌<◌, ◌∷◌, ◌++◌, [], take, Ok, Err, Some, length, IfOk, IfErr};
+ghost use Rattle.moos_text.specs.Lines.{trimmed, words_of};
+ghost use Rattle.moos_text.specs.Refusals.{IsFirst, IsLineFault};
+ghost use Rattle.ivp_problem.specs.Problems.{is_weight};
+ghost use Rattle.ivp_cert.specs.Problems.{after_axes, after_begun, after_functions, after_word, after_words, at_line, begun, ended, ended_early, over, whole_problem, with_axis, with_domain, with_function, with_piece, with_weight};
+ghost use Rattle.ivp_cert.specs.Pieces.{piece_of};
+ghost use Rattle.ivp_cert.specs.declared.stage.Stage.TheVariants.{Functions};
+ghost use Rattle.ivp_cert.specs.Words.{axis_of, without_prefix};
+
+use crate::piece::piece_of;
+use crate::terms::Terms;
 use crate::unfinished::Unfinished;
-use ivp_domain::Domain;
+use crate::words::{axis_of, content_of, whole_of};
+use ivp_domain::{Axis, Domain};
 use ivp_problem::Problem;
+use moos_text::{Cause, LineFault, ReadFault, next_word};
+use std::alloc::Global;
+
+/// The most axes that a domain may have.
+const MOST_AXES: usize = 4;
+
+/// The most functions that a problem may have.
+const MOST_FUNCTIONS: usize = 64;
+
+/// The greatest weight.
+const MOST_WEIGHT: u32 = 10_000;
 
 /// How far the lines of a problem have come.
 #[derive(Debug, Drop)]
@@ -15,4 +38,248 @@ pub enum Stage {
     Functions(Unfinished),
     /// All lines up to `end`.
     Ended(Problem),
+}
+
+impl Stage {
+    /// The stage after one line more, which has this number and is given without its end; or its first refusal.
+    pub fn after_line(self, alloc: Global, number: u32, line: &[u8]) -> Result<Stage, ReadFault>
+        ensures read { IfOk result (λ stage. after_words number self (words_of (without_prefix (trimmed line.now))) ≡ Ok stage) }
+        ensures refused { IfErr result (λ fault. IsFirst fault (after_words number self (words_of (without_prefix (trimmed line.now))))) }
+    {
+        match next_word(content_of(line)) {
+            None => Ok(self),
+            Some((word, rest)) => self.after_word(alloc, number, word, rest),
+        }
+    }
+
+    // The same by the line's first word and what stands behind it.
+    fn after_word(
+        self,
+        alloc: Global,
+        number: u32,
+        word: &[u8],
+        rest: &[u8],
+    ) -> Result<Stage, ReadFault>
+        ensures read { IfOk result (λ stage. after_word number self word.now (words_of rest.now) ≡ Ok stage) }
+        ensures refused { IfErr result (λ fault. IsFirst fault (after_word number self word.now (words_of rest.now))) }
+    {
+        match self {
+            Stage::Start => at_line(number, begun(word, rest)),
+            Stage::Begun => at_line(number, after_begun(word, rest)),
+            Stage::Axes(domain) => at_line(number, after_axes(alloc, &domain, number, word, rest)),
+            Stage::Functions(sum) => after_functions(alloc, sum, number, word, rest),
+            Stage::Ended(_) => Err(ReadFault::At {
+                line: number,
+                cause: Cause::P1,
+            }),
+        }
+    }
+
+    /// The problem, where the lines come to `end`; else the last line is refused.
+    pub fn whole_problem(self, last: u32) -> Result<Problem, ReadFault>
+        ensures { result ≡ whole_problem last self }
+    {
+        match self {
+            Stage::Ended(problem) => Ok(problem),
+            Stage::Start | Stage::Begun | Stage::Axes(_) | Stage::Functions(_) => {
+                Err(ReadFault::At {
+                    line: last,
+                    cause: Cause::P9,
+                })
+            }
+        }
+    }
+}
+
+// A refusal of the line with this number.
+fn at_line(line: u32, outcome: Result<Stage, Cause>) -> Result<Stage, ReadFault>
+    ensures { result ≡ at_line line outcome }
+{
+    match outcome {
+        Ok(stage) => Ok(stage),
+        Err(cause) => Err(ReadFault::At { line, cause }),
+    }
+}
+
+// The first line that isn't blank is `ivp 1`.
+fn begun(word: &[u8], rest: &[u8]) -> Result<Stage, Cause>
+    ensures { result ≡ begun word.now (words_of rest.now) }
+{
+    let Some((one, rest)) = next_word(rest) else {
+        return Err(Cause::P1);
+    };
+    if next_word(rest).is_some() {
+        return Err(Cause::P1);
+    }
+    if word == b"ivp".as_slice() && one == b"1".as_slice() {
+        Ok(Stage::Begun)
+    } else {
+        Err(Cause::P1)
+    }
+}
+
+// Behind the first line stands an axis.
+fn after_begun(word: &[u8], rest: &[u8]) -> Result<Stage, Cause>
+    ensures { result ≡ after_begun word.now (words_of rest.now) }
+{
+    if word == b"domain".as_slice() {
+        with_domain(&[], rest)
+    } else {
+        Err(Cause::P1)
+    }
+}
+
+// Behind an axis stands another one, a function or the end.
+fn after_axes(
+    alloc: Global,
+    domain: &Domain,
+    number: u32,
+    word: &[u8],
+    rest: &[u8],
+) -> Result<Stage, Cause>
+    ensures { result ≡ after_axes domain.now number word.now (words_of rest.now) }
+{
+    if word == b"domain".as_slice() {
+        with_domain(domain.all(), rest)
+    } else if word == b"function".as_slice() {
+        with_function(alloc, Terms::new(alloc, *domain), number, rest)
+    } else if word == b"end".as_slice() {
+        Err(ended_early(rest))
+    } else {
+        Err(Cause::P1)
+    }
+}
+
+// In a function stands a piece of it, or another function or the end, which finish it first.
+fn after_functions(
+    alloc: Global,
+    sum: Unfinished,
+    number: u32,
+    word: &[u8],
+    rest: &[u8],
+) -> Result<Stage, ReadFault>
+    ensures read { IfOk result (λ stage. after_functions sum number word.now (words_of rest.now) ≡ Ok stage) }
+    ensures refused { IfErr result (λ fault. IsFirst fault (after_functions sum number word.now (words_of rest.now))) }
+{
+    if word == b"piece".as_slice() {
+        return match with_piece(sum, rest) {
+            Ok(sum) => Ok(Stage::Functions(sum)),
+            Err(fault) => Err(fault.at(number)),
+        };
+    }
+    if word == b"function".as_slice() {
+        let before = sum.finished(alloc)?;
+        return at_line(number, with_function(alloc, before, number, rest));
+    }
+    if word == b"end".as_slice() {
+        let whole = sum.finished(alloc)?;
+        return at_line(number, ended(whole, rest));
+    }
+    Err(ReadFault::At {
+        line: number,
+        cause: Cause::P1,
+    })
+}
+
+// What stands behind `domain` is one word.
+fn with_domain(axes: &[Axis], rest: &[u8]) -> Result<Stage, Cause>
+    ensures { result ≡ with_domain axes.now (words_of rest.now) }
+{
+    let Some((word, rest)) = next_word(rest) else {
+        return Err(Cause::P1);
+    };
+    if next_word(rest).is_some() {
+        return Err(Cause::P1);
+    }
+    match axis_of(word) {
+        Some(axis) => with_axis(axes, axis),
+        None => Err(Cause::P2),
+    }
+}
+
+// One axis more: the fifth is refused, and one that makes no domain with those before it.
+fn with_axis(axes: &[Axis], axis: Axis) -> Result<Stage, Cause>
+    ensures { result ≡ with_axis axes.now (Some axis) }
+{
+    if axes.len() >= MOST_AXES {
+        return Err(Cause::P2);
+    }
+    match Domain::make(&one_more(axes, axis)[..axes.len() + 1]) {
+        Ok(domain) => Ok(Stage::Axes(domain)),
+        Err(_) => Err(Cause::P2),
+    }
+}
+
+// The axes, and this one behind them up to the last place.
+fn one_more(axes: &[Axis], axis: Axis) -> [Axis; 4]
+    requires { length axes.now < 4 }
+    ensures { take (length axes.now + 1) result ≡ axes.now ++ axis ∷ [] }
+{
+    let mut all = [axis; MOST_AXES];
+    all[..axes.len()].copy_from_slice(axes);
+    all
+}
+
+// What stands behind `function` is one word; a 65th function is refused, and a weight out of range.
+fn with_function(alloc: Global, before: Terms, line: u32, rest: &[u8]) -> Result<Stage, Cause>
+    ensures { result ≡ with_function before line (words_of rest.now) }
+{
+    let Some((word, rest)) = next_word(rest) else {
+        return Err(Cause::P1);
+    };
+    if next_word(rest).is_some() {
+        return Err(Cause::P1);
+    }
+    if before.len() >= MOST_FUNCTIONS {
+        return Err(Cause::P7);
+    }
+    match whole_of(word) {
+        Some(weight) => with_weight(alloc, before, line, weight),
+        None => Err(Cause::P6),
+    }
+}
+
+// One function more, which has no piece yet.
+fn with_weight(alloc: Global, before: Terms, line: u32, weight: u32) -> Result<Stage, Cause>
+    requires { length before.terms < 64 }
+    ensures { result ≡ with_weight before line (Some weight) }
+{
+    if 1 <= weight && weight <= MOST_WEIGHT {
+        Ok(Stage::Functions(Unfinished::new(alloc, before, line, weight)))
+    } else {
+        Err(Cause::P6)
+    }
+}
+
+// One piece more of the last function.
+fn with_piece(sum: Unfinished, rest: &[u8]) -> Result<Unfinished, LineFault>
+    ensures read { IfOk result (λ more. with_piece sum (piece_of (length sum.before.axes) (words_of rest.now)) ≡ Ok (Functions more)) }
+    ensures refused { IfErr result (λ fault. IsLineFault fault (with_piece sum (piece_of (length sum.before.axes) (words_of rest.now)))) }
+{
+    match piece_of(sum.domain().axes(), rest) {
+        Some(piece) => sum.with_piece(piece),
+        None => Err(LineFault::Refused(Cause::P1)),
+    }
+}
+
+// No word stands behind `end`.
+fn ended(whole: Terms, rest: &[u8]) -> Result<Stage, Cause>
+    requires { 0 < length whole.terms }
+    ensures { result ≡ ended whole (words_of rest.now) }
+{
+    if next_word(rest).is_some() {
+        return Err(Cause::P1);
+    }
+    Ok(Stage::Ended(whole.into_problem()))
+}
+
+// `end` without a function.
+fn ended_early(rest: &[u8]) -> Cause
+    ensures { ended_early (words_of rest.now) ≡ Err result }
+{
+    if next_word(rest).is_some() {
+        Cause::P1
+    } else {
+        Cause::P8
+    }
 }

@@ -156,6 +156,14 @@ impl Domain {
         self.axes[a as usize]
     }
 
+    /// The axes in order.
+    pub fn all(&self) -> &[Axis]
+        ensures axes { result.now ≡ self.now }
+        ensures lawful { IsTrue (is_domain result.now) }
+    {
+        &self.axes[..self.count as usize]
+    }
+
     /// How many places there are on an axis: one past the last.
     fn size(&self, axis: usize) -> u32
         requires { axis < 4 }

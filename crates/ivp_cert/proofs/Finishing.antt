@@ -1,0 +1,36 @@
+-- What becomes of the last function of a problem, by what making it answers.
+use Rattle.std.proofs.Common.{◌≡◌, ℕ, ◌≤◌, Bool, true, false, Ok, Err, arith, List, ◌∷◌, ◌++◌, [], length, refl, ap, sym, ◌∙◌}
+use Rattle.moos_text.specs.Refusals.{fault_at, IsFirst}
+use Rattle.ivp_func.specs.declared.func.FuncFault.{FuncFault}
+use Rattle.ivp_func.specs.declared.func.FuncFault.TheVariants.{TooMany, NotPartition, ValueOut, NoMemory}
+use Rattle.ivp_func.specs.Functions.{Function, has_values, is_partition}
+use Rattle.ivp_func.specs.Making.{Made}
+use Rattle.ivp_func.specs.Pieces.{is_value}
+use Rattle.ivp_func.proofs.PointTests.{partition_passes, passes_partition, passes_values, values_pass}
+use Rattle.ivp_cert.specs.Making.{line_fault}
+use Rattle.ivp_cert.specs.Problems.{finished}
+use Rattle.ivp_cert.specs.Unfinished.{UnfinishedSum}
+
+-- pieces that make a function
+pub made_good : (sum : UnfinishedSum) (func : Function) → Made sum.before.axes sum.pieces (Ok func) → finished sum ≡ Ok (record { axes = sum.before.axes; terms = sum.before.terms ++ record { weight = sum.weight; func = func } ∷ [] })
+made_good sum func made =
+    let partition = partition_passes sum.before.axes sum.pieces made.1 in
+    let values = values_pass sum.before.axes sum.pieces made.2 in
+    rw (partition, values, made.3) refl
+
+-- and pieces that make none
+pub made_bad : (sum : UnfinishedSum) (fault : FuncFault) → length sum.pieces ≤ 4096 → Made sum.before.axes sum.pieces (Err fault) → IsFirst (fault_at sum.line (line_fault fault)) (finished sum)
+made_bad sum TooMany few made = absurd (omega arith)
+made_bad sum (NotPartition point count) few made = let fails = at (is_partition sum.before.axes sum.pieces) refl in rw fails refl
+  where
+    at : (b : Bool) → is_partition sum.before.axes sum.pieces ≡ b → is_partition sum.before.axes sum.pieces ≡ false
+    at true e = absurd (made.3 (made.2 ∙ passes_partition sum.before.axes sum.pieces e point made.1))
+    at false e = e
+made_bad sum (ValueOut point value) few made =
+    let partition = partition_passes sum.before.axes sum.pieces made.1 in
+    let fails = at (has_values sum.before.axes sum.pieces) refl in rw (partition, fails) refl
+  where
+    at : (b : Bool) → has_values sum.before.axes sum.pieces ≡ b → has_values sum.before.axes sum.pieces ≡ false
+    at true e = let good = passes_values sum.before.axes sum.pieces e point made.2 in let same = ap is_value made.3 in let out = made.4 in absurd (cc)
+    at false e = e
+made_bad sum NoMemory few made = absurd made
