@@ -1,5 +1,5 @@
 -- What becomes of the last function of a problem, by what making it answers.
-use Rattle.std.proofs.Common.{◌≡◌, ℕ, ◌≤◌, Bool, true, false, Ok, Err, arith, List, ◌∷◌, ◌++◌, [], length, refl, ap, sym, ◌∙◌}
+use Rattle.std.proofs.Common.{◌≡◌, ◌≤◌, Bool, true, false, Ok, Err, arith, ◌∷◌, ◌++◌, [], length, refl, ap, ◌∙◌}
 use Rattle.moos_text.specs.Refusals.{fault_at, IsFirst}
 use Rattle.ivp_func.specs.declared.func.FuncFault.{FuncFault}
 use Rattle.ivp_func.specs.declared.func.FuncFault.TheVariants.{TooMany, NotPartition, ValueOut, NoMemory}
