@@ -1,15 +1,10 @@
 -- The lines of a problem one after another, and what the whole comes to.
-use Rattle.std.proofs.Common.{◌≡◌, ℕ, suc, ◌+◌, ◌≤◌, Ok, Err, List, [], ◌∷◌, length, ap, sym, ◌∙◌, arith, add-one}
-use Rattle.std.specs.Prelude.{max, Result, IfOk, IfErr}
+use Rattle.std.proofs.Common.{◌≡◌, ℕ, suc, ◌+◌, ◌≤◌, Ok, List, ◌∷◌, length, ap, sym, ◌∙◌, arith, add-one}
 use Rattle.moos_text.specs.Lines.{first_line, raw_lines, trimmed, without_return, words_of}
-use Rattle.moos_text.specs.Refusals.{IsFirst}
-use Rattle.moos_text.specs.declared.cause.ReadFault.{ReadFault}
-use Rattle.moos_text.specs.declared.cause.ReadFault.TheVariants.{At, NoMemory}
 use Rattle.ivp_cert.specs.declared.stage.Stage.{Stage}
 use Rattle.ivp_cert.specs.declared.stage.Stage.TheVariants.{Start}
-use Rattle.ivp_cert.specs.Problems.{after_words, and_then, problem_of, stage_from, whole_problem}
+use Rattle.ivp_cert.specs.Problems.{after_words, and_then, stage_from}
 use Rattle.ivp_cert.specs.Words.{without_prefix}
-use Rattle.ivp_problem.specs.Problems.{WeightedSum}
 
 -- what was read of the bytes: so many lines, which come to this stage, and what is left
 pub record IsRead (bytes : List ℕ) (lines : ℕ) (stage : Stage) (left : List ℕ) : Type 0 where
@@ -41,26 +36,3 @@ one_read bytes lines stage after left line rest read next good = record {
   counted = let long = ap length next.lines in omega (arith, read.counted);
   within = omega (arith, read.within, next.shorter);
 }
-
--- a line that is refused
-pub one_refused : (bytes : List ℕ) (lines : ℕ) (stage : Stage) (left line rest : List ℕ) (fault : ReadFault) → IsRead bytes lines stage left → IsNext left line rest → IsFirst fault (after_words (lines + 1) stage (said_by line)) → IsFirst fault (problem_of bytes)
-one_refused bytes lines stage left line rest (At number cause) read next bad =
-    ap (and_then (whole_problem (max 1 (length (raw_lines bytes))))) (read.so_far ∙ lines_left lines stage left line rest next ∙ ap (and_then (λ s. stage_from (lines + 1) s (raw_lines rest))) bad)
-one_refused bytes lines stage left line rest NoMemory read next bad = tt
-
--- no line is left
-pub all_read : (bytes : List ℕ) (lines : ℕ) (stage : Stage) (left : List ℕ) → IsRead bytes lines stage left → left ≡ [] → problem_of bytes ≡ whole_problem (max 1 lines) stage
-all_read bytes lines stage left read none =
-    let lines_none = ap raw_lines none in
-    let count : length (raw_lines bytes) ≡ lines = omega (arith, read.counted, ap length lines_none) in
-    ap (and_then (whole_problem (max 1 (length (raw_lines bytes))))) (read.so_far ∙ ap (stage_from lines stage) lines_none) ∙ ap (λ n. whole_problem (max 1 n) stage) count
-
--- a result that is the defined one
-pub good_result : (result read : Result WeightedSum ReadFault) → read ≡ result → IfOk result (λ problem. read ≡ Ok problem)
-good_result (Ok problem) read same = same
-good_result (Err fault) read same = tt
-
-pub bad_result : (result read : Result WeightedSum ReadFault) → read ≡ result → IfErr result (λ fault. IsFirst fault read)
-bad_result (Ok problem) read same = tt
-bad_result (Err (At line cause)) read same = same
-bad_result (Err NoMemory) read same = tt

@@ -68,10 +68,7 @@ impl Stage {
             Stage::Begun => at_line(number, after_begun(word, rest)),
             Stage::Axes(domain) => at_line(number, after_axes(alloc, &domain, number, word, rest)),
             Stage::Functions(sum) => after_functions(alloc, sum, number, word, rest),
-            Stage::Ended(_) => Err(ReadFault::At {
-                line: number,
-                cause: Cause::P1,
-            }),
+            Stage::Ended(_) => at_line(number, Err(Cause::P1)),
         }
     }
 
@@ -175,10 +172,7 @@ fn after_functions(
         let whole = sum.finished(alloc)?;
         return at_line(number, ended(whole, rest));
     }
-    Err(ReadFault::At {
-        line: number,
-        cause: Cause::P1,
-    })
+    at_line(number, Err(Cause::P1))
 }
 
 // What stands behind `domain` is one word.

@@ -79,6 +79,7 @@ fn indices(rt: HostRuntime) -> Result<(), Fail> {
     assert_eq!(rt; domain.point_at(22), Point { at: [2, 1, 2, 0] });
     assert!(rt; domain.axes() == 3);
     assert_eq!(rt; domain.axis(2).points, 4);
+    assert!(rt; domain.all() == axes.as_slice());
     let numbers = [-10, -7, -4, 0];
     for (place, number) in numbers.iter().enumerate() {
         assert_eq!(rt; number_of(&domain, 2, place as u32), Some(*number));

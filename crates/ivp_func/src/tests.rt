@@ -1,7 +1,7 @@
 ghost use Rattle.std.specs.Prelude.{◌≡◌, ◌<◌, ◌≤◌, ℕ, IsTrue};
 ghost use Rattle.ivp_domain.specs.Domains.{is_point};
 
-use crate::{Func, FuncFault, Piece, are_pieces_of};
+use crate::{Func, FuncFault, Piece, are_pieces_of, is_piece_of, tests_law};
 use ivp_domain::{Axis, AxisName, BoxN, Domain, Point, Steps};
 use std::alloc::Global;
 use std::marker::Brand;
@@ -51,6 +51,25 @@ fn fault(alloc: Global, points: u32, pieces: &[Piece]) -> Result<Option<FuncFaul
     let domain = line(points)?;
     let pieces = Vec::from_slice(alloc, pieces)?;
     Ok(made(alloc, &domain, pieces).ok_or("pieces that fit")?.err())
+}
+
+#[test]
+fn pieces_of_a_line(rt: HostRuntime) -> Result<(), Fail> {
+    let domain = line(3)?;
+    let mut across = piece(0, 2, 0, 0);
+    across.slope[1] = 1;
+    for (piece, fits) in [
+        (piece(0, 2, -1_000_000_000_000, 100_000), true),
+        (piece(0, 3, 0, 0), false),
+        (piece(2, 1, 0, 0), false),
+        (piece(0, 2, 1_000_000_000_001, 0), false),
+        (piece(0, 2, 0, -100_001), false),
+        (across, false),
+    ] {
+        assert_eq!(rt; is_piece_of(&domain, &piece), fits);
+    }
+    tests_law();
+    Ok(())
 }
 
 #[test]

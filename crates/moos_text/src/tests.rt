@@ -1,7 +1,7 @@
 // What each call gives, on values worked by hand.
 use crate::{
-    Cause, Limit, Line, LineFault, Part, ReadFault, next_line, next_part, print_milli,
-    print_seconds, read_milli,
+    Cause, Limit, Line, LineFault, Part, ReadFault, next_line, next_part, next_whole_line,
+    print_milli, print_seconds, read_milli, trimmed,
 };
 use moos_post::Milli;
 use std::test::Fail;
@@ -200,4 +200,19 @@ fn faults_of_lines(rt: HostRuntime) {
     ] {
         assert!(rt; fault.at(7) == wanted);
     }
+}
+
+#[test]
+fn whole_lines(rt: HostRuntime) {
+    let mut left = b" a // b\t\r\n\nc".as_slice();
+    for line in [b"a // b".as_slice(), b"", b"c"] {
+        match next_whole_line(left) {
+            Some((whole, rest)) => {
+                assert_eq!(rt; trimmed(whole), line);
+                left = rest;
+            }
+            None => assert!(rt; false, "{line:?}"),
+        }
+    }
+    assert_eq!(rt; next_whole_line(left), None);
 }

@@ -16,4 +16,4 @@ returns-else-len-text-clause-lines c =
     let text = c.args.text.now in
     lines_behind text c.args.len c.requires.some c.requires.len
     ∙ ap (λ rest. first_line text ∷ raw_lines rest)
-      (drop_of_length-le text {i = c.args.len + 1} (omega arith) ∙ sym (drop_of_length-le text {i = c.args.len} (omega arith)) ∙ from_place c.args.len text)
+    (drop_of_length-le text {i = c.args.len + 1} (omega arith) ∙ sym (drop_of_length-le text {i = c.args.len} (omega arith)) ∙ from_place c.args.len text)
