@@ -1,6 +1,6 @@
 -- The lines of a file, what of a line counts, and the words that stand in it.
-use Rattle.std.specs.Prelude.{ℕ, Bool, false, not, ◌&&◌, ◌||◌, ◌==◌, if◌then◌else◌, List, [], ◌∷◌, fold, reverse}
-use Rattle.std.specs.List.{before_first}
+use Rattle.std.specs.Prelude.{ℕ, Bool, false, not, ◌&&◌, ◌||◌, ◌==◌, if◌then◌else◌, List, [], ◌∷◌, drop, fold, reverse}
+use Rattle.std.specs.List.{before_first, position_or_len}
 
 -- the byte in front of the first of these lines, or as a line of its own where there is none
 abbrev pub onto_first : ℕ → List (List ℕ) → List (List ℕ)
@@ -78,3 +78,11 @@ onto_word byte (next ∷ rest) words = if is_blank next then (byte ∷ []) ∷ w
 abbrev pub words_of : List ℕ → List (List ℕ)
 words_of [] = []
 words_of (byte ∷ bytes) = if is_blank byte then words_of bytes else onto_word byte bytes (words_of bytes)
+
+-- the first word, empty where there is none
+abbrev pub first_word : List ℕ → List ℕ
+first_word bytes = before_first is_blank (without_front_blanks bytes)
+
+-- what stands behind the first word, blanks and all
+abbrev pub behind_word : List ℕ → List ℕ
+behind_word bytes = drop (position_or_len is_blank (without_front_blanks bytes)) (without_front_blanks bytes)

@@ -1,6 +1,8 @@
-ghost use Rattle.std.specs.Prelude.{◌≡◌, ◌==◌, ◌||◌, [], ◌∷◌, MatchOption, not};
+ghost use Rattle.std.specs.Prelude.{◌≡◌, ◌==◌, ◌||◌, [], ◌∷◌, MatchOption, IfNone, IfSome};
 ghost use Rattle.std.specs.List.{position, position_or_len};
-ghost use Rattle.moos_text.specs.Lines.{is_blank, words_of};
+ghost use Rattle.moos_text.specs.Lines.{is_blank, words_of, first_word, behind_word};
+
+use crate::trim::without_front_blanks;
 
 /// A blank is a space or a tab.
 pub(crate) fn is_blank(byte: u8) -> bool
@@ -9,26 +11,11 @@ pub(crate) fn is_blank(byte: u8) -> bool
     byte == b' ' || byte == b'\t'
 }
 
-// Where the first byte stands that isn't a blank.
-fn first_of_word(text: &[u8]) -> Option<usize>
-    ensures { result ≡ position (λ byte. not (is_blank byte)) text.now }
-{
-    text.iter().position(|&byte| !is_blank(byte))
-}
-
 // Where the first blank stands.
 fn first_blank(text: &[u8]) -> Option<usize>
     ensures { result ≡ position is_blank text.now }
 {
     text.iter().position(|&byte| is_blank(byte))
-}
-
-// How many blanks stand before anything else.
-#[tactic(auto, using(crate::proofs::WordLemmas::position_or_len_of))]
-fn blanks_before(text: &[u8]) -> usize
-    ensures { result ≡ position_or_len (λ byte. not (is_blank byte)) text.now }
-{
-    first_of_word(text).unwrap_or(text.len())
 }
 
 // How many bytes stand before the first blank.
@@ -41,9 +28,12 @@ fn bytes_before_blank(text: &[u8]) -> usize
 
 /// The first word of a text, and what stands behind it; `None` exactly where no word stands in the text.
 pub fn next_word(text: &[u8]) -> Option<(&[u8], &[u8])>
-    ensures { MatchOption result (words_of text.now ≡ []) (λ found. words_of text.now ≡ found.0.now ∷ words_of found.1.now) }
+    ensures words { MatchOption result (words_of text.now ≡ []) (λ found. words_of text.now ≡ found.0.now ∷ words_of found.1.now) }
+    ensures none { IfNone result ((first_word text.now ≡ []) × (behind_word text.now ≡ [])) }
+    ensures first { IfSome result (λ found. found.0.now ≡ first_word text.now) }
+    ensures behind { IfSome result (λ found. found.1.now ≡ behind_word text.now) }
 {
-    let (_, found) = text.split_at(blanks_before(text));
+    let found = without_front_blanks(text);
     if found.is_empty() {
         return None;
     }

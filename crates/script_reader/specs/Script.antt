@@ -1,0 +1,220 @@
+-- What the bytes of a script stand for: the script, or its first refusal with its line and cause. At a line the causes
+-- are judged from left to right.
+use Rattle.std.specs.Prelude.{ℕ, suc, ℤ, pos, negsuc, Bool, true, false, ◌&&◌, ◌==◌, not, nat_lt, nat_le, if◌then◌else◌, List, [], ◌∷◌, ◌++◌, length, fold, count_by, codes, bytes_eq, Option, Some, None, ok_or, option_and_then, Result, Ok, Err}
+use Rattle.std.specs.List.{list_any, position_or_len}
+use Rattle.moos_post.specs.declared.entry.Call.{Call}
+use Rattle.moos_post.specs.declared.entry.Call.TheVariants.{Register, Unregister, Post as Posts, Fetch}
+use Rattle.moos_post.specs.declared.entry.Entry.{Entry}
+use Rattle.moos_post.specs.declared.registration.Reg.{Reg}
+use Rattle.moos_post.specs.declared.value.Pair.{Pair}
+use Rattle.moos_post.specs.History.{posts_of}
+use Rattle.moos_post.specs.Words.{is_name, is_pattern}
+use Rattle.moos_text.specs.declared.cause.Cause.{Cause}
+use Rattle.moos_text.specs.declared.cause.Cause.TheVariants.{S1, S2, S3, S4, S5, S6, S7, S8, S9}
+use Rattle.moos_text.specs.declared.cause.Limit.TheVariants.{Clients, Registrations, Variables, Lines as NonBlank, Batch as InBatch, Text as OfText}
+use Rattle.moos_text.specs.declared.cause.ReadFault.{ReadFault}
+use Rattle.moos_text.specs.declared.cause.ReadFault.TheVariants.{At}
+use Rattle.moos_text.specs.declared.pair.PairFault.{PairFault}
+use Rattle.moos_text.specs.declared.pair.PairFault.TheVariants.{NoEquals, BadName, BadValue, TooLong, NoMemory}
+use Rattle.moos_text.specs.Lines.{raw_lines, content_of, is_unclosed, first_word, behind_word}
+use Rattle.moos_text.specs.Numbers.{milli_of}
+use Rattle.moos_text.specs.Pairs.{pair_of, parts_of}
+use Rattle.script_reader.specs.declared.script.Script.{Script}
+
+-- what comes of a good value, or the refusal
+abbrev pub and_then : {A B E : Type 0} → (A → Result B E) → Result A E → Result B E
+and_then next (Ok value) = next value
+and_then next (Err fault) = Err fault
+
+-- what stands in front of this word, which must be missing
+abbrev pub ended : {A : Type 0} → A → List ℕ → Result A Cause
+ended value [] = Ok value
+ended value (byte ∷ bytes) = Err S3
+
+-- a stamp or an interval is a number of seconds from 0 to 1,000,000, kept in milliseconds
+abbrev pub milliseconds_of : ℤ → Option ℕ
+milliseconds_of (pos n) = if nat_le n 1000000000 then Some n else None
+milliseconds_of (negsuc n) = None
+
+abbrev pub time_of : List ℕ → Option ℕ
+time_of word = option_and_then milliseconds_of (milli_of word)
+
+abbrev pub pattern_of : List ℕ → Option (List ℕ)
+pattern_of word = if is_pattern word then Some word else None
+
+-- the interval is 0 where its word is missing
+abbrev pub interval_of : List ℕ → Option ℕ
+interval_of [] = Some 0
+interval_of (byte ∷ bytes) = time_of (byte ∷ bytes)
+
+-- the source pattern is `*` where its word is missing
+abbrev pub source_of : List ℕ → Option (List ℕ)
+source_of [] = Some (codes "*")
+source_of (byte ∷ bytes) = pattern_of (byte ∷ bytes)
+
+abbrev pub reg_of : Option (List ℕ) → Option ℕ → Option (List ℕ) → Result Reg Cause
+reg_of None interval source = Err S6
+reg_of (Some var) None source = Err S7
+reg_of (Some var) (Some interval) None = Err S6
+reg_of (Some var) (Some interval) (Some source) = Ok (record { var = var; source = source; interval = interval })
+
+-- one registration more of a client that has made so many
+abbrev pub one_more : ℕ → Reg → Result Call Cause
+one_more made reg = if nat_le 256 made then Err (S8 Registrations) else Ok (Register (reg ∷ []))
+
+-- VARPATTERN [INTERVAL [SOURCEPATTERN]]
+abbrev pub register_of : ℕ → List ℕ → Result Call Cause
+register_of made text =
+    let second = behind_word text in
+    let third = behind_word second in
+    let reg = reg_of (pattern_of (first_word text)) (interval_of (first_word second)) (source_of (first_word third)) in
+    and_then (λ call. ended call (first_word (behind_word third))) (and_then (one_more made) reg)
+
+abbrev pub withdrawal_of : Option (List ℕ) → Option (List ℕ) → Result Call Cause
+withdrawal_of None source = Err S6
+withdrawal_of (Some var) None = Err S6
+withdrawal_of (Some var) (Some source) = Ok (Unregister var source)
+
+-- VARPATTERN [SOURCEPATTERN]
+abbrev pub unregister_of : List ℕ → Result Call Cause
+unregister_of text =
+    let second = behind_word text in
+    let call = withdrawal_of (pattern_of (first_word text)) (source_of (first_word second)) in
+    and_then (λ call. ended call (first_word (behind_word second))) call
+
+-- why a pair is refused; want of memory is no fault of a text
+abbrev pub cause_of : PairFault → Cause
+cause_of NoEquals = S5
+cause_of BadName = S4
+cause_of BadValue = S5
+cause_of TooLong = S8 OfText
+cause_of NoMemory = S5
+
+abbrev pub with_cause : Result Pair PairFault → Result Pair Cause
+with_cause (Ok pair) = Ok pair
+with_cause (Err fault) = Err (cause_of fault)
+
+-- the variables, and this one where it isn't among them
+abbrev pub with_variable : List (List ℕ) → List ℕ → List (List ℕ)
+with_variable known var = if list_any (bytes_eq var) known then known else known ++ var ∷ []
+
+abbrev pub with_pairs : List (List ℕ) → List Pair → List (List ℕ)
+with_pairs known pairs = fold (λ vars pair. with_variable vars pair.var) known pairs
+
+-- the variables that lines post, in the order of their first posts
+abbrev pub variables_of : List Entry → List (List ℕ)
+variables_of lines = fold (λ vars post. with_variable vars post.var) [] (posts_of lines)
+
+-- the pairs of a post with one more, which may be one too many, or of a variable too many beside those known before
+abbrev pub with_pair : List (List ℕ) → List Pair → Pair → Result (List Pair) Cause
+with_pair known pairs pair =
+    if nat_le 64 (length pairs) then Err (S8 InBatch)
+    else if nat_lt 4096 (length (with_pairs known (pairs ++ pair ∷ []))) then Err (S8 Variables)
+    else Ok (pairs ++ pair ∷ [])
+
+-- the pairs of a post with those of these parts
+abbrev pub with_parts : List (List ℕ) → List Pair → List (List ℕ) → Result (List Pair) Cause
+with_parts known pairs [] = Ok pairs
+with_parts known pairs (part ∷ parts) =
+    and_then (λ more. with_parts known more parts) (and_then (with_pair known pairs) (with_cause (pair_of part)))
+
+-- PAIR [# PAIR]
+abbrev pub post_of_text : List (List ℕ) → List ℕ → Result Call Cause
+post_of_text known text = and_then (λ pairs. Ok (Posts pairs)) (with_parts known [] (parts_of text))
+
+abbrev pub is_register : Call → Bool
+is_register (Register regs) = true
+is_register (Unregister var source) = false
+is_register (Posts batch) = false
+is_register Fetch = false
+
+-- how many of the lines are the client's registrations
+abbrev pub registrations_of : ℕ → List Entry → ℕ
+registrations_of client lines = count_by (λ line. line.client == client && is_register line.call) lines
+
+-- what the words after the client ask for, behind these lines
+abbrev pub call_of : List Entry → ℕ → List ℕ → Result Call Cause
+call_of lines client text =
+    let verb = first_word text in
+    let rest = behind_word text in
+    if bytes_eq verb (codes "register") then register_of (registrations_of client lines) rest
+    else if bytes_eq verb (codes "unregister") then unregister_of rest
+    else if bytes_eq verb (codes "post") then post_of_text (variables_of lines) rest
+    else if bytes_eq verb (codes "fetch") then ended Fetch (first_word rest)
+    else Err S3
+
+-- a client's number is its place among the names, which it joins where it is new
+abbrev pub number_of : List (List ℕ) → List ℕ → ℕ
+number_of names client = position_or_len (λ name. bytes_eq name client) names
+
+abbrev pub with_client : List (List ℕ) → List ℕ → List (List ℕ)
+with_client names client = if nat_lt (number_of names client) (length names) then names else names ++ client ∷ []
+
+-- a client is a name other than the helm's, and one of 64 at most
+abbrev pub client_of : List (List ℕ) → List ℕ → Result ℕ Cause
+client_of names word =
+    if not (is_name word) then Err S4
+    else if bytes_eq word (codes "pHelmIvP") then Err S9
+    else if nat_lt 64 (length (with_client names word)) then Err (S8 Clients)
+    else Ok (number_of names word)
+
+-- the script with a client's call more
+abbrev pub with_call : Script → ℕ → List ℕ → Call → Script
+with_call script stamp client call = record {
+  names = with_client script.names client;
+  lines = script.lines ++ record { stamp = stamp; client = number_of script.names client; call = call } ∷ [];
+  stop = stamp;
+}
+
+-- what stands behind a good stamp: `until`, which only carries the stamp, or a client and its call
+abbrev pub after_stamp : Script → ℕ → List ℕ → Result Script Cause
+after_stamp script stamp text =
+    let word = first_word text in
+    let rest = behind_word text in
+    if bytes_eq word (codes "until") then ended (record script { stop = stamp }) (first_word rest)
+    else and_then (λ number. and_then (λ call. Ok (with_call script stamp word call)) (call_of script.lines number rest)) (client_of script.names word)
+
+-- a stamp isn't below that of an earlier line
+abbrev pub not_before : ℕ → ℕ → Result ℕ Cause
+not_before last stamp = if nat_lt stamp last then Err S2 else Ok stamp
+
+-- the script after the words of one line more
+abbrev pub after_words : Script → List ℕ → Result Script Cause
+after_words script text =
+    and_then (λ stamp. after_stamp script stamp (behind_word text)) (and_then (not_before script.stop) (ok_or (time_of (first_word text)) S1))
+
+-- what was read so far: the script, and how many lines weren't blank
+pub record Progress : Type 0 where
+  pub script : Script
+  pub filled : ℕ
+
+-- a line that isn't blank may be one too many, or leave a quote open, before its words are judged
+abbrev pub after_filled : Progress → List ℕ → Result Progress Cause
+after_filled read content =
+    if nat_le 100000 read.filled then Err (S8 NonBlank)
+    else if is_unclosed content then Err S5
+    else and_then (λ script. Ok (record { script = script; filled = suc read.filled })) (after_words read.script content)
+
+-- one line more, of which this is the first word; a blank line says nothing
+abbrev pub after_line : Progress → List ℕ → List ℕ → Result Progress Cause
+after_line read content [] = Ok read
+after_line read content (byte ∷ bytes) = after_filled read content
+
+abbrev pub go_on : ℕ → (Progress → Result Progress ReadFault) → Result Progress Cause → Result Progress ReadFault
+go_on number rest (Err cause) = Err (At number cause)
+go_on number rest (Ok read) = rest read
+
+-- what is read up to the end, of which the lines from this number on are left
+abbrev pub read_from : ℕ → Progress → List (List ℕ) → Result Progress ReadFault
+read_from number read [] = Ok read
+read_from number read (raw ∷ raws) =
+    let content = content_of raw in
+    go_on number (λ next. read_from (suc number) next raws) (after_line read content (first_word content))
+
+-- before the first line
+abbrev pub nothing_read : Progress
+nothing_read = record { script = record { names = []; lines = []; stop = 0 }; filled = 0 }
+
+-- What the bytes of a script stand for. Lines are counted from 1.
+abbrev pub script_of : List ℕ → Result Script ReadFault
+script_of bytes = and_then (λ read. Ok read.script) (read_from 1 nothing_read (raw_lines bytes))
