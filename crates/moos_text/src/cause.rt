@@ -160,6 +160,17 @@ impl From<AllocError> for LineFault {
     }
 }
 
+impl From<Cause> for LineFault {
+    ghost use Rattle.moos_text.specs.declared.cause.LineFault.TheVariants.{Refused};
+    ghost use Rattle.std.specs.Prelude.{◌≡◌};
+
+    ghost from_gives = { λ cause fault. fault ≡ Refused cause };
+
+    fn from(cause: Cause) -> LineFault {
+        LineFault::Refused(cause)
+    }
+}
+
 impl LineFault {
     /// The fault of the file where this is the fault of its line of this number, counted from 1.
     pub fn at(self, line: u32) -> ReadFault

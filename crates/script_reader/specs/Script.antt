@@ -1,6 +1,6 @@
 -- What the bytes of a script stand for: the script, or its first refusal with its line and cause. At a line the causes
 -- are judged from left to right.
-use Rattle.std.specs.Prelude.{ℕ, suc, ℤ, pos, negsuc, Bool, true, false, ◌&&◌, ◌==◌, not, nat_lt, nat_le, if◌then◌else◌, List, [], ◌∷◌, ◌++◌, length, fold, count_by, codes, bytes_eq, Option, Some, None, ok_or, option_and_then, Result, Ok, Err}
+use Rattle.std.specs.Prelude.{ℕ, suc, ℤ, pos, negsuc, Bool, true, false, ◌&&◌, ◌==◌, not, nat_le, nat_lt, if◌then◌else◌, List, [], ◌∷◌, ◌++◌, length, fold, count_by, codes, bytes_eq, Option, Some, None, ok_or, option_and_then, Result, Ok, Err}
 use Rattle.std.specs.List.{list_any, position_or_len}
 use Rattle.moos_post.specs.declared.entry.Call.{Call}
 use Rattle.moos_post.specs.declared.entry.Call.TheVariants.{Register, Unregister, Post as Posts, Fetch}
@@ -98,29 +98,39 @@ with_cause (Err fault) = Err (cause_of fault)
 abbrev pub with_variable : List (List ℕ) → List ℕ → List (List ℕ)
 with_variable known var = if list_any (bytes_eq var) known then known else known ++ var ∷ []
 
-abbrev pub with_pairs : List (List ℕ) → List Pair → List (List ℕ)
-with_pairs known pairs = fold (λ vars pair. with_variable vars pair.var) known pairs
-
 -- the variables that lines post, in the order of their first posts
 abbrev pub variables_of : List Entry → List (List ℕ)
 variables_of lines = fold (λ vars post. with_variable vars post.var) [] (posts_of lines)
 
--- the pairs of a post with one more, which may be one too many, or of a variable too many beside those known before
-abbrev pub with_pair : List (List ℕ) → List Pair → Pair → Result (List Pair) Cause
-with_pair known pairs pair =
-    if nat_le 64 (length pairs) then Err (S8 InBatch)
-    else if nat_lt 4096 (length (with_pairs known (pairs ++ pair ∷ []))) then Err (S8 Variables)
-    else Ok (pairs ++ pair ∷ [])
+-- a post so far: the variables that are posted up to here, and its own pairs
+pub record Posting : Type 0 where
+  pub variables : List (List ℕ)
+  pub pairs : List Pair
 
--- the pairs of a post with those of these parts
-abbrev pub with_parts : List (List ℕ) → List Pair → List (List ℕ) → Result (List Pair) Cause
-with_parts known pairs [] = Ok pairs
-with_parts known pairs (part ∷ parts) =
-    and_then (λ more. with_parts known more parts) (and_then (with_pair known pairs) (with_cause (pair_of part)))
+abbrev pub posting : List (List ℕ) → List Pair → Posting
+posting variables pairs = record { variables = variables; pairs = pairs }
+
+-- a variable more, which may be one too many where it is new
+abbrev pub with_known : List (List ℕ) → List ℕ → Result (List (List ℕ)) Cause
+with_known known var =
+    if not (list_any (bytes_eq var) known) && nat_le 4096 (length known) then Err (S8 Variables) else Ok (with_variable known var)
+
+-- a pair more, which may be one too many
+abbrev pub with_pair : Posting → Pair → Result Posting Cause
+with_pair post pair =
+    if nat_le 64 (length post.pairs) then Err (S8 InBatch)
+    else and_then (λ variables. Ok (posting variables (post.pairs ++ pair ∷ []))) (with_known post.variables pair.var)
+
+abbrev pub with_part : Posting → List ℕ → Result Posting Cause
+with_part post part = and_then (with_pair post) (with_cause (pair_of part))
+
+abbrev pub with_parts : Posting → List (List ℕ) → Result Posting Cause
+with_parts post [] = Ok post
+with_parts post (part ∷ parts) = and_then (λ more. with_parts more parts) (with_part post part)
 
 -- PAIR [# PAIR]
 abbrev pub post_of_text : List (List ℕ) → List ℕ → Result Call Cause
-post_of_text known text = and_then (λ pairs. Ok (Posts pairs)) (with_parts known [] (parts_of text))
+post_of_text known text = and_then (λ post. Ok (Posts post.pairs)) (with_parts (posting known []) (parts_of text))
 
 abbrev pub is_register : Call → Bool
 is_register (Register regs) = true
@@ -132,14 +142,14 @@ is_register Fetch = false
 abbrev pub registrations_of : ℕ → List Entry → ℕ
 registrations_of client lines = count_by (λ line. line.client == client && is_register line.call) lines
 
--- what the words after the client ask for, behind these lines
-abbrev pub call_of : List Entry → ℕ → List ℕ → Result Call Cause
-call_of lines client text =
+-- what the words after the client ask for, where the client has made so many registrations and these variables are posted
+abbrev pub call_of : ℕ → List (List ℕ) → List ℕ → Result Call Cause
+call_of made known text =
     let verb = first_word text in
     let rest = behind_word text in
-    if bytes_eq verb (codes "register") then register_of (registrations_of client lines) rest
+    if bytes_eq verb (codes "register") then register_of made rest
     else if bytes_eq verb (codes "unregister") then unregister_of rest
-    else if bytes_eq verb (codes "post") then post_of_text (variables_of lines) rest
+    else if bytes_eq verb (codes "post") then post_of_text known rest
     else if bytes_eq verb (codes "fetch") then ended Fetch (first_word rest)
     else Err S3
 
@@ -150,12 +160,12 @@ number_of names client = position_or_len (λ name. bytes_eq name client) names
 abbrev pub with_client : List (List ℕ) → List ℕ → List (List ℕ)
 with_client names client = if nat_lt (number_of names client) (length names) then names else names ++ client ∷ []
 
--- a client is a name other than the helm's, and one of 64 at most
+-- a client is a name other than the helm's, and one of the first 64
 abbrev pub client_of : List (List ℕ) → List ℕ → Result ℕ Cause
 client_of names word =
     if not (is_name word) then Err S4
     else if bytes_eq word (codes "pHelmIvP") then Err S9
-    else if nat_lt 64 (length (with_client names word)) then Err (S8 Clients)
+    else if nat_le 64 (number_of names word) then Err (S8 Clients)
     else Ok (number_of names word)
 
 -- the script with a client's call more
@@ -166,13 +176,18 @@ with_call script stamp client call = record {
   stop = stamp;
 }
 
+-- the script with the call of the client of this number and name
+abbrev pub after_client : Script → ℕ → List ℕ → List ℕ → ℕ → Result Script Cause
+after_client script stamp name text number =
+    and_then (λ call. Ok (with_call script stamp name call)) (call_of (registrations_of number script.lines) (variables_of script.lines) text)
+
 -- what stands behind a good stamp: `until`, which only carries the stamp, or a client and its call
-abbrev pub after_stamp : Script → ℕ → List ℕ → Result Script Cause
-after_stamp script stamp text =
+abbrev pub after_stamp : Script → List ℕ → ℕ → Result Script Cause
+after_stamp script text stamp =
     let word = first_word text in
     let rest = behind_word text in
     if bytes_eq word (codes "until") then ended (record script { stop = stamp }) (first_word rest)
-    else and_then (λ number. and_then (λ call. Ok (with_call script stamp word call)) (call_of script.lines number rest)) (client_of script.names word)
+    else and_then (after_client script stamp word rest) (client_of script.names word)
 
 -- a stamp isn't below that of an earlier line
 abbrev pub not_before : ℕ → ℕ → Result ℕ Cause
@@ -181,19 +196,22 @@ not_before last stamp = if nat_lt stamp last then Err S2 else Ok stamp
 -- the script after the words of one line more
 abbrev pub after_words : Script → List ℕ → Result Script Cause
 after_words script text =
-    and_then (λ stamp. after_stamp script stamp (behind_word text)) (and_then (not_before script.stop) (ok_or (time_of (first_word text)) S1))
+    and_then (after_stamp script (behind_word text)) (and_then (not_before script.stop) (ok_or (time_of (first_word text)) S1))
 
 -- what was read so far: the script, and how many lines weren't blank
 pub record Progress : Type 0 where
   pub script : Script
   pub filled : ℕ
 
+abbrev pub progress : Script → ℕ → Progress
+progress script filled = record { script = script; filled = filled }
+
 -- a line that isn't blank may be one too many, or leave a quote open, before its words are judged
 abbrev pub after_filled : Progress → List ℕ → Result Progress Cause
 after_filled read content =
     if nat_le 100000 read.filled then Err (S8 NonBlank)
     else if is_unclosed content then Err S5
-    else and_then (λ script. Ok (record { script = script; filled = suc read.filled })) (after_words read.script content)
+    else and_then (λ script. Ok (progress script (suc read.filled))) (after_words read.script content)
 
 -- one line more, of which this is the first word; a blank line says nothing
 abbrev pub after_line : Progress → List ℕ → List ℕ → Result Progress Cause
@@ -213,7 +231,7 @@ read_from number read (raw ∷ raws) =
 
 -- before the first line
 abbrev pub nothing_read : Progress
-nothing_read = record { script = record { names = []; lines = []; stop = 0 }; filled = 0 }
+nothing_read = progress (record { names = []; lines = []; stop = 0 }) 0
 
 -- What the bytes of a script stand for. Lines are counted from 1.
 abbrev pub script_of : List ℕ → Result Script ReadFault

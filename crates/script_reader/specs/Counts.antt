@@ -1,0 +1,27 @@
+-- What a reader counts beside the script, so that no limit costs a walk over the lines. This serves `reading` alone.
+use Rattle.std.specs.Prelude.{◌≡◌, ℕ, ◌<◌, ◌≤◌, List, [], length, fold, slice_index}
+use Rattle.moos_post.specs.declared.entry.Call.{Call}
+use Rattle.moos_post.specs.declared.entry.Call.TheVariants.{Register, Unregister, Post as Posts, Fetch}
+use Rattle.moos_post.specs.declared.value.Pair.{Pair}
+use Rattle.script_reader.specs.declared.script.Script.{Script}
+use Rattle.script_reader.specs.Script.{registrations_of, variables_of, with_variable}
+
+-- the pairs that a call posts
+abbrev pub pairs_in : Call → List Pair
+pairs_in (Register regs) = []
+pairs_in (Unregister var source) = []
+pairs_in (Posts batch) = batch
+pairs_in Fetch = []
+
+abbrev pub with_pairs : List (List ℕ) → List Pair → List (List ℕ)
+with_pairs known pairs = fold (λ vars pair. with_variable vars pair.var) known pairs
+
+-- the variables that are posted, with those of a call
+abbrev pub with_call_variables : List (List ℕ) → Call → List (List ℕ)
+with_call_variables known call = with_pairs known (pairs_in call)
+
+-- how many registrations each of 64 clients has made, and which variables are posted
+pub record AreCounts (script : Script) (made : List ℕ) (variables : List (List ℕ)) : Type 0 where
+  pub few : length script.names ≤ 64
+  pub registrations : (client : ℕ) → client < 64 → slice_index made client ≡ registrations_of client script.lines
+  pub posted : variables ≡ variables_of script.lines
