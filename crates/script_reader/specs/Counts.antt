@@ -1,10 +1,10 @@
 -- What a reader counts beside the script, so that no limit costs a walk over the lines. This serves `reading` alone.
-use Rattle.std.specs.Prelude.{◌≡◌, ℕ, ◌<◌, ◌≤◌, List, [], length, fold, slice_index}
+use Rattle.std.specs.Prelude.{◌≡◌, ℕ, ◌<◌, ◌≤◌, List, [], length, fold, slice_index, slice_set, ◌+◌, if◌then◌else◌}
 use Rattle.moos_post.specs.declared.entry.Call.{Call}
 use Rattle.moos_post.specs.declared.entry.Call.TheVariants.{Register, Unregister, Post as Posts, Fetch}
 use Rattle.moos_post.specs.declared.value.Pair.{Pair}
 use Rattle.script_reader.specs.declared.script.Script.{Script}
-use Rattle.script_reader.specs.Script.{registrations_of, variables_of, with_variable}
+use Rattle.script_reader.specs.Script.{is_register, registrations_of, variables_of, with_variable}
 
 -- the pairs that a call posts
 abbrev pub pairs_in : Call → List Pair
@@ -19,6 +19,10 @@ with_pairs known pairs = fold (λ vars pair. with_variable vars pair.var) known 
 -- the variables that are posted, with those of a call
 abbrev pub with_call_variables : List (List ℕ) → Call → List (List ℕ)
 with_call_variables known call = with_pairs known (pairs_in call)
+
+-- the registrations of each client, with one more of this client where the call is one
+abbrev pub with_made : List ℕ → ℕ → Call → List ℕ
+with_made made client call = if is_register call then slice_set made client (slice_index made client + 1) else made
 
 -- how many registrations each of 64 clients has made, and which variables are posted
 pub record AreCounts (script : Script) (made : List ℕ) (variables : List (List ℕ)) : Type 0 where

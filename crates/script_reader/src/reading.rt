@@ -1,10 +1,10 @@
 // A script line by line.
-ghost use Rattle.std.specs.Prelude.{◌≡◌, ◌<◌, ◌≤◌, ◌+◌, suc, [], ◌∷◌, ◌++◌, Ok, Err, IfOk, OnOk, IfErr, bytes_eq, length, replicate};
+ghost use Rattle.std.specs.Prelude.{◌≡◌, ◌<◌, ◌≤◌, ◌+◌, suc, [], ◌∷◌, ◌++◌, Ok, Err, IfOk, OnOk, IfErr, bytes_eq, length, replicate, IsTrue, slice_index};
 ghost use Rattle.std.specs.List.{position};
 ghost use Rattle.moos_text.specs.Lines.{first_word, is_unclosed};
 ghost use Rattle.moos_text.specs.Refusals.{IsLineFault};
-ghost use Rattle.script_reader.specs.Script.{number_of, with_client, with_call, client_of, after_client, after_stamp, not_before, after_words, after_filled, after_line, progress, nothing_read};
-ghost use Rattle.script_reader.specs.Counts.{AreCounts, with_call_variables};
+ghost use Rattle.script_reader.specs.Script.{number_of, with_client, with_call, is_register, client_of, after_client, after_stamp, not_before, after_words, after_filled, after_line, progress, nothing_read};
+ghost use Rattle.script_reader.specs.Counts.{AreCounts, with_made};
 
 use crate::call::call_of;
 use crate::script::{Lines, Script};
@@ -125,9 +125,7 @@ impl Reading {
     {
         let number = number_of(self.script.names.all(), name.bytes());
         let call = call_of(alloc, self.made[number], &mut self.variables, text)?;
-        if matches!(call, Call::Register(_)) {
-            self.made[number] += 1;
-        }
+        count(&mut self.made, number, &call);
         add_call(&mut self.script, stamp, number, name, call)?;
         Ok(())
     }
@@ -139,6 +137,18 @@ fn no_registrations() -> [u32; 64]
     [0; 64]
 }
 
+// Counts the call where it is a registration of the client of this number.
+fn count(made: &mut [u32; 64], number: usize, call: &Call)
+    requires among { number < 64 }
+    requires room { IsTrue (is_register call.now) → slice_index made.old number < 256 }
+    ensures { made.new ≡ with_made made.old number call.now }
+{
+    match call {
+        Call::Register(_) => made[number] += 1,
+        _ => {}
+    }
+}
+
 // A stamp isn't below that of an earlier line.
 fn not_before(last: u64, stamp: u64) -> Result<u64, Cause>
     ensures { result ≡ not_before last stamp }
@@ -148,7 +158,9 @@ fn not_before(last: u64, stamp: u64) -> Result<u64, Cause>
 
 // The name of a client, which is one of the first 64.
 fn client_of(alloc: Global, names: &[Name], word: &[u8]) -> Result<Name, LineFault>
-    ensures client { IfOk result (λ name. (name ≡ word.now) × (client_of names.now word.now ≡ Ok (number_of names.now word.now)) × (number_of names.now word.now < 64)) }
+    ensures name { IfOk result (λ name. name ≡ word.now) }
+    ensures client { OnOk result (client_of names.now word.now ≡ Ok (number_of names.now word.now)) }
+    ensures among { OnOk result (number_of names.now word.now < 64) }
     ensures refused { IfErr result (λ fault. IsLineFault fault (client_of names.now word.now)) }
 {
     let name = match Name::new(alloc, word) {

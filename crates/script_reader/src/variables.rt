@@ -6,7 +6,7 @@ ghost use Rattle.moos_text.specs.Refusals.{IsLineFault};
 use indexmap::IndexSet;
 use moos_post::NoMemory;
 use moos_text::{Cause, Limit, LineFault};
-use std::alloc::{AllocError, Global};
+use std::alloc::Global;
 use std::marker::Model;
 
 // The most variables of a script.
@@ -69,9 +69,7 @@ impl Variables {
         ensures { OnOk result (self.new ≡ with_variable self.old name.now) }
     {
         let name = Vec::from_slice(alloc, name)?;
-        match self.set.insert(name) {
-            Ok(_) => Ok(()),
-            Err(_) => Err(AllocError),
-        }
+        self.set.insert(name)?;
+        Ok(())
     }
 }

@@ -7,4 +7,4 @@ use Rattle.script_reader.proofs.variables.Variables.contains.Goals as goal
 pub returns : goal.returns
 returns c =
     c.contains.ensures ∙ sym (list_any-map (bytes_eq c.args.name.now) (λ name. name.items) c.self.inside.set.keys)
-    ∙ ap (list_any (bytes_eq c.args.name.now)) (sym c.self.view_is)
+    ∙ ap (list_any (bytes_eq c.args.name.now)) c.self.view_is
