@@ -1,11 +1,11 @@
 -- What every call keeps that is read: the limits of a line, and what it adds to the counts.
-use Rattle.std.proofs.Common.{◌≡◌, ℕ, suc, ◌+◌, ◌<◌, ◌≤◌, Bool, true, false, ◌&&◌, cond, not, nat_le, List, [], ◌∷◌, ◌++◌, length, codes, bytes_eq, Some, None, refl, sym, ap, ◌∙◌, arith, length-append}
-use Rattle.std.specs.Prelude.{Option, option_and_then, Result, Ok, Err, IfOk, IfSome, ℤ, pos, negsuc, fold}
+use Rattle.std.proofs.Common.{◌≡◌, ℕ, ◌<◌, ◌≤◌, Bool, true, false, ◌&&◌, cond, not, nat_le, List, [], ◌∷◌, ◌++◌, length, codes, bytes_eq, Some, None, refl, sym, ap, ◌∙◌, arith, length-append}
+use Rattle.std.specs.Prelude.{Option, option_and_then, Result, Ok, Err, IfOk, IfSome, ℤ, pos, negsuc}
 use Rattle.std.specs.List.{list_any}
-use Rattle.std.proofs.lemmas.Bool.{le-leb, leb-true, leb-false}
+use Rattle.std.proofs.lemmas.Bool.{le-leb, leb-false}
 use Rattle.std.proofs.lemmas.List.Sums.{fold-append}
 use Rattle.moos_post.specs.declared.entry.Call.{Call}
-use Rattle.moos_post.specs.declared.entry.Call.TheVariants.{Register, Unregister, Post as Posts, Fetch}
+use Rattle.moos_post.specs.declared.entry.Call.TheVariants.{Register, Post as Posts, Fetch}
 use Rattle.moos_post.specs.declared.registration.Reg.{Reg}
 use Rattle.moos_post.specs.declared.value.Pair.{Pair}
 use Rattle.moos_text.specs.declared.cause.Cause.{Cause}
@@ -16,7 +16,7 @@ use Rattle.moos_text.specs.Numbers.{milli_of}
 use Rattle.moos_text.specs.Pairs.{pair_of, parts_of}
 use Rattle.script_reader.specs.Script.{and_then, ended, milliseconds_of, time_of, pattern_of, interval_of, source_of, reg_of, one_more, register_of, withdrawal_of, unregister_of, with_cause, with_variable, Posting, posting, with_known, with_pair, with_part, with_parts, post_of_text, is_register, call_of}
 use Rattle.script_reader.specs.Validity.{keeps_limits}
-use Rattle.script_reader.specs.Counts.{pairs_in, with_pairs, with_call_variables}
+use Rattle.script_reader.specs.Counts.{with_pairs, with_call_variables}
 use Rattle.script_reader.proofs.Judging.{cond_good, and_then_good, ended_good}
 use Rattle.script_reader.proofs.Tests.{both_true}
 
@@ -24,9 +24,9 @@ use Rattle.script_reader.proofs.Tests.{both_true}
 pub record IsFine (made : ℕ) (known : List (List ℕ)) (call : Call) : Type 0 where
   pub room : is_register call ≡ true → made < 256
   pub limits : keeps_limits call ≡ true
-  pub variables : length (with_call_variables known call) ≤ 4096
+  pub variables : length known ≤ 4096 → length (with_call_variables known call) ≤ 4096
 
-abbrev IsEarly : ℕ → Type 0
+abbrev pub IsEarly : ℕ → Type 0
 IsEarly time = nat_le time 1000000000 ≡ true
 
 milliseconds_early : (number : ℤ) → IfSome (milliseconds_of number) IsEarly
@@ -54,11 +54,11 @@ reg_early (Some var) None source early = tt
 reg_early (Some var) (Some interval) None early = tt
 reg_early (Some var) (Some interval) (Some source) early = early
 
-register_fine : (made : ℕ) (known : List (List ℕ)) (text : List ℕ) → length known ≤ 4096 → IfOk (register_of made text) (IsFine made known)
-register_fine made known text few =
-    and_then_good (λ call. ended call (first_word (behind_word third))) (and_then (one_more made) reg)
-    (and_then_good (one_more made) reg (reg_early (pattern_of (first_word text)) (interval_of (first_word second)) (source_of (first_word third)) (interval_early (first_word second))) more)
-    (λ call fine. ended_good call (first_word (behind_word third)) fine)
+register_fine : (made : ℕ) (known : List (List ℕ)) (text : List ℕ) → IfOk (register_of made text) (IsFine made known)
+register_fine made known text =
+    and_then_good (IsFine made known) (IsFine made known) (λ call. ended call (first_word (behind_word third))) (and_then (one_more made) reg)
+    (and_then_good (λ one. IsEarly one.interval) (IsFine made known) (one_more made) reg (reg_early (pattern_of (first_word text)) (interval_of (first_word second)) (source_of (first_word third)) (interval_early (first_word second))) more)
+    (λ call fine. ended_good (IsFine made known) call (first_word (behind_word third)) fine)
   where
     second : List ℕ
     second = behind_word text
@@ -71,61 +71,64 @@ register_fine made known text few =
 
     more : (one : Reg) → IsEarly one.interval → IfOk (one_more made one) (IsFine made known)
     more one early =
-        cond_good (nat_le 256 made) (Err (S8 Registrations)) (Ok (Register (one ∷ []))) (λ _. tt)
-        (λ room. record { room = λ _. leb-false 256 made room; limits = both_true (nat_le one.interval 1000000000) true early refl; variables = few })
+        cond_good (IsFine made known) (nat_le 256 made) (Err (S8 Registrations)) (Ok (Register (one ∷ []))) (λ _. tt)
+        (λ room. record { room = λ _. leb-false 256 made room; limits = both_true (nat_le one.interval 1000000000) true early refl; variables = λ few. few })
 
-withdrawal_fine : (made : ℕ) (known : List (List ℕ)) (var source : Option (List ℕ)) → length known ≤ 4096 → IfOk (withdrawal_of var source) (IsFine made known)
-withdrawal_fine made known None source few = tt
-withdrawal_fine made known (Some var) None few = tt
-withdrawal_fine made known (Some var) (Some source) few = record { room = λ h. absurd cc; limits = refl; variables = few }
+withdrawal_fine : (made : ℕ) (known : List (List ℕ)) (var source : Option (List ℕ)) → IfOk (withdrawal_of var source) (IsFine made known)
+withdrawal_fine made known None source = tt
+withdrawal_fine made known (Some var) None = tt
+withdrawal_fine made known (Some var) (Some source) = record { room = λ h. absurd cc; limits = refl; variables = λ few. few }
 
-unregister_fine : (made : ℕ) (known : List (List ℕ)) (text : List ℕ) → length known ≤ 4096 → IfOk (unregister_of text) (IsFine made known)
-unregister_fine made known text few =
-    and_then_good (λ call. ended call (first_word (behind_word (behind_word text))))
+unregister_fine : (made : ℕ) (known : List (List ℕ)) (text : List ℕ) → IfOk (unregister_of text) (IsFine made known)
+unregister_fine made known text =
+    and_then_good (IsFine made known) (IsFine made known) (λ call. ended call (first_word (behind_word (behind_word text))))
     (withdrawal_of (pattern_of (first_word text)) (source_of (first_word (behind_word text))))
-    (withdrawal_fine made known (pattern_of (first_word text)) (source_of (first_word (behind_word text))) few)
-    (λ call fine. ended_good call (first_word (behind_word (behind_word text))) fine)
+    (withdrawal_fine made known (pattern_of (first_word text)) (source_of (first_word (behind_word text))))
+    (λ call fine. ended_good (IsFine made known) call (first_word (behind_word (behind_word text))) fine)
 
 -- the variables up to here are those before the post and those of its pairs
-pub abbrev IsFrom : List (List ℕ) → Posting → Type 0
+abbrev pub IsFrom : List (List ℕ) → Posting → Type 0
 IsFrom known post = post.variables ≡ with_pairs known post.pairs
 
 -- the limits of a post are kept up to here
-record IsShort (post : Posting) : Type 0 where
+record IsShort (known : List (List ℕ)) (post : Posting) : Type 0 where
   pairs : length post.pairs ≤ 64
-  variables : length post.variables ≤ 4096
+  variables : length known ≤ 4096 → length post.variables ≤ 4096
 
 with_pairs_more : (known : List (List ℕ)) (pairs : List Pair) (pair : Pair) → with_pairs known (pairs ++ pair ∷ []) ≡ with_variable (with_pairs known pairs) pair.var
 with_pairs_more known pairs pair = fold-append (λ vars one. with_variable vars one.var) known pairs (pair ∷ [])
 
 known_is : (known : List (List ℕ)) (var : List ℕ) → IfOk (with_known known var) (λ more. more ≡ with_variable known var)
 known_is known var =
-    cond_good (not (list_any (bytes_eq var) known) && nat_le 4096 (length known)) (Err (S8 Variables)) (Ok (with_variable known var)) (λ _. tt) (λ _. refl)
+    cond_good (λ more. more ≡ with_variable known var) (not (list_any (bytes_eq var) known) && nat_le 4096 (length known)) (Err (S8 Variables)) (Ok (with_variable known var)) (λ _. tt) (λ _. refl)
 
-known_short : (known : List (List ℕ)) (var : List ℕ) → length known ≤ 4096 → IfOk (with_known known var) (λ more. length more ≤ 4096)
-known_short known var few = at (list_any (bytes_eq var) known) (nat_le 4096 (length known)) refl
+known_short : (known : List (List ℕ)) (var : List ℕ) → IfOk (with_known known var) (λ more. length known ≤ 4096 → length more ≤ 4096)
+known_short known var = at (list_any (bytes_eq var) known) (nat_le 4096 (length known)) refl
   where
     at : (among full : Bool) → nat_le 4096 (length known) ≡ full
-        → IfOk (cond (not among && full) (Err (S8 Variables)) (Ok (cond among known (known ++ var ∷ [])))) (λ more. length more ≤ 4096)
-    at true true is = few
-    at true false is = few
+        → IfOk (cond (not among && full) (Err (S8 Variables)) (Ok (cond among known (known ++ var ∷ [])))) (λ more. length known ≤ 4096 → length more ≤ 4096)
+    at true true is = λ few. few
+    at true false is = λ few. few
     at false true is = tt
-    at false false is = let room = leb-false 4096 (length known) is in omega (arith, length-append known (var ∷ []))
+    at false false is = λ few. let room = leb-false 4096 (length known) is in omega (arith, length-append known (var ∷ []))
 
 pair_from : (known : List (List ℕ)) (post : Posting) (pair : Pair) → IsFrom known post → IfOk (with_pair post pair) (IsFrom known)
 pair_from known post pair from =
-    cond_good (nat_le 64 (length post.pairs)) (Err (S8 InBatch)) (and_then add (with_known post.variables pair.var)) (λ _. tt)
-    (λ _. and_then_good add (with_known post.variables pair.var) (known_is post.variables pair.var)
+    cond_good (IsFrom known) (nat_le 64 (length post.pairs)) (Err (S8 InBatch)) (and_then add (with_known post.variables pair.var)) (λ _. tt)
+    (λ _. and_then_good (λ more. more ≡ with_variable post.variables pair.var) (IsFrom known) add (with_known post.variables pair.var) (known_is post.variables pair.var)
       (λ more is. is ∙ ap (λ vars. with_variable vars pair.var) from ∙ sym (with_pairs_more known post.pairs pair)))
   where
     add : List (List ℕ) → Result Posting Cause
     add variables = Ok (posting variables (post.pairs ++ pair ∷ []))
 
-pair_short : (post : Posting) (pair : Pair) → IsShort post → IfOk (with_pair post pair) IsShort
-pair_short post pair short =
-    cond_good (nat_le 64 (length post.pairs)) (Err (S8 InBatch)) (and_then add (with_known post.variables pair.var)) (λ _. tt)
-    (λ room. and_then_good add (with_known post.variables pair.var) (known_short post.variables pair.var short.variables)
-      (λ more few. record { pairs = let below = leb-false 64 (length post.pairs) room in omega (arith, length-append post.pairs (pair ∷ [])); variables = few }))
+pair_short : (known : List (List ℕ)) (post : Posting) (pair : Pair) → IsShort known post → IfOk (with_pair post pair) (IsShort known)
+pair_short known post pair short =
+    cond_good (IsShort known) (nat_le 64 (length post.pairs)) (Err (S8 InBatch)) (and_then add (with_known post.variables pair.var)) (λ _. tt)
+    (λ room. and_then_good (λ more. length post.variables ≤ 4096 → length more ≤ 4096) (IsShort known) add (with_known post.variables pair.var) (known_short post.variables pair.var)
+      (λ more few. record {
+        pairs = let below = leb-false 64 (length post.pairs) room in omega (arith, length-append post.pairs (pair ∷ []));
+        variables = λ all. few (short.variables all);
+      }))
   where
     add : List (List ℕ) → Result Posting Cause
     add variables = Ok (posting variables (post.pairs ++ pair ∷ []))
@@ -134,8 +137,8 @@ pair_short post pair short =
 parts_keep : (P : Posting → Type 0) → ((post : Posting) (pair : Pair) → P post → IfOk (with_pair post pair) P) → (post : Posting) (parts : List (List ℕ)) → P post → IfOk (with_parts post parts) P
 parts_keep P more post [] here = here
 parts_keep P more post (part ∷ parts) here =
-    and_then_good (λ next. with_parts next parts) (with_part post part)
-    (and_then_good {P = λ _. Unit {0}} (with_pair post) (with_cause (pair_of part)) (any (with_cause (pair_of part))) (λ pair _. more post pair here))
+    and_then_good P P (λ next. with_parts next parts) (with_part post part)
+    (and_then_good (λ _. Unit {0}) P (with_pair post) (with_cause (pair_of part)) (any (with_cause (pair_of part))) (λ pair _. more post pair here))
     (λ next there. parts_keep P more next parts there)
   where
     any : (r : Result Pair Cause) → IfOk r (λ _. Unit {0})
@@ -145,26 +148,26 @@ parts_keep P more post (part ∷ parts) here =
 pub parts_from : (known : List (List ℕ)) (parts : List (List ℕ)) → IfOk (with_parts (posting known []) parts) (IsFrom known)
 parts_from known parts = parts_keep (IsFrom known) (λ post pair from. pair_from known post pair from) (posting known []) parts refl
 
-parts_short : (known : List (List ℕ)) (parts : List (List ℕ)) → length known ≤ 4096 → IfOk (with_parts (posting known []) parts) IsShort
-parts_short known parts few = parts_keep IsShort pair_short (posting known []) parts (record { pairs = omega arith; variables = few })
+parts_short : (known : List (List ℕ)) (parts : List (List ℕ)) → IfOk (with_parts (posting known []) parts) (IsShort known)
+parts_short known parts = parts_keep (IsShort known) (pair_short known) (posting known []) parts (record { pairs = omega arith; variables = λ few. few })
 
-both_good : {A E : Type 0} {P Q : A → Type 0} (r : Result A E) → IfOk r P → IfOk r Q → IfOk r (λ value. P value × Q value)
-both_good (Ok value) h g = (h, g)
-both_good (Err fault) h g = tt
+both_good : {A E : Type 0} (P Q : A → Type 0) (r : Result A E) → IfOk r P → IfOk r Q → IfOk r (λ value. P value × Q value)
+both_good P Q (Ok value) h g = (h, g)
+both_good P Q (Err fault) h g = tt
 
-post_fine : (made : ℕ) (known : List (List ℕ)) (text : List ℕ) → length known ≤ 4096 → IfOk (post_of_text known text) (IsFine made known)
-post_fine made known text few =
-    and_then_good (λ post. Ok (Posts post.pairs)) (with_parts (posting known []) (parts_of text))
-    (both_good (with_parts (posting known []) (parts_of text)) (parts_from known (parts_of text)) (parts_short known (parts_of text) few))
-    (λ post holds. record { room = λ h. absurd cc; limits = le-leb (length post.pairs) 64 holds.1.pairs; variables = omega (arith, ap length holds.0, holds.1.variables) })
+post_fine : (made : ℕ) (known : List (List ℕ)) (text : List ℕ) → IfOk (post_of_text known text) (IsFine made known)
+post_fine made known text =
+    and_then_good (λ post. IsFrom known post × IsShort known post) (IsFine made known) (λ post. Ok (Posts post.pairs)) (with_parts (posting known []) (parts_of text))
+    (both_good (IsFrom known) (IsShort known) (with_parts (posting known []) (parts_of text)) (parts_from known (parts_of text)) (parts_short known (parts_of text)))
+    (λ post holds. record { room = λ h. absurd cc; limits = le-leb (length post.pairs) 64 holds.1.pairs; variables = λ few. let all = holds.1.variables few in omega (arith, ap length holds.0) })
 
-pub call_fine : (made : ℕ) (known : List (List ℕ)) (text : List ℕ) → length known ≤ 4096 → IfOk (call_of made known text) (IsFine made known)
-call_fine made known text few =
-    cond_good (bytes_eq verb (codes "register")) (register_of made rest) unregisters (λ _. register_fine made known rest few)
-    (λ _. cond_good (bytes_eq verb (codes "unregister")) (unregister_of rest) posts (λ _. unregister_fine made known rest few)
-    (λ _. cond_good (bytes_eq verb (codes "post")) (post_of_text known rest) fetches (λ _. post_fine made known rest few)
-    (λ _. cond_good (bytes_eq verb (codes "fetch")) (ended Fetch (first_word rest)) (Err S3)
-    (λ _. ended_good Fetch (first_word rest) (record { room = λ h. absurd cc; limits = refl; variables = few })) (λ _. tt))))
+pub call_fine : (made : ℕ) (known : List (List ℕ)) (text : List ℕ) → IfOk (call_of made known text) (IsFine made known)
+call_fine made known text =
+    cond_good (IsFine made known) (bytes_eq verb (codes "register")) (register_of made rest) unregisters (λ _. register_fine made known rest)
+    (λ _. cond_good (IsFine made known) (bytes_eq verb (codes "unregister")) (unregister_of rest) posts (λ _. unregister_fine made known rest)
+    (λ _. cond_good (IsFine made known) (bytes_eq verb (codes "post")) (post_of_text known rest) fetches (λ _. post_fine made known rest)
+    (λ _. cond_good (IsFine made known) (bytes_eq verb (codes "fetch")) (ended Fetch (first_word rest)) (Err S3)
+    (λ _. ended_good (IsFine made known) Fetch (first_word rest) (record { room = λ h. absurd cc; limits = refl; variables = λ few. few })) (λ _. tt))))
   where
     verb : List ℕ
     verb = first_word text

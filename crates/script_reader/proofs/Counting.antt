@@ -1,8 +1,8 @@
 -- The counts of a script with one line more.
-use Rattle.std.proofs.Common.{◌≡◌, ℕ, ◌+◌, ◌<◌, ◌≤◌, Bool, true, false, cond, ◌&&◌, ◌==◌, nat_lt, nat_eq, List, [], ◌∷◌, ◌++◌, length, map, flat_map, refl, sym, ap, ◌∙◌, arith, append-nil, length-append, add_assoc, zero-add, get_or, set}
+use Rattle.std.proofs.Common.{◌≡◌, ℕ, ◌+◌, ◌<◌, ◌≤◌, Bool, true, false, cond, ◌&&◌, ◌==◌, nat_lt, nat_eq, List, [], ◌∷◌, ◌++◌, length, map, refl, sym, ap, ◌∙◌, arith, append-nil, length-append, add-zero, get_or, set}
 use Rattle.std.specs.Prelude.{count_by, replicate, fold, slice_index, slice_set}
-use Rattle.std.proofs.lemmas.Bool.{ltb-false}
-use Rattle.std.proofs.lemmas.List.{get_or-replicate, get_or-set_same, get_or-set_other}
+use Rattle.std.proofs.lemmas.Bool.{ltb-false, eqb-true, eqb-false}
+use Rattle.std.proofs.lemmas.List.{get_or-replicate, get_or-set_same, get_or-set_other, length-set}
 use Rattle.std.proofs.lemmas.List.Concat.{flat_map-append}
 use Rattle.std.proofs.lemmas.List.Sums.{fold-append}
 use Rattle.moos_post.specs.declared.entry.Call.{Call}
@@ -13,7 +13,7 @@ use Rattle.moos_post.specs.declared.value.Post.{Post}
 use Rattle.moos_post.specs.History.{post_of, posts_of, posts_of_entry, posts_of_call}
 use Rattle.script_reader.specs.declared.script.Script.{Script}
 use Rattle.script_reader.specs.Script.{with_variable, variables_of, is_register, registrations_of, number_of, with_client, with_call}
-use Rattle.script_reader.specs.Counts.{pairs_in, with_pairs, with_call_variables, with_made, AreCounts}
+use Rattle.script_reader.specs.Counts.{with_pairs, with_call_variables, with_made, AreCounts}
 
 abbrev and_var : List (List ℕ) → Post → List (List ℕ)
 and_var vars post = with_variable vars post.var
@@ -35,8 +35,7 @@ variables_more lines line =
     ∙ fold-append and_var [] (posts_of lines) (posts_of_entry line) ∙ call_variables line.stamp line.client (variables_of lines) line.call
 
 count_more : {X : Type 0} (p : X → Bool) (xs : List X) (x : X) → count_by p (xs ++ x ∷ []) ≡ count_by p xs + cond (p x) 1 0
-count_more p [] x = add-zero (cond (p x) 1 0) ∙ sym (zero-add (cond (p x) 1 0))
-count_more p (first ∷ xs) x = ap (λ n. cond (p first) 1 0 + n) (count_more p xs x) ∙ add_assoc (cond (p first) 1 0) (count_by p xs) (cond (p x) 1 0)
+count_more p xs x = fold-append (λ count y. count + cond (p y) 1 0) 0 xs (x ∷ [])
 
 pub registrations_more : (client : ℕ) (lines : List Entry) (line : Entry)
     → registrations_of client (lines ++ line ∷ []) ≡ registrations_of client lines + cond (line.client == client && is_register line.call) 1 0
@@ -51,4 +50,41 @@ client_length names name few among = at (nat_lt (number_of names name) (length n
 
 -- before the first line
 pub counts_none : AreCounts (record { names = []; lines = []; stop = 0 }) (replicate 64 0) []
-counts_none = record { few = omega arith; registrations = λ client within. get_or-replicate 64 client 0 0 within; posted = refl }
+counts_none = record { few = omega arith; each = refl; registrations = λ client within. get_or-replicate 64 client 0 0 within; posted = refl }
+
+registered : (made : List ℕ) (number client : ℕ) (call : Call) → number < length made
+    → slice_index (with_made made number call) client ≡ slice_index made client + cond (number == client && is_register call) 1 0
+registered made number client call within = at (is_register call) (nat_eq number client) refl
+  where
+    at : (one same : Bool) → nat_eq number client ≡ same
+        → slice_index (cond one (slice_set made number (slice_index made number + 1)) made) client ≡ slice_index made client + cond (same && one) 1 0
+    at false true is = sym (add-zero (slice_index made client))
+    at false false is = sym (add-zero (slice_index made client))
+    at true true is =
+        let same : number ≡ client = eqb-true number client is in
+        ap (λ n. get_or (set made number (slice_index made number + 1)) n 0) (sym same)
+        ∙ get_or-set_same made number (slice_index made number + 1) 0 within ∙ ap (λ n. slice_index made n + 1) same
+    at true false is =
+        get_or-set_other made number client (slice_index made number + 1) 0 (λ same. eqb-false number client is (sym same))
+        ∙ sym (add-zero (slice_index made client))
+
+-- the counts with a client's call more
+pub counts_more : (script : Script) (made : List ℕ) (variables : List (List ℕ)) (stamp number : ℕ) (name : List ℕ) (call : Call) → AreCounts script made variables
+    → number ≡ number_of script.names name → number_of script.names name < 64
+    → AreCounts (with_call script stamp name call) (with_made made number call) (with_call_variables variables call)
+counts_more script made variables stamp number name call counts is among =
+    let line : Entry = record { stamp = stamp; client = number_of script.names name; call = call } in
+    record {
+      few = client_length script.names name counts.few among;
+      each = made_length (is_register call);
+      registrations = λ client within.
+        registered made number client call (omega (arith, is, counts.each))
+        ∙ ap (λ n. slice_index made client + cond (n == client && is_register call) 1 0) is
+        ∙ ap (λ n. n + cond (number_of script.names name == client && is_register call) 1 0) (counts.registrations client within)
+        ∙ sym (registrations_more client script.lines line);
+      posted = ap (λ known. with_call_variables known call) counts.posted ∙ sym (variables_more script.lines line);
+    }
+  where
+    made_length : (one : Bool) → length (cond one (slice_set made number (slice_index made number + 1)) made) ≡ 64
+    made_length true = length-set made number (slice_index made number + 1) ∙ counts.each
+    made_length false = counts.each

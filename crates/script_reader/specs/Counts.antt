@@ -27,5 +27,6 @@ with_made made client call = if is_register call then slice_set made client (sli
 -- how many registrations each of 64 clients has made, and which variables are posted
 pub record AreCounts (script : Script) (made : List ℕ) (variables : List (List ℕ)) : Type 0 where
   pub few : length script.names ≤ 64
+  pub each : length made ≡ 64
   pub registrations : (client : ℕ) → client < 64 → slice_index made client ≡ registrations_of client script.lines
   pub posted : variables ≡ variables_of script.lines

@@ -110,7 +110,7 @@ impl Reading {
             self.script.stop = stamp;
             return Ok(());
         }
-        let name = client_of(alloc, self.script.names.all(), word)?;
+        let name = client_of(alloc, &self.script.names, word)?;
         self.read_call(alloc, rest, stamp, name)
     }
 
@@ -123,7 +123,7 @@ impl Reading {
         ensures counted { OnOk result (AreCounts self.new.script self.new.made self.new.variables) }
         ensures same { self.new.filled ≡ self.old.filled }
     {
-        let number = number_of(self.script.names.all(), name.bytes());
+        let number = number_of(&self.script.names, name.bytes());
         let call = call_of(alloc, self.made[number], &mut self.variables, text)?;
         count(&mut self.made, number, &call);
         add_call(&mut self.script, stamp, number, name, call)?;
@@ -157,7 +157,7 @@ fn not_before(last: u64, stamp: u64) -> Result<u64, Cause>
 }
 
 // The name of a client, which is one of the first 64.
-fn client_of(alloc: Global, names: &[Name], word: &[u8]) -> Result<Name, LineFault>
+fn client_of(alloc: Global, names: &Names, word: &[u8]) -> Result<Name, LineFault>
     ensures name { IfOk result (λ name. name ≡ word.now) }
     ensures client { OnOk result (client_of names.now word.now ≡ Ok (number_of names.now word.now)) }
     ensures among { OnOk result (number_of names.now word.now < 64) }
@@ -212,10 +212,10 @@ fn join(names: &mut Names, number: usize, name: Name) -> Result<(), NoMemory>
 
 // A client's number is its place among the names, or the next place where it is new.
 #[tactic(auto, using(crate::proofs::Places::position_or_len_of))]
-fn number_of(names: &[Name], client: &[u8]) -> usize
+fn number_of(names: &Names, client: &[u8]) -> usize
     ensures { result ≡ number_of names.now client.now }
 {
-    place_of(names, client).unwrap_or(names.len())
+    place_of(names.all(), client).unwrap_or(names.len())
 }
 
 fn place_of(names: &[Name], client: &[u8]) -> Option<usize>

@@ -1,6 +1,3 @@
-use Rattle.std.proofs.Common.{◌≡◌, ℕ, List}
-use Rattle.script_reader.specs.declared.script.Script.{Script}
-use Rattle.script_reader.specs.Counts.{AreCounts}
 use Rattle.script_reader.proofs.Counting.{counts_none}
 use Rattle.script_reader.proofs.reading.Reading.new.Goals as goal
 

@@ -1,4 +1,4 @@
-use Rattle.std.proofs.Common.{◌≡◌, ℕ, List, map, sym, ap, ◌∙◌}
+use Rattle.std.proofs.Common.{ℕ, List, map, ap, ◌∙◌}
 use Rattle.script_reader.specs.Script.{with_variable}
 use Rattle.script_reader.proofs.VariableSet.{with_variable-map}
 use Rattle.script_reader.proofs.variables.Variables.insert.Goals as goal
