@@ -116,7 +116,7 @@ pair_from : (known : List (List ℕ)) (post : Posting) (pair : Pair) → IsFrom 
 pair_from known post pair from =
     cond_good (IsFrom known) (nat_le 64 (length post.pairs)) (Err (S8 InBatch)) (and_then add (with_known post.variables pair.var)) (λ _. tt)
     (λ _. and_then_good (λ more. more ≡ with_variable post.variables pair.var) (IsFrom known) add (with_known post.variables pair.var) (known_is post.variables pair.var)
-      (λ more is. is ∙ ap (λ vars. with_variable vars pair.var) from ∙ sym (with_pairs_more known post.pairs pair)))
+    (λ more is. is ∙ ap (λ vars. with_variable vars pair.var) from ∙ sym (with_pairs_more known post.pairs pair)))
   where
     add : List (List ℕ) → Result Posting Cause
     add variables = Ok (posting variables (post.pairs ++ pair ∷ []))
@@ -125,10 +125,10 @@ pair_short : (known : List (List ℕ)) (post : Posting) (pair : Pair) → IsShor
 pair_short known post pair short =
     cond_good (IsShort known) (nat_le 64 (length post.pairs)) (Err (S8 InBatch)) (and_then add (with_known post.variables pair.var)) (λ _. tt)
     (λ room. and_then_good (λ more. length post.variables ≤ 4096 → length more ≤ 4096) (IsShort known) add (with_known post.variables pair.var) (known_short post.variables pair.var)
-      (λ more few. record {
-        pairs = let below = leb-false 64 (length post.pairs) room in omega (arith, length-append post.pairs (pair ∷ []));
-        variables = λ all. few (short.variables all);
-      }))
+    (λ more few. record {
+      pairs = let below = leb-false 64 (length post.pairs) room in omega (arith, length-append post.pairs (pair ∷ []));
+      variables = λ all. few (short.variables all);
+    }))
   where
     add : List (List ℕ) → Result Posting Cause
     add variables = Ok (posting variables (post.pairs ++ pair ∷ []))

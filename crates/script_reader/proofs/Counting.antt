@@ -78,10 +78,10 @@ counts_more script made variables stamp number name call counts is among =
       few = client_length script.names name counts.few among;
       each = made_length (is_register call);
       registrations = λ client within.
-        registered made number client call (omega (arith, is, counts.each))
-        ∙ ap (λ n. slice_index made client + cond (n == client && is_register call) 1 0) is
-        ∙ ap (λ n. n + cond (number_of script.names name == client && is_register call) 1 0) (counts.registrations client within)
-        ∙ sym (registrations_more client script.lines line);
+          registered made number client call (omega (arith, is, counts.each))
+          ∙ ap (λ n. slice_index made client + cond (n == client && is_register call) 1 0) is
+          ∙ ap (λ n. n + cond (number_of script.names name == client && is_register call) 1 0) (counts.registrations client within)
+          ∙ sym (registrations_more client script.lines line);
       posted = ap (λ known. with_call_variables known call) counts.posted ∙ sym (variables_more script.lines line);
     }
   where

@@ -224,7 +224,7 @@ words_sound script text sound =
     and_then_good IsLate (IsNext (length script.lines)) (after_stamp script (behind_word text)) (and_then (not_before script.stop) (ok_or (time_of (first_word text)) S1))
     (and_then_good IsEarly IsLate (not_before script.stop) (ok_or (time_of (first_word text)) S1) (early (time_of (first_word text)) (time_early (first_word text)))
     (λ stamp soon. cond_good IsLate (nat_lt stamp script.stop) (Err S2) (Ok stamp) (λ _. tt)
-      (λ back. (ltb-false stamp script.stop back, leb-true stamp 1000000000 soon))))
+    (λ back. (ltb-false stamp script.stop back, leb-true stamp 1000000000 soon))))
     (λ stamp late. stamp_sound script (behind_word text) stamp sound late)
   where
     IsLate : ℕ → Type 0

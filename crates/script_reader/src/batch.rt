@@ -14,11 +14,7 @@ use std::alloc::Global;
 const MAX_PAIRS: usize = 64;
 
 /// The pairs of a post, in which `variables` gains its variables; or the first refusal of them.
-pub fn read_batch(
-    alloc: Global,
-    variables: &mut Variables,
-    text: &[u8],
-) -> Result<Batch, LineFault>
+pub fn read_batch(alloc: Global, variables: &mut Variables, text: &[u8]) -> Result<Batch, LineFault>
     ensures read { IfOk result (λ pairs. with_parts (posting variables.old []) (parts_of text.now) ≡ Ok (posting variables.new pairs)) }
     ensures refused { IfErr result (λ fault. IsLineFault fault (with_parts (posting variables.old []) (parts_of text.now))) }
 {

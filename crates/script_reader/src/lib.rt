@@ -16,3 +16,6 @@ mod word;
 
 pub use read::read_script;
 pub use script::{Lines, Order, Script};
+
+#[cfg(test)]
+mod tests;

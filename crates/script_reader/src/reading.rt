@@ -16,6 +16,7 @@ use std::alloc::{AllocError, Global};
 
 // The most lines that aren't blank, and the most clients.
 const MAX_LINES: usize = 100_000;
+
 const MAX_CLIENTS: usize = 64;
 
 /// The script so far, how many of its lines weren't blank, how many registrations each client has made, and which
@@ -47,7 +48,12 @@ impl Reading {
     }
 
     /// Reads one line more, of which this counts. A blank line says nothing.
-    pub fn read_line(&mut self, alloc: Global, content: &[u8], unclosed: bool) -> Result<(), LineFault>
+    pub fn read_line(
+        &mut self,
+        alloc: Global,
+        content: &[u8],
+        unclosed: bool,
+    ) -> Result<(), LineFault>
         requires counted { AreCounts self.old.script self.old.made self.old.variables }
         requires quotes { unclosed ≡ is_unclosed content.now }
         ensures read { IfOk result (λ _. after_line (progress self.old.script self.old.filled) content.now (first_word content.now)
@@ -63,7 +69,12 @@ impl Reading {
     }
 
     // Reads a line that isn't blank.
-    fn read_filled(&mut self, alloc: Global, content: &[u8], unclosed: bool) -> Result<(), LineFault>
+    fn read_filled(
+        &mut self,
+        alloc: Global,
+        content: &[u8],
+        unclosed: bool,
+    ) -> Result<(), LineFault>
         requires counted { AreCounts self.old.script self.old.made self.old.variables }
         requires quotes { unclosed ≡ is_unclosed content.now }
         ensures read { IfOk result (λ _. after_filled (progress self.old.script self.old.filled) content.now
@@ -115,7 +126,13 @@ impl Reading {
     }
 
     // Reads the call of the client of this name.
-    fn read_call(&mut self, alloc: Global, text: &[u8], stamp: u64, name: Name) -> Result<(), LineFault>
+    fn read_call(
+        &mut self,
+        alloc: Global,
+        text: &[u8],
+        stamp: u64,
+        name: Name,
+    ) -> Result<(), LineFault>
         requires counted { AreCounts self.old.script self.old.made self.old.variables }
         requires among { number_of self.old.script.names name < 64 }
         ensures read { IfOk result (λ _. after_client self.old.script stamp name text.now (number_of self.old.script.names name) ≡ Ok self.new.script) }
@@ -153,7 +170,11 @@ fn count(made: &mut [u32; 64], number: usize, call: &Call)
 fn not_before(last: u64, stamp: u64) -> Result<u64, Cause>
     ensures { result ≡ not_before last stamp }
 {
-    if stamp < last { Err(Cause::S2) } else { Ok(stamp) }
+    if stamp < last {
+        Err(Cause::S2)
+    } else {
+        Ok(stamp)
+    }
 }
 
 // The name of a client, which is one of the first 64.
@@ -178,7 +199,13 @@ fn client_of(alloc: Global, names: &Names, word: &[u8]) -> Result<Name, LineFaul
 }
 
 // Adds a call of the client of this number, whose name joins the others where it is new.
-fn add_call(script: &mut Script, stamp: u64, number: usize, name: Name, call: Call) -> Result<(), NoMemory>
+fn add_call(
+    script: &mut Script,
+    stamp: u64,
+    number: usize,
+    name: Name,
+    call: Call,
+) -> Result<(), NoMemory>
     requires number { number ≡ number_of script.old.names name }
     requires among { number < 64 }
     ensures { OnOk result (script.new ≡ with_call script.old stamp name call) }
