@@ -18,7 +18,7 @@ use Rattle.script_reader.specs.Script.{and_then, ended, milliseconds_of, time_of
 use Rattle.script_reader.specs.Validity.{keeps_limits}
 use Rattle.script_reader.specs.Counts.{with_pairs, with_call_variables}
 use Rattle.script_reader.proofs.Judging.{cond_good, and_then_good, ended_good}
-use Rattle.script_reader.proofs.Tests.{both_true}
+use Rattle.script_reader.proofs.Conjunctions.{both_true}
 
 -- what every call keeps: a registration has room for one more, the limits of a line, and those of variables
 pub record IsFine (made : ℕ) (known : List (List ℕ)) (call : Call) : Type 0 where

@@ -21,7 +21,7 @@ use Rattle.script_reader.proofs.Calls.{IsFine, IsEarly, time_early, call_fine}
 use Rattle.script_reader.proofs.Counting.{client_length, registrations_more, variables_more}
 use Rattle.script_reader.proofs.Judging.{cond_good, and_then_good, ended_good, at_good}
 use Rattle.script_reader.proofs.Places.{position_or_len-le-length}
-use Rattle.script_reader.proofs.Tests.{left_true, right_true, both_true}
+use Rattle.script_reader.proofs.Conjunctions.{left_true, right_true, both_true}
 
 -- the four tests of a line, of which the last one is that of the lines behind it
 line_tests : (a b c d : Bool) → (a && b && c && d) ≡ true → (a ≡ true) × (b ≡ true) × (c ≡ true) × (d ≡ true)

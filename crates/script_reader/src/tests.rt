@@ -170,12 +170,12 @@ fn refusals(rt: HostRuntime) {
 }
 
 // So many times what stands before a count, the count from 0 up, and what stands behind it.
-fn counted(alloc: Global, count: u64, before: &[u8], behind: &[u8]) -> Result<Vec<u8>, AllocError> {
+fn counted(alloc: Global, count: u32, before: &[u8], behind: &[u8]) -> Result<Vec<u8>, AllocError> {
     let mut text = Vec::new(alloc);
     for number in 0..count {
         append(
             &mut text,
-            &[before, print_seconds(number * 1000).bytes(), behind],
+            &[before, print_seconds(number as u64 * 1000).bytes(), behind],
         )?;
     }
     Ok(text)
