@@ -1,11 +1,9 @@
-ghost use Rattle.std.specs.Prelude.{◌≡◌, ◌<◌, ℕ, IsTrue, nat_lt, int_le, pos, ◌&&◌};
-ghost use Rattle.ivp_domain.specs.Boxes.{is_box};
-ghost use Rattle.ivp_domain.specs.Domains.{is_point, size_on};
-ghost use Rattle.ivp_func.specs.Pieces.{are_pieces_of, is_base, is_box_of, is_flat_past, is_piece_of, is_slope, is_small, slope_on};
+ghost use Rattle.std.specs.Prelude.{◌≡◌, ◌<◌, IsTrue};
+ghost use Rattle.ivp_domain.specs.Domains.{is_point};
 
 use crate::best_in_one;
 use ivp_domain::{Axis, AxisName, BoxN, Domain, Point, Steps};
-use ivp_func::{Func, Piece};
+use ivp_func::{Func, Piece, are_pieces_of};
 use ivp_problem::{Key, Problem, Term, index_of_key, key_of, sum_of};
 use std::alloc::Global;
 use std::marker::Brand;
@@ -13,86 +11,10 @@ use std::process::Abort;
 use std::sync::ledger::{Blank, Ledger};
 use std::test::Fail;
 
-fn is_proper(area: &BoxN) -> bool
-    ensures { result ≡ is_box area.now }
-{
-    area.low[0] <= area.high[0]
-        && area.low[1] <= area.high[1]
-        && area.low[2] <= area.high[2]
-        && area.low[3] <= area.high[3]
-}
-
-fn is_below(domain: &Domain, axis: u32, place: u32) -> bool
-    ensures { result ≡ nat_lt place (size_on axis domain.now) }
-{
-    if axis < domain.axes() {
-        place < domain.axis(axis).points
-    } else {
-        place < 1
-    }
-}
-
-fn is_inside(domain: &Domain, area: &BoxN) -> bool
-    ensures { result ≡ is_box_of domain.now area.now }
-{
-    is_proper(area)
-        && is_below(domain, 0, area.high[0])
-        && is_below(domain, 1, area.high[1])
-        && is_below(domain, 2, area.high[2])
-        && is_below(domain, 3, area.high[3])
-}
-
-fn is_slight(slope: i64) -> bool
-    ensures { result ≡ is_slope slope }
-{
-    -100_000 <= slope && slope <= 100_000
-}
-
-fn is_near(base: i64) -> bool
-    ensures { result ≡ is_base base }
-{
-    -1_000_000_000_000 <= base && base <= 1_000_000_000_000
-}
-
-fn begins_bounded(piece: &Piece) -> bool
-    ensures { result ≡ (is_base piece.now.base && is_slope (slope_on 0 piece.now) && is_slope (slope_on 1 piece.now)) }
-{
-    is_near(piece.base) && is_slight(piece.slope[0]) && is_slight(piece.slope[1])
-}
-
-fn is_bounded(piece: &Piece) -> bool
-    ensures { result ≡ is_small piece.now }
-{
-    begins_bounded(piece) && is_slight(piece.slope[2]) && is_slight(piece.slope[3])
-}
-
-fn is_flat(domain: &Domain, axis: u32, piece: &Piece) -> bool
-    requires { axis < 4 }
-    ensures { result ≡ is_flat_past domain.now axis piece.now }
-{
-    axis < domain.axes() || (0 <= piece.slope[axis as usize] && piece.slope[axis as usize] <= 0)
-}
-
-fn fits(domain: &Domain, piece: &Piece) -> bool
-    ensures { result ≡ is_piece_of domain.now piece.now }
-{
-    is_inside(domain, &piece.area)
-        && is_bounded(piece)
-        && is_flat(domain, 1, piece)
-        && is_flat(domain, 2, piece)
-        && is_flat(domain, 3, piece)
-}
-
-fn all_fit(domain: &Domain, pieces: &[Piece]) -> bool
-    ensures { result ≡ are_pieces_of domain.now pieces.now }
-{
-    pieces.iter().all(|piece| fits(domain, piece))
-}
-
 /// A term of these pieces, where they make a function.
 fn term(alloc: Global, domain: &Domain, weight: u32, pieces: &[Piece]) -> Result<Term, Fail> {
     let pieces = Vec::from_slice(alloc, pieces)?;
-    if !all_fit(domain, &pieces) {
+    if !are_pieces_of(domain, &pieces) {
         return Err("pieces that fit")?;
     }
     let func = Func::make(alloc, domain, pieces).map_err(|_| "a function")?;
