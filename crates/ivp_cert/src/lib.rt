@@ -3,7 +3,7 @@
 //! The contract for the layer above: `read_problem` gives the problem that stands in the bytes, or the first refusal
 //! with its line and its cause.
 //!
-//! Reading order: `stage`, `terms`, `unfinished`, `read`.
+//! Reading order: `words`, `piece`, `terms`, `unfinished`, `stage`, `read`.
 #![tactic(auto)]
 
 mod piece;
