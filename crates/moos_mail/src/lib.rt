@@ -1,0 +1,17 @@
+// What is mailed to one client: the numbers of the posts that wait for its next fetch, and of all that were ever mailed.
+//
+// The contract for the layers above: a mailbox is the list that waits, the list of all numbers ever mailed, and how many
+// more can be mailed without memory. Memory is taken by `reserve` alone, so that a caller can take it for a whole call
+// before anything changes. Asking whether a number was mailed and mailing one take constant time, on average.
+//
+// Reading order: `numbers` is the list that a fetch takes, `mailbox` the rest.
+#![tactic(auto)]
+
+mod mailbox;
+mod numbers;
+
+pub use mailbox::Mailbox;
+pub use numbers::Numbers;
+
+#[cfg(test)]
+mod tests;

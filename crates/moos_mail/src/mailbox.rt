@@ -1,0 +1,95 @@
+ghost use Rattle.std.specs.Prelude.{◌≡◌, ◌≤◌, ◌+◌, ◌++◌, ◌∷◌, [], false, OnOk, OnErr};
+ghost use Rattle.moos_mail.specs.Mailboxes.{is_among};
+
+use crate::numbers::Numbers;
+use indexmap::IndexSet;
+use moos_post::NoMemory;
+use std::alloc::Global;
+use std::marker::Model;
+use std::mem;
+
+/// What is mailed to one client.
+///
+/// Contracts see the numbers that wait for the next fetch, all that were ever mailed, both in the order of mailing, and
+/// the spare room: how many more can be mailed without memory.
+#[derive(Drop)]
+pub struct Mailbox {
+    mailed: IndexSet<u64>,
+    waiting: Vec<u64>,
+}
+
+impl Model for Mailbox {
+    ghost use Rattle.std.specs.Prelude.{◌-◌, min, vec_len, vec_capacity};
+    ghost use Rattle.indexmap.specs.IndexSet.{spare};
+    ghost use Rattle.moos_mail.specs.Mailboxes.{Held};
+
+    ghost Value = { Held };
+
+    ghost view = { λ mailbox. record {
+      waiting = mailbox.waiting.items;
+      mailed = mailbox.mailed.keys;
+      spare = min (spare mailbox.mailed) (vec_capacity mailbox.waiting - vec_len mailbox.waiting);
+    } };
+}
+
+impl Mailbox {
+    /// A mailbox to which nothing was mailed. It takes no memory.
+    pub fn make(alloc: Global) -> Mailbox
+        ensures waiting { result.waiting ≡ [] }
+        ensures mailed { result.mailed ≡ [] }
+    {
+        Mailbox {
+            mailed: IndexSet::new(alloc),
+            waiting: Vec::new(alloc),
+        }
+    }
+
+    /// Makes room for as many numbers more. After either answer the numbers are what they were, and without memory there
+    /// is no less room than before.
+    pub fn reserve(&mut self, more: usize) -> Result<(), NoMemory>
+        ensures room { OnOk result (more ≤ self.new.spare) }
+        ensures kept { OnErr result (self.old.spare ≤ self.new.spare) }
+        ensures waiting { self.new.waiting ≡ self.old.waiting }
+        ensures mailed { self.new.mailed ≡ self.old.mailed }
+    {
+        self.mailed.reserve(more)?;
+        self.waiting.reserve(more)?;
+        Ok(())
+    }
+
+    /// Mails the post with this number, which was never mailed. It takes no memory, and at most one place of the room.
+    #[tactic(auto, using(crate::proofs::Mailing::goes_last))]
+    pub fn append(&mut self, number: u64)
+        requires room { 1 ≤ self.old.spare }
+        requires new { is_among number self.old.mailed ≡ false }
+        ensures waiting { self.new.waiting ≡ self.old.waiting ++ number ∷ [] }
+        ensures mailed { self.new.mailed ≡ self.old.mailed ++ number ∷ [] }
+        ensures spare { self.old.spare ≤ self.new.spare + 1 }
+    {
+        let _ = self.mailed.insert(number);
+        let _ = self.waiting.push(number);
+    }
+
+    /// Whether the post with this number was ever mailed.
+    pub fn mailed(&self, number: u64) -> bool
+        ensures { result ≡ is_among number self.now.mailed }
+    {
+        self.mailed.contains(&number)
+    }
+
+    /// The numbers that wait for the next fetch. It takes no memory.
+    pub fn waiting(&self) -> &[u64]
+        ensures { result.now ≡ self.now.waiting }
+    {
+        self.waiting.as_slice()
+    }
+
+    /// The numbers that waited; from then on none does. It takes no memory, and leaves no room.
+    pub fn take_all(&mut self, alloc: Global) -> Numbers
+        ensures given { result ≡ self.old.waiting }
+        ensures waiting { self.new.waiting ≡ [] }
+        ensures mailed { self.new.mailed ≡ self.old.mailed }
+    {
+        Numbers::of(mem::replace(&mut self.waiting, Vec::new(alloc)))
+    }
+}
