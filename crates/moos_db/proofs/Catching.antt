@@ -1,14 +1,20 @@
--- The loops over posts: one more post of a search for a variable, and one more post that may catch up.
-use Rattle.std.proofs.Common.{◌≡◌, ℕ, zero, suc, ◌+◌, ◌<◌, ◌≤◌, Bool, true, false, ◌||◌, List, [], ◌∷◌, length, map, take, drop, slice_get, Option, Some, None, option_map, bytes_eq, refl, ap, sym, ◌∙◌, arith, if◌then◌else◌}
-use Rattle.std.specs.List.{list_any}
-use Rattle.std.proofs.Math.Seq.{drop-cons}
-use Rattle.std.proofs.lemmas.Option.{slice_get_within, get_or_from_slice_get}
+-- What a call changes in what is kept of a client: the posts that catch up are found by the table of latest posts, and no
+-- number is mailed that was mailed before.
+use Rattle.std.proofs.Common.{◌≡◌, ℕ, zero, suc, ◌+◌, ◌<◌, ◌≤◌, Bool, true, false, ◌||◌, ◌&&◌, ◌==◌, not, List, [], ◌∷◌, ◌++◌, length, map, fold, take, drop, get_or, slice_get, Option, Some, None, All, append_assoc, refl, ap, sym, ◌∙◌, arith, subst, if◌then◌else◌}
+use Rattle.std.specs.List.{list_any, AllByRecursion}
+use Rattle.std.proofs.lemmas.List.{length-take, take-append-drop}
+use Rattle.std.proofs.lemmas.List.Sums.{fold-append}
+use Rattle.std.proofs.Math.Seq.{take-suc}
 use Rattle.moos_post.specs.declared.entry.Call.{Call}
 use Rattle.moos_post.specs.declared.entry.Call.TheVariants.{Register, Unregister, Post as Posts, Fetch}
-use Rattle.moos_post.specs.declared.value.Pair.{Pair}
 use Rattle.moos_post.specs.declared.value.Post.{Post}
-use Rattle.moos_db.specs.Database.{pair_of}
-use Rattle.moos_db.specs.Kept.{Kept, Held, is_due_held, with_stamp, passed, with_mailed, with_due, catches_kept, with_caught, kept_catching, kept_own}
+use Rattle.moos_post.specs.Delivery.{is_latest}
+use Rattle.moos_post.specs.History.{name_of}
+use Rattle.moos_db.specs.Kept.{Kept, Held, is_due_held, is_new_held, with_stamp, passed, with_mailed, with_due, kept_post, catch_post, catch_found, catch_number, catches_kept, with_caught, kept_catching, kept_own, IsFresh}
+use Rattle.moos_db.specs.Tables.{latest_from}
+use Rattle.moos_db.proofs.Latests.{list_any-push}
+use Rattle.moos_db.proofs.Orderly.{length-push}
+use Rattle.moos_db.proofs.Standing.{slice_get-seam}
 
 pub slice_get-some : {X : Type 0} (xs : List X) (i : ℕ) → i < length xs → (x : X) × (slice_get xs i ≡ Some x)
 slice_get-some [] i below = absurd (omega arith)
@@ -20,27 +26,6 @@ slice_get-take [] i (suc n) below = refl
 slice_get-take (x ∷ xs) zero (suc n) below = refl
 slice_get-take (x ∷ xs) (suc i) (suc n) below = slice_get-take xs i n (omega arith)
 slice_get-take xs i zero below = absurd (omega arith)
-
-drop-next : {X : Type 0} (xs : List X) (i : ℕ) (x : X) → slice_get xs i ≡ Some x → drop i xs ≡ x ∷ drop (i + 1) xs
-drop-next xs i x there =
-    let within : i < length xs = slice_get_within xs i x there in
-    let next : suc i ≡ i + 1 = omega arith in
-    drop-cons xs i x within ∙ ap (λ one. one ∷ drop (suc i) xs) (get_or_from_slice_get xs i x x there) ∙ ap (λ n. x ∷ drop n xs) next
-
--- the search for a post of the variable, from one post on
-pub list_any-next : (var : List ℕ) (posts : List Post) (number to : ℕ) (pair : Pair) → number < to → option_map pair_of (slice_get posts number) ≡ Some pair →
-    list_any (λ other. bytes_eq other.var var) (drop number (take to posts))
-    ≡ (bytes_eq pair.var var || list_any (λ other. bytes_eq other.var var) (drop (number + 1) (take to posts)))
-list_any-next var posts number to pair below there = through (slice_get posts number) refl there
-  where
-    through : (found : Option Post) → slice_get posts number ≡ found → option_map pair_of found ≡ Some pair →
-        list_any (λ other. bytes_eq other.var var) (drop number (take to posts))
-        ≡ (bytes_eq pair.var var || list_any (λ other. bytes_eq other.var var) (drop (number + 1) (take to posts)))
-    through None is e = absurd (let e' : None ≡ Some pair = e in cc)
-    through (Some post) is e =
-        let same : pair_of post ≡ pair = cc in
-        ap (list_any (λ other. bytes_eq other.var var)) (drop-next (take to posts) number post (slice_get-take posts number to below ∙ is))
-        ∙ ap (λ (p : Pair). bytes_eq p.var var || list_any (λ other. bytes_eq other.var var) (drop (number + 1) (take to posts))) same
 
 -- a post that is due nowhere changes no registration
 passed-none : (stamp : ℕ) (var source : List ℕ) (lives : List Held) → list_any (is_due_held stamp var source) lives ≡ false → map (passed stamp var source) lives ≡ lives
@@ -57,16 +42,63 @@ with_due-none stamp source kept var none =
     sym (ap (λ lives. record kept { lives = lives }) (passed-none stamp var source kept.lives (sym none)))
     ∙ ap (λ due. record (if due then with_mailed kept.posts kept else kept) { lives = map (passed stamp var source) kept.lives }) none
 
--- one more post that may catch up
-pub kept_catching-next : (names : List (List ℕ)) (number to : ℕ) (old new : Kept) (posts : List Post) → number < to → to ≤ length posts →
-    ((post : Post) → slice_get posts number ≡ Some post → new ≡ (if catches_kept names old number post (drop (number + 1) (take to posts)) then with_caught names old number post else old)) →
-    kept_catching names (number + 1) new (drop (number + 1) (take to posts)) ≡ kept_catching names number old (drop number (take to posts))
-kept_catching-next names number to old new posts below within step =
-    let found : (post : Post) × (slice_get posts number ≡ Some post) = slice_get-some posts number (omega arith) in
-    let next : number + 1 ≡ suc number = omega arith in
-    ap (λ n. kept_catching names n new (drop (number + 1) (take to posts))) next
-    ∙ ap (λ kept. kept_catching names (suc number) kept (drop (number + 1) (take to posts))) (step found.0 found.1)
-    ∙ ap (kept_catching names number old) (sym (drop-next (take to posts) number found.0 (slice_get-take posts number to below ∙ found.1)))
+-- only the latest post of a variable catches up, so the others can be left out
+catching-latest : (names : List (List ℕ)) (all front : List Post) (kept : Kept) (posts rest : List Post) → all ≡ front ++ (posts ++ rest) →
+    kept_catching names (length front) kept posts ≡ fold (catch_number names all) kept (latest_from (length front) posts)
+catching-latest names all front kept [] rest is = refl
+catching-latest names all front kept (post ∷ later) rest is =
+    let there : slice_get all (length front) ≡ Some post = ap (λ posts. slice_get posts (length front)) is ∙ slice_get-seam front post (later ++ rest) in
+    let next : length (front ++ post ∷ []) ≡ suc (length front) = length-push front post in
+    through (is_latest post later)
+    (λ now. subst (λ n. kept_catching names n now later ≡ fold (catch_number names all) now (latest_from n later)) next
+    (catching-latest names all (front ++ post ∷ []) now later rest (is ∙ sym (append_assoc front (post ∷ []) (later ++ rest)))))
+    there
+  where
+    through : (newest : Bool) → ((now : Kept) → kept_catching names (suc (length front)) now later ≡ fold (catch_number names all) now (latest_from (suc (length front)) later)) →
+        slice_get all (length front) ≡ Some post →
+        kept_catching names (suc (length front)) (if newest && list_any (is_new_held kept.seen post.var (name_of names post.source)) kept.lives && not (list_any (λ one. one == length front) kept.mailed) then with_caught names kept (length front) post else kept) later
+        ≡ fold (catch_number names all) kept (if newest then length front ∷ latest_from (suc (length front)) later else latest_from (suc (length front)) later)
+    through true go there = go (catch_post names (length front) kept post) ∙ ap (λ found. fold (catch_number names all) (catch_found names (length front) kept found) (latest_from (suc (length front)) later)) (sym there)
+    through false go there = go kept
+
+-- The first posts catch up, as many as these.
+pub catching-numbers : (names : List (List ℕ)) (kept : Kept) (posts : List Post) (count : ℕ) →
+    kept_catching names 0 kept (take count posts) ≡ fold (catch_number names posts) kept (latest_from 0 (take count posts))
+catching-numbers names kept posts count = catching-latest names posts [] kept (take count posts) (drop count posts) (sym (take-append-drop count posts))
+
+latest-below : (number : ℕ) (posts : List Post) → AllByRecursion (λ n. n < number + length posts) (latest_from number posts)
+latest-below number [] = tt
+latest-below number (post ∷ later) = through (is_latest post later) (subst (λ end. AllByRecursion (λ n. n < end) (latest_from (suc number) later)) (let e : suc number + length later ≡ number + suc (length later) = omega arith in e) (latest-below (suc number) later))
+  where
+    through : (newest : Bool) → AllByRecursion (λ n. n < number + suc (length later)) (latest_from (suc number) later) →
+        AllByRecursion (λ n. n < number + suc (length later)) (if newest then number ∷ latest_from (suc number) later else latest_from (suc number) later)
+    through true rest = (omega arith, rest)
+    through false rest = rest
+
+pub all-below : (number : ℕ) (numbers : List ℕ) → AllByRecursion (λ n. n < number) numbers → All (λ n. n < number) numbers
+all-below number [] below k d within = absurd (omega arith)
+all-below number (n ∷ numbers) below zero d within = below.0
+all-below number (n ∷ numbers) below (suc k) d within = all-below number numbers below.1 k d (omega arith)
+
+-- each of the latest posts is a post
+pub latest-posts : (posts : List Post) (count : ℕ) (numbers : List ℕ) (place number : ℕ) → numbers ≡ latest_from 0 (take count posts) → place < length numbers → number ≡ get_or numbers place 0 → number < length posts
+latest-posts posts count numbers place number are below is =
+    let some : All (λ n. n < 0 + length (take count posts)) (latest_from 0 (take count posts)) = all-below (0 + length (take count posts)) _ (latest-below 0 (take count posts)) in
+    let here : get_or numbers place 0 < 0 + length (take count posts) = subst (All (λ n. n < 0 + length (take count posts))) (sym are) some place 0 below in
+    omega (arith, here, is, length-take count posts)
+
+-- one of the latest posts catches up after those before it
+pub catching-next : (names : List (List ℕ)) (posts : List Post) (start old new : Kept) (numbers : List ℕ) (place number : ℕ) → number < length posts → place < length numbers → number ≡ get_or numbers place 0 →
+    ((post : Post) → slice_get posts number ≡ Some post → new ≡ catch_post names number old post) → old ≡ fold (catch_number names posts) start (take place numbers) →
+    new ≡ fold (catch_number names posts) start (take (place + 1) numbers)
+catching-next names posts start old new numbers place number within below is step before =
+    let found : (post : Post) × (slice_get posts number ≡ Some post) = slice_get-some posts number within in
+    let next : place + 1 ≡ suc place = omega arith in
+    step found.0 found.1
+    ∙ ap (catch_found names number old) (sym found.1)
+    ∙ ap (λ kept. catch_number names posts kept number) before
+    ∙ sym (fold-append (catch_number names posts) start (take place numbers) (number ∷ []))
+    ∙ ap (fold (catch_number names posts) start) (sym (ap (λ n. take n numbers) next ∙ take-suc numbers place 0 below ∙ ap (λ n. take place numbers ++ n ∷ []) (sym is)))
 
 posts-catching : (names : List (List ℕ)) (number : ℕ) (kept : Kept) (posts : List Post) → (kept_catching names number kept posts).posts ≡ kept.posts
 posts-catching names number kept [] = refl
@@ -83,3 +115,38 @@ kept_posts-own names posts kept true (Register regs) = posts-catching names 0 _ 
 kept_posts-own names posts kept true (Unregister var source) = refl
 kept_posts-own names posts kept true (Posts batch) = refl
 kept_posts-own names posts kept true Fetch = refl
+
+-- numbers from the count of posts on stay fresh
+unlike : (m n : ℕ) → m < n → (m == n) ≡ false
+unlike m n below = grind arith
+
+fresh-push : (posts number : ℕ) (mailed : List ℕ) → number < posts → ((n : ℕ) → posts ≤ n → list_any (λ one. one == n) mailed ≡ false) →
+    (n : ℕ) → posts ≤ n → list_any (λ one. one == n) (mailed ++ number ∷ []) ≡ false
+fresh-push posts number mailed below fresh n from =
+    list_any-push (λ one. one == n) mailed number
+    ∙ ap (λ b. b || (number == n)) (fresh n from)
+    ∙ unlike number n (omega arith)
+
+pub fresh-post : (stamp : ℕ) (source : List ℕ) (kept : Kept) (var : List ℕ) → IsFresh kept → IsFresh (kept_post stamp source kept var)
+fresh-post stamp source kept var fresh = through (list_any (is_due_held stamp var source) kept.lives)
+  where
+    through : (due : Bool) (n : ℕ) → suc kept.posts ≤ n → list_any (λ one. one == n) (if due then with_mailed kept.posts kept else kept).mailed ≡ false
+    through true n from = fresh-push (suc kept.posts) kept.posts kept.mailed (omega arith) (λ m later. fresh m (omega arith)) n from
+    through false n from = fresh n (omega arith)
+
+fresh-catching : (names : List (List ℕ)) (number : ℕ) (kept : Kept) (posts : List Post) → number + length posts ≤ kept.posts → IsFresh kept → IsFresh (kept_catching names number kept posts)
+fresh-catching names number kept [] within fresh = fresh
+fresh-catching names number kept (post ∷ later) within fresh =
+    through (catches_kept names kept number post later) (λ now same now_fresh. fresh-catching names (suc number) now later (omega (arith, same)) now_fresh)
+  where
+    through : (catches : Bool) → ((now : Kept) → now.posts ≡ kept.posts → IsFresh now → IsFresh (kept_catching names (suc number) now later)) →
+        IsFresh (kept_catching names (suc number) (if catches then with_caught names kept number post else kept) later)
+    through true rest = rest (with_caught names kept number post) refl (fresh-push kept.posts number kept.mailed (omega arith) fresh)
+    through false rest = rest kept refl fresh
+
+pub fresh-own : (names : List (List ℕ)) (posts : List Post) (kept : Kept) (own : Bool) (call : Call) → length posts ≤ kept.posts → IsFresh kept → IsFresh (if own then kept_own names posts kept call else kept)
+fresh-own names posts kept false call within fresh = fresh
+fresh-own names posts kept true (Register regs) within fresh = fresh-catching names 0 _ posts (omega arith) fresh
+fresh-own names posts kept true (Unregister var source) within fresh = fresh
+fresh-own names posts kept true (Posts batch) within fresh = fresh
+fresh-own names posts kept true Fetch within fresh = fresh

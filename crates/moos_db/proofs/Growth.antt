@@ -1,8 +1,8 @@
 -- How an inbox of the delivery rule, and what is kept of it, grows with the history.
-use Rattle.std.proofs.Common.{◌≡◌, ℕ, zero, suc, ◌+◌, ◌<◌, ◌≤◌, Bool, true, false, ◌==◌, cond, nat_le, List, [], ◌∷◌, ◌++◌, length, map, filter, fold, take, drop, slice_get, Some, All, append_assoc, append-nil, refl, ap, sym, ◌∙◌, arith, subst, length-append, if◌then◌else◌}
-use Rattle.std.specs.List.{AllByRecursion}
+use Rattle.std.proofs.Common.{◌≡◌, ℕ, zero, suc, ◌+◌, ◌<◌, ◌≤◌, Bool, true, false, ◌||◌, ◌==◌, cond, nat_le, List, [], ◌∷◌, ◌++◌, length, map, filter, fold, take, drop, slice_get, Some, All, append_assoc, append-nil, refl, ap, sym, ◌∙◌, arith, subst, length-append, if◌then◌else◌}
+use Rattle.std.specs.List.{AllByRecursion, list_any}
 use Rattle.std.proofs.lemmas.Bool.{eq-eqb}
-use Rattle.std.proofs.lemmas.List.{take-append-drop, take-append-le, take_all}
+use Rattle.std.proofs.lemmas.List.{take-append-drop, take-append-le, take_all, length-take}
 use Rattle.std.proofs.lemmas.List.Concat.{flat_map-append}
 use Rattle.std.proofs.lemmas.List.Sums.{fold-append}
 use Rattle.std.proofs.lemmas.Option.{slice_get_within, get_or_from_slice_get}
@@ -13,8 +13,8 @@ use Rattle.moos_post.specs.declared.entry.Entry.{Entry}
 use Rattle.moos_post.specs.declared.value.Post.{Post}
 use Rattle.moos_post.specs.Delivery.{Inbox, Mailing, with_post, with_own, with_entry, empty_inbox, inbox_of, mail_after}
 use Rattle.moos_post.specs.History.{History, posts_of, posts_of_entry}
-use Rattle.moos_db.specs.Kept.{Kept, kept_of, kept_own, kept_posts, kept_entry, empty_kept, IsInbox}
-use Rattle.moos_db.proofs.Catching.{kept_posts-own}
+use Rattle.moos_db.specs.Kept.{Kept, kept_of, kept_own, kept_posts, kept_entry, empty_kept, IsInbox, IsFresh}
+use Rattle.moos_db.proofs.Catching.{kept_posts-own, all-below, fresh-own}
 use Rattle.moos_db.proofs.Keeping.{kept-entry}
 use Rattle.moos_db.proofs.Orderly.{IsPast, IsOrderly, posts-catching, orderly-inbox_of}
 use Rattle.moos_db.proofs.Standing.{slice_get-seam}
@@ -125,11 +125,6 @@ below-waiting entry number fetched (one ∷ more) past = through (nat_le fetched
     through true rest = (past.1, rest)
     through false rest = rest
 
-all-below : (number : ℕ) (numbers : List ℕ) → AllByRecursion (λ n. n < number) numbers → All (λ n. n < number) numbers
-all-below number [] below k d within = absurd (omega arith)
-all-below number (n ∷ numbers) below zero d within = below.0
-all-below number (n ∷ numbers) below (suc k) d within = all-below number numbers below.1 k d (omega arith)
-
 -- Each number that waits is that of a post.
 pub IsInbox-below : (names : List (List ℕ)) (history : History) (client : ℕ) (kept : Kept) → kept.seen ≡ length history → IsInbox names history client kept →
     All (λ number. number < length (posts_of history)) kept.waits
@@ -166,3 +161,34 @@ pub posts-called : (names : List (List ℕ)) (history : History) (client : ℕ) 
     called ≡ (if entry.client == client then kept_own names (take old.posts (posts_of history)) old entry.call else old) → called.posts ≡ old.posts
 posts-called names history client old called entry call =
     ap (λ (k : Kept). k.posts) call ∙ kept_posts-own names (take old.posts (posts_of history)) old (entry.client == client) entry.call
+
+fresh-past : (entry number : ℕ) (mailed : List Mailing) → IsPast entry number mailed → (n : ℕ) → number ≤ n → list_any (λ one. one == n) (map (λ (one : Mailing). one.number) mailed) ≡ false
+fresh-past entry number [] past n from = refl
+fresh-past entry number (one ∷ more) past n from =
+    let unlike : (one.number == n) ≡ false = (let h : one.number < number = past.1 in grind arith) in
+    ap (λ b. b || list_any (λ m. m == n) (map (λ (m : Mailing). m.number) more)) unlike ∙ fresh-past entry number more past.2 n from
+
+-- No number from the count of its posts on was mailed.
+pub IsInbox-fresh : (names : List (List ℕ)) (history : History) (client : ℕ) (kept : Kept) → IsInbox names history client kept → IsFresh kept
+IsInbox-fresh names history client kept inbox =
+    let here : Inbox = inbox_of names client (take kept.seen history) in
+    subst IsFresh (sym inbox.same) (fresh-past here.entries (length here.posts) here.mailed (orderly-inbox_of names client (take kept.seen history)).past)
+
+pub called-fresh : (names : List (List ℕ)) (history : History) (client : ℕ) (old called : Kept) (entry : Entry) →
+    called ≡ (if entry.client == client then kept_own names (take old.posts (posts_of history)) old entry.call else old) → IsInbox names history client old → IsFresh called
+called-fresh names history client old called entry call inbox =
+    subst IsFresh (sym call) (fresh-own names (take old.posts (posts_of history)) old (entry.client == client) entry.call
+    (omega (arith, length-take old.posts (posts_of history))) (IsInbox-fresh names history client old inbox))
+
+posts-front-more : (history : History) (n : ℕ) → length (posts_of (take n history)) ≤ length (posts_of (take (suc n) history))
+posts-front-more history zero = omega arith
+posts-front-more [] (suc n) = omega arith
+posts-front-more (entry ∷ history) (suc n) =
+    omega (arith, posts-front-more history n, length-append (posts_of_entry entry) (posts_of (take n history)), length-append (posts_of_entry entry) (posts_of (take (suc n) history)))
+
+-- An inbox that has seen one entry more has seen no fewer posts.
+pub IsInbox-grows : (names : List (List ℕ)) (history : History) (client : ℕ) (old new : Kept) → new.seen ≡ suc old.seen → IsInbox names history client old → IsInbox names history client new → old.posts ≤ new.posts
+IsInbox-grows names history client old new next before after =
+    let from : old.posts ≡ length (posts_of (take old.seen history)) = kept-posts names history client old before in
+    let to : new.posts ≡ length (posts_of (take (suc old.seen) history)) = kept-posts names history client new after ∙ ap (λ n. length (posts_of (take n history))) next in
+    omega (arith, from, to, posts-front-more history old.seen)

@@ -2,6 +2,9 @@ pub mod Catching
 pub mod Growth
 pub mod Keeping
 pub mod Lasts
+pub mod Latests
 pub mod Orderly
+pub mod Rows
+pub mod Sorting
 pub mod Standing
 pub mod Whole

@@ -1,13 +1,16 @@
 -- The database as a whole: what is kept of all clients and entries, when an inbox is put and when an entry is added.
-use Rattle.std.proofs.Common.{◌≡◌, ℕ, zero, suc, ◌<◌, false, List, [], ◌∷◌, ◌++◌, length, set, get_or, take, slice_get, Some, None, inl, inr, ap, sym, ◌∙◌, arith, subst, length-set, replicate}
+use Rattle.std.proofs.Common.{◌≡◌, ℕ, zero, suc, ◌<◌, false, List, [], ◌∷◌, ◌++◌, length, set, get_or, take, slice_get, Some, None, inl, inr, ap, sym, ◌∙◌, arith, subst, length-set, length-append, replicate, refl, ◌^◌}
 use Rattle.std.proofs.lemmas.Bool.{cases_lt, cond-false}
-use Rattle.std.proofs.lemmas.List.{take-append-le, get_or_append_left}
+use Rattle.std.proofs.lemmas.List.{take-append-le, get_or_append_left, length-replicate}
+use Rattle.std.proofs.lemmas.Option.{slice_get-get_or}
 use Rattle.std.proofs.Math.Seq.{take-append_seam, get_or-append_seam}
 use Rattle.moos_post.specs.declared.entry.Entry.{Entry}
 use Rattle.moos_post.specs.Delivery.{is_fetch, mail_of_entry, mail_at}
-use Rattle.moos_post.specs.History.{History}
+use Rattle.moos_post.specs.History.{History, posts_of, posts_of_entry}
 use Rattle.moos_db.specs.Kept.{Kept, IsInbox, empty_kept}
-use Rattle.moos_db.specs.Places.{Journal, IsDb}
+use Rattle.moos_db.specs.Places.{Journal, AreInboxes, IsDb}
+use Rattle.moos_db.specs.Tables.{Latest, IsLatest, rows_of}
+use Rattle.std.proofs.lemmas.List.Concat.{flat_map-append}
 use Rattle.moos_db.proofs.Catching.{slice_get-some}
 use Rattle.moos_db.proofs.Growth.{IsInbox-stays, IsInbox-empty}
 use Rattle.moos_db.proofs.Orderly.{length-push}
@@ -21,19 +24,44 @@ slice_get-set (y ∷ xs) zero (suc j) v x P new old there = old (suc j) x there
 slice_get-set (y ∷ xs) (suc i) zero v x P new old there = old zero x there
 slice_get-set (y ∷ xs) (suc i) (suc j) v x P new old there = slice_get-set xs i j v x (λ k z. P (suc k) z) new (λ k z h. old (suc k) z h) there
 
-pub IsDb-set : (names : List (List ℕ)) (journal : Journal) (inboxes : List Kept) (client : ℕ) (kept : Kept) → IsInbox names journal.entries client kept →
-    IsDb names journal inboxes → IsDb names journal (set inboxes client kept)
-IsDb-set names journal inboxes client kept inbox db =
+-- an inbox is put in its place
+pub AreInboxes-set : (names : List (List ℕ)) (history : History) (inboxes : List Kept) (client : ℕ) (kept : Kept) → IsInbox names history client kept →
+    AreInboxes names history inboxes → AreInboxes names history (set inboxes client kept)
+AreInboxes-set names history inboxes client kept inbox all other there h = slice_get-set inboxes client other kept there (λ k one. IsInbox names history k one) inbox all h
+
+pub AreInboxes-stay : (names : List (List ℕ)) (history : History) (inboxes : List Kept) (entry : Entry) → AreInboxes names history inboxes → AreInboxes names (history ++ entry ∷ []) inboxes
+AreInboxes-stay names history inboxes entry all client kept there = IsInbox-stays names history client kept entry (all client kept there)
+
+pub IsLatest-stays : (history : History) (table : Latest) (entry : Entry) → IsLatest (posts_of history) table → IsLatest (posts_of (history ++ entry ∷ [])) table
+IsLatest-stays history table entry latest =
+    let more : posts_of (history ++ entry ∷ []) ≡ posts_of history ++ posts_of (entry ∷ []) = flat_map-append posts_of_entry history (entry ∷ []) in
     record {
-      few = db.few;
-      each = length-set inboxes client kept ∙ db.each;
-      lettered = db.lettered;
-      kept = λ other there h. slice_get-set inboxes client other kept there (λ k one. IsInbox names journal.entries k one) inbox db.kept h;
-      given = db.given;
+      within = omega (arith, latest.within, ap length more, length-append (posts_of history) (posts_of (entry ∷ [])));
+      same = latest.same ∙ ap rows_of (sym (ap (take table.posts) more ∙ take-append-le table.posts (posts_of history) (posts_of (entry ∷ [])) latest.within));
     }
 
-pub IsDb-empty : (names : List (List ℕ)) (journal : Journal) (inboxes : List Kept) (client : ℕ) → IsDb names journal inboxes → IsDb names journal (set inboxes client empty_kept)
-IsDb-empty names journal inboxes client db = IsDb-set names journal inboxes client empty_kept (IsInbox-empty names journal.entries client) db
+-- the inbox that stands in a place
+pub AreInboxes-at : (names : List (List ℕ)) (history : History) (inboxes : List Kept) (client : ℕ) (d : Kept) → client < length inboxes → AreInboxes names history inboxes → IsInbox names history client (get_or inboxes client d)
+AreInboxes-at names history inboxes client d below all = all client (get_or inboxes client d) (slice_get-get_or inboxes client d below)
+
+-- the database with other inboxes, or with another table
+pub IsDb-inboxes : (names : List (List ℕ)) (journal : Journal) (table : Latest) (inboxes other : List Kept) → length other ≡ length inboxes → AreInboxes names journal.entries other →
+    IsDb names journal table inboxes → IsDb names journal table other
+IsDb-inboxes names journal table inboxes other each all db =
+    record { few = db.few; each = each ∙ db.each; lettered = db.lettered; latest = db.latest; kept = all; given = db.given }
+
+pub IsDb-set : (names : List (List ℕ)) (journal : Journal) (table : Latest) (inboxes : List Kept) (client : ℕ) (kept : Kept) → IsInbox names journal.entries client kept →
+    IsDb names journal table inboxes → IsDb names journal table (set inboxes client kept)
+IsDb-set names journal table inboxes client kept inbox db =
+    IsDb-inboxes names journal table inboxes (set inboxes client kept) (length-set inboxes client kept) (AreInboxes-set names journal.entries inboxes client kept inbox db.kept) db
+
+pub IsDb-table : (names : List (List ℕ)) (journal : Journal) (table other : Latest) (inboxes : List Kept) → IsLatest (posts_of journal.entries) other →
+    IsDb names journal table inboxes → IsDb names journal other inboxes
+IsDb-table names journal table other inboxes latest db =
+    record { few = db.few; each = db.each; lettered = db.lettered; latest = latest; kept = db.kept; given = db.given }
+
+pub IsDb-empty : (names : List (List ℕ)) (journal : Journal) (table : Latest) (inboxes : List Kept) (client : ℕ) → IsDb names journal table inboxes → IsDb names journal table (set inboxes client empty_kept)
+IsDb-empty names journal table inboxes client db = IsDb-set names journal table inboxes client empty_kept (IsInbox-empty names journal.entries client) db
 
 mail_at-stays : (names : List (List ℕ)) (history : History) (entry : Entry) (k : ℕ) → k < length history → mail_at names (history ++ entry ∷ []) k ≡ mail_at names history k
 mail_at-stays names history entry k below =
@@ -47,14 +75,15 @@ mail_at-seam names history entry =
     ∙ ap (mail_of_entry names history) (slice_get-seam history entry [])
 
 -- One entry more, with its letters.
-pub IsDb-push : (names : List (List ℕ)) (journal : Journal) (inboxes : List Kept) (entry : Entry) (numbers : List ℕ) → numbers ≡ mail_of_entry names journal.entries (Some entry) →
-    IsDb names journal inboxes → IsDb names (record { entries = journal.entries ++ entry ∷ []; letters = journal.letters ++ numbers ∷ [] }) inboxes
-IsDb-push names journal inboxes entry numbers mail db =
+pub IsDb-push : (names : List (List ℕ)) (journal : Journal) (table : Latest) (inboxes : List Kept) (entry : Entry) (numbers : List ℕ) → numbers ≡ mail_of_entry names journal.entries (Some entry) →
+    IsDb names journal table inboxes → IsDb names (record { entries = journal.entries ++ entry ∷ []; letters = journal.letters ++ numbers ∷ [] }) table inboxes
+IsDb-push names journal table inboxes entry numbers mail db =
     record {
       few = db.few;
       each = db.each;
       lettered = length-push journal.letters numbers ∙ ap suc db.lettered ∙ sym (length-push journal.entries entry);
-      kept = λ client kept there. IsInbox-stays names journal.entries client kept entry (db.kept client kept there);
+      latest = IsLatest-stays journal.entries table entry db.latest;
+      kept = AreInboxes-stay names journal.entries inboxes entry db.kept;
       given = λ k below. elim (cases_lt k (length journal.entries)) [
         | inl before ↦
             let h : length journal.letters ≡ length journal.entries = db.lettered in
@@ -68,12 +97,24 @@ IsDb-push names journal inboxes entry numbers mail db =
     }
 
 -- An entry that is no fetch gives nothing.
-pub IsDb-add : (names : List (List ℕ)) (journal : Journal) (inboxes : List Kept) (entry : Entry) → is_fetch entry.call ≡ false →
-    IsDb names journal inboxes → IsDb names (record { entries = journal.entries ++ entry ∷ []; letters = journal.letters ++ [] ∷ [] }) inboxes
-IsDb-add names journal inboxes entry other db = IsDb-push names journal inboxes entry [] (sym (cond-false (is_fetch entry.call) _ _ other)) db
+pub IsDb-add : (names : List (List ℕ)) (journal : Journal) (table : Latest) (inboxes : List Kept) (entry : Entry) → is_fetch entry.call ≡ false →
+    IsDb names journal table inboxes → IsDb names (record { entries = journal.entries ++ entry ∷ []; letters = journal.letters ++ [] ∷ [] }) table inboxes
+IsDb-add names journal table inboxes entry other db = IsDb-push names journal table inboxes entry [] (sym (cond-false (is_fetch entry.call) _ _ other)) db
 
 -- Where nothing has happened, each inbox is empty.
 empty-kept : (clients client : ℕ) (kept : Kept) → slice_get (replicate clients empty_kept) client ≡ Some kept → kept ≡ empty_kept
 empty-kept zero client kept there = absurd (let e : None ≡ Some kept = there in cc)
 empty-kept (suc clients) zero kept there = cc
 empty-kept (suc clients) (suc client) kept there = empty-kept clients client kept there
+
+pub IsDb-new : (names : List (List ℕ)) (clients : ℕ) (table : Latest) → length names < 2 ^ 32 → clients ≡ length names → table.posts ≡ 0 → table.rows ≡ [] →
+    IsDb names (record { entries = []; letters = [] }) table (replicate clients empty_kept)
+IsDb-new names clients table few all none empty =
+    record {
+      few = few;
+      each = length-replicate clients empty_kept ∙ all;
+      lettered = refl;
+      latest = record { within = omega (arith, none); same = empty ∙ ap rows_of (sym (ap (λ n. take n []) none)) };
+      kept = λ client kept there. subst (IsInbox names [] client) (sym (empty-kept clients client kept there)) (IsInbox-empty names [] client);
+      given = λ k below. absurd (omega arith);
+    }

@@ -1,5 +1,5 @@
 -- What is kept of one client: its inbox of the delivery rule, without the posts themselves.
-use Rattle.std.specs.Prelude.{◌≡◌, ℕ, suc, ◌≤◌, Bool, ◌&&◌, ◌==◌, not, if◌then◌else◌, List, [], ◌∷◌, ◌++◌, length, map, filter, fold, find, take, Option, option_map, bytes_eq}
+use Rattle.std.specs.Prelude.{◌≡◌, ℕ, suc, ◌≤◌, Bool, false, ◌&&◌, ◌==◌, not, if◌then◌else◌, List, [], ◌∷◌, ◌++◌, length, map, filter, fold, take, Option, None, Some, bytes_eq, slice_get}
 use Rattle.std.specs.List.{list_any}
 use Rattle.moos_post.specs.declared.entry.Call.{Call}
 use Rattle.moos_post.specs.declared.entry.Call.TheVariants.{Register, Unregister, Post as Posts, Fetch}
@@ -10,31 +10,13 @@ use Rattle.moos_post.specs.declared.value.Post.{Post}
 use Rattle.moos_post.specs.Delivery.{Inbox, Live, inbox_of, is_past, is_latest, waiting}
 use Rattle.moos_post.specs.History.{History, name_of}
 use Rattle.moos_post.specs.Patterns.{matches}
-use Rattle.moos_db.specs.declared.live.Last.{Last}
-
--- the last stamp is of this variable
-abbrev pub is_of : List ℕ → Last → Bool
-is_of var last = bytes_eq last.var var
-
--- the stamp that is kept for the variable
-abbrev pub last_in : List ℕ → List Last → Option ℕ
-last_in var lasts = option_map (λ last. last.stamp) (find (is_of var) lasts)
-
--- the last stamps after a post of the variable
-abbrev pub with_last : List ℕ → ℕ → List Last → List Last
-with_last var stamp [] = record { var = var; stamp = stamp } ∷ []
-with_last var stamp (last ∷ lasts) =
-    if is_of var last then record last { stamp = stamp } ∷ lasts else last ∷ with_last var stamp lasts
-
--- the last stamps of the posts that came
-abbrev pub lasts_of : List Post → List Last
-lasts_of came = fold (λ lasts post. with_last post.var post.stamp lasts) [] came
+use Rattle.moos_db.specs.Tables.{Row, number_of, with_row, lasts_of}
 
 -- a live registration as it is kept: the last stamp of each variable in place of the posts that came through
 pub record Held : Type 0 where
   pub reg : Reg
   pub made : ℕ
-  pub lasts : List Last
+  pub lasts : List Row
 
 abbrev pub held_of : Live → Held
 held_of live = record { reg = live.reg; made = live.made; lasts = lasts_of live.came }
@@ -49,10 +31,10 @@ picks reg var source = matches reg.var var && matches reg.source source
 
 abbrev pub is_due_held : ℕ → List ℕ → List ℕ → Held → Bool
 is_due_held stamp var source held =
-    picks held.reg var source && is_past (last_in var held.lasts) stamp held.reg.interval
+    picks held.reg var source && is_past (number_of var held.lasts) stamp held.reg.interval
 
 abbrev pub with_stamp : ℕ → List ℕ → Held → Held
-with_stamp stamp var held = record held { lasts = with_last var stamp held.lasts }
+with_stamp stamp var held = record held { lasts = with_row var stamp held.lasts }
 
 -- after a post, which comes through where it is due
 abbrev pub passed : ℕ → List ℕ → List ℕ → Held → Held
@@ -135,6 +117,20 @@ kept_catching names number kept (post ∷ later) =
     (if catches_kept names kept number post later then with_caught names kept number post else kept)
     later
 
+-- after the post with this number, the latest of its variable, caught up where it may
+abbrev pub catch_post : List (List ℕ) → ℕ → Kept → Post → Kept
+catch_post names number kept post =
+    if list_any (is_new_held kept.seen post.var (name_of names post.source)) kept.lives && not (list_any (λ one. one == number) kept.mailed)
+    then with_caught names kept number post
+    else kept
+
+abbrev pub catch_found : List (List ℕ) → ℕ → Kept → Option Post → Kept
+catch_found names number kept None = kept
+catch_found names number kept (Some post) = catch_post names number kept post
+
+abbrev pub catch_number : List (List ℕ) → List Post → Kept → ℕ → Kept
+catch_number names posts kept number = catch_found names number kept (slice_get posts number)
+
 -- after a Register entry of the client, where these are the posts before it
 abbrev pub kept_regs : List (List ℕ) → List Post → Kept → List Reg → Kept
 kept_regs names posts kept regs =
@@ -164,3 +160,7 @@ kept_entry names client posts kept entry =
 pub record IsInbox (names : List (List ℕ)) (history : History) (client : ℕ) (kept : Kept) : Type 0 where
   pub within : kept.seen ≤ length history
   pub same : kept ≡ kept_of (inbox_of names client (take kept.seen history))
+
+-- no number from the count of its posts on was mailed
+abbrev pub IsFresh : Kept → Type 0
+IsFresh kept = (number : ℕ) → kept.posts ≤ number → list_any (λ one. one == number) kept.mailed ≡ false

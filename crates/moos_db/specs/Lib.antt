@@ -1,3 +1,4 @@
 pub mod Database
 pub mod Kept
 pub mod Places
+pub mod Tables

@@ -5,6 +5,7 @@ use Rattle.moos_post.specs.History.{History, posts_of, posts_of_entry}
 use Rattle.moos_post.specs.Delivery.{mail_at}
 use Rattle.moos_db.specs.declared.log.Place.{Place}
 use Rattle.moos_db.specs.Kept.{Kept, IsInbox}
+use Rattle.moos_db.specs.Tables.{Latest, IsLatest}
 
 -- the entries, and what each of them gave
 pub record Journal : Type 0 where
@@ -24,12 +25,17 @@ pub record IsLog (entries : History) (letters : List (List ℕ)) (places : List 
   pub each : length letters ≡ length entries
   pub placed : map (post_in entries) places ≡ map (λ post. Some post) (posts_of entries)
 
--- each client has an inbox, and each entry's letters are its mail
-pub record IsDb (names : List (List ℕ)) (journal : Journal) (inboxes : List Kept) : Type 0 where
+-- each of these stands where the history's first entries have brought the inbox of the client with its number
+abbrev pub AreInboxes : List (List ℕ) → History → List Kept → Type 0
+AreInboxes names history inboxes = (client : ℕ) (kept : Kept) → slice_get inboxes client ≡ Some kept →
+    IsInbox names history client kept
+
+-- each client has an inbox, the table has latest posts, and each entry's letters are its mail
+pub record IsDb (names : List (List ℕ)) (journal : Journal) (table : Latest) (inboxes : List Kept) : Type 0 where
   pub few : length names < 2 ^ 32
   pub each : length inboxes ≡ length names
   pub lettered : length journal.letters ≡ length journal.entries
-  pub kept : (client : ℕ) (kept : Kept) → slice_get inboxes client ≡ Some kept →
-      IsInbox names journal.entries client kept
+  pub latest : IsLatest (posts_of journal.entries) table
+  pub kept : AreInboxes names journal.entries inboxes
   pub given : (k : ℕ) → k < length journal.entries →
       slice_index_or journal.letters k [] ≡ mail_at names journal.entries k

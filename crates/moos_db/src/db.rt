@@ -1,16 +1,18 @@
-ghost use Rattle.std.specs.Prelude.{◌≡◌, ◌^◌, ◌<◌, [], length, map, replicate, All, false, IfOk, OnOk, OnErr, Some, option_map, slice_get, slice_set};
+ghost use Rattle.std.specs.Prelude.{◌≡◌, ◌^◌, ◌<◌, [], ◌∷◌, ◌++◌, length, map, replicate, All, false, IfOk, OnOk, OnErr, Some, option_map, slice_get};
 ghost use Rattle.moos_post.specs.Delivery.{mail_after, mail_at, is_fetch};
 ghost use Rattle.moos_post.specs.History.{posts_of};
 ghost use Rattle.moos_db.specs.Kept.{empty_kept};
 ghost use Rattle.moos_db.specs.Database.{letter_at, AreLetters};
+ghost use Rattle.moos_db.specs.Places.{AreInboxes};
+ghost use Rattle.moos_db.specs.Tables.{IsLatest};
 
-use crate::inbox::{Inbox, caught_up};
+use crate::inbox::Inbox;
+use crate::latest::Latest;
 use crate::log::Log;
 use crate::mail::{Letter, Mail, Origin};
 use moos_post::{Batch, Call, Entry, Name, Names, NoMemory, Pair, Pattern, Post, Regs};
 use std::alloc::Global;
 use std::marker::Model;
-use std::mem;
 
 /// The database of a community's messages.
 ///
@@ -19,6 +21,7 @@ use std::mem;
 pub struct Db {
     names: Names,
     log: Log,
+    latest: Latest,
     inboxes: Vec<Inbox>,
 }
 
@@ -30,7 +33,7 @@ impl Model for Db {
 
     ghost view = { λ db. record { names = db.names; history = db.log.entries } };
 
-    ghost invariant = { λ db. IsDb db.names db.log db.inboxes.items };
+    ghost invariant = { λ db. IsDb db.names db.log db.latest db.inboxes.items };
 }
 
 // As many inboxes that have seen no entry.
@@ -44,13 +47,17 @@ fn empty_inboxes(alloc: Global, clients: usize) -> Result<Vec<Inbox>, NoMemory>
     Ok(inboxes)
 }
 
-// Puts the inbox in its place and gives the one that stood there.
-fn replaced(inboxes: &mut Vec<Inbox>, client: usize, inbox: Inbox) -> Inbox
-    requires { client < length inboxes.old.items }
-    ensures before { slice_get inboxes.old.items client ≡ Some result }
-    ensures after { inboxes.new.items ≡ slice_set inboxes.old.items client inbox }
+// Each inbox sees the entry that was made last.
+fn deliver(alloc: Global, names: &Names, log: &Log, latest: &Latest, inboxes: &mut Vec<Inbox>)
+    requires few { length inboxes.old.items < 2 ^ 32 }
+    requires latest { IsLatest (posts_of log.now.entries) latest.now }
+    requires inboxes { AreInboxes names.now log.now.entries inboxes.old.items }
+    ensures each { length inboxes.new.items ≡ length inboxes.old.items }
+    ensures inboxes { AreInboxes names.now log.now.entries inboxes.new.items }
 {
-    mem::replace(&mut inboxes[client], inbox)
+    for client in 0..inboxes.len() {
+        inboxes[client].follow(alloc, names, log, latest, client as u32);
+    }
 }
 
 // The letter with the post that has this number.
@@ -83,6 +90,43 @@ fn letters_of(alloc: Global, log: &Log, numbers: &[u64]) -> Result<Mail, NoMemor
     Ok(Mail::of(letters))
 }
 
+// The client fetches, which is the next entry.
+fn fetch(
+    alloc: Global,
+    names: &Names,
+    log: &mut Log,
+    inboxes: &mut Vec<Inbox>,
+    client: u32,
+    stamp: u64,
+) -> Result<Mail, NoMemory>
+    requires within { client < length inboxes.old.items }
+    requires inboxes { AreInboxes names.now log.old.entries inboxes.old.items }
+    ensures mail { let numbers = mail_after names.now client log.old.entries
+        in IfOk result (AreLetters (posts_of log.old.entries) numbers) }
+    ensures given { OnOk result (log.new ≡ record {
+      entries = log.old.entries ++ record { stamp = stamp; client = client; call = Call.Fetch } ∷ [];
+      letters = log.old.letters ++ mail_after names.now client log.old.entries ∷ [];
+    }) }
+    ensures same { OnErr result (log.new ≡ log.old) }
+    ensures each { length inboxes.new.items ≡ length inboxes.old.items }
+    ensures inboxes { AreInboxes names.now log.new.entries inboxes.new.items }
+{
+    let inbox = &mut inboxes[client as usize];
+    inbox.follow_all(alloc, names, log, client)?;
+    let mail = letters_of(alloc, log, inbox.waits())?;
+    let call = Call::Fetch;
+    inbox.fetch(
+        alloc,
+        log,
+        Entry {
+            stamp,
+            client,
+            call,
+        },
+    )?;
+    Ok(mail)
+}
+
 impl Db {
     ghost use Rattle.moos_db.specs.Database.{with_entry, pair_of, origin_of, AreLetters};
 
@@ -96,6 +140,7 @@ impl Db {
         Ok(Db {
             names,
             log: Log::new(alloc),
+            latest: Latest::new(alloc),
             inboxes,
         })
     }
@@ -106,7 +151,15 @@ impl Db {
         ensures ok { OnOk result (self.new ≡ with_entry self.old entry) }
         ensures same { OnErr result (self.new ≡ self.old) }
     {
-        self.log.append(alloc, entry, Vec::new(alloc))?;
+        self.latest.see_posts(alloc, &self.log, self.log.posts())?;
+        self.log.append(alloc, entry)?;
+        deliver(
+            alloc,
+            &self.names,
+            &self.log,
+            &self.latest,
+            &mut self.inboxes,
+        );
         Ok(())
     }
 
@@ -204,23 +257,22 @@ impl Db {
         })) }
         ensures same { OnErr result (self.new ≡ self.old) }
     {
-        // Where memory ends on the way, the inbox that has seen nothing stays, and the next fetch begins anew.
-        let place = client as usize;
-        let inbox = replaced(&mut self.inboxes, place, Inbox::new(alloc));
-        let mut inbox = caught_up(alloc, &self.names, &self.log, client, inbox)?;
-        let mail = letters_of(alloc, &self.log, inbox.waits())?;
-        let numbers = inbox.fetch(alloc);
-        let call = Call::Fetch;
-        self.log.append(
+        self.latest.see_posts(alloc, &self.log, self.log.posts())?;
+        let mail = fetch(
             alloc,
-            Entry {
-                stamp,
-                client,
-                call,
-            },
-            numbers,
+            &self.names,
+            &mut self.log,
+            &mut self.inboxes,
+            client,
+            stamp,
         )?;
-        let _ = replaced(&mut self.inboxes, place, inbox);
+        deliver(
+            alloc,
+            &self.names,
+            &self.log,
+            &self.latest,
+            &mut self.inboxes,
+        );
         Ok(mail)
     }
 

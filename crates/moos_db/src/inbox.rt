@@ -1,32 +1,31 @@
-ghost use Rattle.std.specs.Prelude.{◌≡◌, suc, ◌+◌, ◌-◌, ◌^◌, ◌<◌, ◌≤◌, ◌==◌, [], length, take, drop, not, ◌&&◌, bytes_eq, IfOk, Some, slice_get, if◌then◌else◌};
+ghost use Rattle.std.specs.Prelude.{◌≡◌, suc, ◌+◌, ◌-◌, ◌^◌, ◌<◌, ◌≤◌, ◌==◌, [], false, length, take, not, ◌&&◌, ◌++◌, ◌∷◌, IfOk, OnOk, OnErr, Some, slice_get, if◌then◌else◌};
 ghost use Rattle.std.specs.List.{list_any};
 ghost use Rattle.moos_post.specs.History.{name_of, posts_of, posts_of_entry};
 ghost use Rattle.moos_db.specs.Kept.{IsInbox, is_new_held};
+ghost use Rattle.moos_db.specs.Tables.{IsLatest, rows_of};
 
+use crate::latest::Latest;
 use crate::live::Live;
 use crate::lives::{any_due, any_new, pass_due, pass_new, with_lives, without};
 use crate::log::Log;
-use crate::rule::is_same;
+use moos_mail::Mailbox;
 use moos_post::{Call, Entry, Name, Names, NoMemory, Pair};
 use std::alloc::Global;
 use std::marker::Model;
 use std::mem;
 
 // What is kept of one client: how many entries its inbox has seen, how many posts there were in these, its live
-// registrations in the order in which they were made, the numbers of all posts that were ever mailed to it, and those
-// that wait for its next fetch.
+// registrations in the order in which they were made, and its mailbox.
 //
-// A post or a registration changes no inbox. A fetch takes its client's inbox over the entries since the one before, so
-// each entry is gone over once for each client that fetches: a post by all of the client's live registrations, and a
-// registration by all posts before it, and by all posts mailed for each that it selects. What is kept grows with the
-// posts mailed, 16 bytes for each: its number among all, and among those that wait or in the log beside the fetch.
+// Each entry is seen as soon as it is made: a post by all of the client's live registrations, and a registration by the
+// latest post of each variable. Where memory ends on the way the inbox begins anew, and is made from the history when
+// the client fetches next.
 #[derive(Drop)]
 pub(crate) struct Inbox {
     seen: u64,
     posts: u64,
     lives: Vec<Live>,
-    mailed: Vec<u64>,
-    waits: Vec<u64>,
+    mailbox: Mailbox,
 }
 
 impl Model for Inbox {
@@ -38,8 +37,8 @@ impl Model for Inbox {
       seen = inbox.seen;
       posts = inbox.posts;
       lives = inbox.lives.items;
-      mailed = inbox.mailed.items;
-      waits = inbox.waits.items;
+      mailed = inbox.mailbox.mailed;
+      waits = inbox.mailbox.waiting;
     } };
 }
 
@@ -53,29 +52,9 @@ fn source_of(names: &Names, client: u32) -> &[u8]
     }
 }
 
-fn was_mailed(mailed: &[u64], number: u64) -> bool
-    ensures { result ≡ list_any (λ one. one == number) mailed.now }
-{
-    mailed.iter().any(|&one| one == number)
-}
-
-// Whether a post of the variable has one of the numbers from `from` up to but not `to`.
-fn has_post(log: &Log, var: &Name, from: usize, to: usize) -> bool
-    requires ordered { from ≤ to }
-    requires within { to ≤ length (posts_of log.now.entries) }
-    ensures { result ≡ list_any (λ other. bytes_eq other.var var.now) (drop from (take to (posts_of log.now.entries))) }
-{
-    for number in from..to {
-        if is_same(log.pair(number).var.bytes(), var.bytes()) {
-            return true;
-        }
-    }
-    false
-}
-
 impl Inbox {
     ghost use Rattle.moos_post.specs.declared.value.Post.{Post};
-    ghost use Rattle.moos_db.specs.Kept.{Kept, empty_kept, with_mailed, with_due, with_missed, kept_post, kept_batch, catches_kept, with_caught, kept_catching, kept_own, kept_posts, IsInbox};
+    ghost use Rattle.moos_db.specs.Kept.{Kept, empty_kept, with_mailed, with_due, with_missed, kept_post, kept_batch, catch_post, kept_catching, kept_own, kept_posts, IsInbox, IsFresh};
 
     // The inbox that has seen no entry.
     pub fn new(alloc: Global) -> Inbox
@@ -85,8 +64,7 @@ impl Inbox {
             seen: 0,
             posts: 0,
             lives: Vec::new(alloc),
-            mailed: Vec::new(alloc),
-            waits: Vec::new(alloc),
+            mailbox: Mailbox::make(alloc),
         }
     }
 
@@ -97,29 +75,43 @@ impl Inbox {
         self.seen
     }
 
+    // How many posts there were in these.
+    pub fn posts(&self) -> u64
+        ensures { result ≡ self.now.posts }
+    {
+        self.posts
+    }
+
     // The numbers of the posts that wait.
     pub fn waits(&self) -> &[u64]
         ensures { result.now ≡ self.now.waits }
     {
-        self.waits.as_slice()
+        self.mailbox.waiting()
     }
 
-    // Takes these numbers for a fetch, the next entry.
-    pub fn fetch(&mut self, alloc: Global) -> Vec<u64>
+    // Gives what waits to a fetch, the entry that is added.
+    pub fn fetch(&mut self, alloc: Global, log: &mut Log, entry: Entry) -> Result<(), NoMemory>
         requires { self.old.seen < 2 ^ 64 - 1 }
-        ensures given { result.items ≡ self.old.waits }
-        ensures rest { self.new ≡ record self.old { seen = suc self.old.seen; waits = [] } }
+        ensures given { OnOk result (log.new ≡ record {
+          entries = log.old.entries ++ entry ∷ [];
+          letters = log.old.letters ++ self.old.waits ∷ [];
+        }) }
+        ensures rest { OnOk result (self.new ≡ record self.old { seen = suc self.old.seen; waits = [] }) }
+        ensures same_log { OnErr result (log.new ≡ log.old) }
+        ensures same { OnErr result (self.new ≡ self.old) }
     {
+        log.append_mail(alloc, entry, &mut self.mailbox)?;
         self.seen += 1;
-        mem::replace(&mut self.waits, Vec::new(alloc))
+        Ok(())
     }
 
-    // The post with this number is mailed.
+    // The post with this number, which was never mailed, is mailed.
     fn mail(&mut self, number: u64) -> Result<(), NoMemory>
+        requires { list_any (λ one. one == number) self.old.mailed ≡ false }
         ensures { IfOk result (λ _. self.new ≡ with_mailed number self.old) }
     {
-        self.mailed.push(number)?;
-        self.waits.push(number)?;
+        self.mailbox.reserve(1)?;
+        self.mailbox.append(number);
         Ok(())
     }
 
@@ -131,6 +123,7 @@ impl Inbox {
         source: &[u8],
         var: &Name,
     ) -> Result<(), NoMemory>
+        requires { IsFresh self.old }
         ensures { IfOk result (λ _. self.new ≡ with_due stamp source.now self.old var.now) }
     {
         if any_due(&self.lives, stamp, var, source) {
@@ -148,8 +141,10 @@ impl Inbox {
         source: &[u8],
         var: &Name,
     ) -> Result<(), NoMemory>
-        requires { self.old.posts < 2 ^ 64 - 1 }
-        ensures { IfOk result (λ _. self.new ≡ kept_post stamp source.now self.old var.now) }
+        requires fits { self.old.posts < 2 ^ 64 - 1 }
+        requires fresh { IsFresh self.old }
+        ensures now { IfOk result (λ _. self.new ≡ kept_post stamp source.now self.old var.now) }
+        ensures fresh { IfOk result (λ _. IsFresh self.new) }
     {
         self.mail_due(alloc, stamp, source, var)?;
         self.posts += 1;
@@ -163,7 +158,8 @@ impl Inbox {
         source: &[u8],
         pairs: &[Pair],
     ) -> Result<(), NoMemory>
-        requires { self.old.posts + length pairs.now < 2 ^ 64 }
+        requires fits { self.old.posts + length pairs.now < 2 ^ 64 }
+        requires fresh { IsFresh self.old }
         ensures { IfOk result (λ _. self.new ≡ kept_batch stamp source.now self.old pairs.now) }
     {
         for pair in pairs {
@@ -172,19 +168,13 @@ impl Inbox {
         Ok(())
     }
 
-    // Whether the post with this number, of this variable and from the client with this name, catches up: `posts` is
-    // the number of all posts so far.
-    fn is_missed(&self, log: &Log, var: &Name, source: &[u8], number: usize, posts: usize) -> bool
-        requires below { number < posts }
-        requires within { posts ≤ length (posts_of log.now.entries) }
-        ensures { let later = drop (number + 1) (take posts (posts_of log.now.entries)) in
-            result ≡ (not (list_any (λ other. bytes_eq other.var var.now) later)
-            && list_any (is_new_held self.now.seen var.now source.now) self.now.lives
+    // Whether the post with this number, of this variable and from the client with this name, catches up, if it is the
+    // latest of its variable.
+    fn is_missed(&self, var: &Name, source: &[u8], number: u64) -> bool
+        ensures { result ≡ (list_any (is_new_held self.now.seen var.now source.now) self.now.lives
             && not (list_any (λ one. one == number) self.now.mailed)) }
     {
-        any_new(&self.lives, self.seen, var, source)
-            && !has_post(log, var, number + 1, posts)
-            && !was_mailed(&self.mailed, number as u64)
+        any_new(&self.lives, self.seen, var, source) && !self.mailbox.mailed(number)
     }
 
     // The post with this number, of this stamp and variable and from the client with this name, catches up.
@@ -196,47 +186,50 @@ impl Inbox {
         source: &[u8],
         var: &Name,
     ) -> Result<(), NoMemory>
+        requires { list_any (λ one. one == number) self.old.mailed ≡ false }
         ensures { IfOk result (λ _. self.new ≡ with_missed number stamp source.now self.old var.now) }
     {
         self.mail(number)?;
         pass_new(alloc, &mut self.lives, self.seen, stamp, var, source)
     }
 
-    // The post with this number catches up where it may.
+    // The post with this number, the latest of its variable, catches up where it may.
     fn catch_post(
         &mut self,
         alloc: Global,
         names: &Names,
         log: &Log,
-        number: usize,
-        posts: usize,
+        number: u64,
     ) -> Result<(), NoMemory>
-        requires below { number < posts }
-        requires within { posts ≤ length (posts_of log.now.entries) }
+        requires { number < length (posts_of log.now.entries) }
         ensures { IfOk result (λ _. (post : Post) → slice_get (posts_of log.now.entries) number ≡ Some post →
-            let later = drop (number + 1) (take posts (posts_of log.now.entries))
-            in self.new ≡ (if catches_kept names.now self.old number post later
-            then with_caught names.now self.old number post
-            else self.old)) }
+            self.new ≡ catch_post names.now number self.old post) }
     {
-        let var = &log.pair(number).var;
-        let origin = log.origin(number);
+        let var = &log.pair(number as usize).var;
+        let origin = log.origin(number as usize);
         let source = source_of(names, origin.client);
-        if self.is_missed(log, var, source, number, posts) {
-            self.mail_missed(alloc, number as u64, origin.stamp, source, var)?;
+        if self.is_missed(var, source, number) {
+            self.mail_missed(alloc, number, origin.stamp, source, var)?;
         }
         Ok(())
     }
 
-    // All posts so far catch up where they may.
-    fn catch_up(&mut self, alloc: Global, names: &Names, log: &Log) -> Result<(), NoMemory>
-        requires { self.old.posts ≤ length (posts_of log.now.entries) }
+    // The latest posts so far catch up where they may.
+    fn catch_up(
+        &mut self,
+        alloc: Global,
+        names: &Names,
+        log: &Log,
+        latest: &Latest,
+    ) -> Result<(), NoMemory>
+        requires within { self.old.posts ≤ length (posts_of log.now.entries) }
+        requires latest { latest.now.rows ≡ rows_of (take self.old.posts (posts_of log.now.entries)) }
         ensures { let posts = take self.old.posts (posts_of log.now.entries)
             in IfOk result (λ _. self.new ≡ kept_catching names.now 0 self.old posts) }
     {
-        let posts = self.posts as usize;
-        for number in 0..posts {
-            self.catch_post(alloc, names, log, number, posts)?;
+        let numbers = latest.numbers(alloc)?;
+        for &number in numbers.as_slice() {
+            self.catch_post(alloc, names, log, number)?;
         }
         Ok(())
     }
@@ -247,9 +240,11 @@ impl Inbox {
         alloc: Global,
         names: &Names,
         log: &Log,
+        latest: &Latest,
         call: &Call,
     ) -> Result<(), NoMemory>
-        requires { self.old.posts ≤ length (posts_of log.now.entries) }
+        requires within { self.old.posts ≤ length (posts_of log.now.entries) }
+        requires latest { latest.now.rows ≡ rows_of (take self.old.posts (posts_of log.now.entries)) }
         ensures { let posts = take self.old.posts (posts_of log.now.entries)
             in IfOk result (λ _. self.new ≡ kept_own names.now posts self.old call.now) }
     {
@@ -257,14 +252,16 @@ impl Inbox {
             Call::Register(regs) => {
                 let lives = mem::replace(&mut self.lives, Vec::new(alloc));
                 self.lives = with_lives(alloc, lives, self.seen, regs.all())?;
-                self.catch_up(alloc, names, log)?;
+                self.catch_up(alloc, names, log, latest)?;
             }
             Call::Unregister(var, source) => {
                 let lives = mem::replace(&mut self.lives, Vec::new(alloc));
                 self.lives = without(alloc, lives, var, source)?;
             }
             Call::Post(_) => {}
-            Call::Fetch => self.waits.clear(),
+            Call::Fetch => {
+                let _ = self.mailbox.take_all(alloc);
+            }
         }
         Ok(())
     }
@@ -275,24 +272,27 @@ impl Inbox {
         alloc: Global,
         names: &Names,
         log: &Log,
+        latest: &Latest,
         client: u32,
         entry: &Entry,
     ) -> Result<(), NoMemory>
-        requires { self.old.posts ≤ length (posts_of log.now.entries) }
+        requires within { self.old.posts ≤ length (posts_of log.now.entries) }
+        requires latest { latest.now.rows ≡ rows_of (take self.old.posts (posts_of log.now.entries)) }
         ensures { let posts = take self.old.posts (posts_of log.now.entries)
             in IfOk result (λ _. self.new ≡ (if entry.now.client == client
             then kept_own names.now posts self.old entry.now.call
             else self.old)) }
     {
         if entry.client == client {
-            self.see_own(alloc, names, log, &entry.call)?;
+            self.see_own(alloc, names, log, latest, &entry.call)?;
         }
         Ok(())
     }
 
     // What the posts of anybody's entry change.
     fn see_posts(&mut self, alloc: Global, names: &Names, entry: &Entry) -> Result<(), NoMemory>
-        requires { self.old.posts + length (posts_of_entry entry.now) < 2 ^ 64 }
+        requires fits { self.old.posts + length (posts_of_entry entry.now) < 2 ^ 64 }
+        requires fresh { IsFresh self.old }
         ensures { IfOk result (λ _.
             self.new ≡ kept_posts names.now entry.now.stamp entry.now.client self.old entry.now.call) }
     {
@@ -314,9 +314,11 @@ impl Inbox {
         alloc: Global,
         names: &Names,
         log: &Log,
+        latest: &Latest,
         client: u32,
     ) -> Result<(), NoMemory>
         requires inbox { IsInbox names.now log.now.entries client self.old }
+        requires latest { latest.now.rows ≡ rows_of (take self.old.posts (posts_of log.now.entries)) }
         requires more { self.old.seen < length log.now.entries }
         requires fits { self.old.seen < 2 ^ 64 - 1 }
         ensures inbox { IfOk result (λ _. IsInbox names.now log.now.entries client self.new) }
@@ -324,29 +326,57 @@ impl Inbox {
     {
         let seen = self.seen;
         let entry = log.entry(seen as usize);
-        self.see_call(alloc, names, log, client, entry)?;
+        self.see_call(alloc, names, log, latest, client, entry)?;
         self.see_posts(alloc, names, entry)?;
         self.seen = seen + 1;
         Ok(())
     }
+
+    // The next entry, where there is one and the table of latest posts has seen the same posts. Without memory the
+    // inbox begins anew.
+    pub fn follow(&mut self, alloc: Global, names: &Names, log: &Log, latest: &Latest, client: u32)
+        requires inbox { IsInbox names.now log.now.entries client self.old }
+        requires latest { IsLatest (posts_of log.now.entries) latest.now }
+        ensures { IsInbox names.now log.now.entries client self.new }
+    {
+        if self.seen < log.len() as u64 && self.posts == latest.posts() as u64 {
+            if self.see_entry(alloc, names, log, latest, client).is_err() {
+                *self = Inbox::new(alloc);
+            }
+        }
+    }
+
+    // All entries. Without memory the inbox stays as it was.
+    pub fn follow_all(
+        &mut self,
+        alloc: Global,
+        names: &Names,
+        log: &Log,
+        client: u32,
+    ) -> Result<(), NoMemory>
+        requires { IsInbox names.now log.now.entries client self.old }
+        ensures inbox { IsInbox names.now log.now.entries client self.new }
+        ensures all { OnOk result (self.new.seen ≡ length log.now.entries) }
+        ensures few { OnOk result (self.new.seen < 2 ^ 64 - 1) }
+    {
+        if self.seen < log.len() as u64 {
+            *self = made_anew(alloc, names, log, client)?;
+        }
+        Ok(())
+    }
 }
 
-// The client's inbox after the whole history.
-pub(crate) fn caught_up(
-    alloc: Global,
-    names: &Names,
-    log: &Log,
-    client: u32,
-    inbox: Inbox,
-) -> Result<Inbox, NoMemory>
-    requires { IsInbox names.now log.now.entries client inbox }
+// The client's inbox after the whole history, made from the history alone.
+fn made_anew(alloc: Global, names: &Names, log: &Log, client: u32) -> Result<Inbox, NoMemory>
     ensures inbox { IfOk result (λ now. IsInbox names.now log.now.entries client now) }
     ensures all { IfOk result (λ now. now.seen ≡ length log.now.entries) }
     ensures few { IfOk result (λ now. now.seen < 2 ^ 64 - 1) }
 {
-    let mut inbox = inbox;
+    let mut inbox = Inbox::new(alloc);
+    let mut latest = Latest::new(alloc);
     'entries: while inbox.seen() < log.len() as u64 {
-        inbox.see_entry(alloc, names, log, client)?;
+        latest.see_posts(alloc, log, inbox.posts() as usize)?;
+        inbox.see_entry(alloc, names, log, &latest, client)?;
     }
     Ok(inbox)
 }

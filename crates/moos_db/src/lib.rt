@@ -4,17 +4,18 @@
 // call adds its entry or finds no memory and changes nothing; what a fetch gives is the delivery rule's mail of the
 // history before it, the rule that stands in `moos_post`'s specs/Delivery. Nothing else tells what mail a client gets.
 //
-// Read `rule` first, the tests that the delivery rule makes of one registration and one post. Then `live`,
-// `lives` and `inbox`, what is kept of one client, `log`, what is kept of the history, `mail`, and last `db`.
+// Read `table` first, a number for each variable. Then `live`, `lives` and `inbox`, what is kept of one client, `log`,
+// what is kept of the history, `latest`, the latest post of each variable, `mail`, and last `db`.
 #![tactic(auto)]
 
 mod db;
 mod inbox;
+mod latest;
 mod live;
 mod lives;
 mod log;
 mod mail;
-mod rule;
+mod table;
 
 pub use db::Db;
 pub use mail::{Letter, Mail, Origin};

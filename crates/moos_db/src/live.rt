@@ -1,27 +1,19 @@
-ghost use Rattle.std.specs.Prelude.{◌≡◌, ◌&&◌, [], ◌∷◌, ◌++◌, map, filter, not, bytes_eq, position, IfOk};
-ghost use Rattle.std.specs.List.{list_any};
-ghost use Rattle.moos_db.specs.Kept.{is_of, last_in, with_last, has_patterns, without_held, held_of_reg, with_stamp, is_due_held, passed, is_new_held, caught};
+ghost use Rattle.std.specs.Prelude.{◌≡◌, ◌&&◌, bytes_eq, IfOk};
+ghost use Rattle.moos_db.specs.Kept.{picks, has_patterns, held_of_reg, with_stamp, is_due_held, passed, is_new_held, caught};
 
-use crate::rule::{does_select, is_past, is_same};
+use crate::table::Table;
 use moos_post::{Name, NoMemory, Pattern, Reg};
+use moos_reg::{due, matches};
 use std::alloc::Global;
 use std::marker::Model;
 
-// The stamp of the last post of a variable that came through a registration.
-#[derive(Drop)]
-pub(crate) struct Last {
-    pub var: Name,
-    pub stamp: u64,
-}
-
 // A live registration: what it asks for, the number of the entry that made it, and of each variable of which a post
-// came through it the last such stamp. It grows with these variables, and each post that it selects looks through
-// them; a table by variable comes later.
+// came through it the last such stamp.
 #[derive(Drop)]
 pub(crate) struct Live {
     reg: Reg,
     made: u64,
-    lasts: Vec<Last>,
+    lasts: Table,
 }
 
 impl Model for Live {
@@ -29,37 +21,20 @@ impl Model for Live {
 
     ghost Value = { Held };
 
-    ghost view = { λ live. record { reg = live.reg; made = live.made; lasts = live.lasts.items } };
+    ghost view = { λ live. record { reg = live.reg; made = live.made; lasts = live.lasts } };
 }
 
-fn last_in(lasts: &[Last], var: &Name) -> Option<u64>
-    ensures { result ≡ last_in var.now lasts.now }
+// Whether the registration selects a post of this variable from the client with this name.
+fn picks(reg: &Reg, var: &Name, source: &[u8]) -> bool
+    ensures { result ≡ picks reg.now var.now source.now }
 {
-    let var = var.bytes();
-    lasts
-        .iter()
-        .find(|last| is_same(last.var.bytes(), var))
-        .map(|last| last.stamp)
+    matches(&reg.var, var.bytes()) && matches(&reg.source, source)
 }
 
-fn place_of(lasts: &[Last], var: &Name) -> Option<usize>
-    ensures { result ≡ position (is_of var.now) lasts.now }
+fn is_same(left: &[u8], right: &[u8]) -> bool
+    ensures { result ≡ bytes_eq left.now right.now }
 {
-    let var = var.bytes();
-    lasts.iter().position(|last| is_same(last.var.bytes(), var))
-}
-
-fn set_last(alloc: Global, lasts: &mut Vec<Last>, var: &Name, stamp: u64) -> Result<(), NoMemory>
-    ensures { IfOk result (λ _. lasts.new.items ≡ with_last var.now stamp lasts.old.items) }
-{
-    match place_of(lasts, var) {
-        Some(place) => lasts[place].stamp = stamp,
-        None => {
-            let var = var.copy(alloc)?;
-            lasts.push(Last { var, stamp })?;
-        }
-    }
-    Ok(())
+    left == right
 }
 
 impl Live {
@@ -79,7 +54,7 @@ impl Live {
         Ok(Live {
             reg,
             made,
-            lasts: Vec::new(alloc),
+            lasts: Table::new(alloc),
         })
     }
 
@@ -87,15 +62,14 @@ impl Live {
     pub fn is_due(&self, stamp: u64, var: &Name, source: &[u8]) -> bool
         ensures { result ≡ is_due_held stamp var.now source.now self.now }
     {
-        does_select(&self.reg, var, source)
-            && is_past(last_in(&self.lasts, var), stamp, self.reg.interval)
+        picks(&self.reg, var, source) && due(self.lasts.number_of(var), stamp, self.reg.interval)
     }
 
     // Whether it was made at this entry and selects a post of this variable from the client with this name.
     pub fn is_new_for(&self, made: u64, var: &Name, source: &[u8]) -> bool
         ensures { result ≡ is_new_held made var.now source.now self.now }
     {
-        self.made == made && does_select(&self.reg, var, source)
+        self.made == made && picks(&self.reg, var, source)
     }
 
     // Whether it has both these patterns.
@@ -110,7 +84,7 @@ impl Live {
     pub fn pass(&mut self, alloc: Global, stamp: u64, var: &Name) -> Result<(), NoMemory>
         ensures { IfOk result (λ _. self.new ≡ with_stamp stamp var.now self.old) }
     {
-        set_last(alloc, &mut self.lasts, var, stamp)
+        self.lasts.set(alloc, var, stamp)
     }
 
     // The post comes through where it is due.

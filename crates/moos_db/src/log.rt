@@ -1,10 +1,11 @@
-ghost use Rattle.std.specs.Prelude.{◌≡◌, ◌<◌, ◌^◌, ◌-◌, ◌++◌, ◌∷◌, [], map, length, IfOk, OnOk, OnErr, Some, option_map, slice_get, vec_len, vec_capacity};
+ghost use Rattle.std.specs.Prelude.{◌≡◌, ◌<◌, ◌^◌, ◌-◌, ◌++◌, ◌∷◌, [], map, length, IfOk, OnOk, OnErr, is_ok, if◌then◌else◌, Some, option_map, slice_get, vec_len, vec_capacity};
 ghost use Rattle.std.specs.List.{range_with_len};
 ghost use Rattle.moos_post.specs.History.{posts_of, posts_of_call, posts_of_entry};
 ghost use Rattle.moos_db.specs.Places.{place_at};
 ghost use Rattle.moos_db.specs.Database.{pair_of, origin_of};
 
 use crate::mail::Origin;
+use moos_mail::{Mailbox, Numbers};
 use moos_post::{Call, Entry, NoMemory, Pair};
 use std::alloc::Global;
 use std::marker::Model;
@@ -14,20 +15,6 @@ use std::marker::Model;
 pub(crate) struct Place {
     pub entry: usize,
     pub pair: usize,
-}
-
-// The numbers that an entry gave.
-#[derive(Drop)]
-pub(crate) struct Numbers {
-    numbers: Vec<u64>,
-}
-
-impl Model for Numbers {
-    ghost use Rattle.std.specs.Prelude.{List, ℕ};
-
-    ghost Value = { List ℕ };
-
-    ghost view = { λ given. given.numbers.items };
 }
 
 // The history: its entries in order, the numbers that each of them gave, and for each post where it stands.
@@ -118,7 +105,7 @@ impl Log {
         requires { number < length self.now.entries }
         ensures { slice_get self.now.letters number ≡ Some result.now }
     {
-        self.letters[number].numbers.as_slice()
+        self.letters[number].all()
     }
 
     // How many posts there are.
@@ -150,20 +137,40 @@ impl Log {
         }
     }
 
-    // Adds an entry that gave these numbers. All memory is taken before anything changes.
-    pub fn append(&mut self, alloc: Global, entry: Entry, numbers: Vec<u64>) -> Result<(), NoMemory>
+    // Adds an entry that gives what waits in the mailbox. All memory is taken before anything changes.
+    pub fn append_mail(
+        &mut self,
+        alloc: Global,
+        entry: Entry,
+        mailbox: &mut Mailbox,
+    ) -> Result<(), NoMemory>
         ensures ok { OnOk result (self.new ≡ record {
           entries = self.old.entries ++ entry ∷ [];
-          letters = self.old.letters ++ numbers.items ∷ [];
+          letters = self.old.letters ++ mailbox.old.waiting ∷ [];
         }) }
         ensures same { OnErr result (self.new ≡ self.old) }
+        ensures waiting { mailbox.new.waiting ≡ (if is_ok result then [] else mailbox.old.waiting) }
+        ensures mailed { mailbox.new.mailed ≡ mailbox.old.mailed }
     {
         let mut places = places_in(alloc, self.entries.len(), posts_in(&entry.call))?;
         self.entries.reserve(1)?;
         self.letters.reserve(1)?;
         self.places.append(&mut places)?;
         push_reserved(&mut self.entries, entry);
-        push_reserved(&mut self.letters, Numbers { numbers });
+        push_reserved(&mut self.letters, mailbox.take_all(alloc));
+        Ok(())
+    }
+
+    // Adds an entry that gives nothing. All memory is taken before anything changes.
+    pub fn append(&mut self, alloc: Global, entry: Entry) -> Result<(), NoMemory>
+        ensures ok { OnOk result (self.new ≡ record {
+          entries = self.old.entries ++ entry ∷ [];
+          letters = self.old.letters ++ [] ∷ [];
+        }) }
+        ensures same { OnErr result (self.new ≡ self.old) }
+    {
+        let mut empty = Mailbox::make(alloc);
+        self.append_mail(alloc, entry, &mut empty)?;
         Ok(())
     }
 }

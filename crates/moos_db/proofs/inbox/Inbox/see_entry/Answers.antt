@@ -1,18 +1,22 @@
 use Rattle.std.proofs.Common.{◌≡◌, ◌+◌, ◌∙◌, suc, ap, sym, subst, slice_get, Some, arith}
 use Rattle.moos_db.specs.Kept.{Kept, IsInbox}
-use Rattle.moos_db.proofs.Growth.{IsInbox-posts, IsInbox-room, IsInbox-entry, posts-called}
+use Rattle.moos_db.proofs.Growth.{IsInbox-posts, IsInbox-room, IsInbox-entry, posts-called, called-fresh}
 use Rattle.moos_db.proofs.inbox.Inbox.see_entry.Goals as goal
 
-pub see_call-requires : goal.see_call-requires
-see_call-requires c = IsInbox-posts _ _ _ _ c.requires.inbox
+pub see_call-requires-clause-within : goal.see_call-requires-clause-within
+see_call-requires-clause-within c = IsInbox-posts _ _ _ _ c.requires.inbox
 
-pub see_posts-requires : goal.see_posts-requires
-see_posts-requires c =
+pub see_posts-requires-clause-fits : goal.see_posts-requires-clause-fits
+see_posts-requires-clause-fits c =
     let there : slice_get c.args.log.now.entries c.args.self.now.seen ≡ Some c.entry-entry.result.now
     = ap (λ (k : Kept). slice_get c.args.log.now.entries k.seen) (sym c.self.view_is) ∙ c.entry-entry.ensures.value in
     let counted : c.see_call.new.self.posts ≡ c.args.self.now.posts
     = posts-called c.args.names.now c.args.log.now.entries c.args.client c.args.self.now _ c.entry-entry.result.now c.in_ok-see_call.ensures in
     omega (arith, IsInbox-room _ _ _ _ _ there c.requires.inbox, c.entry-entry.ensures.few)
+
+pub see_posts-requires-clause-fresh : goal.see_posts-requires-clause-fresh
+see_posts-requires-clause-fresh c =
+    called-fresh c.args.names.now c.args.log.now.entries c.args.client c.args.self.now _ c.entry-entry.result.now c.in_ok-see_call.ensures c.requires.inbox
 
 pub returns-clause-inbox : goal.returns-clause-inbox
 returns-clause-inbox c =

@@ -1,6 +1,6 @@
 use Rattle.std.proofs.Common.{◌≡◌, length, vec_len, rules}
 use Rattle.moos_db.proofs.Standing.{IsLog-push}
-use Rattle.moos_db.proofs.log.Log.append.Goals as goal
+use Rattle.moos_db.proofs.log.Log.append_mail.Goals as goal
 
 pub invariant_of-self-2 : goal.invariant_of-self-2
 invariant_of-self-2 c =
