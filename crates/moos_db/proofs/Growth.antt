@@ -1,5 +1,5 @@
 -- How an inbox of the delivery rule, and what is kept of it, grows with the history.
-use Rattle.std.proofs.Common.{◌≡◌, ℕ, zero, suc, ◌+◌, ◌<◌, ◌≤◌, Bool, true, false, ◌||◌, ◌==◌, cond, nat_le, List, [], ◌∷◌, ◌++◌, length, map, filter, fold, take, drop, slice_get, Some, All, append_assoc, append-nil, refl, ap, sym, ◌∙◌, arith, subst, length-append, if◌then◌else◌}
+use Rattle.std.proofs.Common.{◌≡◌, ℕ, zero, suc, ◌+◌, ◌<◌, ◌≤◌, Bool, true, false, ◌||◌, ◌==◌, cond, nat_le, List, [], ◌∷◌, ◌++◌, length, map, filter, fold, take, drop, slice_get, Option, None, Some, All, append_assoc, append-nil, refl, ap, sym, ◌∙◌, arith, subst, length-append, if◌then◌else◌}
 use Rattle.std.specs.List.{AllByRecursion, list_any}
 use Rattle.std.proofs.lemmas.Bool.{eq-eqb}
 use Rattle.std.proofs.lemmas.List.{take-append-drop, take-append-le, take_all, length-take}
@@ -11,7 +11,7 @@ use Rattle.moos_post.specs.declared.entry.Call.{Call}
 use Rattle.moos_post.specs.declared.entry.Call.TheVariants.{Register, Unregister, Post as Posts, Fetch}
 use Rattle.moos_post.specs.declared.entry.Entry.{Entry}
 use Rattle.moos_post.specs.declared.value.Post.{Post}
-use Rattle.moos_post.specs.Delivery.{Inbox, Mailing, with_post, with_own, with_entry, empty_inbox, inbox_of, mail_after}
+use Rattle.moos_post.specs.Delivery.{Inbox, Mailing, with_post, with_own, with_entry, empty_inbox, inbox_of, mail_after, mail_at, mail_of_entry, is_fetch}
 use Rattle.moos_post.specs.History.{History, posts_of, posts_of_entry}
 use Rattle.moos_db.specs.Kept.{Kept, kept_of, kept_own, kept_posts, kept_entry, empty_kept, IsInbox, IsFresh}
 use Rattle.moos_db.proofs.Catching.{kept_posts-own, all-below, fresh-own}
@@ -125,15 +125,30 @@ below-waiting entry number fetched (one ∷ more) past = through (nat_le fetched
     through true rest = (past.1, rest)
     through false rest = rest
 
--- Each number that waits is that of a post.
+-- Each number of a mail is that of a post.
+mail-below : (names : List (List ℕ)) (history : History) (client : ℕ) → All (λ number. number < length (posts_of history)) (mail_after names client history)
+mail-below names history client =
+    let here : Inbox = inbox_of names client history in
+    let orderly : IsOrderly here = orderly-inbox_of names client history in
+    subst (λ n. All (λ number. number < n) (mail_after names client history)) (ap length (posts-inbox_of names client history))
+    (all-below (length here.posts) _ (below-waiting here.entries (length here.posts) here.fetched here.mailed orderly.past))
+
 pub IsInbox-below : (names : List (List ℕ)) (history : History) (client : ℕ) (kept : Kept) → kept.seen ≡ length history → IsInbox names history client kept →
     All (λ number. number < length (posts_of history)) kept.waits
 IsInbox-below names history client kept all inbox =
-    let here : Inbox = inbox_of names client history in
-    let orderly : IsOrderly here = orderly-inbox_of names client history in
-    subst (λ numbers. All (λ number. number < length (posts_of history)) numbers) (sym (IsInbox-mail names history client kept all inbox))
-    (subst (λ n. All (λ number. number < n) (mail_after names client history)) (ap length (posts-inbox_of names client history))
-    (all-below (length here.posts) _ (below-waiting here.entries (length here.posts) here.fetched here.mailed orderly.past)))
+    subst (λ numbers. All (λ number. number < length (posts_of history)) numbers) (sym (IsInbox-mail names history client kept all inbox)) (mail-below names history client)
+
+-- Each number that an entry gives is that of a post before it.
+pub mail_at-below : (names : List (List ℕ)) (history : History) (k : ℕ) → All (λ number. number < length (posts_of (take k history))) (mail_at names history k)
+mail_at-below names history k = through (slice_get history k)
+  where
+    given : (fetches : Bool) (client : ℕ) → All (λ number. number < length (posts_of (take k history))) (if fetches then mail_after names client (take k history) else [])
+    given true client = mail-below names (take k history) client
+    given false client = λ i d below. absurd (omega arith)
+
+    through : (entry : Option Entry) → All (λ number. number < length (posts_of (take k history))) (mail_of_entry names (take k history) entry)
+    through None = λ i d below. absurd (omega arith)
+    through (Some entry) = given (is_fetch entry.call) entry.client
 
 -- The inbox after the client's fetch, which was the next entry.
 pub IsInbox-fetch : (names : List (List ℕ)) (history : History) (client stamp : ℕ) (kept : Kept) → kept.seen ≡ length history → IsInbox names history client kept →

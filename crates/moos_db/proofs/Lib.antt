@@ -5,6 +5,7 @@ pub mod Lasts
 pub mod Latests
 pub mod Orderly
 pub mod Rows
+pub mod Runs
 pub mod Sorting
 pub mod Standing
 pub mod Whole

@@ -63,13 +63,13 @@ IsDb-table names journal table other inboxes latest db =
 pub IsDb-empty : (names : List (List ℕ)) (journal : Journal) (table : Latest) (inboxes : List Kept) (client : ℕ) → IsDb names journal table inboxes → IsDb names journal table (set inboxes client empty_kept)
 IsDb-empty names journal table inboxes client db = IsDb-set names journal table inboxes client empty_kept (IsInbox-empty names journal.entries client) db
 
-mail_at-stays : (names : List (List ℕ)) (history : History) (entry : Entry) (k : ℕ) → k < length history → mail_at names (history ++ entry ∷ []) k ≡ mail_at names history k
+pub mail_at-stays : (names : List (List ℕ)) (history : History) (entry : Entry) (k : ℕ) → k < length history → mail_at names (history ++ entry ∷ []) k ≡ mail_at names history k
 mail_at-stays names history entry k below =
     let found : (one : Entry) × (slice_get history k ≡ Some one) = slice_get-some history k below in
     ap (λ h. mail_of_entry names h (slice_get (history ++ entry ∷ []) k)) (take-append-le k history (entry ∷ []) (omega arith))
     ∙ ap (mail_of_entry names (take k history)) (slice_get-front history (entry ∷ []) k found.0 found.1 ∙ sym found.1)
 
-mail_at-seam : (names : List (List ℕ)) (history : History) (entry : Entry) → mail_at names (history ++ entry ∷ []) (length history) ≡ mail_of_entry names history (Some entry)
+pub mail_at-seam : (names : List (List ℕ)) (history : History) (entry : Entry) → mail_at names (history ++ entry ∷ []) (length history) ≡ mail_of_entry names history (Some entry)
 mail_at-seam names history entry =
     ap (λ h. mail_of_entry names h (slice_get (history ++ entry ∷ []) (length history))) (take-append_seam history (entry ∷ []))
     ∙ ap (mail_of_entry names history) (slice_get-seam history entry [])

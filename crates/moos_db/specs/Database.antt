@@ -1,9 +1,10 @@
 -- What a database stands for: its clients' names and the history of the calls that it answered with Ok.
-use Rattle.std.specs.Prelude.{◌≡◌, ℕ, List, [], ◌∷◌, ◌++◌, map, Option, Some, option_map, slice_get}
+use Rattle.std.specs.Prelude.{◌≡◌, ℕ, List, [], ◌∷◌, ◌++◌, length, map, take, Option, Some, option_map, slice_get}
 use Rattle.moos_post.specs.declared.entry.Entry.{Entry}
 use Rattle.moos_post.specs.declared.value.Pair.{Pair}
 use Rattle.moos_post.specs.declared.value.Post.{Post}
-use Rattle.moos_post.specs.History.{History}
+use Rattle.moos_post.specs.Delivery.{mail_at}
+use Rattle.moos_post.specs.History.{History, posts_of}
 use Rattle.moos_db.specs.declared.mail.Letter.{Letter}
 use Rattle.moos_db.specs.declared.mail.Origin.{Origin}
 
@@ -35,3 +36,10 @@ letter_at posts number = option_map (letter_of number) (slice_get posts number)
 -- the mail is the posts with these numbers, in this order
 abbrev pub AreLetters : List Post → List ℕ → List Letter → Type 0
 AreLetters posts numbers mail = map (λ letter. Some letter) mail ≡ map (letter_at posts) numbers
+
+-- Each entry of the history has its mail: the posts mailed to its client since the fetch before, where it is a fetch, and
+-- nothing otherwise.
+pub record AreMails (names : List (List ℕ)) (history : History) (mails : List (List Letter)) : Type 0 where
+  pub each : length mails ≡ length history
+  pub mail : (k : ℕ) (mail : List Letter) → slice_get mails k ≡ Some mail →
+      AreLetters (posts_of (take k history)) (mail_at names history k) mail

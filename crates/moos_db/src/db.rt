@@ -1,4 +1,4 @@
-ghost use Rattle.std.specs.Prelude.{◌≡◌, ◌^◌, ◌<◌, [], ◌∷◌, ◌++◌, length, map, replicate, All, false, IfOk, OnOk, OnErr, Some, option_map, slice_get};
+ghost use Rattle.std.specs.Prelude.{◌≡◌, ◌^◌, ◌<◌, [], ◌∷◌, ◌++◌, length, map, take, replicate, All, false, IfOk, OnOk, OnErr, Some, option_map, slice_get};
 ghost use Rattle.moos_post.specs.Delivery.{mail_after, mail_at, is_fetch};
 ghost use Rattle.moos_post.specs.History.{posts_of};
 ghost use Rattle.moos_db.specs.Kept.{empty_kept};
@@ -321,6 +321,13 @@ impl Db {
     {
         self.log.letters(k as usize)
     }
+
+    /// Each number that an entry gave is that of a post before it. This changes nothing, and tells callers of `letters`.
+    pub fn letters_law(&self, k: u64)
+        requires { k < length self.now.history }
+        ensures { let before = take k self.now.history
+            in All (λ number. number < length (posts_of before)) (mail_at self.now.names self.now.history k) }
+    {}
 
     /// How many clients there are.
     pub fn clients(&self) -> u32

@@ -5,7 +5,8 @@
 // history before it, the rule that stands in `moos_post`'s specs/Delivery. Nothing else tells what mail a client gets.
 //
 // Read `table` first, a number for each variable. Then `live`, `lives` and `inbox`, what is kept of one client, `log`,
-// what is kept of the history, `latest`, the latest post of each variable, `mail`, and last `db`.
+// what is kept of the history, `latest`, the latest post of each variable, `mail`, `db`,
+// and last `run`, which makes a list of calls.
 #![tactic(auto)]
 
 mod db;
@@ -15,10 +16,12 @@ mod live;
 mod lives;
 mod log;
 mod mail;
+mod run;
 mod table;
 
 pub use db::Db;
 pub use mail::{Letter, Mail, Origin};
+pub use run::mails_of;
 
 #[cfg(test)]
 mod tests;

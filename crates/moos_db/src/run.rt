@@ -1,0 +1,45 @@
+ghost use Rattle.std.specs.Prelude.{◌≡◌, ◌^◌, ◌<◌, length, All, IfOk, OnOk, Some};
+ghost use Rattle.moos_post.specs.Delivery.{mail_of_entry};
+ghost use Rattle.moos_post.specs.History.{posts_of};
+ghost use Rattle.moos_db.specs.Database.{with_entry, AreLetters, AreMails};
+
+use crate::db::Db;
+use crate::mail::Mail;
+use moos_post::{Call, Entry, Names, NoMemory};
+use std::alloc::Global;
+
+// The mail that this entry gives, the next of the database.
+fn mail_of(alloc: Global, db: &mut Db, entry: Entry) -> Result<Mail, NoMemory>
+    requires { entry.client < length db.old.names }
+    ensures ok { OnOk result (db.new ≡ with_entry db.old entry) }
+    ensures mail { let numbers = mail_of_entry db.old.names db.old.history (Some entry)
+        in IfOk result (AreLetters (posts_of db.old.history) numbers) }
+{
+    let Entry {
+        stamp,
+        client,
+        call,
+    } = entry;
+    match call {
+        Call::Register(regs) => db.register(alloc, client, stamp, regs)?,
+        Call::Unregister(var, source) => db.unregister(alloc, client, stamp, var, source)?,
+        Call::Post(batch) => db.post(alloc, client, stamp, batch)?,
+        Call::Fetch => return db.fetch(alloc, client, stamp),
+    }
+    Ok(Mail::new(alloc))
+}
+
+/// The mail of each of these calls, made one after another of a database of clients with these names: of a fetch what
+/// it gives, and of any other call nothing.
+pub fn mails_of(alloc: Global, names: Names, calls: Vec<Entry>) -> Result<Vec<Mail>, NoMemory>
+    requires few { length names < 2 ^ 32 }
+    requires clients { All (λ call. call.client < length names) calls.items }
+    ensures { IfOk result (λ mails. AreMails names calls.items mails.items) }
+{
+    let mut mails = Vec::with_capacity(alloc, calls.len())?;
+    let mut db = Db::make(alloc, names)?;
+    for call in calls {
+        mails.push(mail_of(alloc, &mut db, call)?)?;
+    }
+    Ok(mails)
+}
