@@ -1,5 +1,5 @@
 -- The table of latest posts has, in some order, the numbers of the posts that are the latest of their variable.
-use Rattle.std.proofs.Common.{◌≡◌, ℕ, suc, ◌+◌, ◌<◌, ◌≤◌, Bool, true, false, cond, ◌||◌, not, List, [], ◌∷◌, ◌++◌, length, map, filter, take, slice_get, Option, None, Some, option_map, bytes_eq, append_assoc, append-nil, refl, ap, sym, ◌∙◌, arith, inl, inr, subst, if◌then◌else◌}
+use Rattle.std.proofs.Common.{◌≡◌, ℕ, suc, ◌+◌, ◌<◌, Bool, true, false, cond, ◌||◌, not, List, [], ◌∷◌, ◌++◌, length, map, filter, take, slice_get, Option, None, Some, option_map, bytes_eq, append_assoc, append-nil, refl, ap, sym, ◌∙◌, arith, inl, inr, subst, if◌then◌else◌}
 use Rattle.std.specs.List.{list_any}
 use Rattle.std.specs.List.Sorted.{IsPermutation, IsNonDecreasingBy}
 use Rattle.std.proofs.lemmas.Bool.{cases_Bool, both_ways, false_from_ne_true}

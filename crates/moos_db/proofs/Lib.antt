@@ -1,4 +1,5 @@
 pub mod Catching
+pub mod Examples
 pub mod Growth
 pub mod Keeping
 pub mod Lasts

@@ -1,6 +1,6 @@
 -- A table of rows kept as the entries of a map in insertion order: what is looked up and changed in the one is so in the
 -- other.
-use Rattle.std.proofs.Common.{◌≡◌, ℕ, Bool, true, false, cond, List, [], ◌∷◌, map, find, Option, Some, None, option_map, bytes_eq, refl, ap, sym, ◌∙◌, if◌then◌else◌}
+use Rattle.std.proofs.Common.{◌≡◌, ℕ, Bool, true, false, cond, List, [], ◌∷◌, map, find, Some, None, option_map, bytes_eq, refl, ap, if◌then◌else◌}
 use Rattle.std.specs.Map.{lookup, set_value, values_of}
 use Rattle.indexmap.specs.IndexMap.{insert_entry}
 use Rattle.moos_db.specs.Tables.{Row, is_of, number_of, with_row}

@@ -1,7 +1,7 @@
 ghost use Rattle.std.specs.Prelude.{◌<◌, length};
 
 use super::*;
-use moos_post::{Batch, Call, Milli, Name, Names, Pair, Pattern, Post, Reg, Regs, Value};
+use moos_post::{Batch, Call, Entry, Milli, Name, Names, Pair, Pattern, Post, Reg, Regs, Value};
 use std::alloc::Global;
 use std::process::Abort;
 use std::test::Fail;
@@ -9,21 +9,27 @@ use std::test::Fail;
 // What a client does, and for a fetch the numbers that it is given.
 #[derive(Clone, Copy)]
 enum Step<'a> {
-    Register(&'a str, u64, &'a str),
+    Register(&'a [(&'a str, u64, &'a str)]),
     Unregister(&'a str, &'a str),
     Post(&'a [(&'a str, i64)]),
     Fetch(&'a [u64]),
 }
 
-fn regs_of(alloc: Global, var: &str, interval: u64, source: &str) -> Result<Regs, Fail> {
+fn reg_of(alloc: Global, var: &str, interval: u64, source: &str) -> Result<Reg, Fail> {
     let var = Pattern::read(alloc, var.as_bytes())?;
     let source = Pattern::read(alloc, source.as_bytes())?;
-    let mut regs = Regs::new(alloc);
-    regs.push(Reg {
+    Ok(Reg {
         var,
         source,
         interval,
-    })?;
+    })
+}
+
+fn regs_of(alloc: Global, asked: &[(&str, u64, &str)]) -> Result<Regs, Fail> {
+    let mut regs = Regs::new(alloc);
+    for (var, interval, source) in asked {
+        regs.push(reg_of(alloc, var, *interval, source)?)?;
+    }
     Ok(regs)
 }
 
@@ -103,12 +109,7 @@ fn perform(
     requires { client < length db.old.names }
 {
     match call {
-        Step::Register(var, interval, source) => db.register(
-            alloc,
-            client,
-            stamp,
-            regs_of(alloc, var, *interval, source)?,
-        )?,
+        Step::Register(regs) => db.register(alloc, client, stamp, regs_of(alloc, regs)?)?,
         Step::Unregister(var, source) => unregister(alloc, db, client, stamp, var, source)?,
         Step::Post(pairs) => db.post(alloc, client, stamp, batch_of(alloc, pairs)?)?,
         Step::Fetch(numbers) => fetch(rt, alloc, db, client, stamp, numbers)?,
@@ -134,8 +135,8 @@ fn play(
 #[test]
 fn patterns_select(rt: HostRuntime) -> Result<(), Fail> {
     let steps = [
-        (0, 0, Step::Register("NAV_*", 0, "p*")),
-        (500, 1, Step::Register("NAV_?", 0, "*")),
+        (0, 0, Step::Register(&[("NAV_*", 0, "p*")])),
+        (500, 1, Step::Register(&[("NAV_?", 0, "*")])),
         (
             1000,
             2,
@@ -152,7 +153,7 @@ fn patterns_select(rt: HostRuntime) -> Result<(), Fail> {
 #[test]
 fn interval_counts_from_the_last_that_came(rt: HostRuntime) -> Result<(), Fail> {
     let steps = [
-        (0, 0, Step::Register("X", 500, "*")),
+        (0, 0, Step::Register(&[("X", 500, "*")])),
         (0, 0, Step::Post(&[("X", 1)])),
         (499, 0, Step::Post(&[("X", 2)])),
         (500, 0, Step::Post(&[("X", 3)])),
@@ -171,8 +172,8 @@ fn late_registration_catches_up(rt: HostRuntime) -> Result<(), Fail> {
         (0, 0, Step::Post(&[("A", 1)])),
         (1000, 0, Step::Post(&[("B", 2)])),
         (2000, 0, Step::Post(&[("A", 3)])),
-        (3000, 1, Step::Register("A", 0, "*")),
-        (4000, 1, Step::Register("*", 0, "*")),
+        (3000, 1, Step::Register(&[("A", 0, "*")])),
+        (4000, 1, Step::Register(&[("*", 0, "*")])),
         (5000, 1, Step::Fetch(&[2, 1])),
     ];
     play(&rt, rt.alloc(), &["a", "b"], &steps)
@@ -182,21 +183,122 @@ fn late_registration_catches_up(rt: HostRuntime) -> Result<(), Fail> {
 #[test]
 fn registration_begins_anew(rt: HostRuntime) -> Result<(), Fail> {
     let steps = [
-        (0, 0, Step::Register("X", 10_000, "*")),
+        (0, 0, Step::Register(&[("X", 10_000, "*")])),
         (1000, 1, Step::Post(&[("X", 1)])),
         (2000, 0, Step::Unregister("X", "*")),
-        (3000, 0, Step::Register("X", 10_000, "*")),
+        (3000, 0, Step::Register(&[("X", 10_000, "*")])),
         (4000, 1, Step::Post(&[("X", 2)])),
         (5000, 0, Step::Fetch(&[0, 1])),
     ];
     play(&rt, rt.alloc(), &["b", "a"], &steps)
 }
 
+// Clients 0, 1 and 2 are a, b and c.
+#[test]
+fn further_cases(rt: HostRuntime) -> Result<(), Fail> {
+    // Two registrations are due at post 0, and one of them at post 1: each is mailed once.
+    let two_are_due = [
+        (0, 0, Step::Register(&[("X", 1000, "*"), ("*", 0, "*")])),
+        (0, 1, Step::Post(&[("X", 1)])),
+        (500, 1, Step::Post(&[("X", 2)])),
+        (600, 0, Step::Fetch(&[0, 1])),
+    ];
+    // Post 1 comes while nothing is live, and is mailed when the registration is made again.
+    let withdrawn_and_made_again = [
+        (0, 0, Step::Register(&[("X", 0, "*")])),
+        (1000, 1, Step::Post(&[("X", 1)])),
+        (2000, 0, Step::Unregister("X", "*")),
+        (3000, 1, Step::Post(&[("X", 2)])),
+        (4000, 0, Step::Fetch(&[0])),
+        (5000, 0, Step::Register(&[("X", 0, "*")])),
+        (6000, 0, Step::Fetch(&[1])),
+    ];
+    // Only the registration with both patterns is withdrawn.
+    let other_source = [
+        (0, 0, Step::Register(&[("X", 0, "b"), ("X", 0, "c")])),
+        (1000, 0, Step::Unregister("X", "c")),
+        (2000, 0, Step::Unregister("X", "*")),
+        (3000, 1, Step::Post(&[("X", 1)])),
+        (4000, 2, Step::Post(&[("X", 2)])),
+        (5000, 0, Step::Fetch(&[0])),
+    ];
+    // Post 2 catches up once and counts for both registrations, so post 3 is due at none, and post 4 at both.
+    let two_patterns_select_the_latest = [
+        (0, 1, Step::Post(&[("A", 1), ("B", 2)])),
+        (2000, 1, Step::Post(&[("A", 3)])),
+        (
+            2500,
+            0,
+            Step::Register(&[("A", 1000, "*"), ("*", 1000, "b")]),
+        ),
+        (2999, 1, Step::Post(&[("A", 4)])),
+        (3000, 1, Step::Post(&[("A", 5)])),
+        (3000, 0, Step::Fetch(&[1, 2, 4])),
+    ];
+    // Each variable's latest post is mailed in the order of the posts, not of the variables.
+    let late_for_many = [
+        (0, 1, Step::Post(&[("C", 1), ("B", 2), ("A", 3), ("C", 4)])),
+        (1000, 2, Step::Post(&[("B", 5), ("D", 6)])),
+        (2000, 0, Step::Register(&[("*", 0, "*")])),
+        (3000, 0, Step::Fetch(&[2, 3, 4, 5])),
+    ];
+    // The second X of a batch is due where the interval is 0 alone.
+    let variable_twice_in_a_batch = [
+        (0, 0, Step::Register(&[("X", 500, "*")])),
+        (0, 2, Step::Register(&[("X", 0, "*")])),
+        (1000, 1, Step::Post(&[("X", 1), ("Y", 2), ("X", 3)])),
+        (2000, 0, Step::Fetch(&[0])),
+        (2000, 2, Step::Fetch(&[0, 2])),
+    ];
+    let fetched_twice = [
+        (0, 0, Step::Register(&[("X", 0, "*")])),
+        (1000, 0, Step::Post(&[("X", 1)])),
+        (2000, 0, Step::Fetch(&[0])),
+        (3000, 0, Step::Fetch(&[])),
+        (4000, 0, Step::Post(&[("X", 2)])),
+        (5000, 0, Step::Fetch(&[1])),
+    ];
+    // A stamp below the last one that came through is never due, and the last one stays.
+    let stamps_fall_back = [
+        (0, 0, Step::Register(&[("X", 0, "*")])),
+        (1000, 1, Step::Post(&[("X", 1)])),
+        (999, 1, Step::Post(&[("X", 2)])),
+        (1000, 1, Step::Post(&[("X", 3)])),
+        (0, 0, Step::Fetch(&[0, 2])),
+    ];
+    for steps in [
+        two_are_due.as_slice(),
+        &withdrawn_and_made_again,
+        &other_source,
+        &two_patterns_select_the_latest,
+        &late_for_many,
+        &variable_twice_in_a_batch,
+        &fetched_twice,
+        &stamps_fall_back,
+    ] {
+        play(&rt, rt.alloc(), &["a", "b", "c"], steps)?;
+    }
+    Ok(())
+}
+
+// A call that asks for nothing is an entry too.
+#[test]
+fn empty_lists_are_entries(rt: HostRuntime) -> Result<(), Fail> {
+    let alloc = rt.alloc();
+    let mut db = database(&rt, alloc, &["a"])?;
+    assert!(rt; db.clients() == 1);
+    db.post(alloc, 0, 0, Batch::new(alloc))?;
+    db.register(alloc, 0, 0, Regs::new(alloc))?;
+    assert_eq!(rt; db.entries(), 2);
+    assert_eq!(rt; db.posts(), 0);
+    Ok(())
+}
+
 // A database with a registration of the second client, a batch of the first, and a post of the second.
 fn busy(rt: &impl Abort, alloc: Global) -> Result<Db, Fail> {
     let mut db = database(rt, alloc, &["pA", "pB"])?;
     assert!(rt; db.clients() == 2);
-    db.register(alloc, 1, 0, regs_of(alloc, "X", 0, "*")?)?;
+    db.register(alloc, 1, 0, regs_of(alloc, &[("X", 0, "*")])?)?;
     db.post(alloc, 0, 1000, batch_of(alloc, &[("Y", 4), ("X", 5)])?)?;
     db.post(alloc, 1, 2000, batch_of(alloc, &[("X", 6)])?)?;
     Ok(db)
@@ -275,5 +377,33 @@ fn mail_is_a_list(rt: HostRuntime) -> Result<(), Fail> {
         },
     })?;
     assert_eq!(rt; mail.len(), 1);
+    Ok(())
+}
+
+fn entry(stamp: u64, client: u32, call: Call) -> Entry {
+    Entry {
+        stamp,
+        client,
+        call,
+    }
+}
+
+// Each call has its mail in its own place.
+#[test]
+fn mails_of_a_list_of_calls(rt: HostRuntime) -> Result<(), Fail> {
+    let alloc = rt.alloc();
+    let mut names = Names::new(alloc);
+    names.push(Name::new(alloc, b"pA")?)?;
+    let mut calls = Vec::new(alloc);
+    calls.push(entry(0, 0, Call::Register(regs_of(alloc, &[("X", 0, "*")])?)))?;
+    calls.push(entry(1000, 0, Call::Post(batch_of(alloc, &[("X", 5)])?)))?;
+    calls.push(entry(2000, 0, Call::Fetch))?;
+    calls.push(entry(3000, 0, Call::Fetch))?;
+    assert!(rt; names.len() == 1);
+    assert!(rt; calls.iter().all(|call| call.client == 0));
+    let mails = mails_of(alloc, names, calls)?;
+    for (mail, len) in mails.iter().zip([0, 0, 1, 0]) {
+        assert_eq!(rt; mail.len(), len);
+    }
     Ok(())
 }

@@ -1,6 +1,6 @@
-use Rattle.std.proofs.Common.{◌≡◌, ◌++◌, ◌∷◌, [], sym, subst}
+use Rattle.std.proofs.Common.{sym, subst}
 use Rattle.moos_db.specs.Kept.{IsInbox}
-use Rattle.moos_db.proofs.Growth.{IsInbox-below, IsInbox-mail, IsInbox-fetch}
+use Rattle.moos_db.proofs.Growth.{IsInbox-below, IsInbox-fetch}
 use Rattle.moos_db.proofs.Whole.{AreInboxes-at, AreInboxes-set, AreInboxes-stay}
 use Rattle.moos_db.proofs.db.fetch.Goals as goal
 

@@ -1,5 +1,4 @@
-use Rattle.std.proofs.Common.{◌≡◌, ◌≤◌, ◌∙◌, ap, sym, arith, subst}
-use Rattle.moos_db.specs.Kept.{Kept}
+use Rattle.std.proofs.Common.{arith}
 use Rattle.moos_db.proofs.Growth.{IsInbox-posts, IsInbox-grows}
 use Rattle.moos_db.proofs.inbox.made_anew.Goals as goal
 

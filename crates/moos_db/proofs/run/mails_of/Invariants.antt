@@ -1,5 +1,5 @@
 use Rattle.std.proofs.Common.{◌≡◌}
-use Rattle.moos_db.specs.Database.{Database, AreMails}
+use Rattle.moos_db.specs.Database.{AreMails}
 use Rattle.moos_db.proofs.run.mails_of.Given as goal
 
 abbrev pub invariant-loop-call : goal.invariant-loop-call

@@ -1,6 +1,6 @@
-use Rattle.std.proofs.Common.{◌≡◌, ◌<◌, ◌+◌, length, sym, subst}
+use Rattle.std.proofs.Common.{◌<◌, ◌+◌, length, sym, subst}
 use Rattle.moos_post.specs.History.{posts_of}
-use Rattle.moos_db.specs.Tables.{Row, Latest, IsLatest}
+use Rattle.moos_db.specs.Tables.{Latest, IsLatest}
 use Rattle.moos_db.proofs.Latests.{IsLatest-next}
 use Rattle.moos_db.proofs.latest.Latest.see_post.Goals as goal
 

@@ -1,4 +1,4 @@
-use Rattle.std.proofs.Common.{◌≡◌, ◌∙◌, ap, sym, map}
+use Rattle.std.proofs.Common.{◌∙◌, ap, map}
 use Rattle.moos_db.specs.Tables.{number_of}
 use Rattle.moos_db.proofs.Rows.{row, looked_up}
 use Rattle.moos_db.proofs.table.Table.number_of.Goals as goal

@@ -1,4 +1,4 @@
-use Rattle.std.proofs.Common.{◌≡◌, ◌∙◌, List, ℕ, Some, map, ap, sym, bytes_eq}
+use Rattle.std.proofs.Common.{◌≡◌, ◌∙◌, Some, map, ap, sym, bytes_eq}
 use Rattle.std.specs.Map.{lookup, set_value}
 use Rattle.moos_db.specs.Tables.{with_row}
 use Rattle.moos_db.proofs.Rows.{row, set_where_found, inserted}
