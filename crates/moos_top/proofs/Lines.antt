@@ -4,7 +4,7 @@ use Rattle.std.specs.Prelude.{slice_index_or, IsTrue, nat_lt, nat_le}
 use Rattle.std.proofs.lemmas.Bool.{ltb-true}
 use Rattle.moos_top.proofs.Tests.{left_true, right_true, both_true}
 use Rattle.moos_post.specs.declared.entry.Entry.{Entry}
-use Rattle.moos_top.specs.Run.{do_stamps_rise}
+use Rattle.moos_top.specs.Jobs.{do_stamps_rise}
 use Rattle.moos_top.specs.Script.{are_lines}
 
 -- what holds of the first line, and that the rest are lines too

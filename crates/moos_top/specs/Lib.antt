@@ -1,5 +1,8 @@
+pub mod Decision
 pub mod Exit
+pub mod Jobs
 pub mod Report
 pub mod Run
 pub mod Script
+pub mod Steps
 pub mod Writing

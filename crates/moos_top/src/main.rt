@@ -1,12 +1,15 @@
 //! The program: a command line's job from its files to what is written, and how it ended.
 //!
 //! The contract that all below serves is that of `run`: whatever the words, the files and the sink, the status tells
-//! what was written. With `Done` that is the report of a lawful history of the script that the words name.
+//! what was written. With `Done` that is the report of a lawful history of the script that the words name, or the
+//! decision of the problem.
 //!
-//! Reading order: `words` and `status`, `script` with its reader, `play`, `report`, and `run` last. `main` is the
-//! trusted edge, which hands the real command line, files and standard output to `run`.
+//! Reading order: `words`, `job` and `status`, `script` with its reader, `play`, `report`, `decision`, and `run` last.
+//! `main` is the trusted edge, which hands the real command line, files and standard output to `run`.
 #![tactic(auto)]
 
+mod decision;
+mod job;
 mod play;
 mod report;
 mod run;

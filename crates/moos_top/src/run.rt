@@ -1,18 +1,23 @@
 // The top call: from a command line to what was written and how it ended.
-ghost use Rattle.std.specs.Prelude.{◌≡◌, IfOk, IfErr, Some, None, if◌then◌else◌};
-ghost use Rattle.moos_post.specs.Words.{is_text};
-ghost use Rattle.moos_top.specs.Run.{Ran, Completes, Refuses, script_named, surroundings, IsReadFrom, CannotRead, status_of};
-ghost use Rattle.moos_top.specs.Script.{IsValid};
+ghost use Rattle.std.specs.Prelude.{◌≡◌, ◌<◌, ◌^◌, length, IfOk, IfErr};
+ghost use Rattle.ivp_cert.specs.Problems.{problem_of};
+ghost use Rattle.moos_top.specs.Jobs.{Content, content_of, held_as, kind_of};
+ghost use Rattle.moos_top.specs.Jobs.Content.{OfProblem, OfScript};
+ghost use Rattle.moos_top.specs.Run.{Ran, Completes, HasBytes, Refuses, surroundings};
+ghost use Rattle.moos_top.specs.Script.{script_of};
+ghost use Rattle.moos_top.specs.Steps.{CannotLoad, Ended, sinking, status_of};
 
+use crate::decision::decision;
+use crate::job::{Job, file_name, job_named};
 use crate::play::play;
 use crate::report::report;
-use crate::script::{Script, read_script};
+use crate::script::read_script;
 use crate::status::{FileKind, Refusal, Status};
 use crate::words::Words;
+use ivp_cert::read_problem;
 use moos_io::{Folder, Gate, LoadFault, Sink};
-use moos_post::{NoMemory, Txt, TxtFault};
 use moos_text::ReadFault;
-use std::alloc::{AllocError, Global};
+use std::alloc::Global;
 use std::sync::Wait;
 use std::thread::Threads;
 
@@ -30,32 +35,67 @@ pub fn run<R: Threads + Wait + Sync, F: Folder, K: Sink, G: Gate>(
     ensures ran { Ran (surroundings words.now (F.told folder.old) (F.sure folder.old)
         (F.faults folder.old) (F.faults folder.new) (K.taken out.old) (K.taken out.new) (K.faults out.old) (K.faults out.new)) result }
 
-    // Where nothing fails, a good script is played to the end, and another is refused with its first refusal.
+    // Where nothing fails, a job whose file is good is done, and another is refused with its file's first refusal.
     ensures completes { Completes (surroundings words.now (F.told folder.old) (F.sure folder.old)
         (F.faults folder.old) (F.faults folder.new) (K.taken out.old) (K.taken out.new) (K.faults out.old) (K.faults out.new)) result }
     ensures refuses { Refuses (surroundings words.now (F.told folder.old) (F.sure folder.old)
         (F.faults folder.old) (F.faults folder.new) (K.taken out.old) (K.taken out.new) (K.faults out.old) (K.faults out.new)) result }
 {
-    play_named(alloc, words, folder, out)
+    run_job(alloc, words, folder, out)
 }
 
-fn play_named<F: Folder, K: Sink>(
-    alloc: Global,
-    words: &Words,
-    folder: &mut F,
-    out: &mut K,
-) -> Status
+fn run_job<F: Folder, K: Sink>(alloc: Global, words: &Words, folder: &mut F, out: &mut K) -> Status
     ensures { Ran (surroundings words.now (F.told folder.old) (F.sure folder.old)
         (F.faults folder.old) (F.faults folder.new) (K.taken out.old) (K.taken out.new) (K.faults out.old) (K.faults out.new)) result }
 {
-    let name = match script_named(alloc, words) {
-        Ok(Some(name)) => name,
+    let job = match job_named(alloc, words) {
+        Ok(Some(job)) => job,
         Ok(None) => return Status::Usage,
         Err(_) => return Status::NoMemory,
     };
-    let script = match read_named(alloc, name.bytes(), folder) {
-        Ok(script) => script,
+    let bytes = match load(alloc, file_name(&job), folder) {
+        Ok(bytes) => bytes,
         Err(status) => return status,
+    };
+    let status = do_job(alloc, &job, &bytes, out);
+    status
+}
+
+// The whole content of the file of this name, or how a run ends that can't load it.
+fn load<F: Folder>(alloc: Global, name: &[u8], folder: &mut F) -> Result<Vec<u8>, Status>
+    ensures content { IfOk result (λ bytes. HasBytes (F.told folder.old) name.now bytes.items) }
+    ensures short { IfOk result (λ bytes. length bytes.items < 2 ^ 32) }
+    ensures fault { IfErr result (CannotLoad (F.sure folder.old) (F.faults folder.old) (F.faults folder.new) name.now) }
+{
+    let mut bytes = Vec::new(alloc);
+    match folder.load(name, &mut bytes) {
+        Ok(()) => Ok(bytes),
+        Err(LoadFault::Failed) => Err(Status::LoadFault),
+        Err(LoadFault::NoMemory) => Err(Status::NoMemory),
+    }
+}
+
+// Does the job with the bytes of its file.
+fn do_job<K: Sink>(alloc: Global, job: &Job, bytes: &[u8], out: &mut K) -> Status
+    requires { length bytes.now < 2 ^ 32 }
+    ensures { Ended (kind_of job.now) (content_of job.now bytes.now)
+        (sinking (K.taken out.old) (K.taken out.new) (K.faults out.old) (K.faults out.new)) result }
+{
+    match job {
+        Job::Play(_) => play_script(alloc, bytes, out),
+        Job::Solve(_) => solve_problem(alloc, bytes, out),
+    }
+}
+
+// Plays the script that the bytes stand for, and writes its report.
+fn play_script<K: Sink>(alloc: Global, bytes: &[u8], out: &mut K) -> Status
+    requires { length bytes.now < 2 ^ 32 }
+    ensures { Ended FileKind.Script (held_as OfScript (script_of bytes.now))
+        (sinking (K.taken out.old) (K.taken out.new) (K.faults out.old) (K.faults out.new)) result }
+{
+    let script = match read_script(alloc, bytes) {
+        Ok(script) => script,
+        Err(fault) => return refused(FileKind::Script, fault),
     };
     match play(alloc, script) {
         Ok(db) => match report(&db, out) {
@@ -66,58 +106,28 @@ fn play_named<F: Folder, K: Sink>(
     }
 }
 
-// The script that the words name: they are `play` and one name, which a text can hold.
-fn script_named(alloc: Global, words: &Words) -> Result<Option<Txt>, NoMemory>
-    ensures { IfOk result (λ name. name ≡ script_named words.now) }
+// Solves the problem that the bytes stand for, and writes its decision.
+fn solve_problem<K: Sink>(alloc: Global, bytes: &[u8], out: &mut K) -> Status
+    requires { length bytes.now < 2 ^ 32 }
+    ensures { Ended FileKind.Problem (held_as OfProblem (problem_of bytes.now))
+        (sinking (K.taken out.old) (K.taken out.new) (K.faults out.old) (K.faults out.new)) result }
 {
-    let [job, name] = words.all() else {
-        return Ok(None);
+    let problem = match read_problem(alloc, bytes) {
+        Ok(problem) => problem,
+        Err(fault) => return refused(FileKind::Problem, fault),
     };
-    if job.bytes() != b"play".as_slice() {
-        return Ok(None);
-    }
-    text_of(alloc, name.bytes())
-}
-
-// The bytes as a text, where a text can hold them.
-fn text_of(alloc: Global, bytes: &[u8]) -> Result<Option<Txt>, NoMemory>
-    ensures { IfOk result (λ text. text ≡ (if is_text bytes.now then Some bytes.now else None)) }
-{
-    match Txt::new(alloc, bytes) {
-        Ok(text) => Ok(Some(text)),
-        Err(TxtFault::TooLong(_)) => Ok(None),
-        Err(TxtFault::BadByte(_)) => Ok(None),
-        Err(TxtFault::NoMemory) => Err(AllocError),
+    match decision(&problem, out) {
+        Ok(()) => Status::Done,
+        Err(_) => Status::WriteFault,
     }
 }
 
-// Loads the script of this name and reads it, or says why not.
-fn read_named<F: Folder>(alloc: Global, name: &[u8], folder: &mut F) -> Result<Script, Status>
-    ensures read { IfOk result (IsReadFrom (F.told folder.old) name.now) }
-    ensures valid { IfOk result IsValid }
-    ensures fault { IfErr result (CannotRead (F.told folder.old) (F.sure folder.old) (F.faults folder.old) (F.faults folder.new) name.now) }
-{
-    let mut bytes = Vec::new(alloc);
-    match folder.load(name, &mut bytes) {
-        Ok(()) => match read_script(alloc, &bytes) {
-            Ok(script) => Ok(script),
-            Err(fault) => Err(refused(fault)),
-        },
-        Err(LoadFault::Failed) => Err(Status::LoadFault),
-        Err(LoadFault::NoMemory) => Err(Status::NoMemory),
-    }
-}
-
-// The status for a script that the reader refuses.
-fn refused(fault: ReadFault) -> Status
-    ensures { result ≡ status_of fault }
+// The status for a file that its reader refuses.
+fn refused(file: FileKind, fault: ReadFault) -> Status
+    ensures { result ≡ status_of file fault }
 {
     match fault {
-        ReadFault::At { line, cause } => Status::Refused(Refusal {
-            file: FileKind::Script,
-            line,
-            cause,
-        }),
+        ReadFault::At { line, cause } => Status::Refused(Refusal { file, line, cause }),
         ReadFault::NoMemory => Status::NoMemory,
     }
 }

@@ -25,49 +25,103 @@ fn command_line(rt: &impl Abort, alloc: Global, line: &[&str]) -> Result<Words, 
     Ok(words)
 }
 
-// Plays the script `s.txt` into a sink with room to spare.
-fn play<R: Threads + Wait + Sync + Abort>(
+const FIRST_PROBLEM: &str = "ivp 1\ndomain course:0:359:360\nfunction 100\npiece 0 359 7 0\nend\n";
+
+const SECOND_PROBLEM: &str = "ivp 1\ndomain a:0:2:3\ndomain b:0:1:2\ndomain d:0:1:2\n\
+    function 2\npiece 0 2 0 1 0 1 0 10 0 0\n\
+    function 3\npiece 0 0 0 1 0 1 20 0 5 0\npiece 1 2 0 1 0 1 0 0 5 0\nend\n";
+
+// 64 functions over the course, each of value 100,000 everywhere: this weight, and then 10,000.
+fn levels(alloc: Global, first: &str) -> Result<String, Fail> {
+    let mut text = String::new(alloc);
+    text.push_str("ivp 1\ndomain course:0:359:360\n")?;
+    for number in 0..64 {
+        let weight = if number == 0 { first } else { "10000" };
+        text.push_str("function ")?;
+        text.push_str(weight)?;
+        text.push_str("\npiece 0 359 100000 0\n")?;
+    }
+    text.push_str("end\n")?;
+    Ok(text)
+}
+
+// Runs a job on the file `f.txt` into a sink with room to spare.
+fn run_on<R: Threads + Wait + Sync + Abort>(
     rt: &R,
     alloc: Global,
-    script: &str,
+    job: &str,
+    text: &str,
 ) -> Result<(Status, MemSink), Fail> {
-    let words = command_line(rt, alloc, &["play", "s.txt"])?;
+    let words = command_line(rt, alloc, &[job, "f.txt"])?;
     let mut folder = MemFolder::make(alloc);
-    assert!(rt; script.len() < 1000);
-    folder.add(alloc, b"s.txt", script.as_bytes())?;
+    assert!(rt; text.len() < 10_000);
+    folder.add(alloc, b"f.txt", text.as_bytes())?;
     let mut out = MemSink::make(alloc, 10_000, 10_000)?;
     let status = run(rt, alloc, &words, &mut folder, &mut out, &NoGate);
     Ok((status, out))
 }
 
 #[test]
-fn good_scripts_are_reported(rt: HostRuntime) -> Result<(), Fail> {
-    for (script, report) in [
-        ("", "%% moosdb play 1\n%% end 0 0\n"),
-        (FIRST_SCRIPT, FIRST_REPORT),
+fn good_files_are_done(rt: HostRuntime) -> Result<(), Fail> {
+    let levels = levels(rt.alloc(), "10000")?;
+    for (job, text, written) in [
+        ("play", "", "%% moosdb play 1\n%% end 0 0\n"),
+        ("play", FIRST_SCRIPT, FIRST_REPORT),
+        ("solve", FIRST_PROBLEM, "decision 0 700\n"),
+        ("solve", SECOND_PROBLEM, "decision 0 1 0 75\n"),
+        ("solve", levels.as_str(), "decision 0 64000000000\n"),
     ] {
-        let (status, out) = play(&rt, rt.alloc(), script)?;
-        assert_eq!(rt; status, Status::Done, "{script}");
-        assert_eq!(rt; out.bytes(), report.as_bytes(), "{script}");
+        let (status, out) = run_on(&rt, rt.alloc(), job, text)?;
+        assert_eq!(rt; status, Status::Done, "{text}");
+        assert_eq!(rt; out.bytes(), written.as_bytes(), "{text}");
     }
     Ok(())
 }
 
 #[test]
-fn bad_scripts_are_refused(rt: HostRuntime) -> Result<(), Fail> {
-    for (script, line, cause) in [
-        ("0 a register X*", 1, Cause::S0),
-        ("1 a fetch\n0 a fetch\n", 2, Cause::S2),
-        ("\n// nobody\n0 a post X=\n", 3, Cause::S0),
+fn bad_files_are_refused(rt: HostRuntime) -> Result<(), Fail> {
+    let heavy = levels(rt.alloc(), "10001")?;
+    for (job, text, file, line, cause) in [
+        ("play", "0 a register X*", FileKind::Script, 1, Cause::S0),
+        (
+            "play",
+            "1 a fetch\n0 a fetch\n",
+            FileKind::Script,
+            2,
+            Cause::S2,
+        ),
+        (
+            "play",
+            "\n// nobody\n0 a post X=\n",
+            FileKind::Script,
+            3,
+            Cause::S0,
+        ),
+        ("play", FIRST_PROBLEM, FileKind::Script, 1, Cause::S0),
+        ("solve", "", FileKind::Problem, 1, Cause::P9),
+        ("solve", heavy.as_str(), FileKind::Problem, 3, Cause::P6),
+        (
+            "solve",
+            "ivp 1\ndomain a:0:2:3\nfunction 1\npiece 0 1 0 0\npiece 1 2 0 0\nend\n",
+            FileKind::Problem,
+            3,
+            Cause::P4,
+        ),
+        (
+            "solve",
+            "ivp 1\ndomain a:0:2:3\nfunction 1\npiece 0 0 0 0\npiece 2 2 0 0\nend\n",
+            FileKind::Problem,
+            3,
+            Cause::P4,
+        ),
     ] {
-        let (status, out) = play(&rt, rt.alloc(), script)?;
-        let file = FileKind::Script;
+        let (status, out) = run_on(&rt, rt.alloc(), job, text)?;
         assert_eq!(rt;
             status,
             Status::Refused(Refusal { file, line, cause }),
-            "{script}"
+            "{text}"
         );
-        assert_eq!(rt; out.bytes(), b"".as_slice(), "{script}");
+        assert_eq!(rt; out.bytes(), b"".as_slice(), "{text}");
     }
     Ok(())
 }
@@ -94,6 +148,8 @@ fn other_words_are_usage(rt: HostRuntime) -> Result<(), Fail> {
         &["Play", "s.txt"],
         &["play", "s.txt", "m.moos"],
         &["play", "s\n"],
+        &["solve"],
+        &["solve", "p.txt", "q.txt"],
         &["solve", "p.txt", "--workers", "17"],
         &["--help"],
     ] {
@@ -115,13 +171,11 @@ fn a_name_that_is_no_text_is_usage(rt: HostRuntime) -> Result<(), Fail> {
 }
 
 #[test]
-fn an_absent_script_is_a_load_fault(rt: HostRuntime) -> Result<(), Fail> {
-    let words = command_line(&rt, rt.alloc(), &["play", "absent.txt"])?;
-    let mut folder = MemFolder::make(rt.alloc());
-    let mut out = MemSink::make(rt.alloc(), 100, 100)?;
-    let status = run(&rt, rt.alloc(), &words, &mut folder, &mut out, &NoGate);
-    assert_eq!(rt; status, Status::LoadFault);
-    assert_eq!(rt; out.bytes(), b"".as_slice());
+fn an_absent_file_is_a_load_fault(rt: HostRuntime) -> Result<(), Fail> {
+    for job in ["play", "solve"] {
+        let words = command_line(&rt, rt.alloc(), &[job, "absent.txt"])?;
+        assert_eq!(rt; ends(&rt, rt.alloc(), &words)?, Status::LoadFault);
+    }
     Ok(())
 }
 
@@ -135,6 +189,14 @@ fn a_failed_put_leaves_a_front(rt: HostRuntime) -> Result<(), Fail> {
     let status = run(&rt, rt.alloc(), &words, &mut folder, &mut out, &NoGate);
     assert_eq!(rt; status, Status::WriteFault);
     assert_eq!(rt; out.bytes(), b"%% moos".as_slice());
+
+    let words = command_line(&rt, rt.alloc(), &["solve", "p.txt"])?;
+    folder.add(rt.alloc(), b"p.txt", FIRST_PROBLEM.as_bytes())?;
+    let mut out = MemSink::make(rt.alloc(), 10_000, 7)?;
+    out.fail_at(1)?;
+    let status = run(&rt, rt.alloc(), &words, &mut folder, &mut out, &NoGate);
+    assert_eq!(rt; status, Status::WriteFault);
+    assert_eq!(rt; out.bytes(), b"decisio".as_slice());
     Ok(())
 }
 

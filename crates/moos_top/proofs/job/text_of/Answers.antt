@@ -1,7 +1,7 @@
 -- What `Txt::new` refuses is no text.
 use Rattle.std.proofs.Common.{ap, arith, Err}
 use Rattle.moos_top.proofs.Playing.{long_no_text, bad_no_text}
-use Rattle.moos_top.proofs.run.text_of.Goals as goal
+use Rattle.moos_top.proofs.job.text_of.Goals as goal
 
 pub returns-in-Err-TooLong : goal.returns-in-Err-TooLong
 returns-in-Err-TooLong c =

@@ -1,0 +1,98 @@
+#!/usr/bin/env python3
+"""Solves problems of growing size, and prints seconds and peak memory of each.
+
+    bench/solve.py [SEED]          1 where none is given
+
+The problems: 64 functions of one piece each, at the greatest weight; 8 functions of 100 random pieces over course and
+speed; and such over course, speed and depth. Random pieces are boxes that the domain falls into when a box is cut in
+two at a random place, again and again, each with random slopes and with values from 0 to 100,000. Nothing here is part
+of the gate, and no figure is promised. Steps of the search can't be seen in a run: they have no bytes.
+"""
+import os
+import random
+import subprocess
+import sys
+import tempfile
+
+TOP = os.path.dirname(os.path.dirname(os.path.abspath(__file__)))
+
+COURSE = ("course:0:359:360", 360)
+SPEED = ("speed:0:4:41", 41)
+DEPTH = ("depth:0:100:101", 101)
+
+
+def boxes(random_, sizes, count):
+    """The domain in this many boxes, each a list of a low and a high place on each axis."""
+    parts = [[(0, size - 1) for size in sizes]]
+    while len(parts) < count:
+        box = parts.pop(random_.randrange(len(parts)))
+        wide = [axis for axis, (low, high) in enumerate(box) if low < high]
+        if not wide:
+            parts.append(box)
+            continue
+        axis = random_.choice(wide)
+        low, high = box[axis]
+        cut = random_.randrange(low, high)
+        parts.append(box[:axis] + [(low, cut)] + box[axis + 1:])
+        parts.append(box[:axis] + [(cut + 1, high)] + box[axis + 1:])
+    return parts
+
+
+def piece(random_, box):
+    """A piece on the box: the slopes share the range of values, so that each value is in range."""
+    share = 100_000 // len(box)
+    slopes = [random_.randint(-share, share) // max(1, high - low) for low, high in box]
+    least = sum(min(slope * low, slope * high) for slope, (low, high) in zip(slopes, box))
+    most = sum(max(slope * low, slope * high) for slope, (low, high) in zip(slopes, box))
+    base = random_.randint(0, 100_000 - (most - least)) - least
+    ends = [end for low_high in box for end in low_high]
+    return "piece " + " ".join(map(str, ends + [base] + slopes))
+
+
+def mixed(random_, axes, functions, pieces):
+    lines = ["ivp 1"] + [f"domain {text}" for text, _ in axes]
+    for _ in range(functions):
+        lines.append(f"function {random_.randint(1, 10_000)}")
+        lines += [piece(random_, box) for box in boxes(random_, [size for _, size in axes], pieces)]
+    return lines + ["end"]
+
+
+def level():
+    lines = ["ivp 1", f"domain {COURSE[0]}"]
+    for _ in range(64):
+        lines += ["function 10000", "piece 0 359 100000 0"]
+    return lines + ["end"]
+
+
+def measure(problem):
+    """Runs the program once: its exit status, what it printed, seconds of wall clock and of processor time, peak MB."""
+    start = os.times()
+    child = subprocess.Popen([os.path.join(TOP, "moos"), "solve", problem], stdout=subprocess.PIPE)
+    printed = child.stdout.read().decode().strip()
+    _, status, usage = os.wait4(child.pid, 0)
+    end = os.times()
+    return os.waitstatus_to_exitcode(status), printed, end.elapsed - start.elapsed, usage.ru_utime + usage.ru_stime, usage.ru_maxrss / 1024
+
+
+def main():
+    seed = int(sys.argv[1]) if len(sys.argv) > 1 else 1
+    problems = [
+        ("64 level functions over course", level()),
+        ("8 functions of 100 pieces over course, speed", mixed(random.Random(seed), [COURSE, SPEED], 8, 100)),
+        ("8 functions of 100 pieces over course, speed, depth", mixed(random.Random(seed), [COURSE, SPEED, DEPTH], 8, 100)),
+    ]
+    # Builds the program where it is stale, so that no run pays for that.
+    subprocess.run([os.path.join(TOP, "moos"), "solve"], stderr=subprocess.DEVNULL)
+    print(f"{'problem':<52} {'seconds':>8} {'cpu':>7} {'peak MB':>8}  decision")
+    with tempfile.TemporaryDirectory() as folder:
+        for name, lines in problems:
+            path = os.path.join(folder, "problem.txt")
+            with open(path, "w") as out:
+                out.write("\n".join(lines) + "\n")
+            status, printed, seconds, cpu, peak = measure(path)
+            note = printed if status == 0 else f"exit status {status}"
+            print(f"{name:<52} {seconds:>8.3f} {cpu:>7.3f} {peak:>8.1f}  {note}")
+
+
+if __name__ == "__main__":
+    main()

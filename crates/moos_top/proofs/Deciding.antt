@@ -1,0 +1,27 @@
+-- The point and the sum that the greatest key gives.
+use Rattle.std.proofs.Common.{◌≡◌, ℕ, ◌<◌, Some, List, length, sym, subst, ◌∙◌}
+use Rattle.std.specs.Prelude.{slice_get}
+use Rattle.std.proofs.lemmas.Option.{slice_get_within}
+use Rattle.ivp_domain.specs.declared.axis.Axis.{Axis}
+use Rattle.ivp_domain.specs.declared.boxes.Point.{Point}
+use Rattle.ivp_domain.specs.Domains.{index_of, points_of}
+use Rattle.ivp_problem.specs.Problems.{WeightedSum}
+use Rattle.ivp_problem.specs.Sums.{best_of}
+
+-- the best point stands among all points at its index
+abbrev pub IsListed : WeightedSum → Type 0
+IsListed problem = slice_get (points_of problem.axes) (index_of problem.axes (best_of problem)) ≡ Some (best_of problem)
+
+-- so its index is that of a point
+pub best_within : (problem : WeightedSum) (axes : List Axis) (index : ℕ) → axes ≡ problem.axes → index ≡ index_of problem.axes (best_of problem) → IsListed problem → index < length (points_of axes)
+best_within problem axes index same at listed =
+    subst (λ (a : List Axis). index < length (points_of a)) (sym same)
+    (subst (λ (n : ℕ). n < length (points_of problem.axes)) (sym at) (slice_get_within (points_of problem.axes) (index_of problem.axes (best_of problem)) (best_of problem) listed))
+
+-- and the point at that index is the best one
+pub best_at : (problem : WeightedSum) (axes : List Axis) (index : ℕ) (point : Point) → axes ≡ problem.axes → index ≡ index_of problem.axes (best_of problem) → IsListed problem → slice_get (points_of axes) index ≡ Some point → point ≡ best_of problem
+best_at problem axes index point same at listed there =
+    let moved : slice_get (points_of problem.axes) index ≡ Some point = subst (λ (a : List Axis). slice_get (points_of a) index ≡ Some point) same there in
+    let here : slice_get (points_of problem.axes) (index_of problem.axes (best_of problem)) ≡ Some point = subst (λ (n : ℕ). slice_get (points_of problem.axes) n ≡ Some point) at moved in
+    let both : Some point ≡ Some (best_of problem) = sym here ∙ listed in
+    cc

@@ -1,0 +1,69 @@
+-- The steps of a run: a file is loaded, and then the job is done with its bytes.
+use Rattle.std.specs.Prelude.{◌≡◌, ℕ, false, List, Option, Result, Ok, Err}
+use Rattle.moos_io.specs.Faults.{Rose}
+use Rattle.moos_io.specs.Files.{is_among}
+use Rattle.moos_io.specs.Pieces.{Took, TookFront}
+use Rattle.moos_text.specs.declared.cause.ReadFault.{ReadFault}
+use Rattle.moos_text.specs.declared.cause.ReadFault.TheVariants.{At, NoMemory as Unread}
+use Rattle.moos_top.specs.declared.status.FileKind.{FileKind}
+use Rattle.moos_top.specs.declared.status.Status.{Status}
+use Rattle.moos_top.specs.declared.status.Status.TheVariants.{Done, CheckNo, Usage, LoadFault, WriteFault, Refused, NoMemory}
+use Rattle.moos_top.specs.Jobs.{Content, IsOutput}
+
+-- why a file can't be loaded: the folder failed, and isn't sure of the name, or no memory was left
+abbrev pub CannotLoad : List (List ℕ) → ℕ → ℕ → List ℕ → Status → Type 0
+CannotLoad sure before after name LoadFault = Rose before after × (is_among sure name ≡ false)
+CannotLoad sure before after name NoMemory = Unit {0}
+CannotLoad sure before after name Done = ⊥
+CannotLoad sure before after name CheckNo = ⊥
+CannotLoad sure before after name Usage = ⊥
+CannotLoad sure before after name WriteFault = ⊥
+CannotLoad sure before after name (Refused refusal) = ⊥
+
+-- the status for what a reader of such files answers in place of what a file holds
+abbrev pub status_of : FileKind → ReadFault → Status
+status_of kind (At line cause) = Refused (record { file = kind; line = line; cause = cause })
+status_of kind Unread = NoMemory
+
+-- what the sink took before and after, and how often it failed
+pub record Sinking : Type 0 where
+  pub taken_before : Option (List ℕ)
+  pub taken_after : Option (List ℕ)
+  pub faults_before : ℕ
+  pub faults_after : ℕ
+
+abbrev pub sinking : Option (List ℕ) → Option (List ℕ) → ℕ → ℕ → Sinking
+sinking taken_before taken_after faults_before faults_after =
+    record { taken_before = taken_before; taken_after = taken_after; faults_before = faults_before; faults_after = faults_after }
+
+-- nothing was written
+pub record IsUntouched (sink : Sinking) : Type 0 where
+  pub taken : sink.taken_after ≡ sink.taken_before
+  pub faults : sink.faults_after ≡ sink.faults_before
+
+-- all of a text was written that the file's content allows
+pub record WroteAll (read : Result Content ReadFault) (sink : Sinking) : Type 0 where
+  pub content : Content
+  pub good : read ≡ Ok content
+  pub text : List ℕ
+  pub output : IsOutput content text
+  pub took : Took sink.taken_before sink.taken_after text
+
+-- only a front of it was written
+pub record WroteFront (read : Result Content ReadFault) (sink : Sinking) : Type 0 where
+  pub content : Content
+  pub good : read ≡ Ok content
+  pub text : List ℕ
+  pub output : IsOutput content text
+  pub took : TookFront sink.taken_before sink.taken_after text
+  pub rose : Rose sink.faults_before sink.faults_after
+
+-- how a job ends whose file, of this kind, holds this or is refused
+abbrev pub Ended : FileKind → Result Content ReadFault → Sinking → Status → Type 0
+Ended kind read sink Done = WroteAll read sink
+Ended kind read sink CheckNo = ⊥
+Ended kind read sink Usage = ⊥
+Ended kind read sink LoadFault = ⊥
+Ended kind read sink WriteFault = WroteFront read sink
+Ended kind read sink (Refused refusal) = (refusal.file ≡ kind) × (read ≡ Err (At refusal.line refusal.cause)) × IsUntouched sink
+Ended kind read sink NoMemory = IsUntouched sink
