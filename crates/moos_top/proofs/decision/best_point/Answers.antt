@@ -1,7 +1,5 @@
-use Rattle.std.proofs.Common.{◌≡◌, ap, ◌∙◌}
-use Rattle.ivp_domain.specs.Domains.{index_of}
+use Rattle.std.proofs.Common.{ap, ◌∙◌}
 use Rattle.ivp_problem.specs.Keys.{index_of_key, sum_of}
-use Rattle.ivp_problem.specs.Sums.{best_of}
 use Rattle.moos_top.proofs.Deciding.{best_at, best_within}
 use Rattle.moos_top.proofs.decision.best_point.Goals as goal
 
