@@ -8,18 +8,18 @@ use Rattle.moos_post.specs.declared.entry.Entry.{Entry}
 use Rattle.moos_post.specs.Words.{is_text, bad_place}
 use Rattle.moos_top.proofs.Lines.{client_in, stamps_rise}
 use Rattle.moos_top.specs.declared.job.Job.{Job}
-use Rattle.moos_top.specs.declared.script.Script.{Script}
+use Rattle.script_reader.specs.declared.script.Script.{Script}
 use Rattle.moos_top.specs.declared.status.Status.{Status}
 use Rattle.moos_top.specs.declared.status.Status.TheVariants.{Done, CheckNo, Usage, LoadFault, WriteFault, Refused, NoMemory}
 use Rattle.moos_top.specs.Report.{report_text}
 use Rattle.moos_top.specs.Jobs.{IsLawful, IsReport, content_of, kind_of}
 use Rattle.moos_top.specs.Run.{HasFile, Ran, Surroundings}
-use Rattle.moos_top.specs.Script.{IsValid}
+use Rattle.script_reader.specs.Validity.{IsValid}
 use Rattle.moos_top.specs.Steps.{Ended, sinking}
 
 -- the lines of a valid script, in file order, are a lawful history of it
 pub lines_lawful : (script : Script) → IsValid script → IsLawful script script.lines
-lines_lawful script valid = record { own = λ client. refl; rising = stamps_rise (length script.names) 0 script.lines valid.lines }
+lines_lawful script valid = record { own = λ client. refl; rising = stamps_rise (length script.names) 0 script.stop script.lines valid.lines }
 
 -- the client of each line is one of the database's
 pub line_has_client : (script : Script) (db : Database) (taken : List Entry) → db ≡ record { names = script.names; history = taken } → IsValid script →
@@ -30,7 +30,7 @@ line_has_client script db taken kept valid shown same place line below is =
     let client : line.client ≡ (slice_index_or script.lines place line).client =
     ap (λ (one : Entry). one.client) is ∙ ap (λ (lines : List Entry). (slice_index_or lines place line).client) same in
     let lines : length shown ≡ length script.lines = ap (λ (list : List Entry). length list) same in
-    let bound = client_in (length script.names) 0 script.lines valid.lines place line (omega arith) in
+    let bound = client_in (length script.names) 0 script.stop script.lines valid.lines place line (omega arith) in
     omega (arith, bound)
 
 -- the report of a database that has them is the report of a lawful history of the script

@@ -8,12 +8,12 @@ use Rattle.moos_post.specs.Words.{is_text}
 use Rattle.moos_text.specs.declared.cause.ReadFault.{ReadFault}
 use Rattle.moos_top.specs.declared.job.Job.{Job}
 use Rattle.moos_top.specs.declared.job.Job.TheVariants.{Play, Solve}
-use Rattle.moos_top.specs.declared.script.Script.{Script}
+use Rattle.script_reader.specs.declared.script.Script.{Script}
 use Rattle.moos_top.specs.declared.status.FileKind.{FileKind}
 use Rattle.moos_top.specs.declared.status.FileKind.TheVariants.{Script as ScriptFile, Problem as ProblemFile}
 use Rattle.moos_top.specs.Decision.{decision_text}
 use Rattle.moos_top.specs.Report.{report_text}
-use Rattle.moos_top.specs.Script.{script_of}
+use Rattle.script_reader.specs.Script.{script_of}
 
 -- the job of this word, with a file of this name
 abbrev pub job_of : List ℕ → List ℕ → Option Job

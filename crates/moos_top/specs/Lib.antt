@@ -3,6 +3,5 @@ pub mod Exit
 pub mod Jobs
 pub mod Report
 pub mod Run
-pub mod Script
 pub mod Steps
 pub mod Writing

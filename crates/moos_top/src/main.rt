@@ -4,8 +4,8 @@
 //! what was written. With `Done` that is the report of a lawful history of the script that the words name, or the
 //! decision of the problem.
 //!
-//! Reading order: `words`, `job` and `status`, `script` with its reader, `play`, `report`, `decision`, and `run` last.
-//! `main` is the trusted edge, which hands the real command line, files and standard output to `run`.
+//! Reading order: `words`, `job` and `status`, `play`, `report`, `decision`, and `run` last. `main` is the trusted edge,
+//! which hands the real command line, files and standard output to `run`.
 #![tactic(auto)]
 
 mod decision;
@@ -13,7 +13,6 @@ mod job;
 mod play;
 mod report;
 mod run;
-mod script;
 mod status;
 mod words;
 

@@ -1,11 +1,11 @@
 // Plays a script: makes each of its lines a call of the database.
 ghost use Rattle.std.specs.Prelude.{◌≡◌, ◌<◌, length, IfOk, OnOk};
 ghost use Rattle.moos_db.specs.Database.{with_entry};
-ghost use Rattle.moos_top.specs.Script.{IsValid};
+ghost use Rattle.script_reader.specs.Validity.{IsValid};
 
-use crate::script::Script;
 use moos_db::Db;
 use moos_post::{Call, Entry, NoMemory};
+use script_reader::Script;
 use std::alloc::Global;
 
 /// The database after the lines of a script, made in file order.

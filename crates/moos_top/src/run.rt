@@ -4,19 +4,19 @@ ghost use Rattle.ivp_cert.specs.Problems.{problem_of};
 ghost use Rattle.moos_top.specs.Jobs.{Content, content_of, held_as, kind_of};
 ghost use Rattle.moos_top.specs.Jobs.Content.{OfProblem, OfScript};
 ghost use Rattle.moos_top.specs.Run.{Ran, Completes, HasBytes, Refuses, surroundings};
-ghost use Rattle.moos_top.specs.Script.{script_of};
+ghost use Rattle.script_reader.specs.Script.{script_of};
 ghost use Rattle.moos_top.specs.Steps.{CannotLoad, Ended, sinking, status_of};
 
 use crate::decision::decision;
 use crate::job::{Job, file_name, job_named};
 use crate::play::play;
 use crate::report::report;
-use crate::script::read_script;
 use crate::status::{FileKind, Refusal, Status};
 use crate::words::Words;
 use ivp_cert::read_problem;
 use moos_io::{Folder, Gate, LoadFault, Sink};
 use moos_text::ReadFault;
+use script_reader::read_script;
 use std::alloc::Global;
 use std::sync::Wait;
 use std::thread::Threads;
@@ -132,5 +132,7 @@ fn refused(file: FileKind, fault: ReadFault) -> Status
     }
 }
 
+#[cfg(test)]
+mod scripts;
 #[cfg(test)]
 mod tests;

@@ -82,7 +82,7 @@ fn good_files_are_done(rt: HostRuntime) -> Result<(), Fail> {
 fn bad_files_are_refused(rt: HostRuntime) -> Result<(), Fail> {
     let heavy = levels(rt.alloc(), "10001")?;
     for (job, text, file, line, cause) in [
-        ("play", "0 a register X*", FileKind::Script, 1, Cause::S0),
+        ("play", "0 a register X#", FileKind::Script, 1, Cause::S6),
         (
             "play",
             "1 a fetch\n0 a fetch\n",
@@ -95,9 +95,9 @@ fn bad_files_are_refused(rt: HostRuntime) -> Result<(), Fail> {
             "\n// nobody\n0 a post X=\n",
             FileKind::Script,
             3,
-            Cause::S0,
+            Cause::S5,
         ),
-        ("play", FIRST_PROBLEM, FileKind::Script, 1, Cause::S0),
+        ("play", FIRST_PROBLEM, FileKind::Script, 1, Cause::S1),
         ("solve", "", FileKind::Problem, 1, Cause::P9),
         ("solve", heavy.as_str(), FileKind::Problem, 3, Cause::P6),
         (
@@ -203,7 +203,7 @@ fn a_failed_put_leaves_a_front(rt: HostRuntime) -> Result<(), Fail> {
 #[test]
 fn exit_statuses(rt: HostRuntime) {
     let file = FileKind::Script;
-    let cause = Cause::S0;
+    let cause = Cause::S1;
     for (status, number) in [
         (Status::Done, 0),
         (Status::CheckNo, 1),
