@@ -1,4 +1,4 @@
-use Rattle.std.proofs.Common.{◌+◌, ◌∷◌, drop, ap, sym, ◌∙◌, arith}
+use Rattle.std.proofs.Common.{◌+◌, ◌∷◌, ap, sym, ◌∙◌, arith}
 use Rattle.std.proofs.Math.ListN.{drop_of_length-le}
 use Rattle.moos_text.specs.Lines.{raw_lines, first_line}
 use Rattle.moos_text.proofs.LineSteps.{lines_behind}
