@@ -1,0 +1,4 @@
+pub mod Sums
+pub mod Queues
+pub mod Turns
+pub mod Advancing
