@@ -53,13 +53,18 @@ pub first_longer : (queue more : List ℕ) (seat : ℕ) → get_elem? queue 0 �
 first_longer queue more seat e = at_longer queue more 0 seat e
 
 module _ {E B S : Type 0} (base_of : S → B) (history_of : S → List E) (number : E → ℕ) (base : B) where
+  -- who holds the turn still does, after a pass without it changed
+  pub holder_stays : (views : List (Known E B)) (id seat : ℕ) (v w u : Known E B) → get_elem? views id ≡ some v → has_turn v.turn ≡ false → get_elem? views seat ≡ some u → has_turn u.turn ≡ true → get_elem? (set views id w) seat ≡ some u
+  holder_stays views id seat v w u at idle at' holds =
+      let ne : seat ≢ id = λ same. false≢true (sym idle ∙ (ap (λ (k : Known E B). has_turn k.turn) (some-injective v u (sym at ∙ (ap (get_elem? views) (sym same) ∙ at'))) ∙ holds)) in
+      set_else views id seat w ne ∙ at'
+
   -- the value is where it was, after a pass without the turn changed in other things
   pub out_set : (book : Book E) (s : State (Option S) (Known E B)) (id : ℕ) (v w : Known E B) (more : List ℕ) (words : List ℕ) → get_elem? s.views id ≡ some v → has_turn v.turn ≡ false → IsOut book s
       → IsOut (record book { queue = book.queue ++ more }) (record { words = words; homes = s.homes; views = set s.views id w })
   out_set book s id v w more words at idle out =
-      let seat = out.1.0 in let u = out.1.1 in
-      let ne : seat ≢ id = λ same. false≢true (sym idle ∙ (ap (λ (k : Known E B). has_turn k.turn) (some-injective v u (sym at ∙ (ap (get_elem? s.views) (sym same) ∙ out.1.3))) ∙ out.1.5)) in
-      (out.0, (seat, u, at_longer book.queue more 0 seat out.1.2, set_else s.views id seat w ne ∙ out.1.3, out.1.4, out.1.5))
+      let seat = out.1.0 in
+      (out.0, (seat, out.1.1, at_longer book.queue more 0 seat out.1.2, holder_stays s.views id seat v w out.1.1 at idle out.1.3 out.1.5, out.1.4, out.1.5))
 
   pub home_set : (book : Book E) (s : State (Option S) (Known E B)) (id : ℕ) (w : Known E B) (more : List ℕ) (words : List ℕ) → has_turn w.turn ≡ false → IsHome base_of history_of base book s
       → IsHome base_of history_of base (record book { queue = book.queue ++ more }) (record { words = words; homes = s.homes; views = set s.views id w })
