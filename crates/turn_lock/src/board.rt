@@ -1,14 +1,17 @@
 //! The table under a lock: what a pass's seat does on its words and its slot.
-ghost use Rattle.std.specs.Prelude.{◌≡◌, ℕ, ◌%◌, ◌^◌, ◌==◌, true, [], ◌∷◌, ◌++◌, Some, None, List, MatchBool};
+ghost use Rattle.std.specs.List.{list_any};
+ghost use Rattle.std.specs.Prelude.{◌≡◌, ℕ, ◌<◌, ◌%◌, ◌^◌, ◌==◌, true, [], ◌∷◌, ◌++◌, Some, None, List, MatchBool};
 ghost use Rattle.atomic_table.specs.Seated.{TableId};
 ghost use Rattle.turn_lock.specs.declared.view.Turn.TheVariants.{Idle, Waits, Holds};
-ghost use Rattle.turn_lock.specs.Rule.{begun};
-ghost use Rattle.turn_lock.specs.Steps.{advanced, IsLent, Returns, Takes};
+ghost use Rattle.turn_lock.specs.declared.view.Known.{Known};
+ghost use Rattle.turn_lock.specs.Passes.{Begins, has_number, longer};
+ghost use Rattle.turn_lock.specs.Steps.{advanced, closed, dealt, IsLent, joined, new_of, part_of, parted, Returns, Takes};
 
 use crate::journal::Journaled;
-use crate::rule::{Advance, Draw, Poll, Ruling};
+use crate::rule::{Advance, Cut, Deal, Draw, Leave, Meet, Picked, Poll, Ruling, Settle};
 use crate::view::Known;
 use atomic_table::{Seat, Shared};
+use std::marker::Brand;
 use std::snapshot::Snapshot;
 use std::sync::Wait;
 
@@ -104,4 +107,62 @@ pub(crate) fn put_back<S: Journaled>(board: &Board<S>, chair: &mut Chair<S>, val
     let None = hand else { unreachable!() };
     board.fetch_add::<Advance>(chair, TURN, 1);
     board.wake_all(TURN);
+}
+
+/// Splits a new pass's seat off that of the first.
+pub(crate) fn deal<S: Journaled>(board: &Board<S>, chair: &mut Chair<S>) -> Chair<S>
+    requires table { (chair.old.table_id ≡ board.now.table_id) × (board.now.table_id.words ≡ 2) }
+    requires free { (chair.old.me.0.live ≡ true) × (chair.old.me.0.turn ≡ Idle) × (chair.old.me.1 ≡ []) }
+    requires first { (chair.old.me.0.number ≡ 0) × (0 < chair.old.me.0.left) }
+    ensures table { (chair.new.table_id ≡ chair.old.table_id) × (result.table_id ≡ chair.old.table_id) }
+    ensures views { (chair.new.me ≡ (dealt chair.old.me.0, [])) × (result.me ≡ (new_of chair.old.me.0, [])) }
+{
+    board.split_seat::<Deal>(chair)
+}
+
+/// Parts the seat of a number from that of the first. The number is for the proof alone, which picks it: a seat has none
+/// at run time.
+fn cut<S: Journaled, N: Picked>(board: &Board<S>, chair: &mut Chair<S>, _number: u32) -> Chair<S>
+    requires picked { N.picked ≡ _number }
+    requires table { (chair.old.table_id ≡ board.now.table_id) × (board.now.table_id.words ≡ 2) }
+    requires free { (chair.old.me.0.live ≡ true) × (chair.old.me.0.turn ≡ Idle) × (chair.old.me.1 ≡ []) }
+    requires first { (chair.old.me.0.number ≡ 0) × (list_any (has_number N.picked) chair.old.me.0.met ≡ true) }
+    ensures table { (chair.new.table_id ≡ chair.old.table_id) × (result.table_id ≡ chair.old.table_id) }
+    ensures views { (chair.new.me ≡ (parted N.picked chair.old.me.0, [])) × (result.me ≡ (part_of N.picked chair.old.me.0, [])) }
+{
+    board.split_seat::<Cut<N>>(chair)
+}
+
+/// Parts the seat of a number from that of the first.
+pub(crate) fn part<S: Journaled>(board: &Board<S>, chair: &mut Chair<S>, number: u32) -> Chair<S>
+    requires table { (chair.old.table_id ≡ board.now.table_id) × (board.now.table_id.words ≡ 2) }
+    requires free { (chair.old.me.0.live ≡ true) × (chair.old.me.0.turn ≡ Idle) × (chair.old.me.1 ≡ []) }
+    requires first { (chair.old.me.0.number ≡ 0) × (list_any (has_number number) chair.old.me.0.met ≡ true) }
+    ensures table { (chair.new.table_id ≡ chair.old.table_id) × (result.table_id ≡ chair.old.table_id) }
+    ensures views { (chair.new.me ≡ (parted number chair.old.me.0, [])) × (result.me ≡ (part_of number chair.old.me.0, [])) }
+{
+    cut::<S, Brand>(board, chair, number)
+}
+
+/// Takes in the seat of another pass, and sees what that one has seen.
+pub(crate) fn meet<S: Journaled>(board: &Board<S>, chair: &mut Chair<S>, other: Chair<S>)
+    requires table { (chair.old.table_id ≡ board.now.table_id) × (other.table_id ≡ board.now.table_id) × (board.now.table_id.words ≡ 2) }
+    requires free { (chair.old.me.0.live ≡ true) × (chair.old.me.0.turn ≡ Idle) × (chair.old.me.1 ≡ []) }
+    requires other { (other.me.0.live ≡ true) × (other.me.0.turn ≡ Idle) × (other.me.1 ≡ []) }
+    ensures table { chair.new.table_id ≡ chair.old.table_id }
+    ensures view { let met : Known S.Event S.Base = joined chair.old.me.0 other.me.0 in chair.new.me ≡ (record met { seen = longer chair.old.me.0.seen other.me.0.seen }, []) }
+    ensures begins { Begins (longer chair.old.me.0.seen other.me.0.seen) chair.old.me.0.seen × Begins (longer chair.old.me.0.seen other.me.0.seen) other.me.0.seen }
+{
+    board.join_seat::<Meet>(chair, other);
+    board.load::<Settle>(chair, TURN);
+}
+
+/// The seat that stays when a lock is closed.
+pub(crate) fn leave<S: Journaled>(board: &Board<S>, chair: &mut Chair<S>) -> Chair<S>
+    requires table { (chair.old.table_id ≡ board.now.table_id) × (board.now.table_id.words ≡ 2) }
+    requires free { (chair.old.me.0.turn ≡ Idle) × (chair.old.me.1 ≡ []) }
+    ensures table { (chair.new.table_id ≡ chair.old.table_id) × (chair.new.id ≡ chair.old.id) × (result.table_id ≡ chair.old.table_id) }
+    ensures views { (chair.new.me ≡ chair.old.me) × (result.me ≡ (closed chair.old.me.0, [])) }
+{
+    board.split_seat::<Leave>(chair)
 }

@@ -2,6 +2,7 @@
 use crate::journal::Journaled;
 use crate::view::Known;
 use atomic_table::{Join, Play, Split, TableRule};
+use std::marker::{Brand, PhantomData};
 use std::snapshot::Snapshot;
 
 /// The rule, which reads off the value's snapshot what base it has, and how many passes there may be.
@@ -91,9 +92,13 @@ pub(crate) trait Picked {
     ghost picked: { ℕ };
 }
 
+impl Picked for Brand {
+    ghost picked = { 0 };
+}
+
 /// The pass of the picked number is parted from the first one.
 pub(crate) struct Cut<N> {
-    number: std::marker::PhantomData<N>,
+    number: PhantomData<N>,
 }
 
 impl<E, B, N: Picked> Split<Known<E, B>> for Cut<N> {
