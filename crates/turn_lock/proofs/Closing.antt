@@ -1,5 +1,5 @@
 -- How a lock begins, and how it ends.
-use Rattle.std.proofs.Common.{◌≡◌, ◌≢◌, ℕ, zero, suc, ◌+◌, ◌-◌, ◌%◌, ◌^◌, ◌<◌, ◌≤◌, ◌==◌, ◌⊎◌, inl, inr, Bool, true, false, cond, List, [], ◌∷◌, ◌++◌, set, length, Option, Some, None, eq-eqb, ne_eqb, sym, refl, ap, ◌∙◌, subst, arith}
+use Rattle.std.proofs.Common.{◌≡◌, ◌≢◌, ℕ, zero, suc, ◌+◌, ◌-◌, ◌%◌, ◌^◌, ◌<◌, ◌≤◌, ◌==◌, ◌⊎◌, inl, inr, Bool, true, false, cond, List, [], ◌∷◌, ◌++◌, set, length, Option, Some, None, unwrap_or, eq-eqb, ne_eqb, sym, refl, ap, ◌∙◌, subst, arith}
 use Rattle.std.specs.List.{sum_by}
 use Rattle.std.proofs.lemmas.Bool.{false≢true}
 use mathlib.Core.Option.{some, none, some-injective, some-ne-none}
@@ -120,16 +120,17 @@ module _ {E B S : Type 0} (base_of : S → B) (history_of : S → List E) (numbe
           by seat u live (inl at') = home.4 seat u at' live
           by seat u live (inr is) = absurd (false≢true (ap (λ (k : Known E B). k.live) is ∙ live))
 
-  -- what stands at the end, where the first pass has taken in all others
-  pub record Ends (slots : List (Option S)) (v : Known E B) : Type 0 where
+  -- what stands in the slot at the end, where the first pass has taken in all others
+  pub record Ends (slot : Option S) (v : Known E B) : Type 0 where
     pub x : S
-    pub there : get_elem? slots 0 ≡ some (Some x)
+    pub is : slot ≡ Some x
     pub base_is : base_of x ≡ base
     pub seen : Begins (history_of x) v.seen
     pub whole_is : (n : ℕ) → own number n (history_of x) ≡ known_in v n
 
-  pub ends : (id : ℕ) (v : Known E B) (words : List ℕ) (slots : List (Option S)) → v.live ≡ true → v.turn ≡ Idle → v.number ≡ 0 → length v.met ≡ v.made → Final (Seen (Kept base_of history_of number base) id v) words slots → Ends slots v
-  ends id v words slots live idle first all final = by kept.2
+  pub ends : (id : ℕ) (v : Known E B) (words : List ℕ) (slots : List (Option S)) (slot : Option S) → v.live ≡ true → v.turn ≡ Idle → v.number ≡ 0 → length v.met ≡ v.made → Final (Seen (Kept base_of history_of number base) id v) words slots
+      → get_elem? slots 0 ≡ some slot → Ends slot v
+  ends id v words slots slot live idle first all final there = by kept.2
     where
       s : State (Option S) (Known E B)
       s = final.0
@@ -149,7 +150,7 @@ module _ {E B S : Type 0} (base_of : S → B) (history_of : S → List E) (numbe
       fits : Fits number base book.log book.owner book.total id v
       fits = (h.each id v at live).0
 
-      by : IsOut book s ⊎ IsHome base_of history_of base book s → Ends slots v
+      by : IsOut book s ⊎ IsHome base_of history_of base book s → Ends slot v
       by (inl out) =
           let same : out.1.0 ≡ id = only number base book s.words s.views h id out.1.0 v out.1.1 at live first all out.1.3 out.1.4 in
           let is : out.1.1 ≡ v = some-injective out.1.1 v (sym out.1.3 ∙ (ap (get_elem? s.views) same ∙ at)) in
@@ -157,8 +158,12 @@ module _ {E B S : Type 0} (base_of : S → B) (history_of : S → List E) (numbe
       by (inr home) =
           record {
             x = home.0;
-            there = final.4 0 (Some home.0) (ap (λ hs. get_elem? hs 0) home.1);
+            is = some-injective slot (Some home.0) (sym there ∙ final.4 0 (Some home.0) (ap (λ hs. get_elem? hs 0) home.1));
             base_is = home.3;
             seen = subst (λ log. Begins log v.seen) (sym home.2) fits.seen;
             whole_is = λ n. ap (own number n) home.2 ∙ whole number base book s.words s.views h id v at live first all n;
           }
+
+-- the value that a slot holds
+pub held_in : {S : Type 0} (slot : Option S) (x y : S) → slot ≡ Some x → slot ≡ Some y → y ≡ x
+held_in slot x y is is' = ap (λ o. unwrap_or o x) (sym is' ∙ is)

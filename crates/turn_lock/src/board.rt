@@ -1,16 +1,18 @@
 //! The table under a lock: what a pass's seat does on its words and its slot.
 ghost use Rattle.std.specs.List.{list_any};
-ghost use Rattle.std.specs.Prelude.{◌≡◌, ℕ, ◌<◌, ◌%◌, ◌^◌, ◌==◌, true, [], ◌∷◌, ◌++◌, Some, None, List, MatchBool};
+ghost use Rattle.std.specs.Prelude.{◌≡◌, ℕ, ◌<◌, ◌%◌, ◌^◌, ◌==◌, true, [], ◌∷◌, ◌++◌, Some, None, List, length, MatchBool};
 ghost use Rattle.atomic_table.specs.Seated.{TableId};
 ghost use Rattle.turn_lock.specs.declared.view.Turn.TheVariants.{Idle, Waits, Holds};
 ghost use Rattle.turn_lock.specs.declared.view.Known.{Known};
-ghost use Rattle.turn_lock.specs.Passes.{Begins, has_number, longer};
+ghost use Rattle.turn_lock.specs.Passes.{Begins, has_number, longer, own};
+ghost use Rattle.turn_lock.specs.Rule.{known_in};
 ghost use Rattle.turn_lock.specs.Steps.{advanced, closed, dealt, IsLent, joined, new_of, part_of, parted, Returns, Takes};
 
 use crate::journal::Journaled;
 use crate::rule::{Advance, Cut, Deal, Draw, Leave, Meet, Picked, Poll, Ruling, Settle};
 use crate::view::Known;
-use atomic_table::{Seat, Shared};
+use atomic_table::{Seat, Shared, Table};
+use std::alloc::Global;
 use std::marker::Brand;
 use std::snapshot::Snapshot;
 use std::sync::Wait;
@@ -21,6 +23,15 @@ pub(crate) type Board<S> = Shared<
     Known<<S as Journaled>::Event, <S as Journaled>::Base>,
     (Snapshot<S>, u32),
     Ruling,
+>;
+
+/// A lock's table.
+pub(crate) type Locked<S> = Table<
+    Option<S>,
+    Known<<S as Journaled>::Event, <S as Journaled>::Base>,
+    (Snapshot<S>, u32),
+    Ruling,
+    Global,
 >;
 
 /// A pass's seat at the table.
@@ -165,4 +176,20 @@ pub(crate) fn leave<S: Journaled>(board: &Board<S>, chair: &mut Chair<S>) -> Cha
     ensures views { (chair.new.me ≡ chair.old.me) × (result.me ≡ (closed chair.old.me.0, [])) }
 {
     board.split_seat::<Leave>(chair)
+}
+
+/// The value of a table that is closed with the seat of the first pass, which has taken in all others.
+pub(crate) fn closed_with<S: Journaled>(table: Locked<S>, chair: Chair<S>) -> S
+    requires table { (chair.table_id ≡ table.shared.table_id) × (table.shared.table_id.words ≡ 2) × (table.shared.table_id.slots ≡ 1) }
+    requires free { (chair.me.0.live ≡ true) × (chair.me.0.turn ≡ Idle) }
+    requires all { (chair.me.0.number ≡ 0) × (length chair.me.0.met ≡ chair.me.0.made) }
+    ensures base { S.base result ≡ S.base table.shared.key.0.value }
+    ensures seen { Begins (S.history result) chair.me.0.seen }
+    ensures whole { (n : ℕ) → own S.number n (S.history result) ≡ known_in chair.me.0 n }
+{
+    let mut closed = table.close_with(chair);
+    let slot = closed.take(VALUE);
+    closed.free();
+    let Some(value) = slot else { unreachable!() };
+    value
 }

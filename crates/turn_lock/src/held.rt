@@ -1,5 +1,5 @@
 ghost use Rattle.std.specs.Prelude.{◌≡◌};
-ghost use Rattle.std.specs.Borrow.{Lends};
+ghost use Rattle.std.specs.Borrow.{sem};
 
 use crate::journal::Journaled;
 use std::snapshot::Snapshot;
@@ -8,17 +8,27 @@ use std::snapshot::Snapshot;
 pub struct Held<S: Journaled> {
     /// The value.
     pub value: S,
-    /// The number of the pass that took it.
+    /// The number of the pass that it is lent to.
     pub number: u32,
-    /// The value as it was when it was taken, for contracts alone.
+    /// The value as it was when the turn began, for contracts alone.
     pub start: Snapshot<S>,
 }
 
 impl<S: Journaled> Held<S> {
+    ghost use Rattle.turn_lock.specs.Lending.{LendsValue};
+
     /// The value.
     pub fn value(&self) -> &S
         ensures { result.now ≡ self.now.value }
     {
         &self.value
+    }
+
+    /// The value, to be changed in place. The number and the start stay.
+    pub fn value_mut(&mut self) -> &mut S
+        ensures* lends { sem 𝓛 (LendsValue S.row S.Event.row S.Base.row self.entry result) }
+        ensures value { result.now ≡ self.old.value }
+    {
+        &mut self.value
     }
 }

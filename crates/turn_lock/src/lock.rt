@@ -1,12 +1,11 @@
-ghost use Rattle.std.specs.Prelude.{◌≡◌, ◌+◌, ◌++◌, ◌∷◌, [], ◌≤◌, Some, None, IfOk, IfErr};
-ghost use Rattle.turn_lock.specs.Passes.{Begins, CameFrom, first_of, HasAll, IsFree, IsOf, IsWhole};
+ghost use Rattle.std.specs.Prelude.{◌≡◌, ◌+◌, ◌-◌, ◌<◌, ◌≤◌, ◌++◌, ◌∷◌, [], true, false, Some, None, IfOk, IfErr};
+ghost use Rattle.std.specs.List.{list_any};
+ghost use Rattle.turn_lock.specs.Passes.{Begins, beside, CameFrom, events_in, first_of, has_number, HasAll, IsFree, IsOf, IsWhole, met_with, without};
 
-use crate::board;
+use crate::board::{self, Locked};
 use crate::held::Held;
 use crate::journal::Journaled;
 use crate::pass::Pass;
-use crate::rule::Ruling;
-use crate::view::Known;
 use atomic_table::Table;
 use std::alloc::Global;
 use std::marker::Model;
@@ -16,13 +15,7 @@ use std::sync::Wait;
 /// A lock over a value. Who has a pass takes the value in turn. Contracts see which lock it is, and the base of its value.
 #[derive(Drop)]
 pub struct TurnLock<S: Journaled> {
-    pub(crate) table: Table<
-        Option<S>,
-        Known<S::Event, S::Base>,
-        (Snapshot<S>, u32),
-        Ruling,
-        Global,
-    >,
+    pub(crate) table: Locked<S>,
 }
 
 impl<S: Journaled> Model for TurnLock<S> {
@@ -37,6 +30,110 @@ impl<S: Journaled> Model for TurnLock<S> {
 }
 
 impl<S: Journaled> TurnLock<S> {
+    /// A lock over this value, which has no events yet, with its first pass. There may be so many passes. Where no memory
+    /// is left the value comes back.
+    pub fn make(alloc: Global, value: S, passes: u32) -> Result<(TurnLock<S>, Pass<S>), S>
+        requires some { 1 ≤ passes }
+        requires empty { S.history value ≡ [] }
+        ensures made { IfOk result (λ lock. (lock.0.base ≡ S.base value) × (lock.1 ≡ first_of lock.0 passes)) }
+        ensures back { IfErr result (λ back. back ≡ value) }
+    {
+        let about = (Snapshot::of(&value), passes);
+        let slots = match only_slot(alloc, value) {
+            Ok(slots) => slots,
+            Err(value) => return Err(value),
+        };
+        match Table::new(alloc, &[0, 0], slots, &about) {
+            Ok((table, seat)) => Ok((
+                TurnLock { table },
+                Pass {
+                    number: 0,
+                    made: 0,
+                    seat,
+                },
+            )),
+            Err(refused) => Err(taken_out(refused.slots)),
+        }
+    }
+
+    /// Splits a new pass off the first one. It has the next number, has seen as much, and has no events yet.
+    pub fn split(&self, pass: &mut Pass<S>) -> Pass<S>
+        requires lock { IsOf self.now pass.old }
+        requires free { IsFree pass.old }
+        requires first { (pass.old.number ≡ 0) × (0 < pass.old.left) }
+        ensures pass { pass.new ≡ record pass.old { left = pass.old.left - 1; made = pass.old.made + 1 } }
+        ensures new { result ≡ beside pass.old (pass.old.made + 1) [] }
+    {
+        let seat = board::deal(&self.table.shared, &mut pass.seat);
+        pass.made += 1;
+        Pass {
+            number: pass.made,
+            made: 0,
+            seat,
+        }
+    }
+
+    /// Takes another pass in. The pass then has seen what both have, and has the other's number and events among those
+    /// that it has met.
+    pub fn meet(&self, pass: &mut Pass<S>, other: Pass<S>)
+        requires lock { IsOf self.now pass.old × IsOf self.now other }
+        requires free { IsFree pass.old × IsFree other }
+        ensures pass { pass.new ≡ met_with pass.old other }
+        ensures seen { Begins pass.new.seen pass.old.seen × Begins pass.new.seen other.seen }
+    {
+        let Pass {
+            number: _,
+            made: _,
+            seat,
+        } = other;
+        board::meet(&self.table.shared, &mut pass.seat, seat);
+    }
+
+    /// Parts the pass of a number again from the first pass, which has taken it in. It has seen as much as the first.
+    pub fn part(&self, pass: &mut Pass<S>, number: u32) -> Pass<S>
+        requires lock { IsOf self.now pass.old }
+        requires free { IsFree pass.old }
+        requires first { (pass.old.number ≡ 0) × (list_any (has_number number) pass.old.met ≡ true) }
+        ensures pass { pass.new ≡ record pass.old { met = without number pass.old.met } }
+        ensures part { result ≡ beside pass.old number (events_in pass.old.met number) }
+    {
+        let seat = board::part(&self.table.shared, &mut pass.seat, number);
+        Pass {
+            number,
+            made: 0,
+            seat,
+        }
+    }
+
+    /// Ends the lock, once the first pass has taken in all others: the value, whose history is just what the passes have
+    /// added, and the pass, which is no pass of the lock any more.
+    pub fn close(self, pass: Pass<S>) -> (S, Pass<S>)
+        requires lock { IsOf self pass }
+        requires free { IsFree pass }
+        requires all { HasAll pass }
+        ensures base { S.base result.0 ≡ self.base }
+        ensures seen { Begins (S.history result.0) pass.seen }
+        ensures whole { IsWhole S.number pass (S.history result.0) }
+        ensures pass { result.1 ≡ record pass { live = false } }
+    {
+        let TurnLock { table } = self;
+        let Pass {
+            number,
+            made,
+            mut seat,
+        } = pass;
+        let left = board::leave(&table.shared, &mut seat);
+        let value = board::closed_with(table, seat);
+        (
+            value,
+            Pass {
+                number,
+                made,
+                seat: left,
+            },
+        )
+    }
+
     /// Lends the value to the pass, in its turn: it waits until all who asked before have given the value back. The
     /// history then begins with all that the pass has seen; and where the first pass has taken in all others, it is just
     /// what the passes have added.
@@ -91,4 +188,34 @@ impl<S: Journaled> TurnLock<S> {
         } = held;
         board::put_back(&self.table.shared, &mut pass.seat, value);
     }
+}
+
+// The slots of a table whose only slot holds the value. Where no memory is left the value comes back.
+fn only_slot<S>(alloc: Global, value: S) -> Result<Vec<Option<S>>, S>
+    ensures slots { IfOk result (λ slots. slots.items ≡ Some value ∷ []) }
+    ensures back { IfErr result (λ back. back ≡ value) }
+{
+    let mut slots = Vec::new(alloc);
+    match slots.push(Some(value)) {
+        Ok(()) => Ok(slots),
+        Err(refused) => {
+            slots.destroy_empty();
+            let Some(value) = refused.value else {
+                unreachable!()
+            };
+            Err(value)
+        }
+    }
+}
+
+// The value of the only slot.
+fn taken_out<S>(mut slots: Vec<Option<S>>) -> S
+    requires { (value : S) × (slots.items ≡ Some value ∷ []) }
+    ensures { slots.items ≡ Some result ∷ [] }
+{
+    let Some(Some(value)) = slots.pop() else {
+        unreachable!()
+    };
+    slots.destroy_empty();
+    value
 }
