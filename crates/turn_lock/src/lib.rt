@@ -19,3 +19,6 @@ pub use held::Held;
 pub use journal::Journaled;
 pub use lock::TurnLock;
 pub use pass::Pass;
+
+#[cfg(test)]
+mod tests;
