@@ -11,6 +11,7 @@
 
 mod db;
 mod inbox;
+mod journal;
 mod latest;
 mod live;
 mod lives;

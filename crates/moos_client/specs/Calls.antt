@@ -1,0 +1,46 @@
+-- What a client's call of the database through the lock does to the client's seat.
+use Rattle.std.specs.Prelude.{◌≡◌, ℕ, ◌<◌, List, [], ◌∷◌, ◌++◌, length}
+use Rattle.moos_post.specs.declared.entry.Call.{Call}
+use Rattle.moos_post.specs.declared.entry.Call.TheVariants.{Fetch}
+use Rattle.moos_post.specs.declared.entry.Entry.{Entry}
+use Rattle.moos_post.specs.Delivery.{mail_after}
+use Rattle.moos_post.specs.History.{History, posts_of}
+use Rattle.moos_db.specs.declared.mail.Letter.{Letter}
+use Rattle.moos_db.specs.Database.{AreLetters}
+use Rattle.turn_lock.specs.Passes.{Begins, IsFree, IsOf, LockState, PassState}
+
+-- what a seat shows: a pass at the lock of a database
+abbrev pub SeatState : Type 0
+SeatState = PassState Entry (List (List ℕ))
+
+-- the seat is one at the lock, holds no turn, and its number is that of a client of the database
+pub record MayCall (lock : LockState (List (List ℕ))) (seat : SeatState) : Type 0 where
+  pub of_lock : IsOf lock seat
+  pub free : IsFree seat
+  pub client : seat.number < length lock.base
+
+-- a call of the client with this number
+abbrev pub entry_of : ℕ → ℕ → Call → Entry
+entry_of client stamp call = record { stamp = stamp; client = client; call = call }
+
+-- the seat after its entry, which stands behind this history
+abbrev pub with_call : SeatState → History → Entry → SeatState
+with_call seat before entry = record seat { seen = before ++ entry ∷ []; mine = seat.mine ++ entry ∷ [] }
+
+-- The call is the client's next entry, and the last that the client has seen. What the client had seen stands before it.
+pub record IsCalled (old new : SeatState) (stamp : ℕ) (call : Call) : Type 0 where
+  pub before : History
+  pub later : Begins before old.seen
+  pub after : new ≡ with_call old before (entry_of old.number stamp call)
+
+-- the same for a fetch, whose mail is what was mailed to the client since its fetch before
+pub record IsFetched (old new : SeatState) (names : List (List ℕ)) (stamp : ℕ) (mail : List Letter) : Type 0 where
+  pub before : History
+  pub later : Begins before old.seen
+  pub after : new ≡ with_call old before (entry_of old.number stamp Fetch)
+  pub given : AreLetters (posts_of before) (mail_after names old.number before) mail
+
+-- no entry was made: the client may have seen more
+pub record IsUncalled (old new : SeatState) : Type 0 where
+  pub later : Begins new.seen old.seen
+  pub same : new ≡ record old { seen = new.seen }
