@@ -9,3 +9,4 @@ pub mod Bounds
 pub mod Makes
 pub mod Children
 pub mod BestPoints
+pub mod Pieces

@@ -1,11 +1,11 @@
 -- The tree of a problem: a node is a choice of one piece from each of the first functions whose boxes share a point.
-use Rattle.std.specs.Prelude.{◌≡◌, ℕ, ◌+◌, ◌*◌, ℤ, pos, ◌+ℤ◌, ◌*ℤ◌, nat_abs, nat_lt, if◌then◌else◌, Option, Some, None, option_map, List, [], ◌∷◌, length, take, drop, slice_get, slice_index_or}
-use Rattle.std.specs.List.{flat_map, sum_by}
+use Rattle.std.specs.Prelude.{◌≡◌, ℕ, ◌+◌, ◌*◌, Bool, ℤ, pos, ◌+ℤ◌, ◌*ℤ◌, nat_abs, nat_lt, if◌then◌else◌, Option, Some, None, option_map, List, [], ◌∷◌, length, take, drop, slice_get, slice_index_or}
+use Rattle.std.specs.List.{flat_map, list_any, sum_by}
 use Rattle.std.specs.Option.{option_and_then, option_to_list}
 use Rattle.ivp_domain.specs.declared.axis.Axis.{Axis}
 use Rattle.ivp_domain.specs.declared.boxes.BoxN.{BoxN}
 use Rattle.ivp_domain.specs.declared.boxes.Point.{Point}
-use Rattle.ivp_domain.specs.Boxes.{meet_of, numbers_from, points_in}
+use Rattle.ivp_domain.specs.Boxes.{has_point, meet_of, numbers_from, points_in}
 use Rattle.ivp_domain.specs.Domains.{index_of, points_of, whole}
 use Rattle.ivp_func.specs.declared.piece.Piece.{Piece}
 use Rattle.ivp_func.specs.Pieces.{slope_on, value_at, value_of}
@@ -60,6 +60,10 @@ children_in term node = flat_map (λ number. option_to_list (child_in term node 
 -- the children of a node, in piece order: none at full depth
 abbrev pub children_of : WeightedSum → Node → List Node
 children_of problem node = flat_map (λ term. children_in term node) (option_to_list (next_of problem node))
+
+-- one of these nodes has the point
+abbrev pub has_in : List Node → Point → Bool
+has_in nodes point = list_any (λ node. has_point node.area point) nodes
 
 -- what the chosen pieces add at a point of the box: base plus slopes times places
 abbrev pub chosen_at : Node → Point → ℤ

@@ -193,6 +193,18 @@ impl Problem {
         }
     }
 
+    /// The best point of a node of full depth: the one of greatest key in its box.
+    pub fn best_corner(&self, node: &Node) -> Point
+        requires node { IsNode self.now node.now }
+        requires full { length self.now.terms ≤ node.now.depth }
+        ensures inside { IsTrue (has_point node.now.area result) }
+        ensures point { IsTrue (is_point self.now.axes result) }
+        ensures best { key_at self.now result ≡ bound_of self.now node.now }
+    {
+        let _ = self.len();
+        high_corner(node)
+    }
+
     /// The bound of a node: no key of a point in the node is above it. Below full depth it pairs the
     /// greatest sum of the chosen functions in the box, plus the weighted tops of the others, with the
     /// least index in the box. At full depth it is the greatest key in the box. It counts one step.

@@ -249,6 +249,7 @@ fn pieces_apart(rt: HostRuntime) -> Result<(), Fail> {
     let both = child(&problem, &first, 0).ok_or("a child")?;
     if both.depth >= problem.len() {
         bound_law(&problem, &both);
+        assert!(rt; problem.best_corner(&both).at == [0, 1, 0, 0]);
     }
     assert_eq!(rt; bound(&problem, &both), (150, 2));
     Ok(())

@@ -1,9 +1,10 @@
 use Rattle.std.proofs.Common.{◌≡◌, ◌+◌, ◌-◌, ◌<◌, suc, Some, None, length, sym, subst, ap, ◌∙◌, arith}
 use Rattle.ivp_domain.specs.Boxes.{has_point}
 use Rattle.ivp_problem.specs.Nodes.{nodes_from, nodes_under}
-use Rattle.ivp_problem.specs.Trees.{child_of, children_of}
+use Rattle.ivp_problem.specs.Trees.{child_of, children_of, has_in}
 use Rattle.ivp_search.specs.Incumbents.{IsBest}
-use Rattle.ivp_search.proofs.Closing.{child_depth, children_to, closed_child, has_all, has_in, next_is, no_child, same_points, size_all, size_more, size_under}
+use Rattle.ivp_problem.proofs.Pieces.{child_depth, children_to, has_all, next_is, no_child}
+use Rattle.ivp_search.proofs.Closing.{closed_child, same_points, size_all, size_more, size_under}
 use Rattle.ivp_search.proofs.search.+close.Goals as goal
 use Rattle.ivp_search.proofs.search.+close.Goals.{in-Some, in_default}
 

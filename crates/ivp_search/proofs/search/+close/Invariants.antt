@@ -1,8 +1,9 @@
 use Rattle.std.proofs.Common.{◌≡◌, ◌+◌, ◌-◌, ◌≤◌, length}
 use Rattle.std.specs.Prelude.{IfSome}
-use Rattle.ivp_problem.specs.Trees.{next_of}
+use Rattle.ivp_problem.specs.Trees.{has_in, next_of}
 use Rattle.ivp_search.specs.Incumbents.{IsBest}
-use Rattle.ivp_search.proofs.Closing.{children_to, has_in, size_under}
+use Rattle.ivp_problem.proofs.Pieces.{children_to}
+use Rattle.ivp_search.proofs.Closing.{size_under}
 use Rattle.ivp_search.proofs.search.+close.Given as goal
 
 abbrev pub decreases-close : goal.decreases-close
