@@ -1,0 +1,162 @@
+-- How the part of a node grows child by child, and what it covers.
+use Rattle.std.proofs.Common.{◌≡◌, ◌≢◌, ℕ, zero, suc, ◌+◌, ◌*◌, ◌^◌, ◌<◌, ◌≤◌, ◌⊎◌, inl, inr, Bool, true, false, ◌||◌, Option, Some, None, List, [], ◌∷◌, ◌++◌, length, refl, sym, ap, ◌∙◌, subst, arith, append_assoc, length-append}
+use Rattle.std.specs.Option.{option_to_list}
+use Rattle.std.proofs.lemmas.List.Folds.{list_any-append}
+use Rattle.ivp_domain.specs.declared.boxes.Point.{Point}
+use Rattle.ivp_domain.specs.Boxes.{has_point}
+use Rattle.ivp_problem.specs.declared.node.Node.{Node}
+use Rattle.ivp_problem.specs.Problems.{IsProblem, WeightedSum}
+use Rattle.ivp_problem.specs.Sums.{key_at}
+use Rattle.ivp_problem.specs.Trees.{bound_of, child_of, children_of, has_in, IsNode}
+use Rattle.ivp_problem.proofs.Bounds.{key_bound}
+use Rattle.ivp_problem.proofs.Nodes.{node_keeps}
+use Rattle.ivp_problem.proofs.Pieces.{append_none, children_more, children_to, has_all, no_child}
+use Rattle.ivp_pool.specs.Closing.{AreCovered, Closed, Passed}
+use Rattle.ivp_pool.specs.Parts.{AreParts, Done, Handed, handed_in, handed_of, IsPart, Part, Parts, Pruned, size_in, size_of, Split, Then}
+use Rattle.ivp_pool.proofs.Standing.{AllStand, children_stand, first_stand, Stands}
+use Rattle.ivp_pool.proofs.Weights.{few_weight, first_weight, once_in, sizes_most}
+
+mutual
+  -- a part stays one where the scout learns more
+  raised : (problem : WeightedSum) (low high : ℕ) → low ≤ high → (node : Node) (part : Part) → IsPart problem low node part → IsPart problem high node part
+  raised problem low high up node Pruned is = omega (arith, up, is)
+  raised problem low high up node Handed is = tt
+  raised problem low high up node (Split parts) is = (is.0, all_raised problem low high up (children_of problem node) parts is.1)
+
+  all_raised : (problem : WeightedSum) (low high : ℕ) → low ≤ high → (nodes : List Node) (parts : Parts) → AreParts problem low nodes parts → AreParts problem high nodes parts
+  all_raised problem low high up [] Done are = tt
+  all_raised problem low high up (node ∷ nodes) Done are = absurd are
+  all_raised problem low high up [] (Then part parts) are = absurd are
+  all_raised problem low high up (node ∷ nodes) (Then part parts) are = (raised problem low high up node part are.0, all_raised problem low high up nodes parts are.1)
+
+-- a point of one of these nodes lies in the first one or in a later one
+first_or_later : (problem : WeightedSum) (low : ℕ) (node : Node) (nodes some more : List Node) (p : Point) → (has_point node.area p ≡ true → (key_at problem p ≤ low) ⊎ (has_in some p ≡ true)) → (has_in nodes p ≡ true → (key_at problem p ≤ low) ⊎ (has_in more p ≡ true)) → has_in (node ∷ nodes) p ≡ true → (key_at problem p ≤ low) ⊎ (has_in (some ++ more) p ≡ true)
+first_or_later problem low node nodes some more p in_first in_later inside = either (has_point node.area p) refl inside
+  where
+    all : has_in (some ++ more) p ≡ (has_in some p || has_in more p)
+    all = list_any-append (λ (n : Node). has_point n.area p) some more
+
+    or_true : (t : Bool) → (t || true) ≡ true
+    or_true true = refl
+    or_true false = refl
+
+    first : (key_at problem p ≤ low) ⊎ (has_in some p ≡ true) → (key_at problem p ≤ low) ⊎ (has_in (some ++ more) p ≡ true)
+    first (inl less) = inl less
+    first (inr found) = inr (all ∙ ap (λ t. t || has_in more p) found)
+
+    later : (key_at problem p ≤ low) ⊎ (has_in more p ≡ true) → (key_at problem p ≤ low) ⊎ (has_in (some ++ more) p ≡ true)
+    later (inl less) = inl less
+    later (inr found) = inr (all ∙ (ap (λ t. has_in some p || t) found ∙ or_true (has_in some p)))
+
+    either : (t : Bool) → has_point node.area p ≡ t → (t || has_in nodes p) ≡ true → (key_at problem p ≤ low) ⊎ (has_in (some ++ more) p ≡ true)
+    either true e inside = first (in_first e)
+    either false e inside = later (in_later inside)
+
+mutual
+  -- each point of a node has a key of at most `low`, or lies in a node that was handed to others
+  covered : (problem : WeightedSum) → IsProblem problem → (low levels : ℕ) (node : Node) (part : Part) → Stands problem levels node → IsPart problem low node part → (p : Point) → has_point node.area p ≡ true → (key_at problem p ≤ low) ⊎ (has_in (handed_of problem node part) p ≡ true)
+  covered problem h low levels node Pruned stands is p inside = inl (omega (arith, key_bound problem node p (node_keeps problem node h stands.is) inside, is))
+  covered problem h low levels node Handed stands is p inside = inr (ap (λ t. t || false) inside)
+  covered problem h low zero node (Split parts) stands is p inside = absurd (omega (arith, stands.depth, is.0))
+  covered problem h low (suc levels) node (Split parts) stands is p inside =
+      let children = children_of problem node in
+      all_covered problem h low levels children parts (children_stand problem levels node stands) is.1 p (sym (has_all node children p (once_in problem node p h stands.is is.0)) ∙ inside)
+
+  all_covered : (problem : WeightedSum) → IsProblem problem → (low levels : ℕ) (nodes : List Node) (parts : Parts) → AllStand problem levels nodes → AreParts problem low nodes parts → (p : Point) → has_in nodes p ≡ true → (key_at problem p ≤ low) ⊎ (has_in (handed_in problem nodes parts) p ≡ true)
+  all_covered problem h low levels [] Done stand are p inside = absurd (cc)
+  all_covered problem h low levels (node ∷ nodes) Done stand are p inside = absurd are
+  all_covered problem h low levels [] (Then part parts) stand are p inside = absurd are
+  all_covered problem h low levels (node ∷ nodes) (Then part parts) stand are p inside =
+      first_or_later problem low node nodes (handed_of problem node part) (handed_in problem nodes parts) p (covered problem h low levels node part stand.0 are.0 p) (all_covered problem h low levels nodes parts stand.1 are.1 p) inside
+
+-- what closing a node leaves behind covers its points
+pub closed_covers : (problem : WeightedSum) (low : ℕ) (took took' : List Node) (node : Node) (count : ℕ) → IsProblem problem → IsNode problem node → Closed problem low took took' node count → AreCovered problem low took took' (has_point node.area)
+closed_covers problem low took took' node count h is closed =
+    let stands : Stands problem (length problem.terms) node = record { is = is; depth = omega arith } in
+    (handed_of problem node closed.part, closed.taken, λ p inside. covered problem h low (length problem.terms) node closed.part stands closed.is p inside)
+
+-- one part more at the end
+abbrev with_last : Parts → Part → Parts
+with_last Done part = Then part Done
+with_last (Then first parts) part = Then first (with_last parts part)
+
+are_more : (problem : WeightedSum) (low : ℕ) (nodes : List Node) (parts : Parts) (node : Node) (part : Part) → AreParts problem low nodes parts → IsPart problem low node part → AreParts problem low (nodes ++ node ∷ []) (with_last parts part)
+are_more problem low [] Done node part are is = (is, tt)
+are_more problem low (first ∷ nodes) Done node part are is = absurd are
+are_more problem low [] (Then one parts) node part are is = absurd are
+are_more problem low (first ∷ nodes) (Then one parts) node part are is = (are.0, are_more problem low nodes parts node part are.1 is)
+
+size_more : (parts : Parts) (part : Part) → size_in (with_last parts part) ≡ size_in parts + size_of part
+size_more Done part = omega arith
+size_more (Then one parts) part = omega (arith, size_more parts part)
+
+handed_more : (problem : WeightedSum) (low : ℕ) (nodes : List Node) (parts : Parts) (node : Node) (part : Part) → AreParts problem low nodes parts → handed_in problem (nodes ++ node ∷ []) (with_last parts part) ≡ handed_in problem nodes parts ++ handed_of problem node part
+handed_more problem low [] Done node part are = append_none (handed_of problem node part)
+handed_more problem low (first ∷ nodes) Done node part are = absurd are
+handed_more problem low [] (Then one parts) node part are = absurd are
+handed_more problem low (first ∷ nodes) (Then one parts) node part are = ap (λ rest. handed_of problem first one ++ rest) (handed_more problem low nodes parts node part are.1) ∙ sym (append_assoc (handed_of problem first one) (handed_in problem nodes parts) (handed_of problem node part))
+
+-- some children of a split node were searched; the count has the node itself too
+pub record Searched (problem : WeightedSum) (low : ℕ) (took took' : List Node) (nodes : List Node) (count : ℕ) : Type 0 where
+  pub parts : Parts
+  pub are : AreParts problem low nodes parts
+  pub taken : took' ≡ took ++ handed_in problem nodes parts
+  pub counted : count + length (handed_in problem nodes parts) ≡ 1 + size_in parts
+
+pub nothing_searched : (problem : WeightedSum) (low : ℕ) (took : List Node) → Searched problem low took took [] 1
+nothing_searched problem low took = record { parts = Done; are = tt; taken = sym (append_none took); counted = omega arith }
+
+-- one child more
+searched_more : (problem : WeightedSum) (low high : ℕ) (took took' took'' : List Node) (nodes : List Node) (count : ℕ) (node : Node) (part : Part) (more : ℕ) → low ≤ high → Searched problem low took took' nodes count → IsPart problem high node part → took'' ≡ took' ++ handed_of problem node part → more + length (handed_of problem node part) ≡ size_of part → Searched problem high took took'' (nodes ++ node ∷ []) (count + more)
+searched_more problem low high took took' took'' nodes count node part more up searched is taken counted =
+    let all = handed_more problem low nodes searched.parts node part searched.are in
+    let handed = handed_in problem nodes searched.parts in
+    record {
+      parts = with_last searched.parts part;
+      are = are_more problem high nodes searched.parts node part (all_raised problem low high up nodes searched.parts searched.are) is;
+      taken = taken ∙ (ap (λ t. t ++ handed_of problem node part) searched.taken ∙ (append_assoc took handed (handed_of problem node part) ∙ ap (λ t. took ++ t) (sym all)));
+      counted = omega (arith, searched.counted, counted, ap length all, length-append handed (handed_of problem node part), size_more searched.parts part);
+    }
+
+-- the next piece's child was handed to the tray, or there is none
+pub searched_passed : (problem : WeightedSum) (low : ℕ) (took took' took'' : List Node) (node : Node) (number count : ℕ) → Searched problem low took took' (children_to problem node number) count → Passed problem took' took'' node number None → Searched problem low took took'' (children_to problem node (number + 1)) count
+searched_passed problem low took took' took'' node number count searched (inl (none, same)) = subst (λ ns. Searched problem low took took'' ns count) (sym (no_child problem node number none)) (subst (λ t. Searched problem low took t (children_to problem node number) count) (sym same) searched)
+searched_passed problem low took took' took'' node number count searched (inr (child, is, taken)) =
+    let none : count + 0 ≡ count = omega arith in
+    let more = searched_more problem low low took took' took'' (children_to problem node number) count child Handed 0 (omega arith) searched tt taken (omega arith) in
+    subst (λ ns. Searched problem low took took'' ns count) (sym (children_more problem node number ∙ ap (λ o. children_to problem node number ++ option_to_list o) is)) (subst (Searched problem low took took'' (children_to problem node number ++ child ∷ [])) none more)
+
+-- it came back, and was closed
+pub searched_closed : (problem : WeightedSum) (low high : ℕ) (took took' took'' took''' : List Node) (node child : Node) (number count more : ℕ) → low ≤ high → Searched problem low took took' (children_to problem node number) count → Passed problem took' took'' node number (Some child) → Closed problem high took'' took''' child more → Searched problem high took took''' (children_to problem node (number + 1)) (count + more)
+searched_closed problem low high took took' took'' took''' node child number count more up searched passed closed =
+    subst (λ ns. Searched problem high took took''' ns (count + more)) (sym (children_more problem node number ∙ ap (λ o. children_to problem node number ++ option_to_list o) passed.0))
+    (searched_more problem low high took took' took''' (children_to problem node number) count child closed.part more up searched closed.is (closed.taken ∙ ap (λ t. t ++ handed_of problem child closed.part) passed.1) closed.counted)
+
+-- the count stays small
+pub searched_few : (problem : WeightedSum) (low : ℕ) (took took' : List Node) (node : Node) (number pieces count : ℕ) → IsProblem problem → IsNode problem node → node.depth < length problem.terms → number ≤ pieces → children_to problem node pieces ≡ children_of problem node → Searched problem low took took' (children_to problem node number) count → count ≤ 1 + 65 * 2 ^ 22
+searched_few problem low took took' node number pieces count h is below within all searched =
+    let stands : Stands problem (suc 64) node = record { is = is; depth = omega (arith, h.few) } in
+    let weight = first_weight problem node number pieces h is below within all in
+    omega (arith, searched.counted, weight, few_weight problem node h, sizes_most problem h low 64 (children_to problem node number) searched.parts (first_stand problem 64 node number stands) searched.are)
+
+-- all children were searched
+pub searched_all : (problem : WeightedSum) (low : ℕ) (took took' : List Node) (node : Node) (count : ℕ) → node.depth < length problem.terms → Searched problem low took took' (children_of problem node) count → Closed problem low took took' node count
+searched_all problem low took took' node count below searched =
+    record {
+      part = Split searched.parts;
+      is = (below, searched.are);
+      here = λ same. absurd (cc);
+      taken = searched.taken;
+      counted = searched.counted;
+    }
+
+-- a node was dropped, since its bound is no more than what the scout knows
+pub pruned : (problem : WeightedSum) (low : ℕ) (took : List Node) (node : Node) → bound_of problem node ≤ low → Closed problem low took took node 1
+pruned problem low took node is =
+    record {
+      part = Pruned;
+      is = is;
+      here = λ same. absurd (cc);
+      taken = sym (append_none took);
+      counted = omega arith;
+    }

@@ -1,0 +1,56 @@
+-- Parts of a tree: what a search made of a node and of the nodes below it.
+use Rattle.std.specs.Prelude.{ℕ, ◌+◌, ◌<◌, ◌≤◌, List, [], ◌∷◌, ◌++◌, length}
+use Rattle.ivp_problem.specs.declared.node.Node.{Node}
+use Rattle.ivp_problem.specs.Problems.{WeightedSum}
+use Rattle.ivp_problem.specs.Trees.{bound_of, children_of}
+
+mutual
+  -- of a node: dropped with all below it, handed to others, or split into its children
+  pub data Part : Type 0 where
+    Pruned : Part
+    Handed : Part
+    Split : Parts → Part
+
+  -- of some nodes, one after the other
+  pub data Parts : Type 0 where
+    Done : Parts
+    Then : Part → Parts → Parts
+
+abbrev mutual
+  -- the part is one of this node: a pruned node's bound is at most `low`, and a split one has a part for each of its children
+  pub IsPart : WeightedSum → ℕ → Node → Part → Type 0
+  IsPart problem low node Pruned = bound_of problem node ≤ low
+  IsPart problem low node Handed = Unit {0}
+  IsPart problem low node (Split parts) = (node.depth < length problem.terms) × AreParts problem low (children_of problem node) parts
+
+  -- there is one part for each of these nodes
+  pub AreParts : WeightedSum → ℕ → List Node → Parts → Type 0
+  AreParts problem low [] Done = Unit {0}
+  AreParts problem low (node ∷ nodes) Done = ⊥
+  AreParts problem low [] (Then part parts) = ⊥
+  AreParts problem low (node ∷ nodes) (Then part parts) = IsPart problem low node part × AreParts problem low nodes parts
+
+abbrev mutual
+  -- how many nodes a part has
+  pub size_of : Part → ℕ
+  size_of Pruned = 1
+  size_of Handed = 1
+  size_of (Split parts) = 1 + size_in parts
+
+  -- and several parts
+  pub size_in : Parts → ℕ
+  size_in Done = 0
+  size_in (Then part parts) = size_of part + size_in parts
+
+abbrev mutual
+  -- the nodes of a part that were handed to others, depth first
+  pub handed_of : WeightedSum → Node → Part → List Node
+  handed_of problem node Pruned = []
+  handed_of problem node Handed = node ∷ []
+  handed_of problem node (Split parts) = handed_in problem (children_of problem node) parts
+
+  -- and of several parts
+  pub handed_in : WeightedSum → List Node → Parts → List Node
+  handed_in problem nodes Done = []
+  handed_in problem [] (Then part parts) = []
+  handed_in problem (node ∷ nodes) (Then part parts) = handed_of problem node part ++ handed_in problem nodes parts

@@ -1,0 +1,22 @@
+ghost use Rattle.std.specs.Prelude.{◌≡◌, List};
+ghost use Rattle.ivp_problem.specs.declared.node.Node.{Node};
+ghost use Rattle.ivp_problem.specs.Problems.{WeightedSum};
+ghost use Rattle.ivp_problem.specs.Trees.{IsNode};
+ghost use Rattle.ivp_pool.specs.Closing.{Pushed};
+
+use ivp_problem::Node;
+
+/// Where a worker puts nodes that others may take: a tray of the nodes of one problem.
+pub trait Tray {
+    /// The problem that the nodes are of.
+    ghost problem: { Self → WeightedSum };
+
+    /// The nodes that it has taken so far, in order.
+    ghost took: { Self → List Node };
+
+    /// Takes the node, or gives it back.
+    fn push(&mut self, node: Node) -> Option<Node>
+        requires { IsNode (problem self.old) node }
+        ensures problem { problem self.new ≡ problem self.old }
+        ensures took { Pushed (took self.old) (took self.new) node result };
+}
