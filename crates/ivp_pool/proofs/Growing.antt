@@ -1,5 +1,5 @@
 -- How the part of a node grows child by child, and what it covers.
-use Rattle.std.proofs.Common.{◌≡◌, ◌≢◌, ℕ, zero, suc, ◌+◌, ◌*◌, ◌^◌, ◌<◌, ◌≤◌, ◌⊎◌, inl, inr, Bool, true, false, ◌||◌, Option, Some, None, List, [], ◌∷◌, ◌++◌, length, refl, sym, ap, ◌∙◌, subst, arith, append_assoc, length-append}
+use Rattle.std.proofs.Common.{◌≡◌, ℕ, zero, suc, ◌+◌, ◌*◌, ◌^◌, ◌<◌, ◌≤◌, ◌⊎◌, inl, inr, Bool, true, false, ◌||◌, Some, None, List, [], ◌∷◌, ◌++◌, length, refl, sym, ap, ◌∙◌, subst, arith, append_assoc, length-append}
 use Rattle.std.specs.Option.{option_to_list}
 use Rattle.std.proofs.lemmas.List.Folds.{list_any-append}
 use Rattle.ivp_domain.specs.declared.boxes.Point.{Point}
@@ -7,7 +7,7 @@ use Rattle.ivp_domain.specs.Boxes.{has_point}
 use Rattle.ivp_problem.specs.declared.node.Node.{Node}
 use Rattle.ivp_problem.specs.Problems.{IsProblem, WeightedSum}
 use Rattle.ivp_problem.specs.Sums.{key_at}
-use Rattle.ivp_problem.specs.Trees.{bound_of, child_of, children_of, has_in, IsNode}
+use Rattle.ivp_problem.specs.Trees.{bound_of, children_of, has_in, IsNode}
 use Rattle.ivp_problem.proofs.Bounds.{key_bound}
 use Rattle.ivp_problem.proofs.Nodes.{node_keeps}
 use Rattle.ivp_problem.proofs.Pieces.{append_none, children_more, children_to, has_all, no_child}

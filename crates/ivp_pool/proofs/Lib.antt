@@ -1,3 +1,4 @@
+mod Examples
 pub mod Standing
 pub mod Weights
 pub mod Growing

@@ -1,6 +1,6 @@
 -- How many nodes a part may have: nodes side by side share no point, and each has one of the domain.
-use Rattle.std.proofs.Common.{◌≡◌, ℕ, zero, suc, ◌+◌, ◌-◌, ◌*◌, ◌^◌, ◌<◌, ◌≤◌, Bool, true, false, cond, Some, List, [], ◌∷◌, ◌++◌, length, get_or, refl, sym, ap, ◌∙◌, subst, arith}
-use Rattle.std.specs.Prelude.{count_by, slice_get}
+use Rattle.std.proofs.Common.{◌≡◌, ℕ, zero, suc, ◌+◌, ◌-◌, ◌*◌, ◌^◌, ◌<◌, ◌≤◌, Bool, cond, List, [], ◌∷◌, length, get_or, refl, ap, ◌∙◌, subst, arith}
+use Rattle.std.specs.Prelude.{count_by}
 use Rattle.std.specs.List.{sum_by}
 use Rattle.std.specs.Option.{option_to_list}
 use Rattle.std.proofs.Math.Nat.{mul-add, mul-le-mul_left, suc-mul}
@@ -17,7 +17,7 @@ use Rattle.ivp_problem.specs.declared.node.Node.{Node}
 use Rattle.ivp_problem.specs.Problems.{IsProblem, WeightedSum}
 use Rattle.ivp_problem.specs.Trees.{child_of, children_of, IsNode}
 use Rattle.ivp_problem.proofs.Children.{count_children}
-use Rattle.ivp_problem.proofs.Nodes.{blank_term, inside_point, Keeps, node_keeps}
+use Rattle.ivp_problem.proofs.Nodes.{blank_term, inside_point, node_keeps}
 use Rattle.ivp_problem.proofs.Pieces.{children_more, children_to}
 use Rattle.ivp_problem.proofs.Terms.{at_places, listed_at}
 use Rattle.ivp_pool.specs.Parts.{AreParts, Done, Handed, IsPart, Part, Parts, Pruned, size_in, size_of, Split, Then}

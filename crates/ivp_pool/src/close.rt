@@ -49,7 +49,13 @@ fn kept_child<T: Tray>(problem: &Problem, node: &Node, piece: u32, tray: &mut T)
 /// better, and it is dropped. At full depth its best point is offered. Else each child goes to the tray, pieces in order, and
 /// one that comes back is closed at once. The answer is how many nodes were closed. It takes no memory of its own and
 /// doesn't wait.
-pub fn close_one<T: Tray>(problem: &Problem, best: &Best, scout: &mut Scout, node: Node, tray: &mut T) -> u64
+pub fn close_one<T: Tray>(
+    problem: &Problem,
+    best: &Best,
+    scout: &mut Scout,
+    node: Node,
+    tray: &mut T,
+) -> u64
     requires word { scout.old.table_id ≡ best.now }
     requires problem { scout.old.me.0.about ≡ Some problem.now }
     requires tray { T.problem tray.old ≡ problem.now }

@@ -11,3 +11,6 @@ mod tray;
 
 pub use close::close_one;
 pub use tray::Tray;
+
+#[cfg(test)]
+mod tests;

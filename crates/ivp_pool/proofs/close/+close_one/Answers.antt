@@ -1,10 +1,12 @@
-use Rattle.std.proofs.Common.{rules, ◌≡◌, ℕ, ◌+◌, ◌<◌, ◌≤◌, Option, Some, None, length, sym, subst, ap, ◌∙◌, arith}
+use Rattle.std.proofs.Common.{rules, ◌≡◌, ℕ, ◌+◌, ◌<◌, Option, Some, None, length, subst, ap, ◌∙◌, arith}
 use Rattle.std.specs.Prelude.{IfSome}
+use Rattle.atomic_table.specs.Table.{Me}
+use Rattle.best_word.specs.declared.best.View.{View}
 use Rattle.ivp_func.specs.Functions.{Function}
 use Rattle.ivp_problem.specs.declared.term.Term.{Term}
-use Rattle.ivp_problem.specs.Trees.{bound_of, children_of, next_of}
+use Rattle.ivp_problem.specs.Trees.{children_of, next_of}
 use Rattle.ivp_problem.proofs.Pieces.{children_to, next_is}
-use Rattle.ivp_pool.specs.Closing.{Closed, Passed}
+use Rattle.ivp_pool.specs.Closing.{Passed}
 use Rattle.ivp_pool.proofs.Growing.{closed_covers, nothing_searched, pruned, Searched, searched_all, searched_closed, searched_few, searched_passed}
 use Rattle.ivp_pool.proofs.close.+close_one.Goals as goal
 use Rattle.ivp_pool.proofs.close.+close_one.Goals.{in-Some, in_default}
@@ -13,6 +15,10 @@ use Rattle.ivp_pool.proofs.close.+close_one.Goals.{in-Some, in_default}
 next_pieces : (next : Option Term) (func : Function) (pieces : ℕ) → IfSome next (λ term. func ≡ term.func) → pieces ≡ length func.pieces → IfSome next (λ term. pieces ≡ length term.func.pieces)
 next_pieces None func pieces same e = tt
 next_pieces (Some term) func pieces same e = e ∙ ap (λ (f : Function). length f.pieces) same
+
+-- a scout that learned, and then learned more
+learned : (start mid last : Me (Unit {0}) View) → mid ≡ (record start.0 { low = mid.0.low }, start.1) → last ≡ (record mid.0 { low = last.0.low }, mid.1) → last ≡ (record start.0 { low = last.0.low }, start.1)
+learned start mid last e e' = e' ∙ ap (λ m. (record m.0 { low = last.0.low }, m.1)) e
 
 pub returns-then-bound-known-clause-closed : goal.returns-then-bound-known-clause-closed
 returns-then-bound-known-clause-closed g t c =
@@ -58,7 +64,7 @@ overflow_add-closed g t c =
     let low = c.close_one-closed.new.scout.me.0.low in
     let below : node.depth < length problem.terms = omega (arith, c.if-node-len.false, c.len-len.ensures.len) in
     let searched =
-        searched_closed problem c.loop-piece.scout.me.0.low low took (g.T.Tray.took c.loop-piece.tray) (g.T.Tray.took c.kept_child.new.tray) (g.T.Tray.took c.close_one-closed.new.tray) node c.in-Some.child k c.loop-piece.closed c.close_one-closed.result c.close_one-closed.ensures.later c.loop-piece.invariant.searched c.in-Some.ensures.passed c.close_one-closed.ensures.closed in
+    searched_closed problem c.loop-piece.scout.me.0.low low took (g.T.Tray.took c.loop-piece.tray) (g.T.Tray.took c.kept_child.new.tray) (g.T.Tray.took c.close_one-closed.new.tray) node c.in-Some.child k c.loop-piece.closed c.close_one-closed.result c.close_one-closed.ensures.later c.loop-piece.invariant.searched c.in-Some.ensures.passed c.close_one-closed.ensures.closed in
     let few = searched_few problem low took (g.T.Tray.took c.close_one-closed.new.tray) node (k + 1) pieces (c.loop-piece.closed + c.close_one-closed.result) c.len-len.ensures.problem c.requires.node below (omega (arith, c.loop-piece-test.true)) (next_is problem node pieces below c.loop-piece.invariant.all) searched in
     omega (arith, few)
 
@@ -78,7 +84,7 @@ loop-piece-preserved g t c =
             known = w.close_one-closed.ensures.known;
             later = omega (arith, old.later, w.close_one-closed.ensures.later);
             word = w.close_one-closed.ensures.scout.0 ∙ old.word;
-            scout = w.close_one-closed.ensures.scout.1 ∙ ap (λ m. (record m.0 { low = w.close_one-closed.new.scout.me.0.low }, m.1)) old.scout;
+            scout = learned c.args.scout.now.me c.loop-piece.scout.me w.close_one-closed.new.scout.me old.scout w.close_one-closed.ensures.scout.1;
             tray = w.close_one-closed.ensures.tray ∙ c.kept_child.ensures.tray;
           })
       | in_default w ↦

@@ -1,0 +1,70 @@
+-- Worked examples of parts.
+use Rattle.std.proofs.Common.{◌≡◌, ℕ, ℤ, pos, List, [], ◌∷◌, refl, arith}
+use Rattle.std.specs.Prelude.{codes}
+use Rattle.ivp_domain.specs.declared.axis.Axis.{Axis}
+use Rattle.ivp_func.specs.declared.piece.Piece.{Piece}
+use Rattle.ivp_problem.specs.declared.node.Node.{Node}
+use Rattle.ivp_problem.specs.declared.term.Term.{Term}
+use Rattle.ivp_problem.specs.Keys.{key_of}
+use Rattle.ivp_problem.specs.Problems.{WeightedSum}
+use Rattle.ivp_problem.specs.Trees.{root_of}
+use Rattle.ivp_pool.specs.Parts.{Done, Handed, handed_of, IsPart, Part, Pruned, size_of, Split, Then}
+
+abbrev axis : List ℕ → ℕ → ℕ → Axis
+axis name high points = record { name = name; low = pos 0; high = pos high; points = points }
+
+-- domain a:0:2:3, b:0:1:2, d:0:1:2
+abbrev twelve : List Axis
+twelve = axis (codes "a") 2000 3 ∷ axis (codes "b") 1000 2 ∷ axis (codes "d") 1000 2 ∷ []
+
+-- a piece over these places of the first axis, with a base and two slopes
+abbrev piece : ℕ → ℕ → ℤ → ℤ → ℤ → Piece
+piece low high base s t =
+    record {
+      area = record { low = low ∷ 0 ∷ 0 ∷ 0 ∷ []; high = high ∷ 1 ∷ 1 ∷ 0 ∷ [] };
+      base = base;
+      slope = s ∷ t ∷ pos 0 ∷ pos 0 ∷ [];
+    }
+
+abbrev term : ℕ → List Piece → Term
+term weight pieces = record { weight = weight; func = record { axes = twelve; pieces = pieces } }
+
+-- one function in one piece, and one in two
+abbrev two : WeightedSum
+two =
+    record {
+      axes = twelve;
+      terms = term 2 (piece 0 2 (pos 0) (pos 10) (pos 0) ∷ []) ∷ term 3 (piece 0 0 (pos 20) (pos 0) (pos 5) ∷ piece 1 2 (pos 0) (pos 0) (pos 5) ∷ []) ∷ [];
+    }
+
+-- the first leaf of the tree: the root, its one child, and this child's first
+abbrev left : Node
+left = record { depth = 2; area = record { low = 0 ∷ 0 ∷ 0 ∷ 0 ∷ []; high = 0 ∷ 1 ∷ 1 ∷ 0 ∷ [] }; base = pos 60; slope = pos 20 ∷ pos 15 ∷ pos 0 ∷ pos 0 ∷ [] }
+
+-- the root and its child are split, and both leaves are pruned: the first has the best point, of sum 75 at index 2
+abbrev all_here : Part
+all_here = Split (Then (Split (Then Pruned (Then Pruned Done))) Done)
+
+all_here_is_one : IsPart two (key_of 75 2) (root_of two) all_here
+all_here_is_one = (omega arith, ((omega arith, (omega arith, (omega arith, tt))), tt))
+
+all_here_has_four : (size_of all_here ≡ 4) × (handed_of two (root_of two) all_here ≡ [])
+all_here_has_four = (refl, refl)
+
+-- the first leaf goes to others, so the second's bound, 55 at index 10, is enough to know
+abbrev one_handed : Part
+one_handed = Split (Then (Split (Then Handed (Then Pruned Done))) Done)
+
+one_handed_is_one : IsPart two (key_of 55 10) (root_of two) one_handed
+one_handed_is_one = (omega arith, ((omega arith, (tt, (omega arith, tt))), tt))
+
+one_handed_has_left : (size_of one_handed ≡ 4) × (handed_of two (root_of two) one_handed ≡ left ∷ [])
+one_handed_has_left = (refl, refl)
+
+-- a split node has a part for each of its children
+one_child_too_few : IsPart two (key_of 75 2) (root_of two) (Split (Then (Split (Then Pruned Done)) Done)) → ⊥
+one_child_too_few is = is.1.0.1.1
+
+-- and a node whose bound is above what is known is not pruned
+too_little_known : IsPart two (key_of 75 3) (root_of two) all_here → ⊥
+too_little_known is = omega (arith, is.1.0.1.0)
