@@ -1,5 +1,5 @@
 -- How the part of a node grows child by child, and what it covers.
-use Rattle.std.proofs.Common.{◌≡◌, ℕ, zero, suc, ◌+◌, ◌*◌, ◌^◌, ◌<◌, ◌≤◌, ◌⊎◌, inl, inr, Bool, true, false, ◌||◌, Some, None, List, [], ◌∷◌, ◌++◌, length, refl, sym, ap, ◌∙◌, subst, arith, append_assoc, length-append}
+use Rattle.std.proofs.Common.{◌≡◌, ◌≢◌, ℕ, zero, suc, ◌+◌, ◌*◌, ◌^◌, ◌<◌, ◌≤◌, ◌⊎◌, inl, inr, Bool, true, false, ◌||◌, Some, None, List, [], ◌∷◌, ◌++◌, length, refl, sym, ap, ◌∙◌, subst, arith, append_assoc, length-append}
 use Rattle.std.specs.Option.{option_to_list}
 use Rattle.std.proofs.lemmas.List.Folds.{list_any-append}
 use Rattle.ivp_domain.specs.declared.boxes.Point.{Point}
@@ -13,12 +13,12 @@ use Rattle.ivp_problem.proofs.Nodes.{node_keeps}
 use Rattle.ivp_problem.proofs.Pieces.{append_none, children_more, children_to, has_all, no_child}
 use Rattle.ivp_pool.specs.Closing.{AreCovered, Closed, Passed}
 use Rattle.ivp_pool.specs.Parts.{AreParts, Done, Handed, handed_in, handed_of, IsPart, Part, Parts, Pruned, size_in, size_of, Split, Then}
-use Rattle.ivp_pool.proofs.Standing.{AllStand, children_stand, first_stand, Stands}
+use Rattle.ivp_pool.proofs.Standing.{children_stand, Each, each_append, each_weaker, first_stand, standing, Stands}
 use Rattle.ivp_pool.proofs.Weights.{few_weight, first_weight, once_in, sizes_most}
 
 mutual
   -- a part stays one where the scout learns more
-  raised : (problem : WeightedSum) (low high : ℕ) → low ≤ high → (node : Node) (part : Part) → IsPart problem low node part → IsPart problem high node part
+  pub raised : (problem : WeightedSum) (low high : ℕ) → low ≤ high → (node : Node) (part : Part) → IsPart problem low node part → IsPart problem high node part
   raised problem low high up node Pruned is = omega (arith, up, is)
   raised problem low high up node Handed is = tt
   raised problem low high up node (Split parts) is = (is.0, all_raised problem low high up (children_of problem node) parts is.1)
@@ -54,26 +54,53 @@ first_or_later problem low node nodes some more p in_first in_later inside = eit
 
 mutual
   -- each point of a node has a key of at most `low`, or lies in a node that was handed to others
-  covered : (problem : WeightedSum) → IsProblem problem → (low levels : ℕ) (node : Node) (part : Part) → Stands problem levels node → IsPart problem low node part → (p : Point) → has_point node.area p ≡ true → (key_at problem p ≤ low) ⊎ (has_in (handed_of problem node part) p ≡ true)
-  covered problem h low levels node Pruned stands is p inside = inl (omega (arith, key_bound problem node p (node_keeps problem node h stands.is) inside, is))
-  covered problem h low levels node Handed stands is p inside = inr (ap (λ t. t || false) inside)
-  covered problem h low zero node (Split parts) stands is p inside = absurd (omega (arith, stands.depth, is.0))
-  covered problem h low (suc levels) node (Split parts) stands is p inside =
+  pub covered : (problem : WeightedSum) → IsProblem problem → (low from levels : ℕ) (node : Node) (part : Part) → Stands problem from levels node → IsPart problem low node part → (p : Point) → has_point node.area p ≡ true → (key_at problem p ≤ low) ⊎ (has_in (handed_of problem node part) p ≡ true)
+  covered problem h low from levels node Pruned stands is p inside = inl (omega (arith, key_bound problem node p (node_keeps problem node h stands.is) inside, is))
+  covered problem h low from levels node Handed stands is p inside = inr (ap (λ t. t || false) inside)
+  covered problem h low from zero node (Split parts) stands is p inside = absurd (omega (arith, stands.most, is.0))
+  covered problem h low from (suc levels) node (Split parts) stands is p inside =
       let children = children_of problem node in
-      all_covered problem h low levels children parts (children_stand problem levels node stands) is.1 p (sym (has_all node children p (once_in problem node p h stands.is is.0)) ∙ inside)
+      all_covered problem h low (suc from) levels children parts (children_stand problem from levels node stands) is.1 p (sym (has_all node children p (once_in problem node p h stands.is is.0)) ∙ inside)
 
-  all_covered : (problem : WeightedSum) → IsProblem problem → (low levels : ℕ) (nodes : List Node) (parts : Parts) → AllStand problem levels nodes → AreParts problem low nodes parts → (p : Point) → has_in nodes p ≡ true → (key_at problem p ≤ low) ⊎ (has_in (handed_in problem nodes parts) p ≡ true)
-  all_covered problem h low levels [] Done stand are p inside = absurd (cc)
-  all_covered problem h low levels (node ∷ nodes) Done stand are p inside = absurd are
-  all_covered problem h low levels [] (Then part parts) stand are p inside = absurd are
-  all_covered problem h low levels (node ∷ nodes) (Then part parts) stand are p inside =
-      first_or_later problem low node nodes (handed_of problem node part) (handed_in problem nodes parts) p (covered problem h low levels node part stand.0 are.0 p) (all_covered problem h low levels nodes parts stand.1 are.1 p) inside
+  all_covered : (problem : WeightedSum) → IsProblem problem → (low from levels : ℕ) (nodes : List Node) (parts : Parts) → Each (Stands problem from levels) nodes → AreParts problem low nodes parts → (p : Point) → has_in nodes p ≡ true → (key_at problem p ≤ low) ⊎ (has_in (handed_in problem nodes parts) p ≡ true)
+  all_covered problem h low from levels [] Done stand are p inside = absurd (cc)
+  all_covered problem h low from levels (node ∷ nodes) Done stand are p inside = absurd are
+  all_covered problem h low from levels [] (Then part parts) stand are p inside = absurd are
+  all_covered problem h low from levels (node ∷ nodes) (Then part parts) stand are p inside =
+      first_or_later problem low node nodes (handed_of problem node part) (handed_in problem nodes parts) p (covered problem h low from levels node part stand.0 are.0 p) (all_covered problem h low from levels nodes parts stand.1 are.1 p) inside
 
 -- what closing a node leaves behind covers its points
 pub closed_covers : (problem : WeightedSum) (low : ℕ) (took took' : List Node) (node : Node) (count : ℕ) → IsProblem problem → IsNode problem node → Closed problem low took took' node count → AreCovered problem low took took' (has_point node.area)
 closed_covers problem low took took' node count h is closed =
-    let stands : Stands problem (length problem.terms) node = record { is = is; depth = omega arith } in
-    (handed_of problem node closed.part, closed.taken, λ p inside. covered problem h low (length problem.terms) node closed.part stands closed.is p inside)
+    (handed_of problem node closed.part, closed.taken, λ p inside. covered problem h low node.depth (length problem.terms) node closed.part (standing problem node is) closed.is p inside)
+
+-- a node of the tree, no less deep than this
+pub record IsBelow (problem : WeightedSum) (from : ℕ) (node : Node) : Type 0 where
+  pub is : IsNode problem node
+  pub deep : from ≤ node.depth
+
+less_deep : (problem : WeightedSum) (from : ℕ) (nodes : List Node) → Each (IsBelow problem (suc from)) nodes → Each (IsBelow problem from) nodes
+less_deep problem from nodes h = each_weaker (IsBelow problem (suc from)) (IsBelow problem from) (λ node below. let deep = below.deep in record { is = below.is; deep = omega arith }) nodes h
+
+mutual
+  -- what was handed to others are nodes of the tree, no less deep than the node
+  handed_below : (problem : WeightedSum) (low from levels : ℕ) (node : Node) (part : Part) → Stands problem from levels node → IsPart problem low node part → Each (IsBelow problem from) (handed_of problem node part)
+  handed_below problem low from levels node Pruned stands is = tt
+  handed_below problem low from levels node Handed stands is = (record { is = stands.is; deep = stands.deep }, tt)
+  handed_below problem low from zero node (Split parts) stands is = absurd (omega (arith, stands.most, is.0))
+  handed_below problem low from (suc levels) node (Split parts) stands is = less_deep problem from (handed_in problem (children_of problem node) parts) (all_below problem low (suc from) levels (children_of problem node) parts (children_stand problem from levels node stands) is.1)
+
+  all_below : (problem : WeightedSum) (low from levels : ℕ) (nodes : List Node) (parts : Parts) → Each (Stands problem from levels) nodes → AreParts problem low nodes parts → Each (IsBelow problem from) (handed_in problem nodes parts)
+  all_below problem low from levels nodes Done stand are = tt
+  all_below problem low from levels [] (Then part parts) stand are = absurd are
+  all_below problem low from levels (node ∷ nodes) (Then part parts) stand are = each_append (IsBelow problem from) (handed_of problem node part) (handed_in problem nodes parts) (handed_below problem low from levels node part stand.0 are.0) (all_below problem low from levels nodes parts stand.1 are.1)
+
+-- below a closed node they are deeper
+pub handed_deeper : (problem : WeightedSum) (low levels : ℕ) (node : Node) (part : Part) → Stands problem node.depth levels node → IsPart problem low node part → part ≢ Handed → Each (IsBelow problem (suc node.depth)) (handed_of problem node part)
+handed_deeper problem low levels node Pruned stands is here = tt
+handed_deeper problem low levels node Handed stands is here = absurd (here refl)
+handed_deeper problem low zero node (Split parts) stands is here = absurd (omega (arith, stands.most, is.0))
+handed_deeper problem low (suc levels) node (Split parts) stands is here = all_below problem low (suc node.depth) levels (children_of problem node) parts (children_stand problem node.depth levels node stands) is.1
 
 -- one part more at the end
 abbrev with_last : Parts → Part → Parts
@@ -135,9 +162,9 @@ searched_closed problem low high took took' took'' took''' node child number cou
 -- the count stays small
 pub searched_few : (problem : WeightedSum) (low : ℕ) (took took' : List Node) (node : Node) (number pieces count : ℕ) → IsProblem problem → IsNode problem node → node.depth < length problem.terms → number ≤ pieces → children_to problem node pieces ≡ children_of problem node → Searched problem low took took' (children_to problem node number) count → count ≤ 1 + 65 * 2 ^ 22
 searched_few problem low took took' node number pieces count h is below within all searched =
-    let stands : Stands problem (suc 64) node = record { is = is; depth = omega (arith, h.few) } in
+    let stands : Stands problem node.depth (suc 64) node = record { is = is; deep = omega arith; most = omega (arith, h.few) } in
     let weight = first_weight problem node number pieces h is below within all in
-    omega (arith, searched.counted, weight, few_weight problem node h, sizes_most problem h low 64 (children_to problem node number) searched.parts (first_stand problem 64 node number stands) searched.are)
+    omega (arith, searched.counted, weight, few_weight problem node h, sizes_most problem h low (suc node.depth) 64 (children_to problem node number) searched.parts (first_stand problem node.depth 64 node number stands) searched.are)
 
 -- all children were searched
 pub searched_all : (problem : WeightedSum) (low : ℕ) (took took' : List Node) (node : Node) (count : ℕ) → node.depth < length problem.terms → Searched problem low took took' (children_of problem node) count → Closed problem low took took' node count

@@ -1,5 +1,6 @@
--- Nodes of a tree with so many levels below them, and how their children follow.
-use Rattle.std.proofs.Common.{◌≡◌, ℕ, suc, ◌+◌, ◌≤◌, Option, Some, None, List, [], ◌∷◌, ◌++◌, length, refl, subst, arith}
+-- Nodes of a tree by how deep they are, and how their children follow.
+use Rattle.std.proofs.Common.{◌≡◌, ℕ, zero, suc, ◌+◌, ◌≤◌, Option, Some, None, List, [], ◌∷◌, ◌++◌, length, refl, subst, arith}
+use Rattle.std.specs.Prelude.{slice_get}
 use Rattle.std.specs.List.{flat_map}
 use Rattle.std.specs.Option.{option_to_list}
 use Rattle.std.proofs.lemmas.Option.{option_and_then_some}
@@ -11,43 +12,60 @@ use Rattle.ivp_problem.specs.Trees.{child_in, child_of, children_of, IsNode, nex
 use Rattle.ivp_problem.proofs.Nodes.{child_node}
 use Rattle.ivp_problem.proofs.Pieces.{child_depth, children_all, children_to}
 
--- a node of the tree with at most so many levels below it
-pub record Stands (problem : WeightedSum) (levels : ℕ) (node : Node) : Type 0 where
+-- each of a list
+abbrev pub Each : {X : Type 0} → (X → Type 0) → List X → Type 0
+Each P [] = Unit {0}
+Each P (x ∷ xs) = P x × Each P xs
+
+pub each_append : {X : Type 0} (P : X → Type 0) (xs ys : List X) → Each P xs → Each P ys → Each P (xs ++ ys)
+each_append P [] ys h k = k
+each_append P (x ∷ xs) ys h k = (h.0, each_append P xs ys h.1 k)
+
+pub each_weaker : {X : Type 0} (P Q : X → Type 0) → ((x : X) → P x → Q x) → (xs : List X) → Each P xs → Each Q xs
+each_weaker P Q weaker [] h = tt
+each_weaker P Q weaker (x ∷ xs) h = (weaker x h.0, each_weaker P Q weaker xs h.1)
+
+pub each_at : {X : Type 0} (P : X → Type 0) (xs : List X) (k : ℕ) (x : X) → Each P xs → slice_get xs k ≡ Some x → P x
+each_at P [] k x h e = absurd (cc)
+each_at P (y ∷ ys) zero x h e = let same : y ≡ x = cc in subst P same h.0
+each_at P (y ∷ ys) (suc k) x h e = each_at P ys k x h.1 e
+
+-- a node of the tree, no less deep than this, with at most so many levels below it
+pub record Stands (problem : WeightedSum) (from levels : ℕ) (node : Node) : Type 0 where
   pub is : IsNode problem node
-  pub depth : length problem.terms ≤ node.depth + levels
+  pub deep : from ≤ node.depth
+  pub most : length problem.terms ≤ node.depth + levels
 
-abbrev pub AllStand : WeightedSum → ℕ → List Node → Type 0
-AllStand problem levels [] = Unit {0}
-AllStand problem levels (node ∷ nodes) = Stands problem levels node × AllStand problem levels nodes
-
-all_append : (problem : WeightedSum) (levels : ℕ) (xs ys : List Node) → AllStand problem levels xs → AllStand problem levels ys → AllStand problem levels (xs ++ ys)
-all_append problem levels [] ys h k = k
-all_append problem levels (x ∷ xs) ys h k = (h.0, all_append problem levels xs ys h.1 k)
-
-pub child_stands : (problem : WeightedSum) (levels : ℕ) (node child : Node) (number : ℕ) → Stands problem (suc levels) node → child_of problem node number ≡ Some child → Stands problem levels child
-child_stands problem levels node child number h is =
+pub child_stands : (problem : WeightedSum) (from levels : ℕ) (node child : Node) (number : ℕ) → Stands problem from (suc levels) node → child_of problem node number ≡ Some child → Stands problem (suc from) levels child
+child_stands problem from levels node child number h is =
     let deeper = child_depth problem node child number is in
-    let depth = h.depth in
+    let deep = h.deep in
+    let most = h.most in
     record {
       is = option_and_then_some (λ (term : Term). child_in term node number) (next_of problem node) child is (λ term at in_term. child_node problem node child term number h.is at in_term);
-      depth = omega arith;
+      deep = omega arith;
+      most = omega arith;
     }
 
 -- the children by any pieces
-by_numbers : (problem : WeightedSum) (levels : ℕ) (node : Node) → Stands problem (suc levels) node → (numbers : List ℕ) → AllStand problem levels (flat_map (λ number. option_to_list (child_of problem node number)) numbers)
-by_numbers problem levels node h [] = tt
-by_numbers problem levels node h (number ∷ numbers) = all_append problem levels (option_to_list (child_of problem node number)) (flat_map (λ k. option_to_list (child_of problem node k)) numbers) (one (child_of problem node number) refl) (by_numbers problem levels node h numbers)
+by_numbers : (problem : WeightedSum) (from levels : ℕ) (node : Node) → Stands problem from (suc levels) node → (numbers : List ℕ) → Each (Stands problem (suc from) levels) (flat_map (λ number. option_to_list (child_of problem node number)) numbers)
+by_numbers problem from levels node h [] = tt
+by_numbers problem from levels node h (number ∷ numbers) = each_append (Stands problem (suc from) levels) (option_to_list (child_of problem node number)) (flat_map (λ k. option_to_list (child_of problem node k)) numbers) (one (child_of problem node number) refl) (by_numbers problem from levels node h numbers)
   where
-    one : (o : Option Node) → child_of problem node number ≡ o → AllStand problem levels (option_to_list o)
+    one : (o : Option Node) → child_of problem node number ≡ o → Each (Stands problem (suc from) levels) (option_to_list o)
     one None e = tt
-    one (Some child) e = (child_stands problem levels node child number h e, tt)
+    one (Some child) e = (child_stands problem from levels node child number h e, tt)
 
-pub first_stand : (problem : WeightedSum) (levels : ℕ) (node : Node) (count : ℕ) → Stands problem (suc levels) node → AllStand problem levels (children_to problem node count)
-first_stand problem levels node count h = by_numbers problem levels node h (numbers_from 0 count)
+pub first_stand : (problem : WeightedSum) (from levels : ℕ) (node : Node) (count : ℕ) → Stands problem from (suc levels) node → Each (Stands problem (suc from) levels) (children_to problem node count)
+first_stand problem from levels node count h = by_numbers problem from levels node h (numbers_from 0 count)
 
-pub children_stand : (problem : WeightedSum) (levels : ℕ) (node : Node) → Stands problem (suc levels) node → AllStand problem levels (children_of problem node)
-children_stand problem levels node h = by (next_of problem node) refl
+pub children_stand : (problem : WeightedSum) (from levels : ℕ) (node : Node) → Stands problem from (suc levels) node → Each (Stands problem (suc from) levels) (children_of problem node)
+children_stand problem from levels node h = by (next_of problem node) refl
   where
-    by : (o : Option Term) → next_of problem node ≡ o → AllStand problem levels (children_of problem node)
+    by : (o : Option Term) → next_of problem node ≡ o → Each (Stands problem (suc from) levels) (children_of problem node)
     by None e = rw e tt
-    by (Some term) e = subst (AllStand problem levels) (children_all problem node term e) (first_stand problem levels node (length term.func.pieces) h)
+    by (Some term) e = subst (Each (Stands problem (suc from) levels)) (children_all problem node term e) (first_stand problem from levels node (length term.func.pieces) h)
+
+-- a node as it stands, with all levels of the tree
+pub standing : (problem : WeightedSum) (node : Node) → IsNode problem node → Stands problem node.depth (length problem.terms) node
+standing problem node is = record { is = is; deep = omega arith; most = omega arith }

@@ -21,7 +21,7 @@ use Rattle.ivp_problem.proofs.Nodes.{blank_term, inside_point, node_keeps}
 use Rattle.ivp_problem.proofs.Pieces.{children_more, children_to}
 use Rattle.ivp_problem.proofs.Terms.{at_places, listed_at}
 use Rattle.ivp_pool.specs.Parts.{AreParts, Done, Handed, IsPart, Part, Parts, Pruned, size_in, size_of, Split, Then}
-use Rattle.ivp_pool.proofs.Standing.{AllStand, children_stand, Stands}
+use Rattle.ivp_pool.proofs.Standing.{children_stand, Each, Stands}
 
 abbrev has : Point → Node → Bool
 has point node = has_point node.area point
@@ -104,11 +104,11 @@ first_weight problem node count pieces h is below within all = rest (pieces - co
 
 mutual
   -- a part has at most as many nodes as levels times points
-  size_most : (problem : WeightedSum) → IsProblem problem → (low levels : ℕ) (node : Node) (part : Part) → Stands problem levels node → IsPart problem low node part → size_of part ≤ suc levels * weight_of problem node
-  size_most problem h low levels node Pruned stands is = omega (arith, suc-mul levels (weight_of problem node), some_weight problem node h stands.is)
-  size_most problem h low levels node Handed stands is = omega (arith, suc-mul levels (weight_of problem node), some_weight problem node h stands.is)
-  size_most problem h low zero node (Split parts) stands is = absurd (omega (arith, stands.depth, is.0))
-  size_most problem h low (suc levels) node (Split parts) stands is =
+  pub size_most : (problem : WeightedSum) → IsProblem problem → (low from levels : ℕ) (node : Node) (part : Part) → Stands problem from levels node → IsPart problem low node part → size_of part ≤ suc levels * weight_of problem node
+  size_most problem h low from levels node Pruned stands is = omega (arith, suc-mul levels (weight_of problem node), some_weight problem node h stands.is)
+  size_most problem h low from levels node Handed stands is = omega (arith, suc-mul levels (weight_of problem node), some_weight problem node h stands.is)
+  size_most problem h low from zero node (Split parts) stands is = absurd (omega (arith, stands.most, is.0))
+  size_most problem h low from (suc levels) node (Split parts) stands is =
       let weight = weight_of problem node in
       let children = children_of problem node in
       let most = weight_most problem node children (λ p. omega (arith, once_in problem node p h stands.is is.0)) in
@@ -117,17 +117,17 @@ mutual
         suc-mul (suc levels) weight,
         some_weight problem node h stands.is,
         mul-le-mul_left (suc levels) most,
-        sizes_most problem h low levels children parts (children_stand problem levels node stands) is.1,
+        sizes_most problem h low (suc from) levels children parts (children_stand problem from levels node stands) is.1,
       )
 
-  pub sizes_most : (problem : WeightedSum) → IsProblem problem → (low levels : ℕ) (nodes : List Node) (parts : Parts) → AllStand problem levels nodes → AreParts problem low nodes parts → size_in parts ≤ suc levels * weight_in problem nodes
-  sizes_most problem h low levels nodes Done stand are = omega arith
-  sizes_most problem h low levels [] (Then part parts) stand are = absurd are
-  sizes_most problem h low levels (node ∷ nodes) (Then part parts) stand are =
+  pub sizes_most : (problem : WeightedSum) → IsProblem problem → (low from levels : ℕ) (nodes : List Node) (parts : Parts) → Each (Stands problem from levels) nodes → AreParts problem low nodes parts → size_in parts ≤ suc levels * weight_in problem nodes
+  sizes_most problem h low from levels nodes Done stand are = omega arith
+  sizes_most problem h low from levels [] (Then part parts) stand are = absurd are
+  sizes_most problem h low from levels (node ∷ nodes) (Then part parts) stand are =
       omega (
         arith,
-        size_most problem h low levels node part stand.0 are.0,
-        sizes_most problem h low levels nodes parts stand.1 are.1,
+        size_most problem h low from levels node part stand.0 are.0,
+        sizes_most problem h low from levels nodes parts stand.1 are.1,
         ap (λ n. suc levels * n) (weight_cons (points_of problem.axes) node nodes),
         mul-add (suc levels) (weight_of problem node) (weight_in problem nodes),
       )

@@ -3,13 +3,15 @@
 //! The contract for the layer above: what `close_one` makes of a node is a part of its tree. Each node without children
 //! there was handed to the tray or has a bound that the scout's key reaches, so no point of the node is lost.
 //!
-//! Reading order: `tray`, `close`.
+//! Reading order: `tray`, `close`, `law`.
 #![tactic(auto)]
 
 mod close;
+mod law;
 mod tray;
 
 pub use close::close_one;
+pub use law::parts_law;
 pub use tray::Tray;
 
 #[cfg(test)]

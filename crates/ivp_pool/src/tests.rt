@@ -2,7 +2,7 @@
 ghost use Rattle.std.specs.Prelude.{◌≡◌, ◌<◌, IsTrue};
 ghost use Rattle.ivp_domain.specs.Domains.{is_point};
 
-use crate::{Tray, close_one};
+use crate::{Tray, close_one, parts_law};
 use best_word::Best;
 use ivp_domain::{Axis, AxisName, BoxN, Domain, Point, Steps};
 use ivp_func::{Func, Piece, are_pieces_of};
@@ -159,6 +159,7 @@ fn close_root(
         second,
     };
     let root = problem.root();
+    parts_law(problem, &root);
     let closed = close_one(problem, &best, &mut scout, root, &mut pile);
     let known = best.known(&mut scout);
     Ok(Outcome {

@@ -1,0 +1,22 @@
+ghost use Rattle.std.specs.Prelude.{◌≡◌, ◌≢◌, ℕ, ◌*◌, ◌^◌, ◌<◌, ◌≤◌, ◌⊎◌, IsTrue, slice_get, Some};
+ghost use Rattle.ivp_domain.specs.declared.boxes.Point.{Point};
+ghost use Rattle.ivp_domain.specs.Boxes.{has_point};
+ghost use Rattle.ivp_problem.specs.declared.node.Node.{Node};
+ghost use Rattle.ivp_problem.specs.Sums.{key_at};
+ghost use Rattle.ivp_problem.specs.Trees.{has_in, IsNode};
+ghost use Rattle.ivp_pool.specs.Parts.{Handed, handed_of, IsPart, Part, size_of};
+
+use ivp_problem::{Node, Problem};
+
+/// What holds of the parts of a node: one stays a part where more is known; it has each point of the node whose key isn't
+/// known in a node that was handed to others; where the node itself wasn't handed, these are deeper nodes of the tree; and
+/// a part is small. It does nothing.
+pub fn parts_law(problem: &Problem, node: &Node)
+    requires node { IsNode problem.now node.now }
+    ensures raised { (low high : ℕ) (part : Part) → low ≤ high → IsPart problem.now low node.now part → IsPart problem.now high node.now part }
+    ensures covered { (low : ℕ) (part : Part) → IsPart problem.now low node.now part → (p : Point) → IsTrue (has_point node.now.area p) → (key_at problem.now p ≤ low) ⊎ IsTrue (has_in (handed_of problem.now node.now part) p) }
+    ensures deeper { (low : ℕ) (part : Part) → IsPart problem.now low node.now part → part ≢ Handed → (place : ℕ) (child : Node) → slice_get (handed_of problem.now node.now part) place ≡ Some child → IsNode problem.now child × (node.now.depth < child.depth) }
+    ensures few { (low : ℕ) (part : Part) → IsPart problem.now low node.now part → size_of part ≤ 65 * 2 ^ 22 }
+{
+    let _ = problem.len();
+}
