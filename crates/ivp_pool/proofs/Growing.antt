@@ -1,6 +1,7 @@
 -- How the part of a node grows child by child, and what it covers.
 use Rattle.std.proofs.Common.{◌≡◌, ◌≢◌, ℕ, zero, suc, ◌+◌, ◌*◌, ◌^◌, ◌<◌, ◌≤◌, ◌⊎◌, inl, inr, Bool, true, false, ◌||◌, Some, None, List, [], ◌∷◌, ◌++◌, length, refl, sym, ap, ◌∙◌, subst, arith, append_assoc, length-append}
 use Rattle.std.specs.Option.{option_to_list}
+use Rattle.std.proofs.lemmas.List.{append-nil}
 use Rattle.std.proofs.lemmas.List.Folds.{list_any-append}
 use Rattle.ivp_domain.specs.declared.boxes.Point.{Point}
 use Rattle.ivp_domain.specs.Boxes.{has_point}
@@ -10,7 +11,7 @@ use Rattle.ivp_problem.specs.Sums.{key_at}
 use Rattle.ivp_problem.specs.Trees.{bound_of, children_of, has_in, IsNode}
 use Rattle.ivp_problem.proofs.Bounds.{key_bound}
 use Rattle.ivp_problem.proofs.Nodes.{node_keeps}
-use Rattle.ivp_problem.proofs.Pieces.{append_none, children_more, children_to, has_all, no_child}
+use Rattle.ivp_problem.proofs.Pieces.{children_more, children_to, has_all, no_child}
 use Rattle.ivp_pool.specs.Closing.{AreCovered, Closed, Passed}
 use Rattle.ivp_pool.specs.Parts.{AreParts, Done, Handed, handed_in, handed_of, IsPart, Part, Parts, Pruned, size_in, size_of, Split, Then}
 use Rattle.ivp_pool.proofs.Standing.{children_stand, Each, each_append, each_weaker, first_stand, standing, Stands}
@@ -118,7 +119,7 @@ size_more Done part = omega arith
 size_more (Then one parts) part = omega (arith, size_more parts part)
 
 handed_more : (problem : WeightedSum) (low : ℕ) (nodes : List Node) (parts : Parts) (node : Node) (part : Part) → AreParts problem low nodes parts → handed_in problem (nodes ++ node ∷ []) (with_last parts part) ≡ handed_in problem nodes parts ++ handed_of problem node part
-handed_more problem low [] Done node part are = append_none (handed_of problem node part)
+handed_more problem low [] Done node part are = append-nil (handed_of problem node part)
 handed_more problem low (first ∷ nodes) Done node part are = absurd are
 handed_more problem low [] (Then one parts) node part are = absurd are
 handed_more problem low (first ∷ nodes) (Then one parts) node part are = ap (λ rest. handed_of problem first one ++ rest) (handed_more problem low nodes parts node part are.1) ∙ sym (append_assoc (handed_of problem first one) (handed_in problem nodes parts) (handed_of problem node part))
@@ -131,7 +132,7 @@ pub record Searched (problem : WeightedSum) (low : ℕ) (took took' : List Node)
   pub counted : count + length (handed_in problem nodes parts) ≡ 1 + size_in parts
 
 pub nothing_searched : (problem : WeightedSum) (low : ℕ) (took : List Node) → Searched problem low took took [] 1
-nothing_searched problem low took = record { parts = Done; are = tt; taken = sym (append_none took); counted = omega arith }
+nothing_searched problem low took = record { parts = Done; are = tt; taken = sym (append-nil took); counted = omega arith }
 
 -- one child more
 searched_more : (problem : WeightedSum) (low high : ℕ) (took took' took'' : List Node) (nodes : List Node) (count : ℕ) (node : Node) (part : Part) (more : ℕ) → low ≤ high → Searched problem low took took' nodes count → IsPart problem high node part → took'' ≡ took' ++ handed_of problem node part → more + length (handed_of problem node part) ≡ size_of part → Searched problem high took took'' (nodes ++ node ∷ []) (count + more)
@@ -184,6 +185,6 @@ pruned problem low took node is =
       part = Pruned;
       is = is;
       here = λ same. absurd (cc);
-      taken = sym (append_none took);
+      taken = sym (append-nil took);
       counted = omega arith;
     }

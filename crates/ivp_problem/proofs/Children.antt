@@ -3,6 +3,7 @@ use Rattle.std.proofs.Common.{◌≡◌, ℕ, zero, suc, ◌+◌, Bool, true, fa
 use Rattle.std.specs.Prelude.{slice_get, count_by}
 use Rattle.std.specs.List.{flat_map}
 use Rattle.std.specs.Option.{option_map, option_and_then, option_to_list}
+use Rattle.std.proofs.lemmas.List.{append-nil}
 use Rattle.std.proofs.lemmas.List.Sums.{sum_by-append, sum_by-cons}
 use Rattle.ivp_domain.specs.declared.axis.Axis.{Axis}
 use Rattle.ivp_domain.specs.declared.boxes.Point.{Point}
@@ -64,15 +65,11 @@ count_pieces weight node (x ∷ xs) p =
 children_list : (term : Term) (node : Node) → children_in term node ≡ flat_map (λ piece. option_to_list (child_with term.weight node piece)) term.func.pieces
 children_list term node = by_numbers (λ (piece : Option Piece). option_to_list (option_and_then (child_with term.weight node) piece)) term.func.pieces
 
-append_none : {X : Type 0} (xs : List X) → xs ++ [] ≡ xs
-append_none [] = refl
-append_none (x ∷ xs) = ap (λ ys. x ∷ ys) (append_none xs)
-
 pub count_children : (problem : WeightedSum) (node : Node) (term : Term) (p : Point) → IsProblem problem → Keeps problem node → slice_get problem.terms node.depth ≡ Some term → count_by (λ (child : Node). has_point child.area p) (children_of problem node) ≡ cond (has_point node.area p) 1 0
 count_children problem node term p h keeps stands =
     let of_term = h.terms node.depth term stands in
     let partition = subst (λ (a : List Axis). IsPartition a term.func.pieces) of_term.domain of_term.func.partition in
-    let children : children_of problem node ≡ children_in term node = rw stands (append_none (children_in term node)) in
+    let children : children_of problem node ≡ children_in term node = rw stands (append-nil (children_in term node)) in
     ap (count_by (has p)) (children ∙ children_list term node) ∙ (count_pieces term.weight node term.func.pieces p ∙ once (has_point node.area p) refl (λ inside. partition p (inside_point problem.axes node.area p keeps.inside inside)))
   where
     once : (t : Bool) → has_point node.area p ≡ t → (has_point node.area p ≡ true → count_at term.func.pieces p ≡ 1) → cond t (count_at term.func.pieces p) 0 ≡ cond t 1 0

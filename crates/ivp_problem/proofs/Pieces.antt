@@ -5,6 +5,7 @@ use Rattle.std.specs.List.{flat_map}
 use Rattle.std.specs.Option.{option_map, option_to_list}
 use Rattle.std.proofs.lemmas.Bool.Decides.{nat_tests}
 use Rattle.std.proofs.lemmas.Option.{option_and_then_some, slice_get-get_or}
+use Rattle.std.proofs.lemmas.List.{append-nil}
 use Rattle.std.proofs.lemmas.List.Sums.{sum_by-cons}
 use Rattle.std.proofs.lemmas.Grind.{flat_map-append}
 use Rattle.ivp_domain.specs.declared.boxes.BoxN.{BoxN}
@@ -26,20 +27,16 @@ numbers_more : (low n : ℕ) → numbers_from low (suc n) ≡ numbers_from low n
 numbers_more low zero = ap (λ k. k ∷ []) (omega arith)
 numbers_more low (suc n) = let same : suc low + n ≡ low + suc n = omega arith in ap (λ rest. low ∷ rest) (numbers_more (suc low) n ∙ ap (λ k. numbers_from (suc low) n ++ k ∷ []) same)
 
-pub append_none : {X : Type 0} (xs : List X) → xs ++ [] ≡ xs
-append_none [] = refl
-append_none (x ∷ xs) = ap (λ ys. x ∷ ys) (append_none xs)
-
 -- the children by one more piece
 pub children_more : (problem : WeightedSum) (node : Node) (count : ℕ) → children_to problem node (count + 1) ≡ children_to problem node count ++ option_to_list (child_of problem node count)
 children_more problem node count =
     let child : ℕ → List Node = λ number. option_to_list (child_of problem node number) in
     let last : 0 + count ≡ count = omega arith in
-    ap (children_to problem node) (add-one count) ∙ (ap (flat_map child) (numbers_more 0 count ∙ ap (λ k. numbers_from 0 count ++ k ∷ []) last) ∙ (flat_map-append child (numbers_from 0 count) (count ∷ []) ∙ ap (λ rest. children_to problem node count ++ rest) (append_none (child count))))
+    ap (children_to problem node) (add-one count) ∙ (ap (flat_map child) (numbers_more 0 count ∙ ap (λ k. numbers_from 0 count ++ k ∷ []) last) ∙ (flat_map-append child (numbers_from 0 count) (count ∷ []) ∙ ap (λ rest. children_to problem node count ++ rest) (append-nil (child count))))
 
 -- with a piece that meets no child
 pub no_child : (problem : WeightedSum) (node : Node) (count : ℕ) → child_of problem node count ≡ None → children_to problem node (count + 1) ≡ children_to problem node count
-no_child problem node count is = children_more problem node count ∙ (ap (λ o. children_to problem node count ++ option_to_list o) is ∙ append_none (children_to problem node count))
+no_child problem node count is = children_more problem node count ∙ (ap (λ o. children_to problem node count ++ option_to_list o) is ∙ append-nil (children_to problem node count))
 
 with_depth : (weight : ℕ) (node : Node) (piece : Piece) (child : Node) (area : Option BoxN) → option_map (with_piece weight piece node) area ≡ Some child → child.depth ≡ node.depth + 1
 with_depth weight node piece child None e = absurd (cc)
@@ -55,7 +52,7 @@ child_depth problem node child number e =
 
 -- the children by all pieces
 pub children_all : (problem : WeightedSum) (node : Node) (term : Term) → next_of problem node ≡ Some term → children_to problem node (length term.func.pieces) ≡ children_of problem node
-children_all problem node term is = rw is (sym (append_none (children_in term node)))
+children_all problem node term is = rw is (sym (append-nil (children_in term node)))
 
 positive : (n : ℕ) → 0 < n → nat_lt 0 n ≡ true
 positive n some = grind (arith, nat_tests)

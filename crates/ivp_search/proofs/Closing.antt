@@ -2,6 +2,7 @@
 use Rattle.std.proofs.Common.{◌≡◌, ℕ, suc, ◌+◌, ◌-◌, ◌≤◌, ◌⊎◌, inl, inr, Bool, true, false, ◌||◌, Some, List, [], ◌∷◌, ◌++◌, length, refl, sym, ap, ◌∙◌, arith, length-append}
 use Rattle.std.specs.List.{flat_map}
 use Rattle.std.specs.Option.{option_to_list}
+use Rattle.std.proofs.lemmas.List.{append-nil}
 use Rattle.std.proofs.lemmas.List.Folds.{list_any-append}
 use Rattle.std.proofs.lemmas.Grind.{flat_map-append}
 use Rattle.ivp_domain.specs.declared.boxes.Point.{Point}
@@ -11,7 +12,7 @@ use Rattle.ivp_problem.specs.Problems.{WeightedSum}
 use Rattle.ivp_problem.specs.Sums.{key_at}
 use Rattle.ivp_problem.specs.Nodes.{nodes_from, nodes_under}
 use Rattle.ivp_problem.specs.Trees.{child_of, children_of, has_in}
-use Rattle.ivp_problem.proofs.Pieces.{append_none, children_more, children_to}
+use Rattle.ivp_problem.proofs.Pieces.{children_more, children_to}
 use Rattle.ivp_search.specs.Incumbents.{IsBest}
 
 -- the nodes under these
@@ -78,7 +79,7 @@ pub size_more : (problem : WeightedSum) (node child : Node) (levels count : ℕ)
 size_more problem node child levels count is =
     let all = children_to problem node count in
     ap (size_under problem levels) (children_more problem node count ∙ ap (λ o. all ++ option_to_list o) is)
-    ∙ (ap length (flat_map-append (nodes_from problem levels) all (child ∷ []) ∙ ap (λ rest. flat_map (nodes_from problem levels) all ++ rest) (append_none (nodes_from problem levels child)))
+    ∙ (ap length (flat_map-append (nodes_from problem levels) all (child ∷ []) ∙ ap (λ rest. flat_map (nodes_from problem levels) all ++ rest) (append-nil (nodes_from problem levels child)))
     ∙ length-append (flat_map (nodes_from problem levels) all) (nodes_from problem levels child))
 
 -- a node and the nodes under its children
