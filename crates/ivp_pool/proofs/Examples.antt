@@ -8,6 +8,7 @@ use Rattle.ivp_problem.specs.declared.term.Term.{Term}
 use Rattle.ivp_problem.specs.Keys.{key_of}
 use Rattle.ivp_problem.specs.Problems.{WeightedSum}
 use Rattle.ivp_problem.specs.Trees.{root_of}
+use Rattle.ivp_pool.specs.Tallies.{AreLinked, IsTally, IsWhole, Tally}
 use Rattle.ivp_pool.specs.Parts.{Done, Handed, handed_of, IsPart, Part, Pruned, size_of, Split, Then}
 
 abbrev axis : List ℕ → ℕ → ℕ → Axis
@@ -68,3 +69,17 @@ one_child_too_few is = is.1.0.1.1
 -- and a node whose bound is above what is known is not pruned
 too_little_known : IsPart two (key_of 75 3) (root_of two) all_here → ⊥
 too_little_known is = omega (arith, is.1.0.1.0)
+
+-- two calls: the first hands the first leaf on, and the second finds the best point there
+abbrev calls : List Tally
+calls = record { node = root_of two; part = one_handed } ∷ record { node = left; part = Pruned } ∷ []
+
+calls_are_linked : AreLinked two (root_of two ∷ []) calls
+calls_are_linked = λ weigh. omega arith
+
+first_call : IsTally two (key_of 75 2) (record { node = root_of two; part = one_handed })
+first_call = record { node = record { path = []; reached = refl }; is = (omega arith, ((omega arith, (tt, (omega arith, tt))), tt)); here = λ same. absurd (cc) }
+
+-- so the part that they make together has the four nodes of the tree
+calls_have_four : IsWhole two (key_of 75 2) calls → (whole : Part) × (size_of whole ≡ 4)
+calls_have_four whole = let size = whole.size in (whole.part, omega arith)

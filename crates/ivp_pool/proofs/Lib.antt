@@ -2,3 +2,5 @@ mod Examples
 pub mod Standing
 pub mod Weights
 pub mod Growing
+pub mod SameNodes
+pub mod Gluing

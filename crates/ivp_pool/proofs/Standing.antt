@@ -30,6 +30,10 @@ each_at P [] k x h e = absurd (cc)
 each_at P (y ∷ ys) zero x h e = let same : y ≡ x = cc in subst P same h.0
 each_at P (y ∷ ys) (suc k) x h e = each_at P ys k x h.1 e
 
+pub each_from : {X : Type 0} (P : X → Type 0) (xs : List X) → ((k : ℕ) (x : X) → slice_get xs k ≡ Some x → P x) → Each P xs
+each_from P [] h = tt
+each_from P (x ∷ xs) h = (h 0 x refl, each_from P xs (λ k. h (suc k)))
+
 -- a node of the tree, no less deep than this, with at most so many levels below it
 pub record Stands (problem : WeightedSum) (from levels : ℕ) (node : Node) : Type 0 where
   pub is : IsNode problem node

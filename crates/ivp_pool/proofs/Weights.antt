@@ -37,20 +37,23 @@ weight_at points nodes = sum_by (λ point. count_by (has point) nodes) points
 abbrev pub weight_in : WeightedSum → List Node → ℕ
 weight_in problem nodes = weight_at (points_of problem.axes) nodes
 
-weight_cons : (points : List Point) (node : Node) (nodes : List Node) → weight_at points (node ∷ nodes) ≡ count_by (has_point node.area) points + weight_at points nodes
-weight_cons [] node nodes = refl
-weight_cons (p ∷ ps) node nodes =
+weight_cons_at : (points : List Point) (node : Node) (nodes : List Node) → weight_at points (node ∷ nodes) ≡ count_by (has_point node.area) points + weight_at points nodes
+weight_cons_at [] node nodes = refl
+weight_cons_at (p ∷ ps) node nodes =
     omega (
       arith,
       sum_by-cons (λ (q : Point). count_by (has q) (node ∷ nodes)) p ps,
       sum_by-cons (λ (n : Node). one_if (has p n)) node nodes,
       sum_by-cons (λ (q : Point). one_if (has_point node.area q)) p ps,
       sum_by-cons (λ (q : Point). count_by (has q) nodes) p ps,
-      weight_cons ps node nodes,
+      weight_cons_at ps node nodes,
     )
 
+pub weight_cons : (problem : WeightedSum) (node : Node) (nodes : List Node) → weight_in problem (node ∷ nodes) ≡ weight_of problem node + weight_in problem nodes
+weight_cons problem node nodes = weight_cons_at (points_of problem.axes) node nodes
+
 -- a node has a point of the domain, and no more than there are
-some_weight : (problem : WeightedSum) (node : Node) → IsProblem problem → IsNode problem node → 0 < weight_of problem node
+pub some_weight : (problem : WeightedSum) (node : Node) → IsProblem problem → IsNode problem node → 0 < weight_of problem node
 some_weight problem node h is =
     let keeps = node_keeps problem node h is in
     let low : Point = record { at = node.area.low } in
@@ -72,6 +75,9 @@ weight_most problem node nodes once = sum_by-le-sum_by (λ (p : Point). count_by
 -- each point of a node below full depth lies in one child
 pub once_in : (problem : WeightedSum) (node : Node) (p : Point) → IsProblem problem → IsNode problem node → node.depth < length problem.terms → count_by (has p) (children_of problem node) ≡ cond (has_point node.area p) 1 0
 once_in problem node p h is below = count_children problem node (get_or problem.terms node.depth blank_term) p h (node_keeps problem node h is) (slice_get-get_or problem.terms node.depth blank_term below)
+
+pub children_weight : (problem : WeightedSum) (node : Node) → IsProblem problem → IsNode problem node → node.depth < length problem.terms → weight_in problem (children_of problem node) ≤ weight_of problem node
+children_weight problem node h is below = weight_most problem node (children_of problem node) (λ p. omega (arith, once_in problem node p h is below))
 
 count_to : (problem : WeightedSum) (node : Node) (p : Point) (count more : ℕ) → count_by (has p) (children_to problem node count) ≤ count_by (has p) (children_to problem node (count + more))
 count_to problem node p count zero = let same : count + 0 ≡ count = omega arith in rw same (omega arith)
@@ -111,12 +117,11 @@ mutual
   size_most problem h low from (suc levels) node (Split parts) stands is =
       let weight = weight_of problem node in
       let children = children_of problem node in
-      let most = weight_most problem node children (λ p. omega (arith, once_in problem node p h stands.is is.0)) in
       omega (
         arith,
         suc-mul (suc levels) weight,
         some_weight problem node h stands.is,
-        mul-le-mul_left (suc levels) most,
+        mul-le-mul_left (suc levels) (children_weight problem node h stands.is is.0),
         sizes_most problem h low (suc from) levels children parts (children_stand problem from levels node stands) is.1,
       )
 
@@ -128,6 +133,6 @@ mutual
         arith,
         size_most problem h low from levels node part stand.0 are.0,
         sizes_most problem h low from levels nodes parts stand.1 are.1,
-        ap (λ n. suc levels * n) (weight_cons (points_of problem.axes) node nodes),
+        ap (λ n. suc levels * n) (weight_cons problem node nodes),
         mul-add (suc levels) (weight_of problem node) (weight_in problem nodes),
       )

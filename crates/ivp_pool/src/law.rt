@@ -1,10 +1,12 @@
-ghost use Rattle.std.specs.Prelude.{◌≡◌, ◌≢◌, ℕ, ◌*◌, ◌^◌, ◌<◌, ◌≤◌, ◌⊎◌, IsTrue, slice_get, Some};
+ghost use Rattle.std.specs.Prelude.{◌≡◌, ◌≢◌, ℕ, ◌*◌, ◌^◌, ◌<◌, ◌≤◌, ◌⊎◌, List, [], ◌∷◌, IsTrue, slice_get, Some};
 ghost use Rattle.ivp_domain.specs.declared.boxes.Point.{Point};
 ghost use Rattle.ivp_domain.specs.Boxes.{has_point};
 ghost use Rattle.ivp_problem.specs.declared.node.Node.{Node};
+ghost use Rattle.ivp_problem.specs.Problems.{IsProblem, WeightedSum};
 ghost use Rattle.ivp_problem.specs.Sums.{key_at};
-ghost use Rattle.ivp_problem.specs.Trees.{has_in, IsNode};
+ghost use Rattle.ivp_problem.specs.Trees.{has_in, IsNode, root_of};
 ghost use Rattle.ivp_pool.specs.Parts.{Handed, handed_of, IsPart, Part, size_of};
+ghost use Rattle.ivp_pool.specs.Tallies.{AreLinked, IsTally, IsWhole, Tally};
 
 use ivp_problem::{Node, Problem};
 
@@ -20,3 +22,9 @@ pub fn parts_law(problem: &Problem, node: &Node)
 {
     let _ = problem.len();
 }
+
+/// What holds of the calls that closed nodes, whoever made them: where their nodes are the root and all handed nodes, each
+/// once, and each call's part is one for this key, they are together one part of the whole tree. It does nothing.
+pub fn tally_law()
+    ensures { (problem : WeightedSum) (key : ℕ) (tallies : List Tally) → IsProblem problem → ((place : ℕ) (tally : Tally) → slice_get tallies place ≡ Some tally → IsTally problem key tally) → AreLinked problem (root_of problem ∷ []) tallies → IsWhole problem key tallies }
+{}

@@ -11,7 +11,7 @@ mod law;
 mod tray;
 
 pub use close::close_one;
-pub use law::parts_law;
+pub use law::{parts_law, tally_law};
 pub use tray::Tray;
 
 #[cfg(test)]

@@ -2,7 +2,7 @@
 ghost use Rattle.std.specs.Prelude.{◌≡◌, ◌<◌, IsTrue};
 ghost use Rattle.ivp_domain.specs.Domains.{is_point};
 
-use crate::{Tray, close_one, parts_law};
+use crate::{Tray, close_one, parts_law, tally_law};
 use best_word::Best;
 use ivp_domain::{Axis, AxisName, BoxN, Domain, Point, Steps};
 use ivp_func::{Func, Piece, are_pieces_of};
@@ -160,6 +160,7 @@ fn close_root(
     };
     let root = problem.root();
     parts_law(problem, &root);
+    tally_law();
     let closed = close_one(problem, &best, &mut scout, root, &mut pile);
     let known = best.known(&mut scout);
     Ok(Outcome {

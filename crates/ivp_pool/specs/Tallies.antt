@@ -1,0 +1,37 @@
+-- Tallies: what several calls made of their nodes, each of its own, and how these come together.
+use Rattle.std.specs.Prelude.{◌≡◌, ◌≢◌, ℕ, ◌+◌, ◌≤◌, List, [], length, IsTrue}
+use Rattle.std.specs.List.{sum_by}
+use Rattle.ivp_domain.specs.declared.boxes.Point.{Point}
+use Rattle.ivp_domain.specs.Domains.{is_point}
+use Rattle.ivp_problem.specs.declared.node.Node.{Node}
+use Rattle.ivp_problem.specs.Problems.{WeightedSum}
+use Rattle.ivp_problem.specs.Sums.{key_at}
+use Rattle.ivp_problem.specs.Trees.{IsNode, root_of}
+use Rattle.ivp_pool.specs.Parts.{Handed, handed_of, IsPart, Part, size_of}
+
+-- a node, and the part that was made of it
+pub record Tally : Type 0 where
+  pub node : Node
+  pub part : Part
+
+-- the nodes that were handed to others
+abbrev pub handed_by : WeightedSum → Tally → List Node
+handed_by problem tally = handed_of problem tally.node tally.part
+
+-- a node of the tree that was closed while this key was known
+pub record IsTally (problem : WeightedSum) (key : ℕ) (tally : Tally) : Type 0 where
+  pub node : IsNode problem tally.node
+  pub is : IsPart problem key tally.node tally.part
+  pub here : tally.part ≢ Handed
+
+-- the tallies' nodes are these and all handed ones, each once: whatever nodes weigh, the sums agree
+abbrev pub AreLinked : WeightedSum → List Node → List Tally → Type 0
+AreLinked problem nodes tallies = (weigh : Node → ℕ) → sum_by (λ tally. weigh tally.node) tallies ≡ sum_by weigh nodes + sum_by (λ tally. sum_by weigh (handed_by problem tally)) tallies
+
+-- together they are one part of the whole tree with nothing handed to others, and as many nodes as all parts without the handed ones; so no point has a greater key
+pub record IsWhole (problem : WeightedSum) (key : ℕ) (tallies : List Tally) : Type 0 where
+  pub part : Part
+  pub is : IsPart problem key (root_of problem) part
+  pub none : handed_of problem (root_of problem) part ≡ []
+  pub size : size_of part + sum_by (λ tally. length (handed_by problem tally)) tallies ≡ sum_by (λ tally. size_of tally.part) tallies
+  pub most : (p : Point) → IsTrue (is_point problem.axes p) → key_at problem p ≤ key
