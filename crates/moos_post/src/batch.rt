@@ -64,6 +64,13 @@ impl Batch {
         self.pairs.as_slice()
     }
 
+    /// Gives back the memory that no pair needs. The list stays the same.
+    pub fn shrink_to_fit(&mut self)
+        ensures { self.new ≡ self.old }
+    {
+        self.pairs.shrink_to_fit();
+    }
+
     /// An equal list.
     pub fn copy(&self, alloc: Global) -> Result<Batch, NoMemory>
         ensures { IfOk result (λ list. list ≡ self.now) }

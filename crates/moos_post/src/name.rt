@@ -1,29 +1,63 @@
-ghost use Rattle.std.specs.Prelude.{◌≡◌, ◌↔◌, false, IsTrue, IfOk, OnOk, IsErrOf};
+ghost use Rattle.std.specs.Prelude.{◌≡◌, ◌↔◌, false, IsTrue, IfOk, OnOk, IsErrOf, bytes_eq};
+ghost use Rattle.std.proofs.Common.{rules};
+ghost use Rattle.std.specs.Cmp.{partial_equiv_from_equiv};
+ghost use Rattle.std.specs.Cmp.Lexicographic.{nat_list_eq_equiv};
+ghost use Rattle.std.specs.Cmp.Rules.{hashing};
+ghost use Rattle.std.specs.Hash as fed;
 ghost use Rattle.std.specs.List.{list_all};
 ghost use Rattle.moos_post.specs.Words.{is_letter, begins_name, is_name_byte, is_name};
 
 use crate::NoMemory;
 use std::alloc::{AllocError, Global};
+use std::hash::{Hash, Hasher};
+use std::sync::ArcSlice;
 use std::marker::Model;
 use thiserror::Error;
 
 /// The name of a variable or a client: 1 to 64 letters, digits, `_`, `-` and `.`, the first a letter or `_`.
 ///
-/// Contracts see its bytes.
+/// Its copies share its bytes, since a history holds each name very often. Contracts see the bytes.
 #[derive(Debug, Drop)]
 pub struct Name {
-    bytes: Vec<u8>,
+    bytes: ArcSlice<u8>,
 }
 
 impl Model for Name {
     ghost use Rattle.std.specs.Prelude.{List, ℕ, IsTrue};
+    ghost use Rattle.std.specs.Arc.{arc_slice_items};
     ghost use Rattle.moos_post.specs.Words.{is_name};
 
     ghost Value = { List ℕ };
 
-    ghost view = { λ n. n.bytes.items };
+    ghost view = { λ n. arc_slice_items n.bytes };
 
-    ghost invariant = { λ n. IsTrue (is_name n.bytes.items) };
+    ghost invariant = { λ n. IsTrue (is_name (arc_slice_items n.bytes)) };
+}
+
+// Names are equal and hashed as their bytes.
+
+impl PartialEq for Name {
+    ghost eq = { λ x y. bytes_eq x y };
+
+    ghost laws = { partial_equiv_from_equiv nat_list_eq_equiv };
+
+    fn eq(&self, other: &Name) -> bool {
+        self.bytes() == other.bytes()
+    }
+}
+
+impl Eq for Name {
+    ghost laws = { nat_list_eq_equiv };
+}
+
+impl Hash for Name {
+    ghost hash_input = { λ n. fed.slice fed.u8 n };
+
+    ghost respects_eq = { Prim.search (hashing, rules) };
+
+    fn hash<H: Hasher>(&self, state: &mut H) {
+        self.bytes().hash(state);
+    }
 }
 
 /// Why bytes are made no name.
@@ -58,7 +92,7 @@ impl Name {
         if !is_name(bytes) {
             return Err(NameFault::BadName);
         }
-        let bytes = Vec::from_slice(alloc, bytes)?;
+        let bytes = ArcSlice::from_slice(alloc, bytes)?;
         Ok(Name { bytes })
     }
 
@@ -70,11 +104,11 @@ impl Name {
         self.bytes.as_slice()
     }
 
-    /// An equal name.
-    pub fn copy(&self, alloc: Global) -> Result<Name, NoMemory>
+    /// An equal name, which shares the bytes.
+    pub fn copy(&self, _alloc: Global) -> Result<Name, NoMemory>
         ensures { IfOk result (λ name. name ≡ self.now) }
     {
-        let bytes = Vec::from_slice(alloc, self.bytes.as_slice())?;
+        let bytes = self.bytes.clone()?;
         Ok(Name { bytes })
     }
 }

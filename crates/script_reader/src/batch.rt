@@ -25,7 +25,10 @@ pub fn read_batch(alloc: Global, variables: &mut Variables, text: &[u8]) -> Resu
         add_part(alloc, variables, &mut batch, &text[part.from..part.to])?;
         match part.next {
             Some(next) => from = next,
-            None => return Ok(batch),
+            None => {
+                batch.shrink_to_fit();
+                return Ok(batch);
+            }
         }
     }
 }
@@ -76,8 +79,9 @@ fn add_pair(
     if batch.len() >= MAX_PAIRS {
         return Err(LineFault::Refused(Cause::S8(Limit::Batch)));
     }
-    variables.add(alloc, pair.var.bytes())?;
-    match batch.push(pair) {
+    let Pair { var, value } = pair;
+    let var = variables.add(alloc, var)?;
+    match batch.push(Pair { var, value }) {
         Ok(()) => Ok(()),
         Err(_) => Err(LineFault::NoMemory),
     }

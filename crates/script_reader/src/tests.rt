@@ -1,6 +1,6 @@
 // Scripts and refusals worked by hand, and each limit with what stands just beyond it.
-use crate::{Script, read_script};
-use moos_post::{Call, Pair, Value};
+use crate::{Lines, Script, read_script};
+use moos_post::{Call, Entry, Pair, Value};
 use moos_text::{Cause, Limit, ReadFault, print_milli, print_seconds};
 use std::alloc::{AllocError, Global};
 use std::process::Abort;
@@ -294,5 +294,21 @@ fn lines_of_refusals_are_counted_from_1(rt: HostRuntime) -> Result<(), Fail> {
     let fault = read(&rt, rt.alloc(), &clients).err();
     let cause = Cause::S8(Limit::Clients);
     assert_eq!(rt; fault, Some(ReadFault::At { line: 65, cause }));
+    Ok(())
+}
+
+#[test]
+fn lines_are_a_list(rt: HostRuntime) -> Result<(), Fail> {
+    let mut lines = Lines::new(rt.alloc());
+    for stamp in [5, 7] {
+        lines.push(Entry {
+            stamp,
+            client: 0,
+            call: Call::Fetch,
+        })?;
+    }
+    assert!(rt; lines.len() == 2);
+    assert!(rt; lines.get(1).stamp == 7);
+    assert!(rt; lines.all().iter().map(|line| line.stamp).eq([5, 7]));
     Ok(())
 }

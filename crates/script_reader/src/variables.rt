@@ -1,10 +1,10 @@
-ghost use Rattle.std.specs.Prelude.{◌≡◌, [], length, bytes_eq, Ok, IfOk, IfErr, OnOk};
+ghost use Rattle.std.specs.Prelude.{◌≡◌, [], length, bytes_eq, Ok, IfOk, IfErr, IfSome, OnOk, is_some};
 ghost use Rattle.std.specs.List.{list_any};
 ghost use Rattle.script_reader.specs.Script.{with_variable, with_known};
 ghost use Rattle.moos_text.specs.Refusals.{IsLineFault};
 
 use indexmap::IndexSet;
-use moos_post::NoMemory;
+use moos_post::{Name, NoMemory};
 use moos_text::{Cause, Limit, LineFault};
 use std::alloc::Global;
 use std::marker::Model;
@@ -12,18 +12,18 @@ use std::marker::Model;
 // The most variables of a script.
 const MAX_VARIABLES: usize = 4096;
 
-/// The names of the variables that are posted so far, in the order of their first posts. Contracts see the list.
+/// The variables that are posted so far, in the order of their first posts. Contracts see the list.
 #[derive(Drop)]
 pub struct Variables {
-    set: IndexSet<Vec<u8>>,
+    set: IndexSet<Name>,
 }
 
 impl Model for Variables {
-    ghost use Rattle.std.specs.Prelude.{List, ℕ, map};
+    ghost use Rattle.std.specs.Prelude.{List, ℕ};
 
     ghost Value = { List (List ℕ) };
 
-    ghost view = { λ v. map (λ name. name.items) v.set.keys };
+    ghost view = { λ v. v.set.keys };
 }
 
 impl Variables {
@@ -43,32 +43,34 @@ impl Variables {
         self.set.len()
     }
 
-    /// Whether this one is among them.
-    pub fn contains(&self, name: &[u8]) -> bool
-        ensures { result ≡ list_any (bytes_eq name.now) self.now }
+    /// The one of this name, where it is among them.
+    pub fn get(&self, name: &Name) -> Option<&Name>
+        ensures found { is_some result ≡ list_any (bytes_eq name.now) self.now }
+        ensures same { IfSome result (λ known. known.now ≡ name.now) }
     {
-        self.set.contains(name)
+        self.set.get(name)
     }
 
-    /// Adds this one where it isn't among them, or refuses it where it would be one too many.
-    pub fn add(&mut self, alloc: Global, name: &[u8]) -> Result<(), LineFault>
-        ensures read { IfOk result (λ _. with_known self.old name.now ≡ Ok self.new) }
-        ensures refused { IfErr result (λ fault. IsLineFault fault (with_known self.old name.now)) }
+    /// Adds this one where it isn't among them, or refuses it where it would be one too many. Gives an equal name, which
+    /// shares its bytes with all others that were given for it: a script may name a variable a million times.
+    pub fn add(&mut self, alloc: Global, name: Name) -> Result<Name, LineFault>
+        ensures read { IfOk result (λ _. with_known self.old name ≡ Ok self.new) }
+        ensures same { IfOk result (λ shared. shared ≡ name) }
+        ensures refused { IfErr result (λ fault. IsLineFault fault (with_known self.old name)) }
     {
-        if self.contains(name) {
-            return Ok(());
+        if let Some(known) = self.get(&name) {
+            return Ok(known.copy(alloc)?);
         }
         if self.len() >= MAX_VARIABLES {
             return Err(LineFault::Refused(Cause::S8(Limit::Variables)));
         }
-        self.insert(alloc, name)?;
-        Ok(())
+        self.insert(name.copy(alloc)?)?;
+        Ok(name)
     }
 
-    fn insert(&mut self, alloc: Global, name: &[u8]) -> Result<(), NoMemory>
-        ensures { OnOk result (self.new ≡ with_variable self.old name.now) }
+    fn insert(&mut self, name: Name) -> Result<(), NoMemory>
+        ensures { OnOk result (self.new ≡ with_variable self.old name) }
     {
-        let name = Vec::from_slice(alloc, name)?;
         self.set.insert(name)?;
         Ok(())
     }

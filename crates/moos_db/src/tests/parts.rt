@@ -1,0 +1,140 @@
+// What a database tells of its parts, and the mail of a list of calls.
+use super::{batch_of, database, pair_of, regs_of};
+use crate::{Db, Letter, Mail, Origin, mails_of};
+use moos_post::{Batch, Call, Entry, Name, Names, Pair, Post, Regs, Value};
+use std::alloc::Global;
+use std::process::Abort;
+use std::test::Fail;
+
+// A call that asks for nothing is an entry too.
+#[test]
+fn empty_lists_are_entries(rt: HostRuntime) -> Result<(), Fail> {
+    let alloc = rt.alloc();
+    let mut db = database(&rt, alloc, &["a"])?;
+    assert!(rt; db.clients() == 1);
+    db.post(alloc, 0, 0, Batch::new(alloc))?;
+    db.register(alloc, 0, 0, Regs::new(alloc))?;
+    assert_eq!(rt; db.entries(), 2);
+    assert_eq!(rt; db.posts(), 0);
+    Ok(())
+}
+
+// A database with a registration of the second client, a batch of the first, and a post of the second.
+fn busy(rt: &impl Abort, alloc: Global) -> Result<Db, Fail> {
+    let mut db = database(rt, alloc, &["pA", "pB"])?;
+    assert!(rt; db.clients() == 2);
+    db.register(alloc, 1, 0, regs_of(alloc, &[("X", 0, "*")])?)?;
+    db.post(alloc, 0, 1000, batch_of(alloc, &[("Y", 4), ("X", 5)])?)?;
+    db.post(alloc, 1, 2000, batch_of(alloc, &[("X", 6)])?)?;
+    Ok(db)
+}
+
+#[test]
+fn tells_its_entries(rt: HostRuntime) -> Result<(), Fail> {
+    let db = busy(&rt, rt.alloc())?;
+    assert_eq!(rt; db.entries(), 3);
+    let entry = db.entry(1);
+    assert_eq!(rt; entry.stamp, 1000);
+    assert_eq!(rt; entry.client, 0);
+    assert!(rt; matches!(&entry.call, Call::Post(_)));
+    assert_eq!(rt; db.letters(1).len(), 0);
+    Ok(())
+}
+
+#[test]
+fn tells_its_posts(rt: HostRuntime) -> Result<(), Fail> {
+    let db = busy(&rt, rt.alloc())?;
+    assert_eq!(rt; db.posts(), 3);
+    assert_eq!(rt; db.pair(0).var.bytes(), b"Y".as_slice());
+    assert_eq!(rt; db.pair(1).var.bytes(), b"X".as_slice());
+    assert_eq!(rt;
+        db.origin(1),
+        Origin {
+            stamp: 1000,
+            client: 0
+        }
+    );
+    assert_eq!(rt;
+        db.origin(2),
+        Origin {
+            stamp: 2000,
+            client: 1
+        }
+    );
+    Ok(())
+}
+
+#[test]
+fn tells_its_clients(rt: HostRuntime) -> Result<(), Fail> {
+    let db = database(&rt, rt.alloc(), &["pA", "pB"])?;
+    assert_eq!(rt; db.clients(), 2);
+    assert_eq!(rt; db.name(1).bytes(), b"pB".as_slice());
+    Ok(())
+}
+
+// The numbers that a fetch gave are those of posts before it.
+#[test]
+fn letters_hold_posts(rt: HostRuntime) -> Result<(), Fail> {
+    let mut db = busy(&rt, rt.alloc())?;
+    assert!(rt; db.clients() == 2);
+    let (fetch, posts) = (db.entries(), db.posts());
+    let mail = db.fetch(rt.alloc(), 1, 3000)?;
+    assert!(rt; fetch < db.entries());
+    db.letters_law(fetch);
+    assert_eq!(rt; db.letters(fetch), &[1, 2]);
+    assert!(rt; db.letters(fetch).iter().all(|&number| number < posts));
+    assert_eq!(rt; mail.len(), 2);
+    let letter = mail.get(0);
+    assert_eq!(rt; letter.number, 1);
+    assert_eq!(rt; letter.post.stamp, 1000);
+    assert_eq!(rt; letter.post.source, 0);
+    assert_eq!(rt; letter.post.var.bytes(), b"X".as_slice());
+    assert!(rt; matches!(&letter.post.value, Value::Num(number) if number.get() == 5));
+    Ok(())
+}
+
+#[test]
+fn mail_is_a_list(rt: HostRuntime) -> Result<(), Fail> {
+    let alloc = rt.alloc();
+    let Pair { var, value } = pair_of(alloc, "X", 5)?;
+    let mut mail = Mail::new(alloc);
+    mail.push(Letter {
+        number: 7,
+        post: Post {
+            stamp: 0,
+            source: 0,
+            var,
+            value,
+        },
+    })?;
+    assert_eq!(rt; mail.len(), 1);
+    Ok(())
+}
+
+fn entry(stamp: u64, client: u32, call: Call) -> Entry {
+    Entry {
+        stamp,
+        client,
+        call,
+    }
+}
+
+// Each call has its mail in its own place.
+#[test]
+fn mails_of_a_list_of_calls(rt: HostRuntime) -> Result<(), Fail> {
+    let alloc = rt.alloc();
+    let mut names = Names::new(alloc);
+    names.push(Name::new(alloc, b"pA")?)?;
+    let mut calls = Vec::new(alloc);
+    calls.push(entry(0, 0, Call::Register(regs_of(alloc, &[("X", 0, "*")])?)))?;
+    calls.push(entry(1000, 0, Call::Post(batch_of(alloc, &[("X", 5)])?)))?;
+    calls.push(entry(2000, 0, Call::Fetch))?;
+    calls.push(entry(3000, 0, Call::Fetch))?;
+    assert!(rt; names.len() == 1);
+    assert!(rt; calls.iter().all(|call| call.client == 0));
+    let mails = mails_of(alloc, names, calls)?;
+    for (mail, len) in mails.iter().zip([0, 0, 1, 0]) {
+        assert_eq!(rt; mail.len(), len);
+    }
+    Ok(())
+}
