@@ -81,7 +81,7 @@ fn letters_hold_posts(rt: HostRuntime) -> Result<(), Fail> {
     let mail = db.fetch(rt.alloc(), 1, 3000)?;
     assert!(rt; fetch < db.entries());
     db.letters_law(fetch);
-    assert_eq!(rt; db.letters(fetch), &[1, 2]);
+    assert_eq!(rt; db.letters(fetch), [1, 2].as_slice());
     assert!(rt; db.letters(fetch).iter().all(|&number| number < posts));
     assert_eq!(rt; mail.len(), 2);
     let letter = mail.get(0);
