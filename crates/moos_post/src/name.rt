@@ -10,8 +10,8 @@ ghost use Rattle.moos_post.specs.Words.{is_letter, begins_name, is_name_byte, is
 use crate::NoMemory;
 use std::alloc::{AllocError, Global};
 use std::hash::{Hash, Hasher};
-use std::sync::ArcSlice;
 use std::marker::Model;
+use std::sync::ArcSlice;
 use thiserror::Error;
 
 /// The name of a variable or a client: 1 to 64 letters, digits, `_`, `-` and `.`, the first a letter or `_`.
