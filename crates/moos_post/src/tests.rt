@@ -4,6 +4,7 @@ use crate::{
     Value,
 };
 use std::alloc::Global;
+use std::collections::HashSet;
 use std::process::Abort;
 use std::test::Fail;
 
@@ -46,6 +47,25 @@ fn names(rt: HostRuntime) -> Result<(), Fail> {
             }
             Err(other) => assert_eq!(rt; Some(other), fault, "{bytes:?}"),
         }
+    }
+    Ok(())
+}
+
+// Equal names are found by their hash, and a name isn't equal to a longer one or to the same with another case.
+#[test]
+fn names_are_keys(rt: HostRuntime) -> Result<(), Fail> {
+    let alloc = rt.alloc();
+    let mut known = HashSet::new(alloc);
+    let name = Name::new(alloc, b"NAV_X")?;
+    known.insert(name.copy(alloc)?)?;
+    for (bytes, is_known) in [
+        (b"NAV_X".as_slice(), true),
+        (b"NAV_XY", false),
+        (b"nav_x", false),
+    ] {
+        let other = Name::new(alloc, bytes)?;
+        assert!(rt; known.contains(&other) == is_known);
+        assert!(rt; (name == other) == is_known);
     }
     Ok(())
 }
@@ -123,7 +143,8 @@ fn batches(rt: HostRuntime) -> Result<(), Fail> {
         let pushed = batch.push(text_pair(alloc, var, text)?);
         assert!(rt; pushed.is_ok());
     }
-    let copied = batch.copy(alloc)?;
+    let mut copied = batch.copy(alloc)?;
+    copied.shrink_to_fit();
     assert_eq!(rt; copied.len(), 3);
     assert_eq!(rt; copied.all().len(), 3);
     is_pair(&rt, copied.get(0), b"A", b"one");
