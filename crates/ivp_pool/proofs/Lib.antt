@@ -4,3 +4,4 @@ pub mod Weights
 pub mod Growing
 pub mod SameNodes
 pub mod Gluing
+pub mod Teams

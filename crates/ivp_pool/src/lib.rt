@@ -1,18 +1,24 @@
 //! Search by several workers: one node of the tree at a time, whose children go to a tray for others or are closed at once.
 //!
-//! The contract for the layer above: what `close_one` makes of a node is a part of its tree. Each node without children
-//! there was handed to the tray or has a bound that the scout's key reaches, so no point of the node is lost.
+//! The contract for the layer above: `solve` finds the best point of a problem by 1 to 16 workers, whatever their number.
+//! What `close_one` makes of a node is a part of its tree: each node without children there was handed to the tray or has a
+//! bound that the scout's key reaches, so no point of the node is lost.
 //!
-//! Reading order: `tray`, `close`, `law`.
+//! Reading order: `tray`, `close`, `law`, `work`, `team`, `solved`.
 #![tactic(auto)]
 
 mod close;
 mod law;
+mod solved;
+mod team;
 mod tray;
+mod work;
 
 pub use close::close_one;
 pub use law::{parts_law, tally_law};
+pub use solved::{Solved, solve};
 pub use tray::Tray;
+pub use work::{Work, Works};
 
 #[cfg(test)]
 mod tests;

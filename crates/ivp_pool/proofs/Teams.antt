@@ -1,0 +1,81 @@
+-- How the calls of a worker add up, and those of all workers.
+use Rattle.std.proofs.Common.{◌≡◌, ℕ, suc, ◌+◌, ◌*◌, ◌^◌, ◌≤◌, Some, List, [], ◌∷◌, ◌++◌, length, refl, sym, ap, ◌∙◌, subst, arith, length-append}
+use Rattle.std.specs.Prelude.{slice_get}
+use Rattle.std.specs.List.{sum_by}
+use Rattle.std.proofs.lemmas.List.Sums.{sum_by-append, sum_by-cons}
+use Rattle.std.proofs.Math.Nat.{suc-mul}
+use Rattle.ivp_problem.specs.declared.node.Node.{Node}
+use Rattle.ivp_problem.specs.Problems.{IsProblem, WeightedSum}
+use Rattle.ivp_problem.specs.Trees.{IsNode, root_of}
+use Rattle.ivp_pool.specs.Closing.{Closed}
+use Rattle.ivp_pool.specs.Parts.{handed_of, size_of}
+use Rattle.ivp_pool.specs.Solving.{AreClosed, IsSearched}
+use Rattle.ivp_pool.specs.Tallies.{handed_by, IsTally, IsWhole, Tally}
+use Rattle.ivp_pool.proofs.Gluing.{whole}
+use Rattle.ivp_pool.proofs.Growing.{raised}
+use Rattle.ivp_pool.proofs.Standing.{Each, each_append, each_at, each_from, each_weaker, Stands}
+use Rattle.ivp_pool.proofs.Weights.{few_weight, size_most}
+
+-- no call
+pub closed_none : (problem : WeightedSum) (key : ℕ) → AreClosed problem key [] [] 0
+closed_none problem key = record { tallies = []; each = λ place tally at. absurd (cc); called = λ weigh. refl; passed = λ weigh. refl; size = refl }
+
+-- one call
+pub closed_one : (problem : WeightedSum) (key : ℕ) (took took' : List Node) (node : Node) (count : ℕ) → IsNode problem node → (closed : Closed problem key took took' node count) → AreClosed problem key (node ∷ []) (handed_of problem node closed.part) count
+closed_one problem key took took' node count is closed =
+    let tally : Tally = record { node = node; part = closed.part } in
+    record {
+      tallies = tally ∷ [];
+      each = λ place t at. each_at (IsTally problem key) (tally ∷ []) place t (record { node = is; is = closed.is; here = closed.here }, tt) at;
+      called = λ weigh. refl;
+      passed = λ weigh. omega arith;
+      size = omega (arith, closed.counted);
+    }
+
+-- calls and further calls, where as much is known as in both
+pub closed_more : (problem : WeightedSum) (one other key : ℕ) (nodes handed nodes' handed' : List Node) (count count' : ℕ) → one ≤ key → other ≤ key → AreClosed problem one nodes handed count → AreClosed problem other nodes' handed' count' → AreClosed problem key (nodes ++ nodes') (handed ++ handed') (count + count')
+closed_more problem one other key nodes handed nodes' handed' count count' up up' closed closed' =
+    let ts = closed.tallies in
+    let us = closed'.tallies in
+    record {
+      tallies = ts ++ us;
+      each = λ place tally at. each_at (IsTally problem key) (ts ++ us) place tally (each_append (IsTally problem key) ts us (known one up ts closed.each) (known other up' us closed'.each)) at;
+      called = λ weigh. omega (arith, sum_by-append (λ (t : Tally). weigh t.node) ts us, sum_by-append weigh nodes nodes', closed.called weigh, closed'.called weigh);
+      passed = λ weigh. omega (arith, sum_by-append (λ (t : Tally). sum_by weigh (handed_by problem t)) ts us, sum_by-append weigh handed handed', closed.passed weigh, closed'.passed weigh);
+      size = omega (arith, sum_by-append (λ (t : Tally). size_of t.part) ts us, length-append handed handed', closed.size, closed'.size);
+    }
+  where
+    tally_known : (low : ℕ) → low ≤ key → (tally : Tally) → IsTally problem low tally → IsTally problem key tally
+    tally_known low up tally is = record { node = is.node; is = raised problem low key up tally.node tally.part is.is; here = is.here }
+
+    known : (low : ℕ) → low ≤ key → (tallies : List Tally) → ((place : ℕ) (tally : Tally) → slice_get tallies place ≡ Some tally → IsTally problem low tally) → Each (IsTally problem key) tallies
+    known low up tallies each = each_weaker (IsTally problem low) (IsTally problem key) (tally_known low up) tallies (each_from (IsTally problem low) tallies each)
+
+-- a length as a sum
+ones : {X : Type 0} (xs : List X) → sum_by (λ x. 1) xs ≡ length xs
+ones [] = refl
+ones {X} (x ∷ xs) = omega (arith, sum_by-cons (λ (y : X). 1) x xs, ones xs)
+
+handed_ones : (problem : WeightedSum) (tallies : List Tally) → sum_by (λ tally. sum_by (λ node. 1) (handed_by problem tally)) tallies ≡ sum_by (λ tally. length (handed_by problem tally)) tallies
+handed_ones problem [] = refl
+handed_ones problem (tally ∷ tallies) =
+    omega (
+      arith,
+      sum_by-cons (λ (t : Tally). sum_by (λ (n : Node). 1) (handed_by problem t)) tally tallies,
+      sum_by-cons (λ (t : Tally). length (handed_by problem t)) tally tallies,
+      ones (handed_by problem tally),
+      handed_ones problem tallies,
+    )
+
+-- each call closes few nodes
+pub part_few : (problem : WeightedSum) → IsProblem problem → (key : ℕ) (tally : Tally) → IsTally problem key tally → size_of tally.part ≤ 65 * 2 ^ 22
+part_few problem h key tally is =
+    let stands : Stands problem tally.node.depth 64 tally.node = record { is = is.node; deep = omega arith; most = omega (arith, h.few) } in
+    omega (arith, size_most problem h key tally.node.depth 64 tally.node tally.part stands is.is, few_weight problem tally.node h)
+
+-- the calls closed all of the tree together, where their nodes are the root and what they handed on
+pub searched : (problem : WeightedSum) → IsProblem problem → (key : ℕ) (nodes handed : List Node) (count : ℕ) → ((weigh : Node → ℕ) → sum_by weigh nodes ≡ sum_by weigh (root_of problem ∷ []) + sum_by weigh handed) → AreClosed problem key nodes handed count → IsSearched problem key count
+searched problem h key nodes handed count linked closed = by (whole problem h key closed.tallies (each_from (IsTally problem key) closed.tallies closed.each) (λ weigh. closed.called weigh ∙ (linked weigh ∙ ap (λ n. sum_by weigh (root_of problem ∷ []) + n) (sym (closed.passed weigh)))))
+  where
+    by : IsWhole problem key closed.tallies → IsSearched problem key count
+    by all = record { part = all.part; is = all.is; none = all.none; size = omega (arith, all.size, closed.size, closed.passed (λ n. 1), ones handed, handed_ones problem closed.tallies) }

@@ -1,0 +1,63 @@
+-- What several workers make of a problem: their shares, what their calls closed, and the whole search.
+use Rattle.std.specs.Prelude.{◌≡◌, ℕ, suc, ◌+◌, ◌%◌, ◌≤◌, ◌==◌, if◌then◌else◌, Some, List, [], ◌∷◌, length, slice_get}
+use Rattle.std.specs.List.{sum_by}
+use Rattle.best_word.specs.Known.{first_of}
+use Rattle.atomic_table.specs.Seated.{TableId}
+use Rattle.ivp_problem.specs.declared.node.Node.{Node}
+use Rattle.ivp_problem.specs.Problems.{WeightedSum}
+use Rattle.ivp_problem.specs.Trees.{root_of}
+use Rattle.ivp_pool.specs.declared.team.Worker.{Worker}
+use Rattle.ivp_pool.specs.Parts.{handed_of, IsPart, Part, size_of}
+use Rattle.ivp_pool.specs.Tallies.{handed_by, IsTally, Tally}
+
+-- so many nodes are a part of the whole tree, with the root and nothing handed to others: each node has all its children there, or none and a bound of at most this key
+pub record IsSearched (problem : WeightedSum) (key count : ℕ) : Type 0 where
+  pub part : Part
+  pub is : IsPart problem key (root_of problem) part
+  pub none : handed_of problem (root_of problem) part ≡ []
+  pub size : size_of part ≡ count
+
+-- of nodes that stand from this place on, those that are dealt to a worker: a node's place modulo the number of workers is its worker's number
+abbrev pub dealt_from : ℕ → ℕ → ℕ → List Node → List Node
+dealt_from place workers number [] = []
+dealt_from place workers number (node ∷ nodes) =
+    if place % workers == number then node ∷ dealt_from (suc place) workers number nodes else dealt_from (suc place) workers number nodes
+
+-- a worker's share of these nodes
+abbrev pub share_of : ℕ → ℕ → List Node → List Node
+share_of workers number nodes = dealt_from 0 workers number nodes
+
+-- calls closed these nodes, each once, while this key was known, handed those to others, and closed so many in all
+pub record AreClosed (problem : WeightedSum) (key : ℕ) (nodes handed : List Node) (count : ℕ) : Type 0 where
+  pub tallies : List Tally
+  pub each : (place : ℕ) (tally : Tally) → slice_get tallies place ≡ Some tally → IsTally problem key tally
+  pub called : (weigh : Node → ℕ) → sum_by (λ tally. weigh tally.node) tallies ≡ sum_by weigh nodes
+  pub passed : (weigh : Node → ℕ) → sum_by (λ tally. sum_by weigh (handed_by problem tally)) tallies ≡ sum_by weigh handed
+  pub size : count + length handed ≡ sum_by (λ tally. size_of tally.part) tallies
+
+-- the key that a worker knows
+abbrev pub low_of : Worker → ℕ
+low_of worker = worker.scout.me.0.low
+
+-- a worker of this problem at this word
+pub record IsWorker (problem : WeightedSum) (word : TableId) (worker : Worker) : Type 0 where
+  pub at_word : worker.scout.table_id ≡ word
+  pub about : worker.scout.me.0.about ≡ Some problem
+  pub empty : worker.scout.me.1 ≡ []
+
+-- a worker that has made no call yet
+pub record IsNew (problem : WeightedSum) (word : TableId) (worker : Worker) : Type 0 where
+  pub at_word : worker.scout.table_id ≡ word
+  pub scout : worker.scout.me ≡ (first_of problem, [])
+  pub calls : worker.calls ≡ 0
+  pub closed : worker.work.closed ≡ 0
+
+-- a worker went on: its further calls closed these nodes and handed those to others
+pub record WentOn (problem : WeightedSum) (nodes handed : List Node) (old new : Worker) : Type 0 where
+  pub at_word : new.scout.table_id ≡ old.scout.table_id
+  pub scout : new.scout.me ≡ (record old.scout.me.0 { low = low_of new }, old.scout.me.1)
+  pub later : low_of old ≤ low_of new
+  pub calls : new.calls ≡ old.calls + length nodes
+  pub count : ℕ
+  pub counted : new.work.closed ≡ old.work.closed + count
+  pub closed : AreClosed problem (low_of new) nodes handed count
