@@ -4,4 +4,6 @@ pub mod Weights
 pub mod Growing
 pub mod SameNodes
 pub mod Gluing
+pub mod Shares
 pub mod Teams
+pub mod Deciding

@@ -7,6 +7,7 @@ use Rattle.ivp_problem.specs.declared.node.Node.{Node}
 use Rattle.ivp_problem.specs.Problems.{WeightedSum}
 use Rattle.ivp_problem.specs.Trees.{root_of}
 use Rattle.ivp_pool.specs.declared.team.Worker.{Worker}
+use Rattle.ivp_pool.specs.declared.work.Work.{Work}
 use Rattle.ivp_pool.specs.Parts.{handed_of, IsPart, Part, size_of}
 use Rattle.ivp_pool.specs.Tallies.{handed_by, IsTally, Tally}
 
@@ -16,6 +17,10 @@ pub record IsSearched (problem : WeightedSum) (key count : ℕ) : Type 0 where
   pub is : IsPart problem key (root_of problem) part
   pub none : handed_of problem (root_of problem) part ≡ []
   pub size : size_of part ≡ count
+
+-- how many nodes workers closed together
+abbrev pub total_of : List Work → ℕ
+total_of works = sum_by (λ work. work.closed) works
 
 -- of nodes that stand from this place on, those that are dealt to a worker: a node's place modulo the number of workers is its worker's number
 abbrev pub dealt_from : ℕ → ℕ → ℕ → List Node → List Node

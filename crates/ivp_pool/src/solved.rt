@@ -1,11 +1,11 @@
-ghost use Rattle.std.specs.Prelude.{◌≡◌, ◌≤◌, length, IfOk};
-ghost use Rattle.std.specs.List.{sum_by};
+ghost use Rattle.std.specs.Prelude.{◌≡◌, ◌≤◌, length, IfOk, IsTrue, Some};
+ghost use Rattle.ivp_domain.specs.Domains.{is_point};
 ghost use Rattle.ivp_problem.specs.Sums.{best_of, key_at};
-ghost use Rattle.ivp_pool.specs.Solving.{IsSearched};
+ghost use Rattle.ivp_pool.specs.Solving.{IsSearched, total_of};
 
-use crate::team::{close_root, close_shares, team_of, works_of};
+use crate::team::{search, team_of, works_of};
 use crate::work::Works;
-use best_word::Best;
+use best_word::{Best, Scout};
 use ivp_domain::Point;
 use ivp_problem::{Key, Problem, best_law, index_of_key, keys_law};
 use moos_io::{Gate, NoMemory};
@@ -41,16 +41,34 @@ pub fn solve<R: Threads + Wait + Sync, G: Gate>(
     // A number for each worker. They add up to the size of a part of the tree: each of its nodes has all its children there,
     // or none and a bound of at most the best key.
     ensures workers { IfOk result (λ solved. length solved.work ≡ workers) }
-    ensures closed { IfOk result (λ solved. IsSearched problem.now (key_at problem.now (best_of problem.now)) (sum_by (λ work. work.closed) solved.work)) }
+    ensures closed { IfOk result (λ solved. IsSearched problem.now (key_at problem.now (best_of problem.now)) (total_of solved.work)) }
 {
     let (best, mut scout) = Best::make(alloc, problem)?;
     let mut team = team_of(alloc, problem, &best, &mut scout, workers)?;
-    let nodes = close_root(alloc, problem, &best, gate, &mut team[0]);
-    close_shares(rt, problem, &best, gate, &nodes, &mut team);
+    search(rt, alloc, problem, &best, gate, &mut team);
     let work = works_of(alloc, problem, &best, &mut scout, team)?;
-    keys_law(problem);
-    best_law(problem);
-    let key = best.known(&mut scout);
-    let point = problem.domain().point_at(index_of_key(key));
+    let key = best_key(problem, &best, &mut scout);
+    let point = best_point(problem, key);
     Ok(Solved { point, key, work })
+}
+
+/// The best key, which the word holds once the whole tree was searched.
+fn best_key(problem: &Problem, best: &Best, scout: &mut Scout) -> Key
+    requires word { scout.old.table_id ≡ best.now }
+    requires problem { scout.old.me.0.about ≡ Some problem.now }
+    requires searched { (p : Point) → IsTrue (is_point problem.now.axes p) → key_at problem.now p ≤ scout.old.me.0.low }
+    ensures best { result ≡ key_at problem.now (best_of problem.now) }
+    ensures later { scout.old.me.0.low ≤ result }
+{
+    keys_law(problem);
+    best.known(scout)
+}
+
+/// The best point, by its key.
+fn best_point(problem: &Problem, key: Key) -> Point
+    requires { key ≡ key_at problem.now (best_of problem.now) }
+    ensures { result ≡ best_of problem.now }
+{
+    best_law(problem);
+    problem.domain().point_at(index_of_key(key))
 }

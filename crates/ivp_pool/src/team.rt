@@ -1,13 +1,15 @@
 // A team of workers at one problem: each closes its share of the root's children, by a scout of its own.
-ghost use Rattle.std.specs.Prelude.{◌≡◌, ℕ, ◌+◌, ◌*◌, ◌^◌, ◌<◌, ◌≤◌, ◌++◌, ◌∷◌, [], length, map, IfOk, Some, All, List, slice_get, slice_index_or};
+ghost use Rattle.std.specs.Prelude.{◌≡◌, ℕ, ◌+◌, ◌*◌, ◌^◌, ◌<◌, ◌≤◌, ◌++◌, ◌∷◌, [], length, map, IfOk, IsTrue, Some, All, List, slice_get, slice_index_or};
+ghost use Rattle.ivp_domain.specs.declared.boxes.Point.{Point};
+ghost use Rattle.ivp_domain.specs.Domains.{is_point};
 ghost use Rattle.best_word.specs.Known.{first_of};
 ghost use Rattle.ivp_problem.specs.declared.node.Node.{Node};
+ghost use Rattle.ivp_problem.specs.Sums.{key_at};
 ghost use Rattle.ivp_problem.specs.Trees.{IsNode, root_of};
 ghost use Rattle.ivp_pool.specs.declared.team.Worker.{Worker};
-ghost use Rattle.ivp_pool.specs.Solving.{IsNew, IsWorker, low_of, share_of, WentOn};
+ghost use Rattle.ivp_pool.specs.Solving.{IsNew, IsSearched, IsWorker, low_of, share_of, total_of, WentOn};
 
 use crate::close::close_one;
-use crate::law::parts_law;
 use crate::tray::Tray;
 use crate::work::{Work, Works};
 use best_word::{Best, Scout};
@@ -102,16 +104,17 @@ fn close_next<T: Tray, G: Gate>(
     requires node { IsNode problem.now node }
     requires calls { worker.old.calls + 1 < 2 ^ 64 }
     requires closed { worker.old.work.closed + 65 * 2 ^ 22 < 2 ^ 64 }
-    ensures went { (since : List Node) × (T.took tray.new ≡ T.took tray.old ++ since) × WentOn problem.now (node ∷ []) since worker.old worker.new }
+    ensures went { (since : List Node) × (T.took tray.new ≡ T.took tray.old ++ since) × WentOn problem.now (node ∷ []) since worker.old worker.new × All (IsNode problem.now) since }
+    ensures tray { T.problem tray.new ≡ T.problem tray.old }
 {
+    let _ = problem.len();
     gate.at_node(number, worker.calls);
-    parts_law(problem, &node);
     worker.calls += 1;
     worker.work.closed += close_one(problem, best, &mut worker.scout, node, tray);
 }
 
 /// Closes the root, by worker 0. The answer is the children that are to be dealt, in order.
-pub(crate) fn close_root<G: Gate>(
+fn close_root<G: Gate>(
     alloc: Global,
     problem: &Problem,
     best: &Best,
@@ -124,11 +127,10 @@ pub(crate) fn close_root<G: Gate>(
     ensures few { length result.items ≤ 65 * 2 ^ 22 }
     ensures closed { worker.new.work.closed ≤ 65 * 2 ^ 22 }
 {
+    let _ = problem.len();
     let nodes = Vec::new(alloc);
     let mut tray = Children { problem, nodes };
-    let root = problem.root();
-    parts_law(problem, &root);
-    close_next(problem, best, gate, 0, worker, root, &mut tray);
+    close_next(problem, best, gate, 0, worker, problem.root(), &mut tray);
     tray.nodes
 }
 
@@ -151,6 +153,7 @@ fn close_share<G: Gate>(
     requires workers { workers ≤ 16 }
     ensures { WentOn problem.now (share_of workers number nodes.now) [] worker.old worker.new }
 {
+    let _ = problem.len();
     let mut tray = NoTray { problem };
     for (place, node) in nodes.iter().enumerate() {
         if place % workers == number {
@@ -160,7 +163,7 @@ fn close_share<G: Gate>(
 }
 
 /// Each worker closes its share of the nodes, on a thread of its own where one can be started.
-pub(crate) fn close_shares<R: Threads + Sync, G: Gate>(
+fn close_shares<R: Threads + Sync, G: Gate>(
     rt: &R,
     problem: &Problem,
     best: &Best,
@@ -184,6 +187,31 @@ pub(crate) fn close_shares<R: Threads + Sync, G: Gate>(
         ensures { WentOn problem.entry.now (share_of workers number nodes.entry.now) [] worker.entry.now worker.exit.now }
     { close_share(problem, best, gate, nodes, workers, number, worker) };
     for_each_mut(rt, team, workers, &close);
+}
+
+/// Searches the whole tree by a team of new workers: the first one closes the root, and then each its share of what the
+/// root hands on.
+pub(crate) fn search<R: Threads + Sync, G: Gate>(
+    rt: &R,
+    alloc: Global,
+    problem: &Problem,
+    best: &Best,
+    gate: &G,
+    team: &mut [Worker],
+)
+    requires new { All (IsNew problem.now best.now) team.old }
+    requires some { 0 < length team.old }
+    requires few { length team.old ≤ 16 }
+    ensures len { length team.new ≡ length team.old }
+    ensures workers { All (IsWorker problem.now best.now) team.new }
+
+    // A key that all workers know of is one that no point of the problem exceeds.
+    ensures searched { (key : ℕ) → All (λ worker. low_of worker ≤ key) team.new → IsSearched problem.now key (total_of (map (λ worker. worker.work) team.new)) }
+    ensures most { (key : ℕ) → All (λ worker. low_of worker ≤ key) team.new → (p : Point) → IsTrue (is_point problem.now.axes p) → key_at problem.now p ≤ key }
+{
+    let _ = problem.len();
+    let nodes = close_root(alloc, problem, best, gate, &mut team[0]);
+    close_shares(rt, problem, best, gate, &nodes, team);
 }
 
 /// Takes the workers' scouts in, and tells what each did.
