@@ -42,7 +42,7 @@ impl<'a> Tray for Pile<'a> {
 }
 
 /// An axis from 0 to `high` thousandths.
-fn axis(name: &[u8], high: i64, points: u32) -> Result<Axis, Fail> {
+pub(crate) fn axis(name: &[u8], high: i64, points: u32) -> Result<Axis, Fail> {
     Ok(Axis {
         name: AxisName::new(name).ok_or("a name")?,
         low: 0,
@@ -74,25 +74,31 @@ fn slab(low: u32, high: u32, base: i64, slope: [i64; 4]) -> Piece {
 }
 
 /// A term of these pieces.
-fn term(alloc: Global, weight: u32, pieces: &[Piece]) -> Result<Term, Fail> {
-    let domain = twelve()?;
-    let pieces = Vec::from_slice(alloc, pieces)?;
-    if !are_pieces_of(&domain, &pieces) {
+pub(crate) fn term(
+    alloc: Global,
+    domain: &Domain,
+    weight: u32,
+    pieces: Vec<Piece>,
+) -> Result<Term, Fail> {
+    if !are_pieces_of(domain, &pieces) {
         return Err("pieces that fit")?;
     }
-    let func = Func::make(alloc, &domain, pieces).map_err(|_| "a function")?;
+    let func = Func::make(alloc, domain, pieces).map_err(|_| "a function")?;
     Ok(Term { weight, func })
 }
 
 /// The problem of a function in one piece and one in two: the root, its child, and two leaves, of which the first has the
 /// best point, of sum 75 at index 2, and the second has 55 at index 10.
-fn two(alloc: Global) -> Result<Problem, Fail> {
+pub(crate) fn two(alloc: Global) -> Result<Problem, Fail> {
+    let domain = twelve()?;
     let rising = [slab(0, 2, 0, [10, 0, 0, 0])];
     let split = [slab(0, 0, 20, [0, 5, 0, 0]), slab(1, 2, 0, [0, 5, 0, 0])];
+    let rising = Vec::from_slice(alloc, &rising)?;
+    let split = Vec::from_slice(alloc, &split)?;
     let mut terms = Vec::new(alloc);
-    terms.push(term(alloc, 2, &rising)?)?;
-    terms.push(term(alloc, 3, &split)?)?;
-    Ok(Problem::make(twelve()?, terms).map_err(|_| "a problem")?)
+    terms.push(term(alloc, &domain, 2, rising)?)?;
+    terms.push(term(alloc, &domain, 3, split)?)?;
+    Ok(Problem::make(domain, terms).map_err(|_| "a problem")?)
 }
 
 /// The sum at a point, counted by a ledger of its own.
@@ -107,7 +113,7 @@ fn sum_by<L: Ledger>(problem: &Problem, point: &Point, blank: Blank) -> u64
 }
 
 /// The key at the point of an index, where the domain has it.
-fn key_at(problem: &Problem, index: u32) -> Option<Key> {
+pub(crate) fn key_at(problem: &Problem, index: u32) -> Option<Key> {
     let domain = problem.domain();
     if index >= domain.points() || index >= 4_194_304 {
         return None;
