@@ -1,8 +1,6 @@
 -- What a whole search decides: the best key, and its point.
 use Rattle.std.proofs.Common.{◌≡◌, ℕ, suc, ◌+◌, ◌<◌, ◌≤◌, inl, inr, Some, List, [], ◌∷◌, ◌++◌, length, refl, sym, ap, ◌∙◌, subst, arith, zero-add}
 use Rattle.std.specs.Prelude.{All, get_or, IsTrue, slice_get, slice_set}
-use Rattle.std.specs.List.{sum_by}
-use Rattle.std.proofs.lemmas.List.{append-nil}
 use Rattle.std.proofs.lemmas.List.Elements.{All-tail}
 use Rattle.std.proofs.lemmas.List.Sums.{sum_by-append, sum_by-cons}
 use Rattle.std.proofs.lemmas.Option.{slice_get_within}
@@ -16,7 +14,7 @@ use Rattle.ivp_problem.specs.Sums.{best_of, key_at}
 use Rattle.ivp_problem.specs.Trees.{root_of}
 use Rattle.best_word.specs.Known.{IsKnown}
 use Rattle.ivp_pool.specs.declared.team.Worker.{Worker}
-use Rattle.ivp_pool.specs.Solving.{IsNew, IsSearched, low_of, share_of, WentOn}
+use Rattle.ivp_pool.specs.Solving.{IsNew, low_of, share_of, WentOn}
 use Rattle.ivp_pool.proofs.Shares.{all_shares, shares_from}
 use Rattle.ivp_pool.proofs.Teams.{closed_by, closed_by-cons, closed_more, searched, Searched, team_closed, TeamClosed}
 

@@ -8,6 +8,7 @@ use Rattle.ivp_problem.specs.declared.term.Term.{Term}
 use Rattle.ivp_problem.specs.Keys.{key_of}
 use Rattle.ivp_problem.specs.Problems.{WeightedSum}
 use Rattle.ivp_problem.specs.Trees.{root_of}
+use Rattle.ivp_pool.specs.Solving.{IsSearched, share_of}
 use Rattle.ivp_pool.specs.Tallies.{AreLinked, IsTally, IsWhole, Tally}
 use Rattle.ivp_pool.specs.Parts.{Done, Handed, handed_of, IsPart, Part, Pruned, size_of, Split, Then}
 
@@ -83,3 +84,11 @@ first_call = record { node = record { path = []; reached = refl }; is = (omega a
 -- so the part that they make together has the four nodes of the tree
 calls_have_four : IsWhole two (key_of 75 2) calls → (whole : Part) × (size_of whole ≡ 4)
 calls_have_four whole = let size = whole.size in (whole.part, omega arith)
+
+-- a search of the whole tree closes four nodes
+four_closed : IsSearched two (key_of 75 2) 4
+four_closed = record { part = all_here; is = all_here_is_one; none = refl; size = refl }
+
+-- of three nodes the first of two workers gets the first and the last
+shares : (share_of 2 0 (left ∷ root_of two ∷ left ∷ []) ≡ left ∷ left ∷ []) × (share_of 2 1 (left ∷ root_of two ∷ left ∷ []) ≡ root_of two ∷ [])
+shares = (refl, refl)

@@ -4,7 +4,6 @@ use Rattle.std.specs.Prelude.{All, get_or, IsTrue, slice_get}
 use Rattle.std.specs.List.{sum_by}
 use Rattle.std.proofs.lemmas.List.Elements.{All-from_recursion, All-head, All-tail}
 use Rattle.std.proofs.lemmas.List.Sums.{sum_by-append, sum_by-cons}
-use Rattle.std.proofs.Math.Nat.{suc-mul}
 use Rattle.ivp_domain.specs.declared.boxes.Point.{Point}
 use Rattle.ivp_domain.specs.Domains.{is_point}
 use Rattle.ivp_problem.specs.declared.node.Node.{Node}
@@ -13,10 +12,9 @@ use Rattle.ivp_problem.specs.Sums.{key_at}
 use Rattle.ivp_problem.specs.Trees.{IsNode, root_of}
 use Rattle.ivp_pool.specs.Closing.{Closed}
 use Rattle.ivp_pool.specs.Parts.{handed_of, size_of}
-use Rattle.ivp_pool.specs.Solving.{AreClosed, IsNew, IsSearched, IsWorker, low_of, share_of, total_of, WentOn}
+use Rattle.ivp_pool.specs.Solving.{AreClosed, IsSearched, low_of, share_of, total_of, WentOn}
 use Rattle.ivp_pool.specs.declared.team.Worker.{Worker}
 use Rattle.ivp_pool.specs.declared.work.Work.{Work}
-use Rattle.atomic_table.specs.Seated.{TableId}
 use Rattle.ivp_pool.specs.Tallies.{handed_by, IsTally, IsWhole, Tally}
 use Rattle.ivp_pool.proofs.Gluing.{whole}
 use Rattle.ivp_pool.proofs.Growing.{handed_deeper, IsBelow, raised}
@@ -100,11 +98,6 @@ call_few problem h key took took' node count is closed =
     let few = part_few problem h key (record { node = node; part = closed.part }) (record { node = is; is = closed.is; here = closed.here }) in
     omega (arith, few, closed.counted)
 
--- no call by a worker
-pub went_none : (problem : WeightedSum) (worker : Worker) → WentOn problem [] [] worker worker
-went_none problem worker =
-    record { at_word = refl; scout = refl; later = omega arith; calls = omega arith; count = 0; counted = omega arith; closed = closed_none problem (low_of worker) }
-
 -- a worker went on, and then further
 pub went_more : (problem : WeightedSum) (nodes handed nodes' handed' : List Node) (old mid new : Worker) → WentOn problem nodes handed old mid → WentOn problem nodes' handed' mid new → WentOn problem (nodes ++ nodes') (handed ++ handed') old new
 went_more problem nodes handed nodes' handed' old mid new went went' =
@@ -117,11 +110,6 @@ went_more problem nodes handed nodes' handed' old mid new went went' =
       counted = omega (arith, went.counted, went'.counted);
       closed = closed_more problem (low_of mid) (low_of new) (low_of new) nodes handed nodes' handed' went.count went'.count went'.later (omega arith) went.closed went'.closed;
     }
-
--- a worker that went on is one still
-pub still_worker : (problem : WeightedSum) (word : TableId) (nodes handed : List Node) (old new : Worker) → IsWorker problem word old → WentOn problem nodes handed old new → IsWorker problem word new
-still_worker problem word nodes handed old new is went =
-    record { at_word = went.at_word ∙ is.at_word; about = ap (λ m. m.0.about) went.scout ∙ is.about; empty = ap (λ m. m.1) went.scout ∙ is.empty }
 
 -- the whole tree was searched, so no point has a greater key
 pub record Searched (problem : WeightedSum) (key count : ℕ) : Type 0 where

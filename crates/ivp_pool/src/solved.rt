@@ -21,9 +21,10 @@ pub struct Solved {
     pub work: Works,
 }
 
-/// Finds the best point of a problem by this many workers. Worker 0 closes the root, and the root's child `k` is dealt to
-/// worker `k` modulo the number of workers, as far as there is memory for a list of them; each worker closes its share with
-/// all below, on a thread of its own where one can be started. The workers share the best key that any of them knows.
+/// Finds the best point of a problem by 1 to 16 workers. Worker 0 closes the root, whose child `k` is dealt to worker `k`
+/// modulo the number of workers; a child that finds no memory is closed at once. Then each worker closes its share with all
+/// below it, on a thread of its own where one can be started. They share the best key that any of them knows. The gate is
+/// told before each call for a worker's node. `Err` is want of memory for the word, for the workers or for their counts.
 pub fn solve<R: Threads + Wait + Sync, G: Gate>(
     rt: &R,
     alloc: Global,

@@ -1,5 +1,4 @@
 use Rattle.std.proofs.Common.{[], ◌∷◌, ap, arith, length, length-append}
-use Rattle.ivp_problem.specs.Trees.{root_of}
 use Rattle.ivp_pool.specs.Solving.{low_of}
 use Rattle.ivp_pool.proofs.Teams.{closed_few}
 use Rattle.ivp_pool.proofs.team.close_root.Goals as goal

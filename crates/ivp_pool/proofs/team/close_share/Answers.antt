@@ -1,5 +1,4 @@
-use Rattle.std.proofs.Common.{◌≡◌, ◌+◌, ◌≤◌, [], ◌∷◌, length, take, arith, sym, subst, ◌∙◌}
-use Rattle.std.specs.Prelude.{get_or}
+use Rattle.std.proofs.Common.{[], take, arith, sym, subst, ◌∙◌}
 use Rattle.std.proofs.lemmas.List.{length-take-le}
 use Rattle.ivp_pool.specs.Solving.{share_of, WentOn}
 use Rattle.ivp_pool.proofs.Shares.{dealt_few, share_mine, share_same}

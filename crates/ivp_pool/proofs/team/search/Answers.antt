@@ -1,8 +1,4 @@
-use Rattle.std.proofs.Common.{◌≤◌}
-use Rattle.std.specs.Prelude.{All}
-use Rattle.ivp_pool.specs.Solving.{low_of}
 use Rattle.ivp_pool.proofs.Deciding.{lent_searched}
-use Rattle.ivp_pool.proofs.Teams.{closed_by, Searched}
 use Rattle.ivp_pool.proofs.team.search.Goals as goal
 
 pub returns-clause-searched : goal.returns-clause-searched
