@@ -9,10 +9,10 @@ use Rattle.moos_text.specs.declared.cause.Cause.TheVariants.{P1, P2, P3, P4, P5,
 use Rattle.moos_text.specs.declared.cause.ReadFault.TheVariants.{At}
 use Rattle.ivp_cert.specs.Problems.{problem_of}
 
-abbrev course : List Axis
+abbrev pub course : List Axis
 course = record { name = codes "course"; low = pos 0; high = pos 359000; points = 360 } ∷ []
 
-abbrev on_course : ℕ → ℕ → ℤ → ℤ → Piece
+abbrev pub on_course : ℕ → ℕ → ℤ → ℤ → Piece
 on_course low high base slope =
     record {
       area = record { low = low ∷ 0 ∷ 0 ∷ 0 ∷ []; high = high ∷ 0 ∷ 0 ∷ 0 ∷ [] };
@@ -20,7 +20,7 @@ on_course low high base slope =
       slope = slope ∷ pos 0 ∷ pos 0 ∷ pos 0 ∷ [];
     }
 
-abbrev term : List Axis → ℕ → List Piece → Term
+abbrev pub term : List Axis → ℕ → List Piece → Term
 term axes weight pieces = record { weight = weight; func = record { axes = axes; pieces = pieces } }
 
 one_function : problem_of (codes "ivp 1\ndomain course:0:359:360\nfunction 100\npiece 0 359 7 0\nend\n")
@@ -40,12 +40,12 @@ no_function : problem_of (codes "ivp 1\ndomain course:0:359:360\nend\n") ≡ Err
 no_function = refl
 
 -- three axes and two functions, of which the second has two pieces
-abbrev three_axes : List Axis
+abbrev pub three_axes : List Axis
 three_axes =
     record { name = codes "a"; low = pos 0; high = pos 2000; points = 3 } ∷ record { name = codes "b"; low = pos 0; high = pos 1000; points = 2 }
     ∷ record { name = codes "d"; low = pos 0; high = pos 1000; points = 2 } ∷ []
 
-abbrev on_three : ℕ → ℕ → ℤ → ℤ → ℤ → Piece
+abbrev pub on_three : ℕ → ℕ → ℤ → ℤ → ℤ → Piece
 on_three low high base slope second =
     record {
       area = record { low = low ∷ 0 ∷ 0 ∷ 0 ∷ []; high = high ∷ 1 ∷ 1 ∷ 0 ∷ [] };

@@ -3,3 +3,7 @@ pub mod Words
 pub mod Making
 pub mod Pieces
 pub mod Problems
+pub mod Certificates
+pub mod Walks
+pub mod Decisions
+pub mod Texts

@@ -125,10 +125,14 @@ abbrev pub after_words : ℕ → Stage → List (List ℕ) → Result Stage Read
 after_words line stage [] = Ok stage
 after_words line stage (word ∷ words) = after_word line stage word words
 
--- the lines from here on, where so many were read
+-- What the lines come to from here on, where so many were read. One line more is taken by its number and its words.
+abbrev pub read_from : {S : Type 0} → (ℕ → S → List (List ℕ) → Result S ReadFault) → ℕ → S → List (List ℕ) → Result S ReadFault
+read_from after lines state [] = Ok state
+read_from after lines state (raw ∷ raws) = and_then (λ next. read_from after (suc lines) next raws) (after (suc lines) state (line_words raw))
+
+-- the lines from here on
 abbrev pub stage_from : ℕ → Stage → List (List ℕ) → Result Stage ReadFault
-stage_from lines stage [] = Ok stage
-stage_from lines stage (raw ∷ raws) = and_then (λ next. stage_from (suc lines) next raws) (after_words (suc lines) stage (line_words raw))
+stage_from lines stage raws = read_from after_words lines stage raws
 
 -- the problem, where the lines come to `end`; else they end too early, which the last line is refused for
 abbrev pub whole_problem : ℕ → Stage → Result WeightedSum ReadFault

@@ -6,11 +6,24 @@
 //! Reading order: `words`, `piece`, `terms`, `unfinished`, `stage`, `read`.
 #![tactic(auto)]
 
+mod accept;
+mod cert;
+mod claim;
+mod cutting;
+mod path;
+mod phase;
 mod piece;
+mod print;
 mod read;
 mod stage;
 mod terms;
 mod unfinished;
 mod words;
 
-pub use read::read_problem;
+pub use accept::accepts;
+pub use cert::{Cert, Line};
+pub use claim::{Claim, Decision};
+pub use cutting::cut;
+pub use path::Path;
+pub use print::print_decision;
+pub use read::{read_decision, read_problem};

@@ -1,4 +1,6 @@
 use Rattle.std.proofs.Common.{arith}
+use Rattle.ivp_cert.specs.declared.stage.Stage.TheVariants.{Start}
+use Rattle.ivp_cert.specs.Problems.{after_words}
 use Rattle.ivp_cert.proofs.Reading.{IsNext, one_read}
 use Rattle.ivp_cert.proofs.read.read_problem.Goals as goal
 
@@ -6,5 +8,5 @@ pub loop-line-preserved : goal.loop-line-preserved
 loop-line-preserved c =
     let next : IsNext c.loop-line.left.now c.in-Some.line.now c.in-Some.rest.now =
     record { text = c.in-Some.ensures.line; lines = c.in-Some.ensures.lines; shorter = omega (arith, c.in-Some.ensures.shorter) } in
-    one_read c.args.bytes.now c.loop-line.lines c.loop-line.stage c.in_ok-stage.stage c.loop-line.left.now c.in-Some.line.now c.in-Some.rest.now c.loop-line.invariant
+    one_read after_words Start c.args.bytes.now c.loop-line.lines c.loop-line.stage c.in_ok-stage.stage c.loop-line.left.now c.in-Some.line.now c.in-Some.rest.now c.loop-line.invariant
     next c.in_ok-stage.ensures.read

@@ -1,0 +1,64 @@
+-- Certificates and decisions worked by hand.
+use Rattle.std.proofs.Common.{◌≡◌, ◌≤◌, ℕ, zero, suc, Some, List, [], ◌∷◌, ◌++◌, refl, arith}
+use Rattle.std.specs.Prelude.{codes, Ok, Err, ℤ, pos, slice_get}
+use Rattle.ivp_domain.specs.Boxes.{point_of}
+use Rattle.ivp_problem.specs.Keys.{key_of}
+use Rattle.ivp_problem.specs.Problems.{WeightedSum}
+use Rattle.ivp_problem.specs.Sums.{best_of, key_at}
+use Rattle.ivp_problem.specs.Trees.{root_of}
+use Rattle.moos_text.specs.declared.cause.Cause.TheVariants.{P1, P9, P10}
+use Rattle.moos_text.specs.declared.cause.ReadFault.TheVariants.{At}
+use Rattle.ivp_cert.specs.declared.cert.Line.{Line}
+use Rattle.ivp_cert.specs.declared.claim.Claim.{Claim}
+use Rattle.ivp_cert.specs.declared.claim.Decision.{Decision}
+use Rattle.ivp_cert.specs.Certificates.{certificate_of, topmost}
+use Rattle.ivp_cert.specs.Decisions.{decision_of}
+use Rattle.ivp_cert.specs.Texts.{decision_lines}
+use Rattle.ivp_cert.specs.Walks.{behind_node}
+use Rattle.ivp_cert.proofs.Examples.{course, on_course, on_three, term, three_axes}
+
+-- the problem of three axes and two functions
+abbrev three : WeightedSum
+three =
+    record {
+      axes = three_axes;
+      terms =
+          term three_axes 2 (on_three 0 2 (pos 0) (pos 10) (pos 0) ∷ [])
+          ∷ term three_axes 3 (on_three 0 0 (pos 20) (pos 0) (pos 5) ∷ on_three 1 2 (pos 0) (pos 0) (pos 5) ∷ []) ∷ [];
+    }
+
+best_is : best_of three ≡ point_of 0 1 0 0
+best_is = refl
+
+abbrev lines : List Line
+lines = record { path = 0 ∷ 0 ∷ []; sum = 75; index = 2 } ∷ record { path = 0 ∷ 1 ∷ []; sum = 55; index = 10 } ∷ []
+
+certificate_is : certificate_of three ≡ lines
+certificate_is = refl
+
+is_covered : behind_node three (key_of 75 2) three.terms [] (root_of three) lines ≡ Some []
+is_covered = refl
+
+abbrev problem_bytes : List ℕ
+problem_bytes = codes "ivp 1\ndomain a:0:2:3\ndomain b:0:1:2\ndomain d:0:1:2\nfunction 2\npiece 0 2 0 1 0 1 0 10 0 0\nfunction 3\npiece 0 0 0 1 0 1 20 0 5 0\npiece 1 2 0 1 0 1 0 0 5 0\nend\n"
+
+abbrev decision : Decision
+decision = record { problem = three; claim = record { point = point_of 0 1 0 0; sum = 75 }; cert = lines }
+
+decision_is : decision_of (problem_bytes ++ codes "decision 0 1 0 75\ncut 0 0 : 75 2\ncut 0 1 : 55 10\ndone\n") ≡ Ok decision
+decision_is = refl
+
+ends_early : decision_of (problem_bytes ++ codes "decision 0 1 0 75\ncut 0 0 : 75 2\ncut 0 1 : 55 10\n") ≡ Err (At 13 P9)
+ends_early = refl
+
+out_of_the_domain : decision_of (problem_bytes ++ codes "decision 0 2 0 75\n") ≡ Err (At 11 P10)
+out_of_the_domain = refl
+
+no_sum : decision_of (problem_bytes ++ codes "decision\n") ≡ Err (At 11 P1)
+no_sum = refl
+
+no_place : decision_of (problem_bytes ++ codes "decision 75\n") ≡ Err (At 11 P10)
+no_place = refl
+
+form_before_point : decision_of (problem_bytes ++ codes "decision 9 9 9 9 x\n") ≡ Err (At 11 P1)
+form_before_point = refl

@@ -1,0 +1,106 @@
+-- Paths compared number by number, lists of lines that rise, and counts of lines.
+use Rattle.std.proofs.Common.{◌≡◌, ℕ, zero, suc, ◌+◌, ◌<◌, ◌≤◌, Bool, true, false, cond, ◌&&◌, ◌||◌, ◌==◌, nat_lt, List, [], ◌∷◌, ◌++◌, refl, sym, ap, ◌∙◌, arith}
+use Rattle.std.specs.Prelude.{count_by}
+use Rattle.std.specs.List.{list_all}
+use Rattle.std.proofs.lemmas.Bool.{and_from, and_parts}
+use Rattle.std.proofs.lemmas.Bool.Decides.{nat_tests}
+use Rattle.std.proofs.lemmas.List.Sums.{sum_by-append, sum_by-cons}
+use Rattle.ivp_func.proofs.Counting.{one_if}
+use Rattle.ivp_cert.specs.declared.cert.Line.{Line}
+use Rattle.ivp_cert.specs.Certificates.{begins, is_before, Rise}
+
+-- each of a list
+abbrev pub Each : {X : Type 0} → (X → Type 0) → List X → Type 0
+Each P [] = Unit {0}
+Each P (x ∷ xs) = P x × Each P xs
+
+pub each_append : {X : Type 0} (P : X → Type 0) (xs ys : List X) → Each P xs → Each P ys → Each P (xs ++ ys)
+each_append P [] ys h k = k
+each_append P (x ∷ xs) ys h k = (h.0, each_append P xs ys h.1 k)
+
+pub each_weaker : {X : Type 0} (P Q : X → Type 0) → ((x : X) → P x → Q x) → (xs : List X) → Each P xs → Each Q xs
+each_weaker P Q weaker [] h = tt
+each_weaker P Q weaker (x ∷ xs) h = (weaker x h.0, each_weaker P Q weaker xs h.1)
+
+pub each_true : {X : Type 0} (p : X → Bool) (xs : List X) → list_all p xs ≡ true → Each (λ x. p x ≡ true) xs
+each_true p [] h = tt
+each_true p (x ∷ xs) h = let both = and_parts (p x) (list_all p xs) h in (both.0, each_true p xs both.1)
+
+pub true_each : {X : Type 0} (p : X → Bool) (xs : List X) → Each (λ x. p x ≡ true) xs → list_all p xs ≡ true
+true_each p [] h = refl
+true_each p (x ∷ xs) h = and_from (p x) (list_all p xs) h.0 (true_each p xs h.1)
+
+-- tests on numbers
+same : (n : ℕ) → (n == n) ≡ true
+same n = grind (arith, nat_tests)
+
+not_less : (n : ℕ) → nat_lt n n ≡ false
+not_less n = grind (arith, nat_tests)
+
+differs : (a b : ℕ) → (a ≡ b → ⊥) → (a == b) ≡ false
+differs a b h = grind (arith, nat_tests)
+
+-- what two paths begin with in common doesn't count
+pub begins_append : (path a b : List ℕ) → begins (path ++ a) (path ++ b) ≡ begins a b
+begins_append [] a b = refl
+begins_append (n ∷ path) a b = rw (same n) (begins_append path a b)
+
+pub before_append : (path a b : List ℕ) → is_before (path ++ a) (path ++ b) ≡ is_before a b
+before_append [] a b = refl
+before_append (n ∷ path) a b = rw (not_less n, same n) (before_append path a b)
+
+-- paths that part at a number
+pub parted : (path a b : List ℕ) (m n : ℕ) → (m ≡ n → ⊥) → begins (path ++ m ∷ a) (path ++ n ∷ b) ≡ false
+parted path a b m n h = begins_append path (m ∷ a) (n ∷ b) ∙ rw (differs m n h) refl
+
+pub less_before : (path a b : List ℕ) (m n : ℕ) → m < n → is_before (path ++ m ∷ a) (path ++ n ∷ b) ≡ true
+less_before path a b m n h = let less : nat_lt m n ≡ true = grind (arith, nat_tests) in before_append path (m ∷ a) (n ∷ b) ∙ rw less refl
+
+pub before_less : (path a b : List ℕ) (m n : ℕ) → is_before (path ++ m ∷ a) (path ++ n ∷ b) ≡ true → m ≤ n
+before_less path a b m n h = by (nat_lt m n) (m == n) refl refl (sym (before_append path (m ∷ a) (n ∷ b)) ∙ h)
+  where
+    by : (s t : Bool) → nat_lt m n ≡ s → (m == n) ≡ t → (s || (t && is_before a b)) ≡ true → m ≤ n
+    by true t e e' h = grind (arith, nat_tests)
+    by false true e e' h = grind (arith, nat_tests)
+    by false false e e' h = absurd (cc)
+
+-- lists of lines that rise, one behind the other
+abbrev pub StandsBefore : List Line → Line → Type 0
+StandsBefore lines line = Each (λ (later : Line). is_before line.path later.path ≡ true) lines
+
+pub rise_append : (xs ys : List Line) → Rise xs → Rise ys → Each (StandsBefore ys) xs → Rise (xs ++ ys)
+rise_append [] ys h k cross = k
+rise_append (x ∷ xs) ys h k cross = (
+  true_each (λ (later : Line). is_before x.path later.path) (xs ++ ys) (each_append (λ (later : Line). is_before x.path later.path ≡ true) xs ys (each_true (λ (later : Line). is_before x.path later.path) xs h.0) cross.0),
+  rise_append xs ys h.1 k cross.1,
+)
+
+pub rise_parts : (xs ys : List Line) → Rise (xs ++ ys) → Rise xs × Rise ys
+rise_parts [] ys h = (tt, h)
+rise_parts (x ∷ xs) ys h =
+    let more = rise_parts xs ys h.1 in
+    ((true_each (λ (later : Line). is_before x.path later.path) xs (first xs (each_true (λ (later : Line). is_before x.path later.path) (xs ++ ys) h.0)), more.0), more.1)
+  where
+    first : (zs : List Line) → StandsBefore (zs ++ ys) x → StandsBefore zs x
+    first [] h = tt
+    first (z ∷ zs) h = (h.0, first zs h.1)
+
+-- how many lines have a path that begins this one
+abbrev pub beginning : List ℕ → List Line → ℕ
+beginning path lines = count_by (λ (line : Line). begins line.path path) lines
+
+abbrev count_of : List ℕ → Line → ℕ
+count_of path line = one_if (begins line.path path)
+
+pub beginning_append : (path : List ℕ) (xs ys : List Line) → beginning path (xs ++ ys) ≡ beginning path xs + beginning path ys
+beginning_append path xs ys = sum_by-append (count_of path) xs ys
+
+pub beginning_cons : (path : List ℕ) (x : Line) (xs : List Line) → beginning path (x ∷ xs) ≡ one_if (begins x.path path) + beginning path xs
+beginning_cons path x xs = sum_by-cons (count_of path) x xs
+
+pub beginning_none : (path : List ℕ) (xs : List Line) → Each (λ (line : Line). begins line.path path ≡ false) xs → beginning path xs ≡ 0
+beginning_none path [] h = refl
+beginning_none path (x ∷ xs) h = let no = ap one_if h.0 in omega (arith, beginning_cons path x xs, beginning_none path xs h.1)
+
+pub beginning_one : (path : List ℕ) (x : Line) → begins x.path path ≡ true → beginning path (x ∷ []) ≡ 1
+beginning_one path x h = let yes = ap one_if h in omega (arith, beginning_cons path x [])
