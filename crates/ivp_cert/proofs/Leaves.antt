@@ -3,7 +3,6 @@ use Rattle.std.proofs.Common.{◌≡◌, ℕ, zero, suc, ◌+◌, ◌<◌, ◌�
 use Rattle.std.specs.Prelude.{slice_get}
 use Rattle.std.specs.List.{flat_map}
 use Rattle.std.specs.Option.{option_and_then, option_to_list}
-use Rattle.std.proofs.lemmas.List.Folds.{list_any-append}
 use Rattle.std.proofs.lemmas.Option.{option_and_then_some}
 use Rattle.ivp_domain.specs.declared.boxes.Point.{Point}
 use Rattle.ivp_domain.specs.Boxes.{has_point, numbers_from}
@@ -85,24 +84,21 @@ pub record HasChild (problem : WeightedSum) (node : Node) (p : Point) : Type 0 w
   pub is : child_of problem node number ≡ Some child
   pub inside : has_point child.area p ≡ true
 
-one_of : (problem : WeightedSum) (node : Node) (p : Point) (numbers : List ℕ) → has_in (flat_map (λ number. option_to_list (child_of problem node number)) numbers) p ≡ true → HasChild problem node p
-one_of problem node p [] h = absurd (cc)
-one_of problem node p (number ∷ numbers) h = by (child_of problem node number) refl (sym (list_any-append (λ (n : Node). has_point n.area p) (option_to_list (child_of problem node number)) others) ∙ h)
+-- none of these nodes, or one of the others
+abbrev HasIn : List Node → Point → Type 0
+HasIn nodes p = has_in nodes p ≡ true
+
+one_or : (problem : WeightedSum) (node : Node) (p : Point) (number : ℕ) (o : Option Node) (others : List Node) → child_of problem node number ≡ o → HasIn (option_to_list o ++ others) p → (HasIn others p → HasChild problem node p) → HasChild problem node p
+one_or problem node p number None others e h more = more h
+one_or problem node p number (Some child) others e h more = by (has_point child.area p) refl h
   where
-    others : List Node
-    others = flat_map (λ k. option_to_list (child_of problem node k)) numbers
+    by : (t : Bool) → has_point child.area p ≡ t → (t || has_in others p) ≡ true → HasChild problem node p
+    by true e' h = record { number = number; child = child; is = e; inside = e' }
+    by false e' h = more h
 
-    or_false : (t : Bool) → (t || false) ≡ t
-    or_false true = refl
-    or_false false = refl
-
-    by : (o : Option Node) → child_of problem node number ≡ o → (has_in (option_to_list o) p || has_in others p) ≡ true → HasChild problem node p
-    by None e h = one_of problem node p numbers h
-    by (Some child) e h = here (has_point child.area p) refl (sym (ap (λ t. t || has_in others p) (or_false (has_point child.area p))) ∙ h)
-      where
-        here : (t : Bool) → has_point child.area p ≡ t → (t || has_in others p) ≡ true → HasChild problem node p
-        here true e' h = record { number = number; child = child; is = e; inside = e' }
-        here false e' h = one_of problem node p numbers h
+one_of : (problem : WeightedSum) (node : Node) (p : Point) (numbers : List ℕ) → HasIn (flat_map (λ number. option_to_list (child_of problem node number)) numbers) p → HasChild problem node p
+one_of problem node p [] h = absurd (cc)
+one_of problem node p (number ∷ numbers) h = one_or problem node p number (child_of problem node number) (flat_map (λ k. option_to_list (child_of problem node k)) numbers) refl h (one_of problem node p numbers)
 
 has_child : (problem : WeightedSum) (term : Term) (node : Node) (p : Point) → IsProblem problem → IsNode problem node → slice_get problem.terms node.depth ≡ Some term → has_point node.area p ≡ true → HasChild problem node p
 has_child problem term node p h is stands inside =

@@ -1,9 +1,14 @@
-ghost use Rattle.std.specs.Prelude.{◌≡◌, IfOk};
+ghost use Rattle.std.specs.Prelude.{◌≡◌, ◌++◌, ◌∷◌, [], ◌≤◌, IfOk, OnOk, drop, length, take};
+ghost use Rattle.ivp_problem.specs.Keys.{index_of_key, sum_of};
 ghost use Rattle.ivp_problem.specs.Sums.{best_of, key_at};
-ghost use Rattle.ivp_cert.specs.Certificates.{certificate_of};
+ghost use Rattle.ivp_problem.specs.Trees.{IsNode};
+ghost use Rattle.ivp_cert.specs.Certificates.{certificate_of, topmost};
 
-use crate::cert::Cert;
-use ivp_problem::{Key, Problem};
+use crate::cert::{Cert, Line};
+use crate::path::Path;
+use crate::trail::Trail;
+use crate::tree::{bound_of, child_of};
+use ivp_problem::{Key, Node, Problem, index_of_key, sum_of};
 use moos_post::NoMemory;
 use std::alloc::{AllocError, Global};
 
@@ -13,5 +18,78 @@ pub fn cut(alloc: Global, problem: &Problem, key: Key) -> Result<Cert, NoMemory>
     requires { key ≡ key_at problem.now (best_of problem.now) }
     ensures { IfOk result (λ cert. cert ≡ certificate_of problem.now) }
 {
-    Err(AllocError)
+    let _ = problem.len();
+    let mut cert = Cert::new(alloc);
+    add_topmost(
+        alloc,
+        problem,
+        key,
+        &problem.root(),
+        &mut Trail::new(),
+        &mut cert,
+    )?;
+    Ok(cert)
+}
+
+// A path of these numbers.
+fn path_of(alloc: Global, numbers: &[u32]) -> Result<Path, NoMemory>
+    requires { length numbers.now ≤ 64 }
+    ensures { IfOk result (λ path. path ≡ numbers.now) }
+{
+    let mut path = Path::new(alloc);
+    for number in numbers {
+        if path.push(*number).is_err() {
+            return Err(AllocError);
+        }
+    }
+    Ok(path)
+}
+
+// Adds the line of a node with this bound.
+fn add_line(alloc: Global, numbers: &[u32], bound: Key, cert: &mut Cert) -> Result<(), NoMemory>
+    requires { length numbers.now ≤ 64 }
+    ensures { OnOk result (cert.new ≡ cert.old ++ record { path = numbers.now; sum = sum_of bound; index = index_of_key bound } ∷ []) }
+{
+    let path = path_of(alloc, numbers)?;
+    let line = Line {
+        path,
+        sum: sum_of(bound),
+        index: index_of_key(bound),
+    };
+    match cert.push(line) {
+        Ok(()) => Ok(()),
+        Err(_) => Err(AllocError),
+    }
+}
+
+// Adds the lines of the topmost nodes, from this node on, whose bound is at most the key.
+fn add_topmost(
+    alloc: Global,
+    problem: &Problem,
+    key: Key,
+    node: &Node,
+    trail: &mut Trail,
+    cert: &mut Cert,
+) -> Result<(), NoMemory>
+    requires node { IsNode problem.now node.now }
+    requires trail { length trail.old ≡ node.now.depth }
+    ensures lines { OnOk result (cert.new ≡ cert.old ++ topmost problem.now key (drop node.now.depth problem.now.terms) trail.old node.now) }
+    ensures trail { OnOk result (trail.new ≡ trail.old) }
+{
+    let bound = bound_of(problem, node);
+    if bound <= key {
+        add_line(alloc, trail.all(), bound, cert)?;
+        return Ok(());
+    }
+    if node.depth >= problem.len() {
+        return Ok(());
+    }
+    for piece in 0..problem.func(node.depth).len() {
+        if let Some(child) = child_of(problem, node, piece) {
+            trail.push(piece);
+            add_topmost(alloc, problem, key, &child, trail, cert)?;
+            trail.pop();
+        }
+    }
+    Ok(())
 }

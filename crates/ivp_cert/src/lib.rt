@@ -17,6 +17,8 @@ mod print;
 mod read;
 mod stage;
 mod terms;
+mod trail;
+mod tree;
 mod unfinished;
 mod words;
 
