@@ -48,17 +48,21 @@ are_on (axis ∷ axes) (place ∷ places) = nat_lt place axis.points && are_on a
 abbrev pub point_at : List ℕ → Point
 point_at places = record { at = take 4 (places ++ 0 ∷ 0 ∷ 0 ∷ 0 ∷ []) }
 
+-- a line outside its form is refused
+abbrev pub in_form : {A : Type 0} → Option A → Result A Cause
+in_form None = Err P1
+in_form (Some value) = Ok value
+
 -- the decision on a problem, which has no line yet; a point outside the domain is refused
-abbrev pub claimed : WeightedSum → Option Spelled → Result Phase Cause
-claimed problem None = Err P1
-claimed problem (Some of) =
+abbrev pub claimed : WeightedSum → Spelled → Result Phase Cause
+claimed problem of =
     if are_on problem.axes of.places
     then Ok (OfCuts (record { problem = problem; claim = record { point = point_at of.places; sum = of.sum }; cert = [] }))
     else Err P10
 
 -- behind the problem stands what was decided
 abbrev pub after_problem : WeightedSum → List ℕ → List (List ℕ) → Result Phase Cause
-after_problem problem word words = if bytes_eq word (codes "decision") then claimed problem (spelled [] words) else Err P1
+after_problem problem word words = if bytes_eq word (codes "decision") then and_then (claimed problem) (in_form (spelled [] words)) else Err P1
 
 -- a line of the certificate
 abbrev pub line_with : List ℕ → Option ℕ → Option ℕ → Option Line
@@ -82,9 +86,8 @@ line_from path (word ∷ words) =
     else None
 
 -- one line more
-abbrev pub with_line : Decision → Option Line → Result Phase Cause
-with_line decision None = Err P1
-with_line decision (Some line) = Ok (OfCuts (record decision { cert = decision.cert ++ line ∷ [] }))
+abbrev pub with_line : Decision → Line → Phase
+with_line decision line = OfCuts (record decision { cert = decision.cert ++ line ∷ [] })
 
 -- no word stands behind `done`
 abbrev pub with_done : Decision → List (List ℕ) → Result Phase Cause
@@ -94,7 +97,7 @@ with_done decision (word ∷ words) = Err P1
 -- in a certificate stands one line more, or its end
 abbrev pub after_cuts : Decision → List ℕ → List (List ℕ) → Result Phase Cause
 after_cuts decision word words =
-    if bytes_eq word (codes "cut") then with_line decision (line_from [] words)
+    if bytes_eq word (codes "cut") then and_then (λ line. Ok (with_line decision line)) (in_form (line_from [] words))
     else if bytes_eq word (codes "done") then with_done decision words
     else Err P1
 

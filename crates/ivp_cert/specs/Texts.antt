@@ -1,5 +1,6 @@
 -- The text of a decision: the lines of its problem, its point and sum, and the lines of its certificate.
-use Rattle.std.specs.Prelude.{ℕ, suc, ◌*◌, ℤ, pos, negsuc, List, [], ◌∷◌, ◌++◌, flat_map, length, take, slice_index, codes, decimal}
+use Rattle.std.specs.Prelude.{ℕ, ◌*◌, ℤ, List, [], ◌∷◌, ◌++◌, flat_map, length, take, slice_index, codes, decimal}
+use Rattle.std.specs.Fmt.{signed_decimal}
 use Rattle.std.specs.List.{concat}
 use Rattle.moos_text.specs.Numbers.{milli_text}
 use Rattle.ivp_domain.specs.declared.axis.Axis.{Axis}
@@ -11,17 +12,13 @@ use Rattle.ivp_cert.specs.declared.cert.Line.{Line}
 use Rattle.ivp_cert.specs.declared.claim.Claim.{Claim}
 use Rattle.ivp_cert.specs.declared.claim.Decision.{Decision}
 
--- a number, with `-` in front where it is below zero
-abbrev pub integer_text : ℤ → List ℕ
-integer_text (pos n) = decimal n
-integer_text (negsuc n) = codes "-" ++ decimal (suc n)
-
 -- a number behind a blank
 abbrev pub number_word : ℕ → List ℕ
 number_word number = concat (codes " " ∷ decimal number ∷ [])
 
+-- a number behind a blank, with `-` in front where it is below zero
 abbrev pub integer_word : ℤ → List ℕ
-integer_word number = concat (codes " " ∷ integer_text number ∷ [])
+integer_word number = concat (codes " " ∷ signed_decimal number ∷ [])
 
 -- `domain NAME:LOW:HIGH:POINTS`
 abbrev pub axis_text : List ℕ → Axis → List ℕ
@@ -56,7 +53,7 @@ problem_text prefix problem =
 -- `decision`, then the place on each of so many axes, and the sum
 abbrev pub claim_text : List ℕ → ℕ → Claim → List ℕ
 claim_text prefix axes claim =
-    concat (prefix ∷ codes "decision" ∷ []) ++ (flat_map number_word (take axes claim.point.at) ++ (number_word claim.sum ++ codes "\n"))
+    concat (prefix ∷ codes "decision" ∷ []) ++ (flat_map number_word (take axes claim.point.at) ++ concat (codes " " ∷ decimal claim.sum ∷ codes "\n" ∷ []))
 
 -- `cut`, then the path, `:`, and the sum and the index of the bound
 abbrev pub line_text : List ℕ → Line → List ℕ

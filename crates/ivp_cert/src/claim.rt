@@ -1,6 +1,17 @@
+ghost use Rattle.std.specs.Prelude.{◌≡◌, ◌≤◌, [], length, Some, Ok, IfOk, IfErr};
+ghost use Rattle.moos_text.specs.Lines.{words_of};
+ghost use Rattle.moos_text.specs.Refusals.{IsLineFault};
+ghost use Rattle.ivp_cert.specs.Decisions.{are_on, in_form, point_at, spelled, spelled_with, sum_word};
+
 use crate::cert::Cert;
-use ivp_domain::Point;
+use crate::words::{natural_of, place_of};
+use ivp_domain::{Axis, Point};
 use ivp_problem::Problem;
+use moos_text::{Cause, LineFault, next_word};
+use std::alloc::Global;
+
+/// The greatest sum.
+const MOST_SUM: u64 = 64_000_000_000;
 
 /// What is claimed of a problem: that this point is its best, and this sum is the one there.
 #[derive(Clone, Copy, Debug, PartialEq, Eq)]
@@ -15,4 +26,68 @@ pub struct Decision {
     pub problem: Problem,
     pub claim: Claim,
     pub cert: Cert,
+}
+
+/// The numbers of a `decision` line: places, and then a sum.
+#[derive(Debug, Drop)]
+pub struct Spelled {
+    pub places: Vec<u32>,
+    pub sum: u64,
+}
+
+/// The sum that digits spell.
+pub fn sum_word(word: &[u8]) -> Option<u64>
+    ensures { result ≡ sum_word word.now }
+{
+    natural_of(word, MOST_SUM)
+}
+
+/// The places and the sum that the words of a text spell: the last word is the sum.
+pub fn spelled_in(alloc: Global, text: &[u8]) -> Result<Spelled, LineFault>
+    ensures read { IfOk result (λ of. spelled [] (words_of text.now) ≡ Some (spelled_with of.places.items of.sum)) }
+    ensures refused { IfErr result (λ fault. IsLineFault fault (in_form (spelled [] (words_of text.now)))) }
+{
+    let Some((mut word, mut left)) = next_word(text) else {
+        return Err(LineFault::Refused(Cause::P1));
+    };
+    let mut places = Vec::new(alloc);
+    while let Some((next, rest)) = next_word(left) {
+        let Some(place) = place_of(word) else {
+            return Err(LineFault::Refused(Cause::P1));
+        };
+        if places.push(place).is_err() {
+            return Err(LineFault::NoMemory);
+        }
+        word = next;
+        left = rest;
+    }
+    match sum_word(word) {
+        Some(sum) => Ok(Spelled { places, sum }),
+        None => Err(LineFault::Refused(Cause::P1)),
+    }
+}
+
+/// There is one place for each axis, below its number of points.
+pub fn are_on(axes: &[Axis], places: &[u32]) -> bool
+    ensures { result ≡ are_on axes.now places.now }
+{
+    if axes.len() != places.len() {
+        return false;
+    }
+    for (k, axis) in axes.iter().enumerate() {
+        if places[k] >= axis.points {
+            return false;
+        }
+    }
+    true
+}
+
+/// The point at these places, with 0 past the last axis.
+pub fn point_at(places: &[u32]) -> Point
+    requires { length places.now ≤ 4 }
+    ensures { result ≡ point_at places.now }
+{
+    let mut at = [0; 4];
+    at[..places.len()].copy_from_slice(places);
+    Point { at }
 }

@@ -1,5 +1,17 @@
-use crate::claim::Decision;
+ghost use Rattle.std.specs.Prelude.{◌≡◌, Ok, IfOk, IfErr};
+ghost use Rattle.moos_text.specs.Lines.{trimmed, words_of};
+ghost use Rattle.moos_text.specs.Refusals.{IsFirst, IsLineFault};
+ghost use Rattle.ivp_cert.specs.Decisions.{after_cuts, after_first, after_problem, after_stage, claimed, phase_after, spelled_with, whole_decision, with_done};
+ghost use Rattle.ivp_cert.specs.Words.{without_prefix};
+
+use crate::cert::Cert;
+use crate::claim::{Claim, Decision, Spelled, are_on, point_at, spelled_in};
+use crate::line::line_of;
 use crate::stage::Stage;
+use crate::words::content_of;
+use ivp_problem::Problem;
+use moos_text::{Cause, LineFault, ReadFault, next_word};
+use std::alloc::Global;
 
 /// How far the lines of a decision have come.
 #[derive(Debug, Drop)]
@@ -10,4 +22,147 @@ pub enum Phase {
     OfCuts(Decision),
     /// All lines up to `done`.
     Done(Decision),
+}
+
+impl Phase {
+    /// The phase after one line more, which has this number and is given without its end; or its first refusal.
+    pub fn after_line(self, alloc: Global, number: u32, line: &[u8]) -> Result<Phase, ReadFault>
+        ensures read { IfOk result (λ phase. phase_after number self (words_of (without_prefix (trimmed line.now))) ≡ Ok phase) }
+        ensures refused { IfErr result (λ fault. IsFirst fault (phase_after number self (words_of (without_prefix (trimmed line.now))))) }
+    {
+        match next_word(content_of(line)) {
+            None => Ok(self),
+            Some((word, rest)) => self.after_word(alloc, number, word, rest),
+        }
+    }
+
+    // The same by the line's first word and what stands behind it.
+    fn after_word(
+        self,
+        alloc: Global,
+        number: u32,
+        word: &[u8],
+        rest: &[u8],
+    ) -> Result<Phase, ReadFault>
+        ensures read { IfOk result (λ phase. after_first number self word.now (words_of rest.now) ≡ Ok phase) }
+        ensures refused { IfErr result (λ fault. IsFirst fault (after_first number self word.now (words_of rest.now))) }
+    {
+        match self {
+            Phase::OfProblem(stage) => after_stage(alloc, stage, number, word, rest),
+            Phase::OfCuts(decision) => match after_cuts(alloc, decision, word, rest) {
+                Ok(phase) => Ok(phase),
+                Err(fault) => Err(fault.at(number)),
+            },
+            Phase::Done(_) => Err(ReadFault::At {
+                line: number,
+                cause: Cause::P1,
+            }),
+        }
+    }
+
+    /// The decision, where the lines come to `done`; else the last line is refused.
+    pub fn whole_decision(self, last: u32) -> Result<Decision, ReadFault>
+        ensures { result ≡ whole_decision last self }
+    {
+        match self {
+            Phase::Done(decision) => Ok(decision),
+            Phase::OfProblem(_) | Phase::OfCuts(_) => Err(ReadFault::At {
+                line: last,
+                cause: Cause::P9,
+            }),
+        }
+    }
+}
+
+// In a problem stands one line more of it, and behind its end what was decided.
+fn after_stage(
+    alloc: Global,
+    stage: Stage,
+    number: u32,
+    word: &[u8],
+    rest: &[u8],
+) -> Result<Phase, ReadFault>
+    ensures read { IfOk result (λ phase. after_stage number stage word.now (words_of rest.now) ≡ Ok phase) }
+    ensures refused { IfErr result (λ fault. IsFirst fault (after_stage number stage word.now (words_of rest.now))) }
+{
+    match stage {
+        Stage::Ended(problem) => match after_problem(alloc, problem, word, rest) {
+            Ok(phase) => Ok(phase),
+            Err(fault) => Err(fault.at(number)),
+        },
+        stage => match stage.after_word(alloc, number, word, rest) {
+            Ok(stage) => Ok(Phase::OfProblem(stage)),
+            Err(fault) => Err(fault),
+        },
+    }
+}
+
+// Behind the problem stands what was decided.
+fn after_problem(
+    alloc: Global,
+    problem: Problem,
+    word: &[u8],
+    rest: &[u8],
+) -> Result<Phase, LineFault>
+    ensures read { IfOk result (λ phase. after_problem problem word.now (words_of rest.now) ≡ Ok phase) }
+    ensures refused { IfErr result (λ fault. IsLineFault fault (after_problem problem word.now (words_of rest.now))) }
+{
+    if word != b"decision".as_slice() {
+        return Err(LineFault::Refused(Cause::P1));
+    }
+    let spelled = spelled_in(alloc, rest)?;
+    match claimed(alloc, problem, &spelled) {
+        Ok(phase) => Ok(phase),
+        Err(cause) => Err(LineFault::Refused(cause)),
+    }
+}
+
+// The decision on a problem, which has no line yet; a point outside the domain is refused.
+fn claimed(alloc: Global, problem: Problem, of: &Spelled) -> Result<Phase, Cause>
+    ensures { result ≡ claimed problem (spelled_with of.now.places.items of.now.sum) }
+{
+    if !are_on(problem.domain().all(), &of.places) {
+        return Err(Cause::P10);
+    }
+    let claim = Claim {
+        point: point_at(&of.places),
+        sum: of.sum,
+    };
+    Ok(Phase::OfCuts(Decision {
+        problem,
+        claim,
+        cert: Cert::new(alloc),
+    }))
+}
+
+// In a certificate stands one line more, or its end.
+fn after_cuts(
+    alloc: Global,
+    decision: Decision,
+    word: &[u8],
+    rest: &[u8],
+) -> Result<Phase, LineFault>
+    ensures read { IfOk result (λ phase. after_cuts decision word.now (words_of rest.now) ≡ Ok phase) }
+    ensures refused { IfErr result (λ fault. IsLineFault fault (after_cuts decision word.now (words_of rest.now))) }
+{
+    if word == b"cut".as_slice() {
+        let line = line_of(alloc, rest)?;
+        let Decision {
+            problem,
+            claim,
+            mut cert,
+        } = decision;
+        if cert.push(line).is_err() {
+            return Err(LineFault::NoMemory);
+        }
+        return Ok(Phase::OfCuts(Decision {
+            problem,
+            claim,
+            cert,
+        }));
+    }
+    if word != b"done".as_slice() || next_word(rest).is_some() {
+        return Err(LineFault::Refused(Cause::P1));
+    }
+    Ok(Phase::Done(decision))
 }

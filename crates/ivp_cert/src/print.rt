@@ -1,9 +1,15 @@
-ghost use Rattle.std.specs.Prelude.{◌≡◌, ◌≤◌, OnOk, OnErr};
+// The text of a decision.
+ghost use Rattle.std.specs.Prelude.{◌≡◌, ◌≤◌, ◌++◌, [], ◌∷◌, flat_map, map, take, length, codes, decimal, OnOk, OnErr};
+ghost use Rattle.std.specs.List.{concat};
 ghost use Rattle.moos_io.specs.Faults.{Rose};
 ghost use Rattle.moos_io.specs.Pieces.{Took, TookFront};
-ghost use Rattle.ivp_cert.specs.Texts.{decision_lines};
+ghost use Rattle.moos_io.specs.Writing.{way, Wrote};
+ghost use Rattle.ivp_cert.specs.Texts.{claim_text, decision_lines, line_text, number_word, problem_text};
 
-use crate::claim::Decision;
+use crate::cert::{Cert, Line};
+use crate::claim::{Claim, Decision};
+use crate::put::{put, put_numbers};
+use crate::put_problem::put_problem;
 use moos_io::{Buffer, Failed, Sink};
 
 /// Writes a decision, each line behind the prefix. Where the sink fails, it took a front of the text, not the whole.
@@ -17,5 +23,108 @@ pub fn print_decision<K: Sink>(
     ensures later { K.faults out.old ≤ K.faults out.new }
     ensures rose { OnErr result (Rose (K.faults out.old) (K.faults out.new)) }
 {
+    let mut buffer = Buffer::new();
+    if let Err(failed) = put_decision(prefix, decision, &mut buffer, out) {
+        return Err(failed);
+    }
+    if let Err(failed) = buffer.flush(out) {
+        return Err(failed);
+    }
     Ok(())
+}
+
+fn put_decision<K: Sink>(
+    prefix: &[u8],
+    decision: &Decision,
+    buffer: &mut Buffer,
+    out: &mut K,
+) -> Result<(), Failed>
+    ensures { Wrote (way (K.taken out.old) buffer.old (K.faults out.old)) (way (K.taken out.new) buffer.new (K.faults out.new))
+        result (decision_lines prefix.now decision.now) }
+{
+    let axes = decision.problem.domain().axes();
+    if let Err(failed) = put_problem(prefix, &decision.problem, buffer, out) {
+        return Err(failed);
+    }
+    if let Err(failed) = put_claim(prefix, axes, &decision.claim, buffer, out) {
+        return Err(failed);
+    }
+    if let Err(failed) = put_cert(prefix, &decision.cert, buffer, out) {
+        return Err(failed);
+    }
+    put(&[prefix, b"done\n"], buffer, out)
+}
+
+fn put_sum<K: Sink>(sum: u64, buffer: &mut Buffer, out: &mut K) -> Result<(), Failed>
+    ensures { Wrote (way (K.taken out.old) buffer.old (K.faults out.old)) (way (K.taken out.new) buffer.new (K.faults out.new))
+        result (concat (codes " " ∷ decimal sum ∷ codes "\n" ∷ [])) }
+{
+    let mut digits = itoa::Buffer::new();
+    let sum = digits.format(sum).as_bytes();
+    put(&[b" ", sum, b"\n"], buffer, out)
+}
+
+fn put_bound<K: Sink>(sum: u64, index: u32, buffer: &mut Buffer, out: &mut K) -> Result<(), Failed>
+    ensures { Wrote (way (K.taken out.old) buffer.old (K.faults out.old)) (way (K.taken out.new) buffer.new (K.faults out.new))
+        result (concat (codes " : " ∷ decimal sum ∷ codes " " ∷ decimal index ∷ codes "\n" ∷ [])) }
+{
+    let (mut sums, mut indices) = (itoa::Buffer::new(), itoa::Buffer::new());
+    let sum = sums.format(sum).as_bytes();
+    let index = indices.format(index).as_bytes();
+    put(&[b" : ", sum, b" ", index, b"\n"], buffer, out)
+}
+
+fn put_claim<K: Sink>(
+    prefix: &[u8],
+    axes: u32,
+    claim: &Claim,
+    buffer: &mut Buffer,
+    out: &mut K,
+) -> Result<(), Failed>
+    requires { axes ≤ 4 }
+    ensures { Wrote (way (K.taken out.old) buffer.old (K.faults out.old)) (way (K.taken out.new) buffer.new (K.faults out.new))
+        result (claim_text prefix.now axes claim.now) }
+{
+    if let Err(failed) = put(&[prefix, b"decision"], buffer, out) {
+        return Err(failed);
+    }
+    if let Err(failed) = put_numbers(&claim.point.at[..axes as usize], buffer, out) {
+        return Err(failed);
+    }
+    put_sum(claim.sum, buffer, out)
+}
+
+fn put_cert<K: Sink>(
+    prefix: &[u8],
+    cert: &Cert,
+    buffer: &mut Buffer,
+    out: &mut K,
+) -> Result<(), Failed>
+    ensures { Wrote (way (K.taken out.old) buffer.old (K.faults out.old)) (way (K.taken out.new) buffer.new (K.faults out.new))
+        result (flat_map (line_text prefix.now) cert.now) }
+{
+    for number in 0..cert.len() {
+        if let Err(failed) = put_line(prefix, cert.get(number), buffer, out) {
+            return Err(failed);
+        }
+    }
+    Ok(())
+}
+
+fn put_line<K: Sink>(
+    prefix: &[u8],
+    line: &Line,
+    buffer: &mut Buffer,
+    out: &mut K,
+) -> Result<(), Failed>
+    ensures { Wrote (way (K.taken out.old) buffer.old (K.faults out.old)) (way (K.taken out.new) buffer.new (K.faults out.new))
+        result (line_text prefix.now line.now) }
+{
+    if let Err(failed) = put(&[prefix, b"cut"], buffer, out) {
+        return Err(failed);
+    }
+    if let Err(failed) = put_numbers(line.path.all(), buffer, out) {
+        return Err(failed);
+    }
+    put_bound(line.sum, line.index, buffer, out)
 }

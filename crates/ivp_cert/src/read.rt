@@ -1,9 +1,7 @@
 ghost use Rattle.std.specs.Prelude.{◌≡◌, ◌<◌, ◌^◌, length, Ok, IfOk, IfErr};
 ghost use Rattle.moos_text.specs.Refusals.{IsFirst};
-ghost use Rattle.ivp_cert.specs.Decisions.{decision_of};
 ghost use Rattle.ivp_cert.specs.Problems.{problem_of};
 
-use crate::claim::Decision;
 use crate::stage::Stage;
 use ivp_problem::Problem;
 use moos_text::{ReadFault, next_whole_line};
@@ -24,15 +22,6 @@ pub fn read_problem(alloc: Global, bytes: &[u8]) -> Result<Problem, ReadFault>
         left = rest;
     }
     stage.whole_problem(lines.max(1))
-}
-
-/// Reads a decision: what its bytes stand for, or its first refusal with its line and cause.
-pub fn read_decision(alloc: Global, bytes: &[u8]) -> Result<Decision, ReadFault>
-    requires { length bytes.now < 2 ^ 32 }
-    ensures read { IfOk result (λ decision. decision_of bytes.now ≡ Ok decision) }
-    ensures refused { IfErr result (λ fault. IsFirst fault (decision_of bytes.now)) }
-{
-    Err(ReadFault::NoMemory)
 }
 
 #[cfg(test)]

@@ -52,8 +52,8 @@ impl Stage {
         }
     }
 
-    // The same by the line's first word and what stands behind it.
-    fn after_word(
+    /// The same by the line's first word and what stands behind it.
+    pub fn after_word(
         self,
         alloc: Global,
         number: u32,

@@ -1,5 +1,6 @@
 -- Text on its way to a sink through a buffer: what the sink took, what the buffer holds, and what a write does to both.
-use Rattle.std.specs.Prelude.{◌≡◌, ℕ, ◌≤◌, Option, List, ◌++◌}
+use Rattle.std.specs.Prelude.{◌≡◌, ℕ, ◌≤◌, Option, List, ◌++◌, Result, OnOk, OnErr}
+use Rattle.moos_io.specs.declared.sink.Failed.{Failed}
 use Rattle.moos_io.specs.Faults.{Rose}
 use Rattle.moos_io.specs.Pieces.{Took, TookFront}
 
@@ -24,3 +25,9 @@ pub record Stopped (before after : Way) (text : List ℕ) : Type 0 where
   pub front : TookFront before.taken after.taken (before.held ++ text)
   pub later : before.faults ≤ after.faults
   pub rose : Rose before.faults after.faults
+
+-- what a function promises that writes a text through a buffer: the text went into it and on to the sink, or the sink
+-- failed on the way
+pub record Wrote (before after : Way) (result : Result (Unit {0}) Failed) (text : List ℕ) : Type 0 where
+  pub ok : OnOk result (Went before after text)
+  pub front : OnErr result (Stopped before after text)

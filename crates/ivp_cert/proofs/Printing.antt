@@ -1,0 +1,34 @@
+-- The functions of a problem are written in turn.
+use Rattle.std.proofs.Common.{◌≡◌, ℕ, ◌+◌, ◌<◌, Option, Some, None, List, flat_map, length, drop, get_or, ap, sym, subst, ◌∙◌}
+use Rattle.std.specs.Prelude.{IfSome, slice_get}
+use Rattle.std.proofs.lemmas.Option.{get_or_from_slice_get, slice_get-get_or}
+use Rattle.moos_io.specs.Writing.{Way, Went, Stopped}
+use Rattle.moos_io.proofs.Passages.{each_failed, each_on, Leads, stopped_as, went_as}
+use Rattle.ivp_func.specs.Functions.{Function}
+use Rattle.ivp_problem.specs.declared.term.Term.{Term}
+use Rattle.ivp_problem.specs.Problems.{WeightedSum}
+use Rattle.ivp_problem.proofs.Nodes.{blank_term}
+use Rattle.ivp_cert.specs.Texts.{term_text}
+
+abbrev pub term_with : ℕ → Function → Term
+term_with weight func = record { weight = weight; func = func }
+
+-- a function by its weight and its pieces, as the code finds them
+term_at : (terms : List Term) (i weight : ℕ) (func : Function) → i < length terms → IfSome (slice_get terms i) (λ term. weight ≡ term.weight) → IfSome (slice_get terms i) (λ term. func ≡ term.func) → slice_get terms i ≡ Some (term_with weight func)
+term_at terms i weight func within w f = by (slice_get terms i) (slice_get-get_or terms i blank_term within) w f
+  where
+    by : (o : Option Term) → o ≡ Some (get_or terms i blank_term) → IfSome o (λ term. weight ≡ term.weight) → IfSome o (λ term. func ≡ term.func) → o ≡ Some (term_with weight func)
+    by None e w f = absurd (cc)
+    by (Some term) e w f = ap (λ n. Some (term_with n term.func)) (sym w) ∙ ap (λ g. Some (term_with weight g)) (sym f)
+
+pub terms_on : {a b c : Way} {whole : List ℕ} (prefix : List ℕ) (problem : WeightedSum) (axes i weight : ℕ) (func : Function) → Leads a b (flat_map (term_text prefix (length problem.axes)) (drop i problem.terms)) whole → i < length problem.terms → axes ≡ length problem.axes → IfSome (slice_get problem.terms i) (λ term. weight ≡ term.weight) → IfSome (slice_get problem.terms i) (λ term. func ≡ term.func) → Went b c (term_text prefix axes (term_with weight func)) → Leads a c (flat_map (term_text prefix (length problem.axes)) (drop (i + 1) problem.terms)) whole
+terms_on prefix problem axes i weight func so within many w f went =
+    let at = term_at problem.terms i weight func within w f in
+    each_on (term_text prefix (length problem.axes)) problem.terms i (term_with weight func) so within (sym (get_or_from_slice_get problem.terms i (term_with weight func) (term_with weight func) at))
+    (went_as (ap (λ n. term_text prefix n (term_with weight func)) many) went)
+
+pub terms_failed : {a b c : Way} {whole : List ℕ} (prefix : List ℕ) (problem : WeightedSum) (axes i weight : ℕ) (func : Function) → Leads a b (flat_map (term_text prefix (length problem.axes)) (drop i problem.terms)) whole → i < length problem.terms → axes ≡ length problem.axes → IfSome (slice_get problem.terms i) (λ term. weight ≡ term.weight) → IfSome (slice_get problem.terms i) (λ term. func ≡ term.func) → Stopped b c (term_text prefix axes (term_with weight func)) → Stopped a c whole
+terms_failed prefix problem axes i weight func so within many w f stopped =
+    let at = term_at problem.terms i weight func within w f in
+    each_failed (term_text prefix (length problem.axes)) problem.terms i (term_with weight func) so within (sym (get_or_from_slice_get problem.terms i (term_with weight func) (term_with weight func) at))
+    (stopped_as (ap (λ n. term_text prefix n (term_with weight func)) many) stopped)

@@ -1,0 +1,5 @@
+use Rattle.moos_io.proofs.Passages.{wrote_on}
+use Rattle.ivp_cert.proofs.put_problem.put_term.Goals as goal
+
+pub returns : goal.returns
+returns g c = wrote_on c.put_pieces.result c.in_default.ensures.ok c.put_pieces.ensures

@@ -1,0 +1,25 @@
+use Rattle.std.proofs.Common.{◌<◌, length, ap, ◌∙◌, arith}
+use Rattle.ivp_domain.specs.declared.axis.Axis.{Axis}
+use Rattle.moos_io.proofs.Passages.{leads_start}
+use Rattle.ivp_cert.proofs.Printing.{terms_failed, terms_on}
+use Rattle.ivp_cert.proofs.put_problem.put_terms.Goals as goal
+
+pub loop-number-init : goal.loop-number-init
+loop-number-init g c = leads_start _ _
+
+pub loop-number-preserved : goal.loop-number-preserved
+loop-number-preserved g c =
+    let problem = c.args.problem.now in
+    let many = c.axes-axes.ensures.count ∙ ap length c.domain.ensures in
+    let within : c.loop-number.number < length problem.terms = omega (arith, c.loop-number-test.true, c.len-number-end.ensures.len) in
+    terms_on c.args.prefix.now problem c.axes-axes.result c.loop-number.number c.weight.result c.func.result.now c.loop-number.invariant within many c.weight.ensures.weight c.func.ensures.func c.in_default.ensures.ok
+
+pub returns-in-Err : goal.returns-in-Err
+returns-in-Err g c =
+    let problem = c.args.problem.now in
+    let many = c.axes-axes.ensures.count ∙ ap length c.domain.ensures in
+    let within : c.loop-number.number < length problem.terms = omega (arith, c.loop-number-test.true, c.len-number-end.ensures.len) in
+    record {
+      ok = tt;
+      front = terms_failed c.args.prefix.now problem c.axes-axes.result c.loop-number.number c.weight.result c.func.result.now c.loop-number.invariant within many c.weight.ensures.weight c.func.ensures.func c.in-Err.ensures.front;
+    }

@@ -1,0 +1,26 @@
+ghost use Rattle.std.specs.Prelude.{◌≡◌, ◌<◌, ◌^◌, length, Ok, IfOk, IfErr};
+ghost use Rattle.moos_text.specs.Refusals.{IsFirst};
+ghost use Rattle.ivp_cert.specs.Decisions.{decision_of};
+
+use crate::claim::Decision;
+use crate::phase::Phase;
+use crate::stage::Stage;
+use moos_text::{ReadFault, next_whole_line};
+use std::alloc::Global;
+
+/// Reads a decision: what its bytes stand for, or its first refusal with its line and cause.
+pub fn read_decision(alloc: Global, bytes: &[u8]) -> Result<Decision, ReadFault>
+    requires { length bytes.now < 2 ^ 32 }
+    ensures read { IfOk result (λ decision. decision_of bytes.now ≡ Ok decision) }
+    ensures refused { IfErr result (λ fault. IsFirst fault (decision_of bytes.now)) }
+{
+    let mut phase = Phase::OfProblem(Stage::Start);
+    let mut lines: u32 = 0;
+    let mut left = bytes;
+    while let Some((line, rest)) = next_whole_line(left) {
+        lines += 1;
+        phase = phase.after_line(alloc, lines, line)?;
+        left = rest;
+    }
+    phase.whole_decision(lines.max(1))
+}

@@ -1,0 +1,213 @@
+// The lines of a problem.
+ghost use Rattle.std.specs.Prelude.{◌≡◌, ◌<◌, ◌≤◌, ◌*◌, ◌++◌, [], ◌∷◌, flat_map, map, take, length, codes, decimal, IsTrue};
+ghost use Rattle.std.specs.List.{concat};
+ghost use Rattle.moos_io.specs.Writing.{way, Wrote};
+ghost use Rattle.moos_post.specs.Words.{IsMilli};
+ghost use Rattle.ivp_domain.specs.Axes.{is_good_axis};
+ghost use Rattle.ivp_cert.specs.Texts.{axis_text, ends_of, integer_word, number_word, piece_text, problem_text, term_text};
+
+use crate::put::{put, put_integer, put_integers, put_numbers};
+use ivp_domain::{Axis, BoxN, Domain};
+use ivp_func::{Func, Piece};
+use ivp_problem::Problem;
+use moos_io::{Buffer, Failed, Sink};
+use moos_post::Milli;
+use moos_text::print_milli;
+
+/// The lines of a problem.
+pub fn put_problem<K: Sink>(
+    prefix: &[u8],
+    problem: &Problem,
+    buffer: &mut Buffer,
+    out: &mut K,
+) -> Result<(), Failed>
+    ensures { Wrote (way (K.taken out.old) buffer.old (K.faults out.old)) (way (K.taken out.new) buffer.new (K.faults out.new))
+        result (problem_text prefix.now problem.now) }
+{
+    if let Err(failed) = put(&[prefix, b"ivp 1\n"], buffer, out) {
+        return Err(failed);
+    }
+    if let Err(failed) = put_axes(prefix, &problem.domain(), buffer, out) {
+        return Err(failed);
+    }
+    if let Err(failed) = put_terms(prefix, problem, buffer, out) {
+        return Err(failed);
+    }
+    put(&[prefix, b"end\n"], buffer, out)
+}
+
+fn put_axes<K: Sink>(
+    prefix: &[u8],
+    domain: &Domain,
+    buffer: &mut Buffer,
+    out: &mut K,
+) -> Result<(), Failed>
+    ensures { Wrote (way (K.taken out.old) buffer.old (K.faults out.old)) (way (K.taken out.new) buffer.new (K.faults out.new))
+        result (flat_map (axis_text prefix.now) domain.now) }
+{
+    for number in 0..domain.axes() {
+        if let Err(failed) = put_axis(prefix, &domain.axis(number), buffer, out) {
+            return Err(failed);
+        }
+    }
+    Ok(())
+}
+
+// The end of an axis, in thousandths.
+fn end_of(number: i64) -> Milli
+    requires { IsMilli number }
+    ensures { result ≡ number }
+{
+    match Milli::new(number) {
+        Some(end) => end,
+        None => unreachable!(),
+    }
+}
+
+fn put_axis<K: Sink>(
+    prefix: &[u8],
+    axis: &Axis,
+    buffer: &mut Buffer,
+    out: &mut K,
+) -> Result<(), Failed>
+    requires { IsTrue (is_good_axis axis.now) }
+    ensures { Wrote (way (K.taken out.old) buffer.old (K.faults out.old)) (way (K.taken out.new) buffer.new (K.faults out.new))
+        result (axis_text prefix.now axis.now) }
+{
+    let (low, high) = (
+        print_milli(end_of(axis.low)),
+        print_milli(end_of(axis.high)),
+    );
+    let mut digits = itoa::Buffer::new();
+    let points = digits.format(axis.points).as_bytes();
+    put(
+        &[
+            prefix,
+            b"domain ",
+            axis.name.bytes(),
+            b":",
+            low.bytes(),
+            b":",
+            high.bytes(),
+            b":",
+            points,
+            b"\n",
+        ],
+        buffer,
+        out,
+    )
+}
+
+fn put_terms<K: Sink>(
+    prefix: &[u8],
+    problem: &Problem,
+    buffer: &mut Buffer,
+    out: &mut K,
+) -> Result<(), Failed>
+    ensures { Wrote (way (K.taken out.old) buffer.old (K.faults out.old)) (way (K.taken out.new) buffer.new (K.faults out.new))
+        result (flat_map (term_text prefix.now (length problem.now.axes)) problem.now.terms) }
+{
+    let axes = problem.domain().axes();
+    for number in 0..problem.len() {
+        if let Err(failed) = put_term(
+            prefix,
+            axes,
+            problem.weight(number),
+            problem.func(number),
+            buffer,
+            out,
+        ) {
+            return Err(failed);
+        }
+    }
+    Ok(())
+}
+
+fn put_weight<K: Sink>(
+    prefix: &[u8],
+    weight: u32,
+    buffer: &mut Buffer,
+    out: &mut K,
+) -> Result<(), Failed>
+    ensures { Wrote (way (K.taken out.old) buffer.old (K.faults out.old)) (way (K.taken out.new) buffer.new (K.faults out.new))
+        result (concat (prefix.now ∷ codes "function " ∷ decimal weight ∷ codes "\n" ∷ [])) }
+{
+    let mut digits = itoa::Buffer::new();
+    let weight = digits.format(weight).as_bytes();
+    put(&[prefix, b"function ", weight, b"\n"], buffer, out)
+}
+
+// A function over so many axes: its weight, and then its pieces.
+fn put_term<K: Sink>(
+    prefix: &[u8],
+    axes: u32,
+    weight: u32,
+    func: &Func,
+    buffer: &mut Buffer,
+    out: &mut K,
+) -> Result<(), Failed>
+    requires { axes ≤ 4 }
+    ensures { Wrote (way (K.taken out.old) buffer.old (K.faults out.old)) (way (K.taken out.new) buffer.new (K.faults out.new))
+        result (term_text prefix.now axes (record { weight = weight; func = func.now })) }
+{
+    if let Err(failed) = put_weight(prefix, weight, buffer, out) {
+        return Err(failed);
+    }
+    put_pieces(prefix, axes, func, buffer, out)
+}
+
+fn put_pieces<K: Sink>(
+    prefix: &[u8],
+    axes: u32,
+    func: &Func,
+    buffer: &mut Buffer,
+    out: &mut K,
+) -> Result<(), Failed>
+    requires { axes ≤ 4 }
+    ensures { Wrote (way (K.taken out.old) buffer.old (K.faults out.old)) (way (K.taken out.new) buffer.new (K.faults out.new))
+        result (flat_map (piece_text prefix.now axes) func.now.pieces) }
+{
+    for number in 0..func.len() {
+        if let Err(failed) = put_piece(prefix, axes, &func.piece(number), buffer, out) {
+            return Err(failed);
+        }
+    }
+    Ok(())
+}
+
+// Low and high on each axis, one axis after the other.
+fn ends_of(area: &BoxN) -> [u32; 8]
+    ensures { result ≡ ends_of area.now }
+{
+    let BoxN { low, high } = area;
+    [
+        low[0], high[0], low[1], high[1], low[2], high[2], low[3], high[3],
+    ]
+}
+
+fn put_piece<K: Sink>(
+    prefix: &[u8],
+    axes: u32,
+    piece: &Piece,
+    buffer: &mut Buffer,
+    out: &mut K,
+) -> Result<(), Failed>
+    requires { axes ≤ 4 }
+    ensures { Wrote (way (K.taken out.old) buffer.old (K.faults out.old)) (way (K.taken out.new) buffer.new (K.faults out.new))
+        result (piece_text prefix.now axes piece.now) }
+{
+    let axes = axes as usize;
+    if let Err(failed) = put(&[prefix, b"piece"], buffer, out) {
+        return Err(failed);
+    }
+    if let Err(failed) = put_numbers(&ends_of(&piece.area)[..2 * axes], buffer, out) {
+        return Err(failed);
+    }
+    if let Err(failed) = put_integer(&piece.base, buffer, out) {
+        return Err(failed);
+    }
+    if let Err(failed) = put_integers(&piece.slope[..axes], buffer, out) {
+        return Err(failed);
+    }
+    put(&[b"\n"], buffer, out)
+}
