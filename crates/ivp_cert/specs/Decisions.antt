@@ -1,6 +1,6 @@
 -- What the bytes of a decision stand for: the problem, the claim and the certificate, or the first refusal with its line
 -- and cause.
-use Rattle.std.specs.Prelude.{ℕ, ◌^◌, ◌-◌, max, Bool, true, false, ◌&&◌, nat_lt, if◌then◌else◌, List, [], ◌∷◌, ◌++◌, length, take, codes, bytes_eq, Option, Some, None, option_map, option_and_then, Result, Ok, Err}
+use Rattle.std.specs.Prelude.{ℕ, ◌^◌, ◌-◌, max, Bool, true, false, ◌&&◌, nat_lt, IsTrue, if◌then◌else◌, List, [], ◌∷◌, ◌++◌, length, take, codes, bytes_eq, Option, Some, None, option_map, option_and_then, Result, Ok, Err}
 use Rattle.moos_text.specs.declared.cause.Cause.{Cause}
 use Rattle.moos_text.specs.declared.cause.Cause.TheVariants.{P1, P9, P10}
 use Rattle.moos_text.specs.declared.cause.ReadFault.{ReadFault}
@@ -8,6 +8,7 @@ use Rattle.moos_text.specs.declared.cause.ReadFault.TheVariants.{At}
 use Rattle.moos_text.specs.Lines.{raw_lines}
 use Rattle.ivp_domain.specs.declared.axis.Axis.{Axis}
 use Rattle.ivp_domain.specs.declared.boxes.Point.{Point}
+use Rattle.ivp_domain.specs.Domains.{is_point}
 use Rattle.ivp_problem.specs.Problems.{WeightedSum}
 use Rattle.ivp_cert.specs.declared.cert.Line.{Line}
 use Rattle.ivp_cert.specs.declared.claim.Claim.{Claim}
@@ -132,3 +133,9 @@ whole_decision last (Done decision) = Ok decision
 -- What the bytes of a decision stand for. Lines are counted from 1, and an empty file is refused at line 1.
 abbrev pub decision_of : List ℕ → Result Decision ReadFault
 decision_of bytes = and_then (whole_decision (max 1 (length (raw_lines bytes)))) (read_from phase_after 0 (OfProblem Start) (raw_lines bytes))
+
+-- where something was decided, its point is one of the domain
+abbrev pub HasPoint : Phase → Type 0
+HasPoint (OfProblem stage) = Unit {0}
+HasPoint (OfCuts decision) = IsTrue (is_point decision.problem.axes decision.claim.point)
+HasPoint (Done decision) = IsTrue (is_point decision.problem.axes decision.claim.point)

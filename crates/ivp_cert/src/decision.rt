@@ -1,5 +1,6 @@
-ghost use Rattle.std.specs.Prelude.{◌≡◌, ◌<◌, ◌^◌, length, Ok, IfOk, IfErr};
+ghost use Rattle.std.specs.Prelude.{◌≡◌, ◌<◌, ◌^◌, length, Ok, IfOk, IfErr, IsTrue};
 ghost use Rattle.moos_text.specs.Refusals.{IsFirst};
+ghost use Rattle.ivp_domain.specs.Domains.{is_point};
 ghost use Rattle.ivp_cert.specs.Decisions.{decision_of};
 
 use crate::claim::Decision;
@@ -8,11 +9,13 @@ use crate::stage::Stage;
 use moos_text::{ReadFault, next_whole_line};
 use std::alloc::Global;
 
-/// Reads a decision: what its bytes stand for, or its first refusal with its line and cause.
+/// Reads a decision: what its bytes stand for, or its first refusal with its line and cause. The claim's point lies in the
+/// problem's domain.
 pub fn read_decision(alloc: Global, bytes: &[u8]) -> Result<Decision, ReadFault>
     requires { length bytes.now < 2 ^ 32 }
     ensures read { IfOk result (λ decision. decision_of bytes.now ≡ Ok decision) }
     ensures refused { IfErr result (λ fault. IsFirst fault (decision_of bytes.now)) }
+    ensures point { IfOk result (λ decision. IsTrue (is_point decision.problem.axes decision.claim.point)) }
 {
     let mut phase = Phase::OfProblem(Stage::Start);
     let mut lines: u32 = 0;

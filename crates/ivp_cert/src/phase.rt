@@ -1,7 +1,8 @@
-ghost use Rattle.std.specs.Prelude.{◌≡◌, Ok, IfOk, IfErr};
+ghost use Rattle.std.specs.Prelude.{◌≡◌, Ok, IfOk, IfErr, IsTrue};
 ghost use Rattle.moos_text.specs.Lines.{trimmed, words_of};
+ghost use Rattle.ivp_domain.specs.Domains.{is_point};
 ghost use Rattle.moos_text.specs.Refusals.{IsFirst, IsLineFault};
-ghost use Rattle.ivp_cert.specs.Decisions.{after_cuts, after_first, after_problem, after_stage, claimed, phase_after, spelled_with, whole_decision, with_done};
+ghost use Rattle.ivp_cert.specs.Decisions.{after_cuts, after_first, after_problem, after_stage, claimed, HasPoint, phase_after, spelled_with, whole_decision, with_done};
 ghost use Rattle.ivp_cert.specs.Words.{without_prefix};
 
 use crate::cert::Cert;
@@ -27,8 +28,10 @@ pub enum Phase {
 impl Phase {
     /// The phase after one line more, which has this number and is given without its end; or its first refusal.
     pub fn after_line(self, alloc: Global, number: u32, line: &[u8]) -> Result<Phase, ReadFault>
+        requires { HasPoint self }
         ensures read { IfOk result (λ phase. phase_after number self (words_of (without_prefix (trimmed line.now))) ≡ Ok phase) }
         ensures refused { IfErr result (λ fault. IsFirst fault (phase_after number self (words_of (without_prefix (trimmed line.now))))) }
+        ensures point { IfOk result HasPoint }
     {
         match next_word(content_of(line)) {
             None => Ok(self),
@@ -44,8 +47,10 @@ impl Phase {
         word: &[u8],
         rest: &[u8],
     ) -> Result<Phase, ReadFault>
+        requires { HasPoint self }
         ensures read { IfOk result (λ phase. after_first number self word.now (words_of rest.now) ≡ Ok phase) }
         ensures refused { IfErr result (λ fault. IsFirst fault (after_first number self word.now (words_of rest.now))) }
+        ensures point { IfOk result HasPoint }
     {
         match self {
             Phase::OfProblem(stage) => after_stage(alloc, stage, number, word, rest),
@@ -62,7 +67,9 @@ impl Phase {
 
     /// The decision, where the lines come to `done`; else the last line is refused.
     pub fn whole_decision(self, last: u32) -> Result<Decision, ReadFault>
-        ensures { result ≡ whole_decision last self }
+        requires { HasPoint self }
+        ensures whole { result ≡ whole_decision last self }
+        ensures point { IfOk result (λ decision. IsTrue (is_point decision.problem.axes decision.claim.point)) }
     {
         match self {
             Phase::Done(decision) => Ok(decision),
@@ -84,6 +91,7 @@ fn after_stage(
 ) -> Result<Phase, ReadFault>
     ensures read { IfOk result (λ phase. after_stage number stage word.now (words_of rest.now) ≡ Ok phase) }
     ensures refused { IfErr result (λ fault. IsFirst fault (after_stage number stage word.now (words_of rest.now))) }
+    ensures point { IfOk result HasPoint }
 {
     match stage {
         Stage::Ended(problem) => match after_problem(alloc, problem, word, rest) {
@@ -106,6 +114,7 @@ fn after_problem(
 ) -> Result<Phase, LineFault>
     ensures read { IfOk result (λ phase. after_problem problem word.now (words_of rest.now) ≡ Ok phase) }
     ensures refused { IfErr result (λ fault. IsLineFault fault (after_problem problem word.now (words_of rest.now))) }
+    ensures point { IfOk result HasPoint }
 {
     if word != b"decision".as_slice() {
         return Err(LineFault::Refused(Cause::P1));
@@ -119,7 +128,8 @@ fn after_problem(
 
 // The decision on a problem, which has no line yet; a point outside the domain is refused.
 fn claimed(alloc: Global, problem: Problem, of: &Spelled) -> Result<Phase, Cause>
-    ensures { result ≡ claimed problem (spelled_with of.now.places.items of.now.sum) }
+    ensures claimed { result ≡ claimed problem (spelled_with of.now.places.items of.now.sum) }
+    ensures point { IfOk result HasPoint }
 {
     if !are_on(problem.domain().all(), &of.places) {
         return Err(Cause::P10);
@@ -142,8 +152,10 @@ fn after_cuts(
     word: &[u8],
     rest: &[u8],
 ) -> Result<Phase, LineFault>
+    requires { IsTrue (is_point decision.problem.axes decision.claim.point) }
     ensures read { IfOk result (λ phase. after_cuts decision word.now (words_of rest.now) ≡ Ok phase) }
     ensures refused { IfErr result (λ fault. IsLineFault fault (after_cuts decision word.now (words_of rest.now))) }
+    ensures point { IfOk result HasPoint }
 {
     if word == b"cut".as_slice() {
         let line = line_of(alloc, rest)?;

@@ -9,5 +9,8 @@ pub loop-line-preserved : goal.loop-line-preserved
 loop-line-preserved c =
     let next : IsNext c.loop-line.left.now c.in-Some.line.now c.in-Some.rest.now =
     record { text = c.in-Some.ensures.line; lines = c.in-Some.ensures.lines; shorter = omega (arith, c.in-Some.ensures.shorter) } in
-    one_read phase_after (OfProblem Start) c.args.bytes.now c.loop-line.lines c.loop-line.phase c.in_ok-phase.phase c.loop-line.left.now c.in-Some.line.now c.in-Some.rest.now c.loop-line.invariant
-    next c.in_ok-phase.ensures.read
+    record {
+      read = one_read phase_after (OfProblem Start) c.args.bytes.now c.loop-line.lines c.loop-line.phase c.in_ok-phase.phase c.loop-line.left.now c.in-Some.line.now c.in-Some.rest.now c.loop-line.invariant.read
+          next c.in_ok-phase.ensures.read;
+      point = c.in_ok-phase.ensures.point;
+    }
