@@ -1,9 +1,12 @@
-//! The texts of problems: what the bytes of a problem's file stand for.
+//! Certificates, which show that a point is the best one of a problem, and the texts of problems and decisions.
 //!
-//! The contract for the layer above: `read_problem` gives the problem that stands in the bytes, or the first refusal
-//! with its line and its cause.
+//! The contract for the layer above: `cut` gives the certificate of a problem; `accepts` tells whether a certificate is
+//! accepted for what is claimed, and then the claimed point is the best. `read_problem` and `read_decision` give what
+//! stands in the bytes, or the first refusal with its line and its cause; `print_decision` writes a decision.
 //!
-//! Reading order: `words`, `piece`, `terms`, `unfinished`, `stage`, `read`.
+//! Reading order: `path`, `cert`, `claim`; `tree`, `trail`, `cutting`, `accept`, `law`; `words`, `piece`, `terms`,
+//! `unfinished`, `stage`, `read`; `line`, `phase`, `decision`; `put`, `put_problem`, `print`. Of specs/ read `Certificates`,
+//! `Problems`, `Decisions` and `Texts`; `Walks` serves the checker alone.
 #![tactic(auto)]
 
 mod accept;
@@ -36,3 +39,6 @@ pub use law::{accepted_law, certificate_law};
 pub use path::Path;
 pub use print::print_decision;
 pub use read::read_problem;
+
+#[cfg(test)]
+mod tests;
