@@ -1,12 +1,11 @@
 -- An accepted certificate is one that the walk goes through to its end, and its point is the best; the certificate of the
 -- problem is accepted for the best point.
-use Rattle.std.proofs.Common.{◌≡◌, ℕ, zero, suc, ◌+◌, ◌<◌, ◌≤◌, Bool, true, false, ◌==◌, Some, None, List, [], ◌∷◌, ◌++◌, length, drop, refl, sym, ap, subst, ◌∙◌, arith, append-nil}
-use Rattle.std.specs.Prelude.{slice_get, IsTrue}
+use Rattle.std.proofs.Common.{◌≡◌, ℕ, zero, suc, ◌<◌, ◌≤◌, Bool, true, false, ◌==◌, Some, List, [], ◌∷◌, ◌++◌, length, drop, refl, sym, ap, subst, ◌∙◌, arith, append-nil}
+use Rattle.std.specs.Prelude.{slice_get}
 use Rattle.std.proofs.lemmas.Bool.{and_parts}
 use Rattle.std.proofs.lemmas.Bool.Decides.{nat_tests}
 use Rattle.ivp_domain.specs.declared.axis.Axis.{Axis}
 use Rattle.ivp_domain.specs.declared.boxes.Point.{Point}
-use Rattle.ivp_domain.specs.Boxes.{has_point}
 use Rattle.ivp_domain.specs.Domains.{index_of, is_point, points_of}
 use Rattle.ivp_problem.specs.declared.node.Node.{Node}
 use Rattle.ivp_problem.specs.declared.term.Term.{Term}
@@ -23,8 +22,8 @@ use Rattle.ivp_cert.specs.declared.cert.Line.{Line}
 use Rattle.ivp_cert.specs.declared.claim.Claim.{Claim}
 use Rattle.ivp_cert.specs.Certificates.{Accepts, begins, certificate_of, IsLine}
 use Rattle.ivp_cert.specs.Walks.{behind_node}
-use Rattle.ivp_cert.proofs.Covering.{Anyhow, Covers, IsUnder, Under}
-use Rattle.ivp_cert.proofs.Leaves.{below_depth, below_inside, below_length, below_append, has_leaf, HasLeaf, Reached, reached_full, reached_node, root_reached}
+use Rattle.ivp_cert.proofs.Covering.{Anyhow, Covers, Under}
+use Rattle.ivp_cert.proofs.Leaves.{below_depth, below_inside, below_length, below_append, has_leaf, Reached, reached_full, reached_node, root_reached}
 use Rattle.ivp_cert.proofs.Paths.{beginning, beginning_cons, Each}
 use Rattle.ivp_cert.proofs.Walking.{covers_walk, topmost_covers, walk_covers}
 

@@ -1,21 +1,19 @@
 -- Certificates and decisions worked by hand.
-use Rattle.std.proofs.Common.{◌≡◌, ◌≤◌, ℕ, zero, suc, Some, List, [], ◌∷◌, ◌++◌, refl, arith}
-use Rattle.std.specs.Prelude.{codes, Ok, Err, ℤ, pos, slice_get}
+use Rattle.std.proofs.Common.{◌≡◌, ℕ, Some, List, [], ◌∷◌, ◌++◌, refl}
+use Rattle.std.specs.Prelude.{codes, Ok, Err, pos}
 use Rattle.ivp_domain.specs.Boxes.{point_of}
 use Rattle.ivp_problem.specs.Keys.{key_of}
 use Rattle.ivp_problem.specs.Problems.{WeightedSum}
-use Rattle.ivp_problem.specs.Sums.{best_of, key_at}
+use Rattle.ivp_problem.specs.Sums.{best_of}
 use Rattle.ivp_problem.specs.Trees.{root_of}
 use Rattle.moos_text.specs.declared.cause.Cause.TheVariants.{P1, P9, P10}
 use Rattle.moos_text.specs.declared.cause.ReadFault.TheVariants.{At}
 use Rattle.ivp_cert.specs.declared.cert.Line.{Line}
-use Rattle.ivp_cert.specs.declared.claim.Claim.{Claim}
 use Rattle.ivp_cert.specs.declared.claim.Decision.{Decision}
-use Rattle.ivp_cert.specs.Certificates.{certificate_of, topmost}
+use Rattle.ivp_cert.specs.Certificates.{certificate_of}
 use Rattle.ivp_cert.specs.Decisions.{decision_of}
-use Rattle.ivp_cert.specs.Texts.{decision_lines}
 use Rattle.ivp_cert.specs.Walks.{behind_node}
-use Rattle.ivp_cert.proofs.Examples.{course, on_course, on_three, term, three_axes}
+use Rattle.ivp_cert.proofs.Examples.{on_three, term, three_axes}
 
 -- the problem of three axes and two functions
 abbrev three : WeightedSum

@@ -1,9 +1,7 @@
 -- Which lines cover a node, and how those that cover its children come together and part.
-use Rattle.std.proofs.Common.{◌≡◌, ℕ, zero, suc, ◌+◌, ◌<◌, ◌≤◌, ◌⊎◌, inl, inr, Bool, true, false, nat_lt, Option, Some, None, List, [], ◌∷◌, ◌++◌, length, refl, sym, ap, subst, ◌∙◌, arith, append_assoc}
-use Rattle.std.specs.Prelude.{slice_get}
+use Rattle.std.proofs.Common.{◌≡◌, ℕ, suc, ◌<◌, ◌≤◌, ◌⊎◌, inl, inr, Bool, true, false, nat_lt, Some, None, List, [], ◌∷◌, ◌++◌, length, refl, sym, ap, ◌∙◌, arith, append_assoc}
 use Rattle.std.proofs.lemmas.Bool.Decides.{nat_tests}
 use Rattle.std.proofs.lemmas.Option.{option_and_then_some, slice_get_within}
-use Rattle.ivp_func.specs.declared.piece.Piece.{Piece}
 use Rattle.ivp_problem.specs.declared.node.Node.{Node}
 use Rattle.ivp_problem.specs.declared.term.Term.{Term}
 use Rattle.ivp_problem.specs.Keys.{index_of_key, sum_of}
@@ -12,7 +10,7 @@ use Rattle.ivp_problem.specs.Trees.{bound_of, child_in, node_below}
 use Rattle.ivp_problem.proofs.Nodes.{child_parts}
 use Rattle.ivp_cert.specs.declared.cert.Line.{Line}
 use Rattle.ivp_cert.specs.Certificates.{begins, is_before, Rise}
-use Rattle.ivp_cert.proofs.Paths.{beginning, beginning_append, beginning_none, beginning_one, begins_append, before_append, before_less, Each, each_append, each_true, each_weaker, less_before, parted, rise_append, rise_parts, StandsBefore}
+use Rattle.ivp_cert.proofs.Paths.{beginning, beginning_append, beginning_none, beginning_one, begins_append, Each, each_append, each_weaker, less_before, parted, rise_append, StandsBefore}
 
 -- the line is that of the node which its path reaches from this one
 pub record IsUnder (problem : WeightedSum) (key : ℕ) (terms : List Term) (path : List ℕ) (node : Node) (line : Line) (more : List ℕ) : Type 0 where

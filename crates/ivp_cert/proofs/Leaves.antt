@@ -1,8 +1,8 @@
 -- Nodes by their paths, and the nodes of full depth below them.
-use Rattle.std.proofs.Common.{◌≡◌, ℕ, zero, suc, ◌+◌, ◌<◌, ◌≤◌, Bool, true, false, ◌||◌, Option, Some, None, List, [], ◌∷◌, ◌++◌, length, drop, refl, sym, ap, subst, ◌∙◌, arith, length-append, length-drop}
+use Rattle.std.proofs.Common.{◌≡◌, ℕ, suc, ◌+◌, ◌≤◌, Bool, true, false, ◌||◌, Option, Some, None, List, [], ◌∷◌, ◌++◌, length, drop, refl, sym, ap, subst, ◌∙◌, arith, length-drop}
 use Rattle.std.specs.Prelude.{slice_get}
 use Rattle.std.specs.List.{flat_map}
-use Rattle.std.specs.Option.{option_and_then, option_to_list}
+use Rattle.std.specs.Option.{option_to_list}
 use Rattle.std.proofs.lemmas.Option.{option_and_then_some}
 use Rattle.ivp_domain.specs.declared.boxes.Point.{Point}
 use Rattle.ivp_domain.specs.Boxes.{has_point, numbers_from}
@@ -14,7 +14,7 @@ use Rattle.ivp_problem.specs.Problems.{IsProblem, WeightedSum}
 use Rattle.ivp_problem.specs.Trees.{child_in, child_of, children_of, has_in, IsNode, node_below, node_of, root_of}
 use Rattle.ivp_problem.proofs.Children.{count_children}
 use Rattle.ivp_problem.proofs.Nodes.{below_more, child_parts, next_at, node_keeps}
-use Rattle.ivp_problem.proofs.Pieces.{child_depth, children_all, children_to, has_all}
+use Rattle.ivp_problem.proofs.Pieces.{children_all, has_all}
 use Rattle.std.proofs.lemmas.Bool.{and_parts}
 
 -- the node of a path, and the functions of which it has chosen no piece

@@ -1,5 +1,5 @@
 -- The walk over the tree finds the lines that cover a node, and no others.
-use Rattle.std.proofs.Common.{◌≡◌, ℕ, zero, suc, ◌+◌, ◌<◌, ◌≤◌, Bool, true, false, cond, ◌&&◌, ◌==◌, nat_le, Option, Some, None, List, [], ◌∷◌, ◌++◌, length, refl, sym, ap, subst, ◌∙◌, arith, append_assoc, append-nil}
+use Rattle.std.proofs.Common.{◌≡◌, ℕ, zero, suc, ◌+◌, ◌≤◌, Bool, true, false, cond, ◌&&◌, ◌==◌, nat_le, Option, Some, None, List, [], ◌∷◌, ◌++◌, length, refl, sym, ap, subst, ◌∙◌, arith, append_assoc, append-nil}
 use Rattle.std.specs.List.{flat_map}
 use Rattle.std.specs.Option.{option_and_then, option_to_list}
 use Rattle.std.specs.Str.{bytes_eq}
@@ -12,12 +12,12 @@ use Rattle.ivp_problem.specs.declared.node.Node.{Node}
 use Rattle.ivp_problem.specs.declared.term.Term.{Term}
 use Rattle.ivp_problem.specs.Keys.{index_of_key, sum_of}
 use Rattle.ivp_problem.specs.Problems.{IsProblem, WeightedSum}
-use Rattle.ivp_problem.specs.Trees.{bound_of, child_in, node_below}
+use Rattle.ivp_problem.specs.Trees.{bound_of, child_in}
 use Rattle.ivp_cert.specs.declared.cert.Line.{Line}
 use Rattle.ivp_cert.specs.Certificates.{line_of, topmost}
 use Rattle.ivp_cert.specs.Walks.{behind_child, behind_each, behind_node, behind_own, is_line_of, or_else}
 use Rattle.ivp_cert.proofs.Covering.{Anyhow, Covers, covers_all, covers_join, covers_none, covers_own, covers_skip, From, IsUnder, Under}
-use Rattle.ivp_cert.proofs.Leaves.{child_reached, Reached, reached_full, reached_node, some_leaf}
+use Rattle.ivp_cert.proofs.Leaves.{child_reached, Reached, some_leaf}
 use Rattle.ivp_cert.proofs.Parting.{covers_alone, covers_below, covers_last, covers_part, covers_pass}
 
 -- the test on one line

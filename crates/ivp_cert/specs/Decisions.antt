@@ -1,6 +1,6 @@
 -- What the bytes of a decision stand for: the problem, the claim and the certificate, or the first refusal with its line
 -- and cause.
-use Rattle.std.specs.Prelude.{ℕ, ◌^◌, ◌-◌, max, Bool, true, false, ◌&&◌, nat_lt, IsTrue, if◌then◌else◌, List, [], ◌∷◌, ◌++◌, length, take, codes, bytes_eq, Option, Some, None, option_map, option_and_then, Result, Ok, Err}
+use Rattle.std.specs.Prelude.{ℕ, max, Bool, true, false, ◌&&◌, nat_lt, IsTrue, if◌then◌else◌, List, [], ◌∷◌, ◌++◌, length, take, codes, bytes_eq, Option, Some, None, option_map, option_and_then, Result, Ok, Err}
 use Rattle.moos_text.specs.declared.cause.Cause.{Cause}
 use Rattle.moos_text.specs.declared.cause.Cause.TheVariants.{P1, P9, P10}
 use Rattle.moos_text.specs.declared.cause.ReadFault.{ReadFault}
@@ -11,7 +11,6 @@ use Rattle.ivp_domain.specs.declared.boxes.Point.{Point}
 use Rattle.ivp_domain.specs.Domains.{is_point}
 use Rattle.ivp_problem.specs.Problems.{WeightedSum}
 use Rattle.ivp_cert.specs.declared.cert.Line.{Line}
-use Rattle.ivp_cert.specs.declared.claim.Claim.{Claim}
 use Rattle.ivp_cert.specs.declared.claim.Decision.{Decision}
 use Rattle.ivp_cert.specs.declared.phase.Phase.{Phase}
 use Rattle.ivp_cert.specs.declared.phase.Phase.TheVariants.{OfProblem, OfCuts, Done}

@@ -1,8 +1,6 @@
-use Rattle.std.proofs.Common.{◌≡◌, ◌+◌, ◌-◌, ◌<◌, ◌≤◌, ◌∷◌, [], ◌++◌, Some, None, take, drop, length, refl, sym, ap, ◌∙◌, arith}
-use Rattle.std.specs.Option.{option_map}
-use Rattle.ivp_problem.specs.Trees.{child_of, next_of}
+use Rattle.std.proofs.Common.{◌≡◌, ◌<◌, ◌∷◌, [], ◌++◌, Some, None, drop, length, refl, sym, ap, ◌∙◌, arith}
 use Rattle.ivp_cert.specs.Walks.{behind_node, behind_own}
-use Rattle.ivp_cert.proofs.Stepping.{child_fails, child_passes, counts, onward, onward_end, onward_full, onward_none, onward_own, onward_start, popped_back}
+use Rattle.ivp_cert.proofs.Stepping.{child_fails, child_passes, counts, onward_end, onward_full, onward_none, onward_own, onward_start, popped_back}
 use Rattle.ivp_cert.proofs.accept.+behind_node.Goals as goal
 use Rattle.ivp_cert.proofs.accept.+behind_node.Goals.{in-Some-child_of+in-Some-behind_node, in_default-child_of}
 

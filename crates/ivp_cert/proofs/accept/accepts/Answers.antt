@@ -1,11 +1,8 @@
-use Rattle.std.proofs.Common.{◌≡◌, ◌<◌, ◌^◌, ◌==◌, true, Option, Some, None, List, [], drop, length, eq-eqb, sym, ap, ◌∙◌, arith}
-use Rattle.std.specs.Prelude.{IsTrue}
+use Rattle.std.proofs.Common.{◌≡◌, Some, None, drop, length, eq-eqb, sym, ap, ◌∙◌, arith}
 use Rattle.std.proofs.lemmas.Bool.Decides.{nat_tests}
 use Rattle.std.proofs.lemmas.List.{drop_all}
 use Rattle.ivp_domain.specs.Domains.{index_of}
 use Rattle.ivp_problem.proofs.KeyOrder.{index_small}
-use Rattle.ivp_cert.specs.declared.cert.Line.{Line}
-use Rattle.ivp_cert.specs.Certificates.{Accepts}
 use Rattle.ivp_cert.proofs.Accepting.{accepted_best, accepts_walked, claim_key, listed_in, walked_accepts}
 use Rattle.ivp_cert.proofs.Stepping.{at_end, whole_tree}
 use Rattle.ivp_cert.proofs.accept.accepts.Goals as goal

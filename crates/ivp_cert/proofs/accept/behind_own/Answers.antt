@@ -1,4 +1,4 @@
-use Rattle.std.proofs.Common.{sym, ◌∙◌, arith, length}
+use Rattle.std.proofs.Common.{sym, ◌∙◌, arith}
 use Rattle.ivp_cert.proofs.Stepping.{own_at, own_past, own_other}
 use Rattle.ivp_cert.proofs.accept.behind_own.Goals as goal
 use Rattle.ivp_cert.proofs.accept.behind_own.Goals.{else-place-len-via-then-place-len+else-is_line_of, else-place-len-via-else-place-len}

@@ -1,5 +1,4 @@
-use Rattle.std.proofs.Common.{◌≡◌, ◌++◌, ◌∷◌, [], drop, length, ap, ◌∙◌}
-use Rattle.ivp_domain.specs.declared.boxes.Point.{Point}
+use Rattle.std.proofs.Common.{◌++◌, ◌∷◌, [], drop, length, ap, ◌∙◌}
 use Rattle.ivp_cert.proofs.Deciding.{padded}
 use Rattle.ivp_cert.proofs.claim.point_at.Goals as goal
 

@@ -1,8 +1,5 @@
-use Rattle.std.proofs.Common.{◌≡◌, ◌+◌, ◌-◌, ◌<◌, ◌≤◌, ◌∷◌, [], ◌++◌, Some, None, take, drop, length, refl, sym, ap, ◌∙◌, arith, append-nil, append_assoc}
-use Rattle.ivp_problem.specs.Keys.{index_of_key, sum_of}
-use Rattle.ivp_problem.specs.Trees.{bound_of, child_of, next_of}
-use Rattle.ivp_cert.specs.Certificates.{line_of, topmost}
-use Rattle.ivp_cert.proofs.Stepping.{child_added, counts, left, left_end, left_full, left_none, left_start, popped_back, own_added, topmost_of}
+use Rattle.std.proofs.Common.{◌≡◌, ◌<◌, ◌≤◌, ◌∷◌, [], ◌++◌, length, refl, sym, ap, ◌∙◌, arith, append-nil}
+use Rattle.ivp_cert.proofs.Stepping.{child_added, counts, left_end, left_full, left_none, left_start, popped_back, own_added}
 use Rattle.ivp_cert.proofs.cutting.+add_topmost.Goals as goal
 use Rattle.ivp_cert.proofs.cutting.+add_topmost.Goals.{in-Some+in_ok-add_topmost, in_default}
 

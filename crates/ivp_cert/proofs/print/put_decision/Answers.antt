@@ -1,4 +1,4 @@
-use Rattle.std.proofs.Common.{List, ℕ, [], ◌∷◌, ◌++◌, codes, flat_map, length, ap, ◌∙◌}
+use Rattle.std.proofs.Common.{[], ◌∷◌, ◌++◌, codes, flat_map, length, ap, ◌∙◌}
 use Rattle.std.specs.List.{concat}
 use Rattle.moos_io.proofs.Writing.{stopped_before, stopped_later}
 use Rattle.moos_io.proofs.Passages.{stopped_as, went_as, wrote_on}

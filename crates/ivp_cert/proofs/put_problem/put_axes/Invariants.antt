@@ -1,4 +1,4 @@
-use Rattle.std.proofs.Common.{flat_map, drop, length}
+use Rattle.std.proofs.Common.{flat_map, drop}
 use Rattle.moos_io.specs.Writing.{way}
 use Rattle.moos_io.proofs.Passages.{Leads}
 use Rattle.ivp_cert.specs.Texts.{axis_text}

@@ -1,5 +1,4 @@
 use Rattle.std.proofs.Common.{◌<◌, length, ap, ◌∙◌, arith}
-use Rattle.ivp_domain.specs.declared.axis.Axis.{Axis}
 use Rattle.moos_io.proofs.Passages.{leads_start}
 use Rattle.ivp_cert.proofs.Printing.{terms_failed, terms_on}
 use Rattle.ivp_cert.proofs.put_problem.put_terms.Goals as goal
