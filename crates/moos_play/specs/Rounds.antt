@@ -1,0 +1,102 @@
+-- What a round does to the seats of the clients. This serves the functions of this crate alone.
+use Rattle.std.specs.Prelude.{◌≡◌, ℕ, ◌+◌, ◌-◌, ◌==◌, ◌<◌, ◌≤◌, ⊥, IsTrue, List, [], ◌∷◌, ◌++◌, length, map, take, drop, OnOk, Ok, count_by}
+use Rattle.std.specs.List.{All, list_all}
+use Rattle.moos_client.specs.Calls.{MayCall, SeatState}
+use Rattle.moos_post.specs.declared.entry.Entry.{Entry}
+use Rattle.moos_post.specs.History.{History}
+use Rattle.moos_play.specs.declared.player.Player.{Player}
+use Rattle.moos_play.specs.Lawful.{entries_of, KeepsOrder}
+use Rattle.script_reader.specs.declared.script.Order.{Order}
+use Rattle.script_reader.specs.declared.script.Order.TheVariants.{Stamp, Race}
+use Rattle.turn_lock.specs.declared.view.Met.{Met}
+use Rattle.turn_lock.specs.Passes.{Begins, events_in, has_number, known_of, LockState}
+
+-- the lock of a community
+abbrev pub CommunityLock : Type 0
+CommunityLock = LockState (List (List ℕ))
+
+-- The seat after its client's lines among these: they are its next entries, and what it had seen it has seen still.
+pub record HasPlayed (lines : List Entry) (before after : SeatState) : Type 0 where
+  pub later : Begins after.seen before.seen
+  pub same : after ≡ record before { seen = after.seen; mine = before.mine ++ entries_of before.number lines }
+
+-- the player has played its lines among these, unless it found no memory
+abbrev pub HasEnded : List Entry → Player → Player → Type 0
+HasEnded lines before after = OnOk after.ended (HasPlayed lines before.seat after.seat)
+
+-- each player has
+abbrev pub HaveEnded : List Entry → List Player → List Player → Type 0
+HaveEnded lines [] [] = Unit {0}
+HaveEnded lines [] (after ∷ afters) = ⊥
+HaveEnded lines (before ∷ befores) [] = ⊥
+HaveEnded lines (before ∷ befores) (after ∷ afters) = HasEnded lines before after × HaveEnded lines befores afters
+
+-- a seat apart from the first: its client may make calls, and it has taken in nobody
+pub record IsApart (lock : CommunityLock) (seat : SeatState) : Type 0 where
+  pub may : MayCall lock seat
+  pub alone : seat.met ≡ []
+
+-- what the first seat keeps of a player that it takes in
+abbrev pub met_of : Player → Met Entry
+met_of player = record { number = player.seat.number; events = player.seat.mine }
+
+-- how often a number is among those taken in
+abbrev pub times : ℕ → List (Met Entry) → ℕ
+times n met = count_by (has_number n) met
+
+-- the first seat has taken in the seats of all other clients, each once
+pub record IsGathered (lock : CommunityLock) (first : SeatState) : Type 0 where
+  pub may : MayCall lock first
+  pub number : first.number ≡ 0
+  pub all : length first.met ≡ first.made
+  pub each : (n : ℕ) → 0 < n → n < length lock.base → times n first.met ≡ 1
+
+-- The seats of these players are parted from the first, and it knows with them what it knew before. Each other client
+-- but that of number 0 has none of the lines.
+pub record AreParted (lock : CommunityLock) (lines : List Entry) (before first : SeatState) (players : List Player) : Type 0 where
+  pub same : first ≡ record before { met = first.met }
+  pub apart : All (λ player. IsApart lock player.seat) players
+  pub all : length first.met + length players ≡ length before.met
+  pub each : (n : ℕ) → times n first.met + times n (map met_of players) ≡ times n before.met
+  pub known : (n : ℕ) → events_in (first.met ++ map met_of players) n ≡ events_in before.met n
+  pub busy : (n : ℕ) → 0 < n → times n (map met_of players) ≡ 0 → entries_of n lines ≡ []
+
+-- the first seat after it took these players in, of which none found no memory
+pub record HasTaken (before after : SeatState) (players : List Player) : Type 0 where
+  pub later : Begins after.seen before.seen
+  pub same : after ≡ record before { seen = after.seen; met = before.met ++ map met_of players }
+  pub ended : All (λ player. player.ended ≡ Ok tt) players
+
+-- the first seat after it saw the whole history, which has of each client what is known of it
+pub record HasSeenAll (before after : SeatState) : Type 0 where
+  pub later : Begins after.seen before.seen
+  pub same : after ≡ record before { seen = after.seen }
+  pub whole : (n : ℕ) → entries_of n after.seen ≡ known_of before n
+
+-- A round of these lines: what is seen goes on, what is known of each client are its lines more, and all is seen.
+pub record GoesOn (lines : List Entry) (before after : SeatState) : Type 0 where
+  pub later : Begins after.seen before.seen
+  pub known : (n : ℕ) → known_of after n ≡ known_of before n ++ entries_of n lines
+  pub whole : (n : ℕ) → entries_of n after.seen ≡ known_of after n
+
+-- the first seat, which has taken in all others, has seen a history of just these lines, in this order
+pub record HasSeen (order : Order) (first : SeatState) (lines : List Entry) : Type 0 where
+  pub known : (n : ℕ) → known_of first n ≡ entries_of n lines
+  pub whole : (n : ℕ) → entries_of n first.seen ≡ entries_of n lines
+  pub stamps : KeepsOrder order first.seen
+
+-- the first seat has seen nothing, and knows of no client's calls
+pub record KnowsNothing (first : SeatState) : Type 0 where
+  pub seen : first.seen ≡ []
+  pub known : (n : ℕ) → known_of first n ≡ []
+
+-- what an order asks of the lines of one round: by their stamps they all have one stamp
+abbrev pub IsOneRound : Order → List Entry → Type 0
+IsOneRound Stamp lines = (stamp : ℕ) × IsTrue (list_all (λ line. line.stamp == stamp) lines)
+IsOneRound Race lines = Unit {0}
+
+-- a round that begins with the line at one place ends before another
+pub record EndsRound (order : Order) (lines : List Entry) (from to : ℕ) : Type 0 where
+  pub more : from < to
+  pub within : to ≤ length lines
+  pub one : IsOneRound order (take (to - from) (drop from lines))

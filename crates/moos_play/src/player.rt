@@ -1,0 +1,91 @@
+// One client at play: its seat, and its lines as calls.
+ghost use Rattle.std.specs.Prelude.{◌≡◌, ◌∷◌, [], OnOk};
+ghost use Rattle.moos_client.specs.Calls.{MayCall};
+ghost use Rattle.moos_play.specs.Rounds.{HasEnded, HasPlayed};
+
+use moos_client::{Lock, Seat, fetch, post, register, unregister};
+use moos_io::Gate;
+use moos_post::{Call, Entry, NoMemory};
+use std::alloc::Global;
+use std::sync::Wait;
+
+/// A client that plays: its seat at the lock, how many calls it has made, and whether it found no memory.
+#[derive(Drop)]
+pub(crate) struct Player {
+    pub(crate) seat: Seat,
+    pub(crate) calls: u64,
+    pub(crate) ended: Result<(), NoMemory>,
+}
+
+/// The client makes its calls among these lines, in order.
+pub(crate) fn play_part<R: Wait, G: Gate>(
+    rt: &R,
+    alloc: Global,
+    lock: &Lock,
+    player: &mut Player,
+    lines: &[Entry],
+    gate: &G,
+)
+    requires { MayCall lock.now player.old.seat }
+    ensures { HasEnded lines.now player.old player.new }
+{
+    player.ended = play_lines(
+        rt,
+        alloc,
+        lock,
+        &mut player.seat,
+        &mut player.calls,
+        lines,
+        gate,
+    );
+}
+
+fn play_lines<R: Wait, G: Gate>(
+    rt: &R,
+    alloc: Global,
+    lock: &Lock,
+    seat: &mut Seat,
+    calls: &mut u64,
+    lines: &[Entry],
+    gate: &G,
+) -> Result<(), NoMemory>
+    requires { MayCall lock.now seat.old }
+    ensures { OnOk result (HasPlayed lines.now seat.old seat.new) }
+{
+    let client = seat.number();
+    for line in lines {
+        if line.client == client {
+            gate.at_call(client, *calls);
+            make_call(rt, alloc, lock, seat, line)?;
+            *calls = calls.saturating_add(1);
+        }
+    }
+    Ok(())
+}
+
+// Makes the call that a line of the seat's client asks for.
+fn make_call<R: Wait>(
+    rt: &R,
+    alloc: Global,
+    lock: &Lock,
+    seat: &mut Seat,
+    line: &Entry,
+) -> Result<(), NoMemory>
+    requires may { MayCall lock.now seat.old }
+    requires own { line.now.client ≡ seat.old.number }
+    ensures { OnOk result (HasPlayed (line.now ∷ []) seat.old seat.new) }
+{
+    let stamp = line.stamp;
+    match &line.call {
+        Call::Register(regs) => register(rt, alloc, lock, seat, stamp, regs.copy(alloc)?),
+        Call::Unregister(var, source) => {
+            let (var, source) = (var.copy(alloc)?, source.copy(alloc)?);
+            unregister(rt, alloc, lock, seat, stamp, var, source)
+        }
+        Call::Post(batch) => post(rt, alloc, lock, seat, stamp, batch.copy(alloc)?),
+        Call::Fetch => match fetch(rt, alloc, lock, seat, stamp) {
+            Ok(_) => Ok(()),
+            Err(no_memory) => Err(no_memory),
+        },
+    }
+}
