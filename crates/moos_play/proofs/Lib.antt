@@ -1,0 +1,4 @@
+pub mod Histories
+pub mod Mets
+pub mod Playing
+pub mod Rounds

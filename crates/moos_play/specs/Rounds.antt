@@ -1,6 +1,6 @@
 -- What a round does to the seats of the clients. This serves the functions of this crate alone.
-use Rattle.std.specs.Prelude.{◌≡◌, ℕ, ◌+◌, ◌-◌, ◌==◌, ◌<◌, ◌≤◌, ⊥, IsTrue, List, [], ◌∷◌, ◌++◌, length, map, take, drop, OnOk, Ok, count_by}
-use Rattle.std.specs.List.{All, list_all}
+use Rattle.std.specs.Prelude.{◌≡◌, ℕ, ◌+◌, ◌-◌, ◌==◌, ◌<◌, ◌≤◌, Bool, IsTrue, List, [], ◌∷◌, ◌++◌, length, map, take, drop, OnOk, Ok, count_by}
+use Rattle.std.specs.List.{All, list_all, list_any}
 use Rattle.moos_client.specs.Calls.{MayCall, SeatState}
 use Rattle.moos_post.specs.declared.entry.Entry.{Entry}
 use Rattle.moos_post.specs.History.{History}
@@ -24,17 +24,14 @@ pub record HasPlayed (lines : List Entry) (before after : SeatState) : Type 0 wh
 abbrev pub HasEnded : List Entry → Player → Player → Type 0
 HasEnded lines before after = OnOk after.ended (HasPlayed lines before.seat after.seat)
 
--- each player has
-abbrev pub HaveEnded : List Entry → List Player → List Player → Type 0
-HaveEnded lines [] [] = Unit {0}
-HaveEnded lines [] (after ∷ afters) = ⊥
-HaveEnded lines (before ∷ befores) [] = ⊥
-HaveEnded lines (before ∷ befores) (after ∷ afters) = HasEnded lines before after × HaveEnded lines befores afters
-
 -- a seat apart from the first: its client may make calls, and it has taken in nobody
 pub record IsApart (lock : CommunityLock) (seat : SeatState) : Type 0 where
   pub may : MayCall lock seat
   pub alone : seat.met ≡ []
+
+-- whether the client has one of the lines
+abbrev pub is_among : ℕ → List Entry → Bool
+is_among client lines = list_any (λ line. line.client == client) lines
 
 -- what the first seat keeps of a player that it takes in
 abbrev pub met_of : Player → Met Entry
@@ -44,12 +41,13 @@ met_of player = record { number = player.seat.number; events = player.seat.mine 
 abbrev pub times : ℕ → List (Met Entry) → ℕ
 times n met = count_by (has_number n) met
 
--- the first seat has taken in the seats of all other clients, each once
+-- the first seat has taken in the seats of all other clients, and no number twice
 pub record IsGathered (lock : CommunityLock) (first : SeatState) : Type 0 where
   pub may : MayCall lock first
   pub number : first.number ≡ 0
   pub all : length first.met ≡ first.made
-  pub each : (n : ℕ) → 0 < n → n < length lock.base → times n first.met ≡ 1
+  pub each : (n : ℕ) → 0 < n → n < length lock.base → 0 < times n first.met
+  pub once : (n : ℕ) → times n first.met ≤ 1
 
 -- The seats of these players are parted from the first, and it knows with them what it knew before. Each other client
 -- but that of number 0 has none of the lines.

@@ -1,11 +1,10 @@
 // One round: the seats of the clients that have lines are parted from the first, their clients make their calls beside
 // each other, and the first takes all in again.
-ghost use Rattle.std.specs.Prelude.{◌≡◌, ◌<◌, ◌^◌, length, nat_lt, IsTrue, false, IfOk, OnOk, Ok, []};
-ghost use Rattle.std.specs.List.{All, list_all};
+ghost use Rattle.std.specs.Prelude.{◌≡◌, ◌<◌, ◌^◌, length, nat_lt, IsTrue, IfOk, OnOk, Ok};
+ghost use Rattle.std.specs.List.{All, AllZip, list_all};
 ghost use Rattle.moos_client.specs.Calls.{MayCall};
-ghost use Rattle.moos_play.specs.Lawful.{entries_of};
-ghost use Rattle.moos_play.specs.Rounds.{AreParted, GoesOn, HasEnded, HasPlayed, HasSeenAll, HasTaken, HaveEnded, IsApart, IsGathered};
-ghost use Rattle.turn_lock.specs.Passes.{Begins, HasAll, IsFree, IsOf, IsWhole};
+ghost use Rattle.moos_play.specs.Rounds.{AreParted, GoesOn, HasEnded, HasPlayed, HasSeenAll, HasTaken, is_among, IsApart, IsGathered};
+ghost use Rattle.turn_lock.specs.Passes.{HasAll, IsFree, IsOf};
 
 use crate::player::{Player, play_part};
 use moos_client::{Lock, Seat};
@@ -41,7 +40,7 @@ pub(crate) fn play_round<R: Threads + Wait + Sync, G: Gate>(
 
 // Whether the client has one of the lines.
 fn has_lines(lines: &[Entry], client: u32) -> bool
-    ensures { result ≡ false → entries_of client lines.now ≡ [] }
+    ensures { result ≡ is_among client lines.now }
 {
     lines.iter().any(|line| line.client == client)
 }
@@ -96,7 +95,7 @@ fn play_beside<R: Threads + Wait + Sync, G: Gate>(
     requires first { MayCall lock.now first × (first.number ≡ 0) }
     requires players { All (λ player. IsApart lock.now player.seat) players.old.items }
     ensures first { IfOk result (HasPlayed lines.now first) }
-    ensures players { OnOk result (HaveEnded lines.now players.old.items players.new.items) }
+    ensures players { OnOk result (AllZip (HasEnded lines.now) players.old.items players.new.items) }
 {
     if !has_lines(lines, 0) {
         play_each(rt, alloc, lock, players.as_mut_slice(), lines, gate);
@@ -120,7 +119,7 @@ fn play_each<R: Threads + Wait + Sync, G: Gate>(
     gate: &G,
 )
     requires { All (λ player. MayCall lock.now player.seat) players.old }
-    ensures { HaveEnded lines.now players.old players.new }
+    ensures { AllZip (HasEnded lines.now) players.old players.new }
 {
     if players.is_empty() {
         return;
@@ -131,7 +130,7 @@ fn play_each<R: Threads + Wait + Sync, G: Gate>(
         players.len(),
         &|_, player: &mut Player|
             requires { MayCall lock.now player.now.seat }
-            ensures { HasEnded lines.now player.entry.now player.exit.now }
+            ensures { HasEnded lines.entry.now player.entry.now player.exit.now }
         { play_part(rt, alloc, lock, player, lines, gate) },
     );
 }

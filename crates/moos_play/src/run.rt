@@ -73,7 +73,7 @@ fn seat_all(lock: &Lock, first: &mut Seat, clients: u32)
     ensures gathered { IsGathered lock.now first.new }
     ensures nothing { KnowsNothing first.new }
 {
-    for _ in 1..clients {
+    for client in 1..clients {
         let seat = lock.split(first);
         lock.meet(first, seat);
     }
@@ -113,21 +113,29 @@ fn no_calls(alloc: Global, clients: u32) -> Result<Vec<u64>, NoMemory>
     ensures { IfOk result (λ calls. length calls.items ≡ clients) }
 {
     let mut calls = Vec::new(alloc);
-    for _ in 0..clients {
+    for client in 0..clients {
         calls.push(0)?;
     }
     Ok(calls)
 }
 
-// Where the round that begins with the line at `from` ends: in order Stamp behind the last line of the same stamp, in
-// order Race behind the last line of all.
+// Where the round that begins with the line at `from` ends: in order Stamp behind the lines of its stamp, in order Race
+// behind all lines.
 fn round_end(lines: &[Entry], from: usize, order: Order) -> usize
     requires { from < length lines.now }
     ensures { EndsRound order lines.now from result }
 {
-    if order == Order::Race {
-        return lines.len();
+    match order {
+        Order::Stamp => stamp_end(lines, from),
+        Order::Race => lines.len(),
     }
+}
+
+// Where the lines end that have the stamp of the line at `from`.
+fn stamp_end(lines: &[Entry], from: usize) -> usize
+    requires { from < length lines.now }
+    ensures { EndsRound Order.Stamp lines.now from result }
+{
     let stamp = lines[from].stamp;
     let mut to = from + 1;
     while to < lines.len() && lines[to].stamp == stamp {

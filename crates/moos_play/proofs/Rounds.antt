@@ -1,0 +1,243 @@
+-- The first seat and the players from one step of a round to the next.
+use Rattle.std.proofs.Common.{◌≡◌, ◌≢◌, ℕ, zero, suc, ◌+◌, ◌-◌, ◌<◌, ◌≤◌, ◌==◌, Bool, true, false, cond, ◌||◌, List, [], ◌∷◌, ◌++◌, map, length, length-append, Ok, Err, OnOk, IfOk, refl, sym, ap, ◌∙◌, subst, arith, append-nil, append_assoc, eq-eqb, ne_eqb, nat_lt, length-map}
+use Rattle.std.specs.Prelude.{IsTrue}
+use Rattle.std.specs.List.{All, AllZip, list_all, list_any}
+use Rattle.std.proofs.lemmas.Bool.{false≢true}
+use Rattle.std.proofs.lemmas.Bool.Decides.{nat_tests}
+use Rattle.std.proofs.lemmas.List.{map-append}
+use Rattle.std.proofs.lemmas.List.Elements.{All-append, All-cons, All-head, All-nil, All-push, All-tail}
+use native.Mathlib.Decide.{ℕ_discrete}
+use Rattle.moos_client.specs.Calls.{MayCall, SeatState}
+use Rattle.moos_post.specs.declared.entry.Entry.{Entry}
+use Rattle.moos_play.specs.declared.player.Player.{Player}
+use Rattle.moos_play.specs.Lawful.{entries_of}
+use Rattle.moos_play.specs.Rounds.{AreParted, CommunityLock, GoesOn, HasEnded, HasPlayed, HasSeenAll, HasTaken, is_among, IsApart, IsGathered, KnowsNothing, met_of, times}
+use Rattle.moos_play.proofs.Histories.{and_left, and_right}
+use Rattle.moos_play.proofs.Mets.{is_taken, known_after, length_without, moved_of, moves_each, moves_known, times_cons, times_more}
+use Rattle.moos_play.proofs.Playing.{begins_on, begins_same, may_on}
+use Rattle.turn_lock.specs.declared.view.Met.{Met}
+use Rattle.turn_lock.specs.Passes.{Begins, beside, events_in, first_of, has_number, IsFree, IsOf, known_of, longer, met_with, without}
+
+-- The seats of the clients below this one are split off and taken in, with nothing seen and no calls.
+pub record AreSeated (lock : CommunityLock) (clients client : ℕ) (first : SeatState) : Type 0 where
+  pub same : first ≡ record (first_of lock clients) { left = first.left; made = first.made; met = first.met }
+  pub left : first.left + client ≡ clients
+  pub made : first.made + 1 ≡ client
+  pub all : length first.met ≡ first.made
+  pub each : (n : ℕ) → 0 < n → n < client → 0 < times n first.met
+  pub once : (n : ℕ) → times n first.met ≤ 1
+  pub later : (n : ℕ) → client ≤ n → times n first.met ≡ 0
+  pub known : (n : ℕ) → events_in first.met n ≡ []
+
+-- a number without events at the end
+none_more : (met : List (Met Entry)) (number n : ℕ) → events_in met n ≡ [] → events_in (met ++ record { number = number; events = [] } ∷ []) n ≡ []
+none_more [] number n h = by (number == n)
+  where
+    by : (b : Bool) → cond b [] [] ≡ []
+    by true = refl
+    by false = refl
+none_more (one ∷ met) number n h = by (none_more met number n) (has_number n one) h
+  where
+    by : (events_in met n ≡ [] → events_in (met ++ record { number = number; events = [] } ∷ []) n ≡ []) → (b : Bool) → cond b one.events (events_in met n) ≡ [] → cond b one.events (events_in (met ++ record { number = number; events = [] } ∷ []) n) ≡ []
+    by rest true k = k
+    by rest false k = rest k
+
+-- how often a number is among others and one at the end
+times_here : (met : List (Met Entry)) (one : Met Entry) (n : ℕ) → one.number ≡ n → times n (met ++ one ∷ []) ≡ times n met + 1
+times_here met one n e =
+    let single : ℕ = 1 in
+    let here : cond (one.number == n) single 0 ≡ single = ap (λ b. cond b single 0) (eq-eqb one.number n e) in
+    omega (arith, here, times_more n met (one ∷ []), times_cons n one [])
+
+times_other : (met : List (Met Entry)) (one : Met Entry) (n : ℕ) → one.number ≢ n → times n (met ++ one ∷ []) ≡ times n met
+times_other met one n ne =
+    let nought : ℕ = 0 in
+    let other : cond (one.number == n) 1 nought ≡ nought = ap (λ b. cond b 1 nought) (ne_eqb one.number n ne) in
+    omega (arith, other, times_more n met (one ∷ []), times_cons n one [])
+
+-- one seat more is split off and taken in
+seated_on : (lock : CommunityLock) (clients client : ℕ) (left made : ℕ) (met : List (Met Entry)) → AreSeated lock clients client (record (first_of lock clients) { left = left; made = made; met = met }) → client < clients
+    → AreSeated lock clients (client + 1) (record (first_of lock clients) { left = left - 1; made = made + 1; met = met ++ record { number = made + 1; events = [] } ∷ [] })
+seated_on lock clients client left made met so below = record {
+  same = refl;
+  left = omega (arith, so.left, below);
+  made = omega (arith, so.made);
+  all = omega (arith, so.all, length-append met (one ∷ []));
+  each = λ n above below. each n above below (ℕ_discrete (made + 1) n);
+  once = λ n. once n (ℕ_discrete (made + 1) n);
+  later = λ n past. times_other met one n (λ e. omega (arith, e, past, so.made)) ∙ so.later n (omega (arith, past));
+  known = λ n. none_more met (made + 1) n (so.known n);
+}
+  where
+    one : Met Entry
+    one = record { number = made + 1; events = [] }
+
+    each : (n : ℕ) → 0 < n → n < client + 1 → Dec (made + 1 ≡ n) → 0 < times n (met ++ one ∷ [])
+    each n above below' (yes e) = omega (arith, times_here met one n e)
+    each n above below' (no ne) = omega (arith, times_other met one n ne, so.each n above (omega (arith, below', ne, so.made)))
+
+    once : (n : ℕ) → Dec (made + 1 ≡ n) → times n (met ++ one ∷ []) ≤ 1
+    once n (yes e) = omega (arith, times_here met one n e, so.later n (omega (arith, e, so.made)))
+    once n (no ne) = omega (arith, times_other met one n ne, so.once n)
+
+pub seated_more : (lock : CommunityLock) (clients client : ℕ) (first split new after : SeatState) → AreSeated lock clients client first → client < clients
+    → split ≡ record first { left = first.left - 1; made = first.made + 1 } → new ≡ beside first (first.made + 1) [] → after ≡ met_with split new → AreSeated lock clients (client + 1) after
+seated_more lock clients client first split new after so below split_is new_is after_is =
+    let step : SeatState → SeatState = λ s. met_with (record s { left = s.left - 1; made = s.made + 1 }) (beside s (s.made + 1) []) in
+    let shape : after ≡ step first = after_is ∙ ap (λ s. met_with s new) split_is ∙ ap (λ s. met_with (record first { left = first.left - 1; made = first.made + 1 }) s) new_is in
+    let full : after ≡ step (record (first_of lock clients) { left = first.left; made = first.made; met = first.met }) = shape ∙ ap step so.same in
+    subst (AreSeated lock clients (client + 1)) (sym full)
+    (seated_on lock clients client first.left first.made first.met (subst (AreSeated lock clients client) so.same so) below)
+
+pub seated_first : (lock : CommunityLock) (clients : ℕ) (first : SeatState) → 0 < clients → first ≡ first_of lock clients → AreSeated lock clients 1 first
+seated_first lock clients first some is = subst (AreSeated lock clients 1) (sym is) (record {
+  same = refl;
+  left = omega (arith, some);
+  made = omega arith;
+  all = refl;
+  each = λ n above below. absurd (omega (arith, above, below));
+  once = λ n. omega arith;
+  later = λ n past. refl;
+  known = λ n. refl;
+})
+
+pub seated_all : (lock : CommunityLock) (clients client : ℕ) (first : SeatState) → AreSeated lock clients client first → 0 < clients → clients ≤ client → clients ≡ length lock.base → IsGathered lock first
+seated_all lock clients client first so some past all = record {
+  may = subst (MayCall lock) (sym so.same) (record { of_lock = record { same = refl; live = refl; base = refl }; free = refl; client = omega (arith, some, all) });
+  number = ap (λ s. s.number) so.same;
+  all = so.all;
+  each = λ n above below. so.each n above (omega (arith, below, past, all));
+  once = so.once;
+}
+
+pub seated_nothing : (lock : CommunityLock) (clients client : ℕ) (first : SeatState) → AreSeated lock clients client first → KnowsNothing first
+seated_nothing lock clients client first so = record {
+  seen = ap (λ s. s.seen) so.same;
+  known = λ n. by n (first.number == n);
+}
+  where
+    by : (n : ℕ) (b : Bool) → cond b first.mine (events_in first.met n) ≡ []
+    by n true = ap (λ s. s.mine) so.same
+    by n false = so.known n
+
+-- the players that are parted so far, of the clients below this one
+pub record ArePartedTo (lock : CommunityLock) (lines : List Entry) (client : ℕ) (before first : SeatState) (players : List Player) : Type 0 where
+  pub same : first ≡ record before { met = first.met }
+  pub apart : All (λ player. IsApart lock player.seat) players
+  pub all : length first.met + length players ≡ length before.met
+  pub each : (n : ℕ) → times n first.met + times n (map met_of players) ≡ times n before.met
+  pub known : (n : ℕ) → events_in (first.met ++ map met_of players) n ≡ events_in before.met n
+  pub busy : (n : ℕ) → 0 < n → n < client → times n (map met_of players) ≡ 0 → entries_of n lines ≡ []
+  pub fresh : (n : ℕ) → client ≤ n → times n (map met_of players) ≡ 0
+
+-- no client that isn't among the lines has one
+pub none_among : (client : ℕ) (lines : List Entry) → is_among client lines ≡ false → entries_of client lines ≡ []
+none_among client [] h = refl
+none_among client (line ∷ lines) h = by (none_among client lines) (line.client == client) h
+  where
+    by : (is_among client lines ≡ false → entries_of client lines ≡ []) → (b : Bool) → (b || is_among client lines) ≡ false → cond b (line ∷ entries_of client lines) (entries_of client lines) ≡ []
+    by rest true k = absurd (false≢true (sym k))
+    by rest false k = rest k
+
+-- nor has one whose number is past the clients
+none_past : (clients client : ℕ) (lines : List Entry) → list_all (λ line. nat_lt line.client clients) lines ≡ true → clients ≤ client → entries_of client lines ≡ []
+none_past clients client [] h past = refl
+none_past clients client (line ∷ lines) h past =
+    let here = and_left (nat_lt line.client clients) (list_all (λ line. nat_lt line.client clients) lines) h in
+    let other : line.client ≢ client = λ e. grind (arith, nat_tests, here, e, past) in
+    ap (λ b. cond b (line ∷ entries_of client lines) (entries_of client lines)) (ne_eqb line.client client other)
+    ∙ none_past clients client lines (and_right (nat_lt line.client clients) (list_all (λ line. nat_lt line.client clients) lines) h) past
+
+pub parted_none : (lock : CommunityLock) (lines : List Entry) (first : SeatState) (players : List Player) → players ≡ [] → ArePartedTo lock lines 1 first first players
+parted_none lock lines first players none = subst (ArePartedTo lock lines 1 first first) (sym none) (record {
+  same = refl;
+  apart = All-nil (λ player. IsApart lock player.seat);
+  all = omega arith;
+  each = λ n. omega arith;
+  known = λ n. ap (λ met. events_in met n) (append-nil first.met);
+  busy = λ n above below absent. absurd (omega (arith, above, below));
+  fresh = λ n past. refl;
+})
+
+-- a client without lines stays
+pub parted_skip : (lock : CommunityLock) (lines : List Entry) (client : ℕ) (before first : SeatState) (players : List Player)
+    → ArePartedTo lock lines client before first players → is_among client lines ≡ false → ArePartedTo lock lines (client + 1) before first players
+parted_skip lock lines client before first players so none = record {
+  same = so.same;
+  apart = so.apart;
+  all = so.all;
+  each = so.each;
+  known = so.known;
+  busy = λ n above below absent. by n above below absent (ℕ_discrete client n);
+  fresh = λ n past. so.fresh n (omega (arith, past));
+}
+  where
+    by : (n : ℕ) → 0 < n → n < client + 1 → times n (map met_of players) ≡ 0 → Dec (client ≡ n) → entries_of n lines ≡ []
+    by n above below absent (yes e) = subst (λ k. entries_of k lines ≡ []) e (none_among client lines none)
+    by n above below absent (no ne) = so.busy n above (omega (arith, below, ne)) absent
+
+-- a client that isn't parted yet is with the first seat, once
+pub is_with : (lock : CommunityLock) (lines : List Entry) (client : ℕ) (before first : SeatState) (players : List Player) → IsGathered lock before → ArePartedTo lock lines client before first players
+    → 0 < client → client < length lock.base → times client first.met ≡ 1
+is_with lock lines client before first players gathered so above below =
+    omega (arith, so.each client, so.fresh client (omega arith), gathered.each client above below, gathered.once client)
+
+-- a client with lines is parted from the first seat
+pub parted_more : (lock : CommunityLock) (lines : List Entry) (client : ℕ) (before first after seat : SeatState) (players : List Player) (player : Player) → IsGathered lock before → ArePartedTo lock lines client before first players
+    → 0 < client → client < length lock.base → after ≡ record first { met = without client first.met } → player.seat ≡ beside first client (events_in first.met client)
+    → ArePartedTo lock lines (client + 1) before after (players ++ player ∷ [])
+parted_more lock lines client before first after seat players player gathered so above below after_is seat_is =
+    subst (λ s. ArePartedTo lock lines (client + 1) before s (players ++ player ∷ [])) (sym shape) (record {
+      same = refl;
+      apart = All-push (λ player. IsApart lock player.seat) players player so.apart (subst (IsApart lock) (sym seat_is) apart);
+      all = omega (arith, so.all, length_without client first.met, with', length-append players (player ∷ []));
+      each = λ n. ap (λ met. times n (without client first.met) + times n met) mets ∙ moves_each client first.met (map met_of players) with' n ∙ so.each n;
+      known = λ n. ap (λ met. events_in (without client first.met ++ met) n) mets ∙ moves_known client first.met (map met_of players) with' (so.fresh client (omega arith)) n ∙ so.known n;
+      busy = λ n above' below' absent. busy n above' below' (subst (λ met. times n met ≡ 0) mets absent) (ℕ_discrete client n);
+      fresh = λ n past. ap (times n) mets ∙ times_other (map met_of players) moved n (λ e. omega (arith, e, past)) ∙ so.fresh n (omega (arith, past));
+    })
+  where
+    shape : after ≡ record before { met = without client first.met }
+    shape = after_is ∙ ap (λ s. record s { met = without client first.met }) so.same
+
+    with' : times client first.met ≡ 1
+    with' = is_with lock lines client before first players gathered so above below
+
+    moved : Met Entry
+    moved = moved_of client first.met
+
+    mets : map met_of (players ++ player ∷ []) ≡ map met_of players ++ moved ∷ []
+    mets = map-append met_of players (player ∷ []) ∙ ap (λ s. map met_of players ++ record { number = s.number; events = s.mine } ∷ []) seat_is
+
+    may : MayCall lock first
+    may = subst (MayCall lock) (sym so.same) (record {
+      of_lock = record { same = gathered.may.of_lock.same; live = gathered.may.of_lock.live; base = gathered.may.of_lock.base };
+      free = gathered.may.free;
+      client = gathered.may.client;
+    })
+
+    apart : IsApart lock (beside first client (events_in first.met client))
+    apart = record {
+      may = record { of_lock = record { same = may.of_lock.same; live = may.of_lock.live; base = may.of_lock.base }; free = refl; client = below };
+      alone = refl;
+    }
+
+    busy : (n : ℕ) → 0 < n → n < client + 1 → times n (map met_of players ++ moved ∷ []) ≡ 0 → Dec (client ≡ n) → entries_of n lines ≡ []
+    busy n above' below' absent (yes e) = absurd (omega (arith, absent, times_here (map met_of players) moved n e))
+    busy n above' below' absent (no ne) = so.busy n above' (omega (arith, below', ne)) (omega (arith, absent, times_other (map met_of players) moved n ne))
+
+-- all clients with lines are parted
+pub parted_all : (lock : CommunityLock) (lines : List Entry) (client : ℕ) (before first : SeatState) (players : List Player) → ArePartedTo lock lines client before first players
+    → length lock.base ≤ client → list_all (λ line. nat_lt line.client (length lock.base)) lines ≡ true → AreParted lock lines before first players
+parted_all lock lines client before first players so past clients = record {
+  same = so.same;
+  apart = so.apart;
+  all = so.all;
+  each = so.each;
+  known = so.known;
+  busy = λ n above absent. by n above absent (nat_lt n (length lock.base)) refl;
+}
+  where
+    by : (n : ℕ) → 0 < n → times n (map met_of players) ≡ 0 → (b : Bool) → nat_lt n (length lock.base) ≡ b → entries_of n lines ≡ []
+    by n above absent true e = so.busy n above (grind (arith, nat_tests)) absent
+    by n above absent false e = none_past (length lock.base) n lines clients (grind (arith, nat_tests))
