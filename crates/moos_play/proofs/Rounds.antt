@@ -1,5 +1,5 @@
 -- The first seat and the players from one step of a round to the next.
-use Rattle.std.proofs.Common.{◌≡◌, ◌≢◌, ℕ, zero, suc, ◌+◌, ◌-◌, ◌<◌, ◌≤◌, ◌==◌, Bool, true, false, cond, ◌||◌, List, [], ◌∷◌, ◌++◌, map, length, length-append, Ok, Err, OnOk, IfOk, refl, sym, ap, ◌∙◌, subst, arith, append-nil, append_assoc, eq-eqb, ne_eqb, nat_lt, length-map}
+use Rattle.std.proofs.Common.{◌≡◌, ◌≢◌, ℕ, zero, suc, ◌+◌, ◌-◌, ◌<◌, ◌≤◌, ◌==◌, Bool, true, false, cond, ◌||◌, List, [], ◌∷◌, ◌++◌, map, length, length-append, Ok, Err, OnOk, IfOk, refl, sym, ap, ◌∙◌, subst, arith, append-nil, append_assoc, eq-eqb, ne_eqb, nat_lt}
 use Rattle.std.specs.Prelude.{IsTrue}
 use Rattle.std.specs.List.{All, AllZip, list_all, list_any}
 use Rattle.std.proofs.lemmas.Bool.{false≢true}
@@ -33,7 +33,7 @@ pub record AreSeated (lock : CommunityLock) (clients client : ℕ) (first : Seat
 none_more : (met : List (Met Entry)) (number n : ℕ) → events_in met n ≡ [] → events_in (met ++ record { number = number; events = [] } ∷ []) n ≡ []
 none_more [] number n h = by (number == n)
   where
-    by : (b : Bool) → cond b [] [] ≡ []
+    by : (b : Bool) → cond {A = List Entry} b [] [] ≡ []
     by true = refl
     by false = refl
 none_more (one ∷ met) number n h = by (none_more met number n) (has_number n one) h
@@ -198,7 +198,7 @@ parted_more lock lines client before first after seat players player gathered so
     })
   where
     shape : after ≡ record before { met = without client first.met }
-    shape = after_is ∙ ap (λ s. record s { met = without client first.met }) so.same
+    shape = after_is ∙ ap {A = SeatState} (λ s. record s { met = without client first.met }) so.same
 
     with' : times client first.met ≡ 1
     with' = is_with lock lines client before first players gathered so above below
@@ -207,7 +207,7 @@ parted_more lock lines client before first after seat players player gathered so
     moved = moved_of client first.met
 
     mets : map met_of (players ++ player ∷ []) ≡ map met_of players ++ moved ∷ []
-    mets = map-append met_of players (player ∷ []) ∙ ap (λ s. map met_of players ++ record { number = s.number; events = s.mine } ∷ []) seat_is
+    mets = map-append met_of players (player ∷ []) ∙ ap {A = SeatState} (λ s. map met_of players ++ record { number = s.number; events = s.mine } ∷ []) seat_is
 
     may : MayCall lock first
     may = subst (MayCall lock) (sym so.same) (record {

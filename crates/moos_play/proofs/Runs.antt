@@ -1,0 +1,77 @@
+-- From one round to the next, and to the end.
+use Rattle.std.proofs.Common.{◌≡◌, ℕ, ◌+◌, ◌-◌, ◌<◌, ◌≤◌, ◌==◌, Bool, true, false, List, [], ◌∷◌, ◌++◌, length, take, drop, nat_lt, nat_le, ◌&&◌, refl, sym, ap, ◌∙◌, subst, arith, append-nil, append_assoc}
+use Rattle.std.specs.Prelude.{IsTrue}
+use Rattle.std.specs.List.{list_all}
+use Rattle.std.proofs.lemmas.List.{take-append-drop}
+use Rattle.std.proofs.lemmas.List.Elements.{filter-append}
+use Rattle.std.proofs.lemmas.List.Folds.{list_all-append}
+use Rattle.moos_client.specs.Calls.{SeatState}
+use Rattle.moos_post.specs.declared.entry.Entry.{Entry}
+use Rattle.moos_post.specs.History.{History}
+use Rattle.moos_play.specs.Lawful.{do_stamps_rise, entries_of, IsLawful, KeepsOrder}
+use Rattle.moos_play.specs.Rounds.{EndsRound, GoesOn, HasSeen, IsOneRound, KnowsNothing}
+use Rattle.moos_play.proofs.Histories.{and_both, and_left, and_right, none_keeps, none_left, order_kept, own_rest, rise_front}
+use Rattle.script_reader.specs.declared.script.Order.{Order}
+use Rattle.script_reader.specs.declared.script.Script.{Script}
+use Rattle.script_reader.specs.Validity.{are_lines, keeps_limits}
+use Rattle.turn_lock.specs.Passes.{Begins, IsWhole, known_of}
+
+-- nothing is played yet
+pub seen_none : (order : Order) (first : SeatState) (lines : List Entry) → KnowsNothing first → HasSeen order first (take 0 lines)
+seen_none order first lines nothing = record {
+  known = nothing.known;
+  whole = λ n. ap (entries_of n) nothing.seen;
+  stamps = subst (KeepsOrder order) (sym nothing.seen) (none_keeps order);
+}
+
+-- one round more
+seen_on : (order : Order) (first after : SeatState) (done lines : List Entry) → HasSeen order first done → GoesOn lines first after → IsTrue (do_stamps_rise 0 (done ++ lines)) → IsOneRound order lines
+    → HasSeen order after (done ++ lines)
+seen_on order first after done lines so on rises one = record {
+  known = known;
+  whole = λ n. on.whole n ∙ known n;
+  stamps = subst (KeepsOrder order) (sym on.later.1) (order_kept order done lines first.seen on.later.0 rises one so.whole rest so.stamps);
+}
+  where
+    known : (n : ℕ) → known_of after n ≡ entries_of n (done ++ lines)
+    known n = on.known n ∙ ap (λ front. front ++ entries_of n lines) (so.known n) ∙ sym (filter-append (λ entry. entry.client == n) done lines)
+
+    rest : (n : ℕ) → entries_of n on.later.0 ≡ entries_of n lines
+    rest n = own_rest first.seen on.later.0 lines n
+        (ap (entries_of n) (sym on.later.1) ∙ on.whole n ∙ on.known n ∙ ap (λ front. front ++ entries_of n lines) (so.known n ∙ sym (so.whole n)))
+
+-- the lines up to a place, and from there to another
+parts : (lines : List Entry) (from to : ℕ) → from ≤ to → take to lines ≡ take from lines ++ take (to - from) (drop from lines)
+parts lines from to below = ?
+
+pub seen_more : (order : Order) (first after : SeatState) (lines : List Entry) (from to : ℕ) → HasSeen order first (take from lines) → GoesOn (take (to - from) (drop from lines)) first after
+    → IsTrue (do_stamps_rise 0 lines) → EndsRound order lines from to → HasSeen order after (take to lines)
+seen_more order first after lines from to so on rises ends =
+    let cut = parts lines from to (omega (arith, ends.more)) in
+    let front = subst (λ l. do_stamps_rise 0 l ≡ true) cut (rise_front 0 (take to lines) (drop to lines) (subst (λ l. do_stamps_rise 0 l ≡ true) (sym (take-append-drop to lines)) rises)) in
+    subst (HasSeen order after) (sym cut) (seen_on order first after (take from lines) (take (to - from) (drop from lines)) so on front ends.one)
+
+-- the clients of a part of the lines
+pub clients_of_part : (p : Entry → Bool) (lines : List Entry) (from to : ℕ) → IsTrue (list_all p lines) → IsTrue (list_all p (take to (drop from lines)))
+clients_of_part p lines from to all =
+    let behind = and_right (list_all p (take from lines)) (list_all p (drop from lines)) (sym (list_all-append p (take from lines) (drop from lines)) ∙ ap (list_all p) (take-append-drop from lines) ∙ all) in
+    and_left (list_all p (take to (drop from lines))) (list_all p (drop to (drop from lines))) (sym (list_all-append p (take to (drop from lines)) (drop to (drop from lines))) ∙ ap (list_all p) (take-append-drop to (drop from lines)) ∙ behind)
+
+-- the end: the history of the closed lock is lawful
+pub lawful : (order : Order) (script : Script) (first : SeatState) (history : History) → HasSeen order first script.lines → Begins history first.seen → ((n : ℕ) → entries_of n history ≡ known_of first n) → IsLawful order script history
+lawful order script first history so begins whole = record {
+  own = λ n. whole n ∙ so.known n;
+  stamps = subst (KeepsOrder order) (sym (begins.1 ∙ ap (λ rest. first.seen ++ rest) (none_left begins.0 rest) ∙ append-nil first.seen)) so.stamps;
+}
+  where
+    rest : (n : ℕ) → entries_of n begins.0 ≡ []
+    rest n = own_rest first.seen begins.0 [] n (ap (entries_of n) (sym begins.1) ∙ whole n ∙ so.known n ∙ sym (so.whole n) ∙ sym (append-nil (entries_of n first.seen)))
+
+-- what a valid script's lines keep
+pub lines_clients : (clients last stop : ℕ) (lines : List Entry) → are_lines clients last stop lines ≡ true → list_all (λ line. nat_lt line.client clients) lines ≡ true
+lines_clients clients last stop [] valid = refl
+lines_clients clients last stop (line ∷ lines) valid = ?
+
+pub lines_rise : (clients last stop : ℕ) (lines : List Entry) → are_lines clients last stop lines ≡ true → do_stamps_rise last lines ≡ true
+lines_rise clients last stop [] valid = refl
+lines_rise clients last stop (line ∷ lines) valid = ?

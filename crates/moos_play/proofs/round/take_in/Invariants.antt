@@ -1,0 +1,11 @@
+-- The players so far are taken in, and those that are left may be.
+use Rattle.std.proofs.Common.{OnOk}
+use Rattle.std.specs.List.{All}
+use Rattle.moos_play.specs.Rounds.{HasTaken, IsApart}
+use Rattle.moos_play.proofs.round.take_in.Given as goal
+
+abbrev pub invariant-loop-player : goal.invariant-loop-player
+invariant-loop-player l = record {
+  taken : HasTaken l.fn.first l.first l.yielded;
+  left : All (λ player. OnOk player.ended (IsApart l.lock player.seat)) l.player-iterator.rest.items;
+}
