@@ -63,7 +63,7 @@ own_rest before rest more n h =
     append_cancel_left (entries_of n before) (entries_of n rest) (entries_of n more) (sym (filter-append (λ entry. entry.client == n) before rest) ∙ h)
 
 -- stamps that rise behind entries of later lines
-rise_front : (last : ℕ) (xs ys : History) → do_stamps_rise last (xs ++ ys) ≡ true → do_stamps_rise last xs ≡ true
+pub rise_front : (last : ℕ) (xs ys : History) → do_stamps_rise last (xs ++ ys) ≡ true → do_stamps_rise last xs ≡ true
 rise_front last [] ys h = refl
 rise_front last (x ∷ xs) ys h =
     and_both (nat_le last x.stamp) (do_stamps_rise x.stamp xs) (and_left (nat_le last x.stamp) (do_stamps_rise x.stamp (xs ++ ys)) h) (rise_front x.stamp xs ys (and_right (nat_le last x.stamp) (do_stamps_rise x.stamp (xs ++ ys)) h))

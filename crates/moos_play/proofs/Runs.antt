@@ -1,8 +1,9 @@
 -- From one round to the next, and to the end.
-use Rattle.std.proofs.Common.{◌≡◌, ℕ, ◌+◌, ◌-◌, ◌<◌, ◌≤◌, ◌==◌, Bool, true, false, List, [], ◌∷◌, ◌++◌, length, take, drop, nat_lt, nat_le, ◌&&◌, refl, sym, ap, ◌∙◌, subst, arith, append-nil, append_assoc}
+use Rattle.std.proofs.Common.{◌≡◌, ℕ, ◌+◌, ◌-◌, ◌<◌, ◌≤◌, ◌==◌, Bool, true, false, List, [], ◌∷◌, ◌++◌, length, length-append, length-take, take, drop, nat_lt, nat_le, ◌&&◌, refl, sym, ap, ◌∙◌, subst, arith, append-nil, append_assoc}
 use Rattle.std.specs.Prelude.{IsTrue}
 use Rattle.std.specs.List.{list_all}
-use Rattle.std.proofs.lemmas.List.{take-append-drop}
+use Rattle.std.proofs.lemmas.Bool.Decides.{nat_tests}
+use Rattle.std.proofs.lemmas.List.{drop-take, take-append-drop, take-take}
 use Rattle.std.proofs.lemmas.List.Elements.{filter-append}
 use Rattle.std.proofs.lemmas.List.Folds.{list_all-append}
 use Rattle.moos_client.specs.Calls.{SeatState}
@@ -42,7 +43,10 @@ seen_on order first after done lines so on rises one = record {
 
 -- the lines up to a place, and from there to another
 parts : (lines : List Entry) (from to : ℕ) → from ≤ to → take to lines ≡ take from lines ++ take (to - from) (drop from lines)
-parts lines from to below = ?
+parts lines from to below =
+    let n : from + (to - from) ≡ to = omega (arith, below) in
+    sym (take-append-drop from (take to lines)) ∙ ap (λ front. front ++ drop from (take to lines)) (take-take from to lines below)
+    ∙ ap (λ end. take from lines ++ end) (ap (λ k. drop from (take k lines)) (sym n) ∙ drop-take from (to - from) lines)
 
 pub seen_more : (order : Order) (first after : SeatState) (lines : List Entry) (from to : ℕ) → HasSeen order first (take from lines) → GoesOn (take (to - from) (drop from lines)) first after
     → IsTrue (do_stamps_rise 0 lines) → EndsRound order lines from to → HasSeen order after (take to lines)
@@ -67,11 +71,37 @@ lawful order script first history so begins whole = record {
     rest : (n : ℕ) → entries_of n begins.0 ≡ []
     rest n = own_rest first.seen begins.0 [] n (ap (entries_of n) (sym begins.1) ∙ whole n ∙ so.known n ∙ sym (so.whole n) ∙ sym (append-nil (entries_of n first.seen)))
 
--- what a valid script's lines keep
+-- what a valid script's lines keep: their clients are below the number of clients
 pub lines_clients : (clients last stop : ℕ) (lines : List Entry) → are_lines clients last stop lines ≡ true → list_all (λ line. nat_lt line.client clients) lines ≡ true
 lines_clients clients last stop [] valid = refl
-lines_clients clients last stop (line ∷ lines) valid = ?
+lines_clients clients last stop (line ∷ lines) valid =
+    let own : Bool = nat_lt line.client clients && nat_le last line.stamp in
+    let here = and_left (own && keeps_limits line.call) (are_lines clients line.stamp stop lines) valid in
+    and_both (nat_lt line.client clients) (list_all (λ line. nat_lt line.client clients) lines)
+    (and_left (nat_lt line.client clients) (nat_le last line.stamp) (and_left own (keeps_limits line.call) here))
+    (lines_clients clients line.stamp stop lines (and_right (own && keeps_limits line.call) (are_lines clients line.stamp stop lines) valid))
 
+-- and their stamps don't go back
 pub lines_rise : (clients last stop : ℕ) (lines : List Entry) → are_lines clients last stop lines ≡ true → do_stamps_rise last lines ≡ true
 lines_rise clients last stop [] valid = refl
-lines_rise clients last stop (line ∷ lines) valid = ?
+lines_rise clients last stop (line ∷ lines) valid =
+    let own : Bool = nat_lt line.client clients && nat_le last line.stamp in
+    let here = and_left (own && keeps_limits line.call) (are_lines clients line.stamp stop lines) valid in
+    and_both (nat_le last line.stamp) (do_stamps_rise line.stamp lines)
+    (and_right (nat_lt line.client clients) (nat_le last line.stamp) (and_left own (keeps_limits line.call) here))
+    (lines_rise clients line.stamp stop lines (and_right (own && keeps_limits line.call) (are_lines clients line.stamp stop lines) valid))
+
+-- without clients there are no lines
+pub no_lines : (lines : List Entry) → list_all (λ line. nat_lt line.client 0) lines ≡ true → lines ≡ []
+no_lines [] none = refl
+no_lines (line ∷ lines) none = absurd (grind (arith, nat_tests, and_left (nat_lt line.client 0) (list_all (λ line. nat_lt line.client 0) lines) none))
+
+pub lawful_none : (order : Order) (script : Script) (history : History) → script.lines ≡ [] → history ≡ [] → IsLawful order script history
+lawful_none order script history none empty = record {
+  own = λ n. ap (entries_of n) (empty ∙ sym none);
+  stamps = subst (KeepsOrder order) (sym empty) (none_keeps order);
+}
+
+-- as many counts of calls as before
+pub as_many : (n : ℕ) (before after : List ℕ) → length after ≡ length before → n ≡ length before → length (take n (after ++ drop (length after) before)) ≡ n
+as_many n before after long all = omega (arith, long, all, length-take n (after ++ drop (length after) before), length-append after (drop (length after) before))

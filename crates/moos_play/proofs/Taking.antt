@@ -2,7 +2,7 @@
 use Rattle.std.proofs.Common.{◌≡◌, ◌≢◌, ℕ, zero, suc, ◌+◌, ◌<◌, ◌≤◌, ◌==◌, Bool, true, false, cond, List, [], ◌∷◌, ◌++◌, map, length, length-append, take, drop, Ok, Err, OnOk, IfOk, Result, refl, sym, ap, ◌∙◌, subst, arith, append-nil, append_assoc, eq-eqb, ne_eqb}
 use Rattle.std.specs.Prelude.{slice_index_or}
 use Rattle.std.specs.List.{All, AllZip}
-use Rattle.std.proofs.lemmas.List.{drop_all, map-append, length-map, take-all}
+use Rattle.std.proofs.lemmas.List.{drop_all, map-append, length-map, take_all}
 use Rattle.std.proofs.lemmas.List.Elements.{All-cons, All-head, All-nil, All-push, All-tail, length_all_zip}
 use native.Mathlib.Decide.{ℕ_discrete}
 use Rattle.moos_client.specs.Calls.{MayCall, SeatState}
@@ -48,7 +48,7 @@ left_first (Err _) lines first before after left ended is = tt
 -- what was written back to a list of one length
 pub written : (n : ℕ) (xs ys zs : List Player) → length xs ≡ length ys → n ≡ length xs → take n (ys ++ drop (length ys) xs) ≡ zs → ys ≡ zs
 written n xs ys zs long all is =
-    sym (ap (take n) (ap (λ end. ys ++ end) (drop_all xs (length ys) (omega (arith, long))) ∙ append-nil ys) ∙ take-all n ys (omega (arith, long, all))) ∙ is
+    sym (ap (take n) (ap (λ end. ys ++ end) (drop_all (length ys) xs (omega (arith, long))) ∙ append-nil ys) ∙ take_all n ys (omega (arith, long, all))) ∙ is
 
 -- a seat that has played stays apart
 apart_on : (lock : CommunityLock) (lines : List Entry) (before after : SeatState) → IsApart lock before → HasPlayed lines before after → IsApart lock after
@@ -175,7 +175,7 @@ round_gathered lock lines before parted played after players ended gathered apar
         client = gathered.may.client;
       };
       number = gathered.number;
-      all = omega (arith, gathered.all, apart.all, length-append parted.met (map met_of ended), length-map met_of ended, length_all_zip (HasEnded lines) players ended zip);
+      all = omega (arith, gathered.all, apart.all, length-append parted.met (map met_of ended), length-map ended met_of, length_all_zip (HasEnded lines) players ended zip);
       each = λ n above below. omega (arith, round_times ended n apart zip taken.ended, gathered.each n above below);
       once = λ n. omega (arith, round_times ended n apart zip taken.ended, gathered.once n);
     })
