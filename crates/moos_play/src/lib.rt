@@ -13,3 +13,6 @@ mod run;
 
 pub use run::{Ran, play};
 pub use script_reader::Order;
+
+#[cfg(test)]
+mod tests;
