@@ -1,16 +1,16 @@
 -- One client's lines as its calls, one after another.
-use Rattle.std.proofs.Common.{◌≡◌, ℕ, ◌+◌, ◌-◌, ◌<◌, ◌≤◌, ◌==◌, Bool, true, false, cond, List, [], ◌∷◌, ◌++◌, filter, length, take, drop, get_or, length-drop, refl, sym, ap, ◌∙◌, subst, arith, append-nil, append_assoc, eq-eqb, ne_eqb, ◌≢◌}
+use Rattle.std.proofs.Common.{◌≡◌, ℕ, ◌+◌, ◌-◌, ◌<◌, ◌≤◌, ◌==◌, Bool, true, cond, List, [], ◌∷◌, ◌++◌, length, take, drop, get_or, length-drop, refl, sym, ap, ◌∙◌, subst, arith, append-nil, append_assoc, eq-eqb, ne_eqb, ◌≢◌}
 use Rattle.std.specs.List.{list_all}
 use Rattle.std.proofs.lemmas.List.{get_or-drop, take_more}
 use Rattle.std.proofs.lemmas.List.Folds.{list_all_more}
-use Rattle.std.proofs.lemmas.List.Elements.{filter-append, filter_more}
+use Rattle.std.proofs.lemmas.List.Elements.{filter-append}
 use Rattle.moos_client.specs.Calls.{MayCall, SeatState}
 use Rattle.moos_post.specs.declared.entry.Entry.{Entry}
 use Rattle.moos_play.specs.Lawful.{entries_of}
 use Rattle.moos_play.specs.Rounds.{CommunityLock, EndsRound, HasPlayed}
 use Rattle.moos_play.proofs.Histories.{and_both}
 use Rattle.script_reader.specs.declared.script.Order.TheVariants.{Stamp, Race}
-use Rattle.turn_lock.specs.Passes.{Begins, IsFree, IsOf}
+use Rattle.turn_lock.specs.Passes.{Begins}
 
 -- what begins with what begins
 pub begins_on : (a b c : List Entry) → Begins b a → Begins c b → Begins c a
@@ -31,8 +31,8 @@ pub played_on : (one two : List Entry) (a b c : SeatState) → HasPlayed one a b
 played_on one two a b c first second = record {
   later = begins_on a.seen b.seen c.seen first.later second.later;
   same = second.same
-    ∙ subst (λ s. record b { seen = c.seen; mine = b.mine ++ entries_of b.number two } ≡ record s { seen = c.seen; mine = s.mine ++ entries_of s.number two }) first.same refl
-    ∙ ap (λ mine. record a { seen = c.seen; mine = mine }) (append_assoc a.mine (entries_of a.number one) (entries_of a.number two) ∙ ap (λ more. a.mine ++ more) (sym (filter-append (λ entry. entry.client == a.number) one two)));
+      ∙ subst (λ s. record b { seen = c.seen; mine = b.mine ++ entries_of b.number two } ≡ record s { seen = c.seen; mine = s.mine ++ entries_of s.number two }) first.same refl
+      ∙ ap (λ mine. record a { seen = c.seen; mine = mine }) (append_assoc a.mine (entries_of a.number one) (entries_of a.number two) ∙ ap (λ more. a.mine ++ more) (sym (filter-append (λ entry. entry.client == a.number) one two)));
 }
 
 -- a seat that has played may go on

@@ -1,22 +1,20 @@
 -- The first seat and the players from one step of a round to the next.
-use Rattle.std.proofs.Common.{◌≡◌, ◌≢◌, ℕ, zero, suc, ◌+◌, ◌-◌, ◌<◌, ◌≤◌, ◌==◌, Bool, true, false, cond, ◌||◌, List, [], ◌∷◌, ◌++◌, map, length, length-append, Ok, Err, OnOk, IfOk, refl, sym, ap, ◌∙◌, subst, arith, append-nil, append_assoc, eq-eqb, ne_eqb, nat_lt}
-use Rattle.std.specs.Prelude.{IsTrue}
-use Rattle.std.specs.List.{All, AllZip, list_all, list_any}
+use Rattle.std.proofs.Common.{◌≡◌, ◌≢◌, ℕ, ◌+◌, ◌-◌, ◌<◌, ◌≤◌, ◌==◌, Bool, true, false, cond, ◌||◌, List, [], ◌∷◌, ◌++◌, map, length, length-append, refl, sym, ap, ◌∙◌, subst, arith, append-nil, eq-eqb, ne_eqb, nat_lt}
+use Rattle.std.specs.List.{All, list_all}
 use Rattle.std.proofs.lemmas.Bool.{false≢true}
 use Rattle.std.proofs.lemmas.Bool.Decides.{nat_tests}
 use Rattle.std.proofs.lemmas.List.{map-append}
-use Rattle.std.proofs.lemmas.List.Elements.{All-append, All-cons, All-head, All-nil, All-push, All-tail}
+use Rattle.std.proofs.lemmas.List.Elements.{All-nil, All-push}
 use native.Mathlib.Decide.{ℕ_discrete}
 use Rattle.moos_client.specs.Calls.{MayCall, SeatState}
 use Rattle.moos_post.specs.declared.entry.Entry.{Entry}
 use Rattle.moos_play.specs.declared.player.Player.{Player}
 use Rattle.moos_play.specs.Lawful.{entries_of}
-use Rattle.moos_play.specs.Rounds.{AreParted, CommunityLock, GoesOn, HasEnded, HasPlayed, HasSeenAll, HasTaken, is_among, IsApart, IsGathered, KnowsNothing, met_of, times}
+use Rattle.moos_play.specs.Rounds.{AreParted, CommunityLock, is_among, IsApart, IsGathered, KnowsNothing, met_of, times}
 use Rattle.moos_play.proofs.Histories.{and_left, and_right}
-use Rattle.moos_play.proofs.Mets.{is_taken, known_after, length_without, moved_of, moves_each, moves_known, times_cons, times_more}
-use Rattle.moos_play.proofs.Playing.{begins_on, begins_same, may_on}
+use Rattle.moos_play.proofs.Mets.{length_without, moved_of, moves_each, moves_known, times_cons, times_more}
 use Rattle.turn_lock.specs.declared.view.Met.{Met}
-use Rattle.turn_lock.specs.Passes.{Begins, beside, events_in, first_of, has_number, IsFree, IsOf, known_of, longer, met_with, without}
+use Rattle.turn_lock.specs.Passes.{beside, events_in, first_of, has_number, met_with, without}
 
 -- The seats of the clients below this one are split off and taken in, with nothing seen and no calls.
 pub record AreSeated (lock : CommunityLock) (clients client : ℕ) (first : SeatState) : Type 0 where

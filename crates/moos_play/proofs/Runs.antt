@@ -1,5 +1,5 @@
 -- From one round to the next, and to the end.
-use Rattle.std.proofs.Common.{◌≡◌, ℕ, ◌+◌, ◌-◌, ◌<◌, ◌≤◌, ◌==◌, Bool, true, false, List, [], ◌∷◌, ◌++◌, length, length-append, length-take, take, drop, nat_lt, nat_le, ◌&&◌, refl, sym, ap, ◌∙◌, subst, arith, append-nil, append_assoc}
+use Rattle.std.proofs.Common.{◌≡◌, ℕ, ◌+◌, ◌-◌, ◌≤◌, ◌==◌, Bool, true, List, [], ◌∷◌, ◌++◌, length, length-append, length-take, take, drop, nat_lt, nat_le, ◌&&◌, refl, sym, ap, ◌∙◌, subst, arith, append-nil}
 use Rattle.std.specs.Prelude.{IsTrue}
 use Rattle.std.specs.List.{list_all}
 use Rattle.std.proofs.lemmas.Bool.Decides.{nat_tests}
@@ -15,7 +15,7 @@ use Rattle.moos_play.proofs.Histories.{and_both, and_left, and_right, none_keeps
 use Rattle.script_reader.specs.declared.script.Order.{Order}
 use Rattle.script_reader.specs.declared.script.Script.{Script}
 use Rattle.script_reader.specs.Validity.{are_lines, keeps_limits}
-use Rattle.turn_lock.specs.Passes.{Begins, IsWhole, known_of}
+use Rattle.turn_lock.specs.Passes.{Begins, known_of}
 
 -- nothing is played yet
 pub seen_none : (order : Order) (first : SeatState) (lines : List Entry) → KnowsNothing first → HasSeen order first (take 0 lines)

@@ -1,19 +1,18 @@
 -- The players after their lines, and the first seat that takes them in.
-use Rattle.std.proofs.Common.{◌≡◌, ◌≢◌, ℕ, zero, suc, ◌+◌, ◌<◌, ◌≤◌, ◌==◌, Bool, true, false, cond, List, [], ◌∷◌, ◌++◌, map, length, length-append, take, drop, Ok, Err, OnOk, IfOk, Result, refl, sym, ap, ◌∙◌, subst, arith, append-nil, append_assoc, eq-eqb, ne_eqb}
+use Rattle.std.proofs.Common.{◌≡◌, ◌≢◌, ℕ, suc, ◌<◌, ◌==◌, cond, List, [], ◌∷◌, ◌++◌, map, length, length-append, take, drop, Ok, Err, OnOk, IfOk, Result, refl, sym, ap, ◌∙◌, subst, arith, append-nil, append_assoc, eq-eqb, ne_eqb}
 use Rattle.std.specs.Prelude.{slice_index_or}
 use Rattle.std.specs.List.{All, AllZip}
 use Rattle.std.proofs.lemmas.List.{drop_all, map-append, length-map, take_all}
 use Rattle.std.proofs.lemmas.List.Elements.{All-cons, All-head, All-nil, All-push, All-tail, length_all_zip}
 use native.Mathlib.Decide.{ℕ_discrete}
-use Rattle.moos_client.specs.Calls.{MayCall, SeatState}
+use Rattle.moos_client.specs.Calls.{SeatState}
 use Rattle.moos_post.specs.declared.entry.Entry.{Entry}
 use Rattle.moos_play.specs.declared.player.Player.{Player}
 use Rattle.moos_play.specs.Lawful.{entries_of}
 use Rattle.moos_play.specs.Rounds.{AreParted, CommunityLock, GoesOn, HasEnded, HasPlayed, HasSeenAll, HasTaken, IsApart, IsGathered, met_of, times}
 use Rattle.moos_play.proofs.Mets.{known_after, times_cons, times_more}
 use Rattle.moos_play.proofs.Playing.{begins_on, begins_same, may_on}
-use Rattle.turn_lock.specs.declared.view.Met.{Met}
-use Rattle.turn_lock.specs.Passes.{Begins, events_in, HasAll, has_number, IsFree, IsOf, known_of, longer, met_with}
+use Rattle.turn_lock.specs.Passes.{Begins, events_in, IsFree, IsOf, known_of, met_with}
 
 -- a relation at each place of two lists of one length
 pub zip_all : (R : Player → Player → Type 0) (xs ys : List Player) → length ys ≡ length xs → ((i : ℕ) (d : Player) → i < length xs → R (slice_index_or xs i d) (slice_index_or ys i d)) → AllZip R xs ys
@@ -86,7 +85,7 @@ pub taken_more : (before first after seat : SeatState) (players : List Player) (
 taken_more before first after seat players player so seat_is ended alone after_is later = record {
   later = begins_on before.seen first.seen after.seen so.later later;
   same = shape ∙ subst (λ s. record first { seen = after.seen; met = first.met ++ met_of player ∷ [] } ≡ record s { seen = after.seen; met = s.met ++ met_of player ∷ [] }) so.same refl
-    ∙ ap (λ met. record before { seen = after.seen; met = met }) (append_assoc before.met (map met_of players) (met_of player ∷ []) ∙ ap (λ met. before.met ++ met) (sym (map-append met_of players (player ∷ []))));
+      ∙ ap (λ met. record before { seen = after.seen; met = met }) (append_assoc before.met (map met_of players) (met_of player ∷ []) ∙ ap (λ met. before.met ++ met) (sym (map-append met_of players (player ∷ []))));
   ended = All-push (λ player. player.ended ≡ Ok tt) players player so.ended ended;
 }
   where
@@ -132,9 +131,9 @@ ended_events lines n (p ∷ ps) (q ∷ qs) zip ended some =
     let played = at_ok q.ended (HasPlayed lines p.seat q.seat) (All-head (λ player. player.ended ≡ Ok tt) q qs ended) zip.0 in
     subst (λ s. cond (s.number == n) s.mine (events_in (map met_of qs) n) ≡ cond (p.seat.number == n) p.seat.mine (events_in (map met_of ps) n) ++ entries_of n lines) (sym played.same)
     (pick p.seat.number n p.seat.mine (events_in (map met_of qs) n) (events_in (map met_of ps) n) lines (ℕ_discrete p.seat.number n) (λ ne.
-        let nought : ℕ = 0 in
-        let other : cond (p.seat.number == n) 1 nought ≡ nought = ap (λ b. cond b 1 nought) (ne_eqb p.seat.number n ne) in
-        ended_events lines n ps qs zip.1 (All-tail (λ player. player.ended ≡ Ok tt) q qs ended) (omega (arith, other, some, times_cons n (met_of p) (map met_of ps)))))
+    let nought : ℕ = 0 in
+    let other : cond (p.seat.number == n) 1 nought ≡ nought = ap (λ b. cond b 1 nought) (ne_eqb p.seat.number n ne) in
+    ended_events lines n ps qs zip.1 (All-tail (λ player. player.ended ≡ Ok tt) q qs ended) (omega (arith, other, some, times_cons n (met_of p) (map met_of ps)))))
 
 -- the first seat after a round
 round_shape : {lock : CommunityLock} {lines : List Entry} {before parted played after : SeatState} {players ended : List Player} → AreParted lock lines before parted players

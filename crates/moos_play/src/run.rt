@@ -102,7 +102,15 @@ fn play_rounds<R: Threads + Wait + Sync, G: Gate>(
     let mut from = 0;
     while from < lines.len() {
         let to = round_end(lines, from, order);
-        first = play_round(rt, alloc, lock, first, calls.as_mut_slice(), &lines[from..to], gate)?;
+        first = play_round(
+            rt,
+            alloc,
+            lock,
+            first,
+            calls.as_mut_slice(),
+            &lines[from..to],
+            gate,
+        )?;
         from = to;
     }
     Ok(first)

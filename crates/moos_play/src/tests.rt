@@ -1,13 +1,13 @@
 // Scripts that are played in both orders, and that their clients run beside each other.
-ghost use Rattle.std.specs.Prelude.{◌<◌, IfOk};
+ghost use Rattle.std.specs.Prelude.{◌<◌, IfOk, length};
 ghost use Rattle.script_reader.specs.Validity.{IsValid};
 
 use crate::{Order, Ran, play};
 use moos_db::Db;
 use moos_io::{Gate, NoGate};
-use moos_post::{Call, Entry, Value};
+use moos_post::{Batch, Call, Entry, Pair, Value};
 use script_reader::{Script, read_script};
-use std::alloc::Global;
+use std::alloc::{AllocError, Global};
 use std::hint::spin_loop;
 use std::process::Abort;
 use std::sync::Wait;
@@ -30,23 +30,70 @@ fn script_of(rt: &impl Abort, alloc: Global, text: &[u8]) -> Result<Script, Fail
 }
 
 // An entry in short: its stamp, its client, what call it is, and the number that a post says first.
-fn told(entry: &Entry) -> (u64, u32, u32, i64) {
+type Told = (u64, u32, u32, i64);
+
+fn told(entry: &Entry) -> Told {
     let (call, number) = match &entry.call {
         Call::Register(_) => (0, 0),
         Call::Unregister(_, _) => (1, 0),
-        Call::Post(batch) => match batch.all() {
-            [pair, ..] => match &pair.value {
-                Value::Num(number) => (2, number.get()),
-                Value::Text(_) => (2, 0),
-            },
-            [] => (2, 0),
-        },
+        Call::Post(batch) => (2, first_number(batch)),
         Call::Fetch => (3, 0),
     };
     (entry.stamp, entry.client, call, number)
 }
 
-// That each client's entries are its lines, and nobody else has one; and that in order Stamp no stamp goes back.
+fn first_number(batch: &Batch) -> i64 {
+    match batch.all() {
+        [
+            Pair {
+                var: _,
+                value: Value::Num(number),
+            },
+            ..
+        ] => number.get(),
+        _ => 0,
+    }
+}
+
+fn history_told(alloc: Global, db: &Db) -> Result<Vec<Told>, AllocError> {
+    let mut history = Vec::new(alloc);
+    for k in 0..db.entries() {
+        history.push(told(db.entry(k)))?;
+    }
+    Ok(history)
+}
+
+fn lines_told(alloc: Global, script: &Script) -> Result<Vec<Told>, AllocError> {
+    let mut lines = Vec::new(alloc);
+    for line in script.lines.all() {
+        lines.push(told(line))?;
+    }
+    Ok(lines)
+}
+
+// Those of one client, in order.
+fn of_client(alloc: Global, all: &[Told], client: u32) -> Result<Vec<Told>, AllocError> {
+    let mut own = Vec::new(alloc);
+    for one in all {
+        if one.1 == client {
+            own.push(*one)?;
+        }
+    }
+    Ok(own)
+}
+
+fn do_stamps_rise(history: &[Told]) -> bool {
+    let mut last = 0;
+    for (stamp, _, _, _) in history {
+        if *stamp < last {
+            return false;
+        }
+        last = *stamp;
+    }
+    true
+}
+
+// That there are as many entries as lines, each client's own in order, and that in order Stamp no stamp goes back.
 fn check_lawful(
     rt: &impl Abort,
     alloc: Global,
@@ -54,53 +101,55 @@ fn check_lawful(
     order: Order,
     db: &Db,
 ) -> Result<(), Fail> {
-    let mut history = Vec::new(alloc);
-    for k in 0..db.entries() {
-        history.push(told(db.entry(k)))?;
-    }
-    assert_eq!(rt; history.len(), script.lines.len());
+    let (lines, history) = (lines_told(alloc, script)?, history_told(alloc, db)?);
+    assert!(rt; history.len() == lines.len());
+    assert!(rt; order == Order::Race || do_stamps_rise(history.as_slice()));
     for client in 0..db.clients() {
-        let lines = script
-            .lines
-            .all()
-            .iter()
-            .map(told)
-            .filter(|line| line.1 == client);
-        let entries = history.iter().copied().filter(|entry| entry.1 == client);
-        assert!(rt; lines.eq(entries), "the lines of client {client}");
-    }
-    let mut last = 0;
-    for (stamp, _, _, _) in &history {
-        assert!(rt; order == Order::Race || last <= *stamp);
-        last = *stamp;
+        let own = of_client(alloc, lines.as_slice(), client)?;
+        let made = of_client(alloc, history.as_slice(), client)?;
+        assert!(rt; own.as_slice() == made.as_slice(), "client {client}");
     }
     Ok(())
+}
+
+// Whether the mail of an entry has a post of its own client.
+fn has_own_mail(db: &Db, k: u64) -> bool
+    requires { k < length db.now.history }
+{
+    let client = db.entry(k).client;
+    let mut own = false;
+    for &number in db.letters(k) {
+        own = own || number < db.posts() && db.origin(number).client == client;
+    }
+    own
 }
 
 // That each fetch gives the client a post of its own.
 fn check_own_mail(rt: &impl Abort, db: &Db) {
     for k in 0..db.entries() {
-        let entry = db.entry(k);
-        if let Call::Fetch = &entry.call {
-            let mut own = false;
-            for &number in db.letters(k) {
-                own |= number < db.posts() && db.origin(number).client == entry.client;
-            }
-            assert!(rt; own, "the mail of entry {k}");
-        }
+        let is_fetch = matches!(&db.entry(k).call, Call::Fetch);
+        assert!(rt; !is_fetch || has_own_mail(db, k), "entry {k}");
     }
 }
 
 #[test]
 fn any_of_the_orders(rt: HostRuntime) -> Result<(), Fail> {
-    let alloc = rt.alloc();
-    let script = script_of(&rt, alloc, TWO)?;
-    for order in [Order::Stamp, Order::Race] {
-        for _ in 0..200 {
-            let Ran { db } = play(&rt, alloc, &script, order, &NoGate)?;
-            check_lawful(&rt, alloc, &script, order, &db)?;
-            check_own_mail(&rt, &db);
-        }
+    check_two(&rt, rt.alloc(), Order::Stamp)?;
+    check_two(&rt, rt.alloc(), Order::Race)?;
+    Ok(())
+}
+
+// Plays the two clients 200 times, and checks each history.
+fn check_two<R: Threads + Wait + Sync + Abort>(
+    rt: &R,
+    alloc: Global,
+    order: Order,
+) -> Result<(), Fail> {
+    let script = script_of(rt, alloc, TWO)?;
+    for _ in 0..200 {
+        let Ran { db } = play(rt, alloc, &script, order, &NoGate)?;
+        check_lawful(rt, alloc, &script, order, &db)?;
+        check_own_mail(rt, &db);
     }
     Ok(())
 }
@@ -108,10 +157,8 @@ fn any_of_the_orders(rt: HostRuntime) -> Result<(), Fail> {
 #[test]
 fn without_clients(rt: HostRuntime) -> Result<(), Fail> {
     let script = script_of(&rt, rt.alloc(), b"3 until\n")?;
-    for order in [Order::Stamp, Order::Race] {
-        let Ran { db } = play(&rt, rt.alloc(), &script, order, &NoGate)?;
-        assert_eq!(rt; (db.entries(), db.clients()), (0, 0));
-    }
+    let Ran { db } = play(&rt, rt.alloc(), &script, Order::Stamp, &NoGate)?;
+    assert!(rt; db.entries() == 0 && db.clients() == 0);
     Ok(())
 }
 
@@ -148,17 +195,29 @@ impl Gate for Beside {
 
 #[test]
 fn clients_beside(rt: HostRuntime) -> Result<(), Fail> {
-    let script = script_of(&rt, rt.alloc(), TWO)?;
-    for order in [Order::Stamp, Order::Race] {
-        let gate = Beside {
-            first: AtomicBool::new(false),
-            second: AtomicBool::new(false),
-            missed: AtomicBool::new(false),
-        };
-        let _ran = play(&rt, rt.alloc(), &script, order, &gate)?;
-        assert!(rt; !gate.missed.load(Ordering::SeqCst));
-        assert!(rt; gate.first.load(Ordering::SeqCst) && gate.second.load(Ordering::SeqCst));
-    }
+    check_beside(&rt, rt.alloc(), Order::Stamp)?;
+    check_beside(&rt, rt.alloc(), Order::Race)?;
+    Ok(())
+}
+
+// That the two clients meet at their calls 1.
+fn check_beside<R: Threads + Wait + Sync + Abort>(
+    rt: &R,
+    alloc: Global,
+    order: Order,
+) -> Result<(), Fail> {
+    let script = script_of(rt, alloc, TWO)?;
+    let gate = Beside {
+        first: AtomicBool::new(false),
+        second: AtomicBool::new(false),
+        missed: AtomicBool::new(false),
+    };
+    let _ran = play(rt, alloc, &script, order, &gate)?;
+    let (first, second) = (
+        gate.first.load(Ordering::SeqCst),
+        gate.second.load(Ordering::SeqCst),
+    );
+    assert!(rt; first && second && !gate.missed.load(Ordering::SeqCst));
     Ok(())
 }
 
@@ -193,25 +252,41 @@ fn many(alloc: Global, turns: u64, together: bool) -> Result<Vec<u8>, Fail>
     Ok(text)
 }
 
+// Plays and checks a script whose 64 clients have so many lines each.
+fn check_many<R: Threads + Wait + Sync + Abort>(
+    rt: &R,
+    alloc: Global,
+    text: &[u8],
+    order: Order,
+    turns: u64,
+) -> Result<(), Fail>
+    requires { turns < 10000 }
+{
+    let script = script_of(rt, alloc, text)?;
+    let gate = Counting {
+        calls: AtomicU64::new(0),
+        places: AtomicU64::new(0),
+    };
+    let Ran { db } = play(rt, alloc, &script, order, &gate)?;
+    check_lawful(rt, alloc, &script, order, &db)?;
+    let (calls, places) = (
+        gate.calls.load(Ordering::SeqCst),
+        gate.places.load(Ordering::SeqCst),
+    );
+    assert_eq!(rt; calls, 64 * turns);
+    // Each client makes call 0, 1, 2 and so on.
+    assert_eq!(rt; places.wrapping_add(calls), 32 * turns * (turns + 1));
+    Ok(())
+}
+
 #[test]
 fn sixty_four_clients(rt: HostRuntime) -> Result<(), Fail> {
     const TURNS: u64 = 50;
     let alloc = rt.alloc();
-    for (order, together) in [
-        (Order::Stamp, true),
-        (Order::Stamp, false),
-        (Order::Race, true),
-    ] {
-        let text = many(alloc, TURNS, together)?;
-        let script = script_of(&rt, alloc, text.as_slice())?;
-        let gate = Counting {
-            calls: AtomicU64::new(0),
-            places: AtomicU64::new(0),
-        };
-        let Ran { db } = play(&rt, alloc, &script, order, &gate)?;
-        check_lawful(&rt, alloc, &script, order, &db)?;
-        assert_eq!(rt; gate.calls.load(Ordering::SeqCst), 64 * TURNS);
-        assert_eq!(rt; gate.places.load(Ordering::SeqCst), 64 * (TURNS * (TURNS - 1) / 2));
-    }
+    let together = many(alloc, TURNS, true)?;
+    check_many(&rt, alloc, together.as_slice(), Order::Stamp, TURNS)?;
+    check_many(&rt, alloc, together.as_slice(), Order::Race, TURNS)?;
+    let apart = many(alloc, TURNS, false)?;
+    check_many(&rt, alloc, apart.as_slice(), Order::Stamp, TURNS)?;
     Ok(())
 }

@@ -1,4 +1,4 @@
-use Rattle.std.proofs.Common.{subst, refl}
+use Rattle.std.proofs.Common.{subst}
 use Rattle.moos_play.specs.declared.player.Player.{Player}
 use Rattle.moos_play.specs.Rounds.{HasEnded}
 use Rattle.moos_play.proofs.Taking.{zip_all}

@@ -7,7 +7,7 @@ take_in-requires-clause-players g c = ended_apart c.args.lock.now c.args.lines.n
 pub see_all-requires-clause-all : goal.see_all-requires-clause-all
 see_all-requires-clause-all g c =
     let gathered = round_gathered c.args.lock.now c.args.lines.now c.args.first c.part_busy.new.first c.in_ok-first.first c.take_in.new.first c.in_ok-players.players.items c.play_beside.new.players.items
-        c.requires.gathered c.in_ok-players.ensures c.in_ok-first.ensures.first c.in_ok-first.ensures.players c.in_ok-take_in.ensures in
+    c.requires.gathered c.in_ok-players.ensures c.in_ok-first.ensures.first c.in_ok-first.ensures.players c.in_ok-take_in.ensures in
     record { first = gathered.number; all = gathered.all }
 
 pub returns-clause-gathered : goal.returns-clause-gathered

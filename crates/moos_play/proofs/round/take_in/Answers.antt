@@ -1,6 +1,6 @@
 use Rattle.std.proofs.Common.{OnOk, subst}
 use Rattle.std.specs.List.{All}
-use Rattle.std.proofs.lemmas.List.Elements.{All-head, All-rest, All-same}
+use Rattle.std.proofs.lemmas.List.Elements.{All-head, All-rest}
 use Rattle.moos_play.specs.Rounds.{IsApart}
 use Rattle.moos_play.proofs.Taking.{at_ok, taken_more}
 use Rattle.moos_play.proofs.round.take_in.Goals as goal

@@ -1,4 +1,4 @@
-use Rattle.std.proofs.Common.{◌≡◌, ◌-◌, ◌∙◌, ap, length, nat_lt, subst, sym, arith, rules}
+use Rattle.std.proofs.Common.{◌-◌, ◌∙◌, ap, length, nat_lt, subst, rules}
 use Rattle.std.specs.Prelude.{IsTrue}
 use Rattle.std.specs.List.{list_all}
 use Rattle.moos_post.specs.declared.entry.Entry.{Entry}

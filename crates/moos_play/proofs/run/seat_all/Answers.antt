@@ -1,4 +1,4 @@
-use Rattle.moos_play.proofs.Rounds.{seated_all, seated_more, seated_nothing}
+use Rattle.moos_play.proofs.Rounds.{seated_all, seated_more}
 use Rattle.moos_play.proofs.run.seat_all.Goals as goal
 
 pub loop-client-preserved : goal.loop-client-preserved
