@@ -65,14 +65,20 @@ def level():
     return lines + ["end"]
 
 
-def measure(problem):
+def measure(*words):
     """Runs the program once: its exit status, what it printed, seconds of wall clock and of processor time, peak MB."""
     start = os.times()
-    child = subprocess.Popen([os.path.join(TOP, "moos"), "solve", problem], stdout=subprocess.PIPE)
-    printed = child.stdout.read().decode().strip()
+    child = subprocess.Popen([os.path.join(TOP, "moos"), *words], stdout=subprocess.PIPE)
+    printed = child.stdout.read().decode()
     _, status, usage = os.wait4(child.pid, 0)
     end = os.times()
     return os.waitstatus_to_exitcode(status), printed, end.elapsed - start.elapsed, usage.ru_utime + usage.ru_stime, usage.ru_maxrss / 1024
+
+
+def note_of(status, printed):
+    """The decision, what a check answers, or the exit status."""
+    said = [line for line in printed.splitlines() if line.startswith(("decision", "accepted"))]
+    return said[0] if status == 0 and said else f"exit status {status}"
 
 
 def main():
@@ -84,15 +90,18 @@ def main():
     ]
     # Builds the program where it is stale, so that no run pays for that.
     subprocess.run([os.path.join(TOP, "moos"), "solve"], stderr=subprocess.DEVNULL)
-    print(f"{'problem':<52} {'seconds':>8} {'cpu':>7} {'peak MB':>8}  decision")
+    print(f"{'problem':<52} {'job':<8} {'seconds':>8} {'cpu':>7} {'peak MB':>8}")
     with tempfile.TemporaryDirectory() as folder:
         for name, lines in problems:
-            path = os.path.join(folder, "problem.txt")
-            with open(path, "w") as out:
+            problem, decision = os.path.join(folder, "problem.txt"), os.path.join(folder, "decision.txt")
+            with open(problem, "w") as out:
                 out.write("\n".join(lines) + "\n")
-            status, printed, seconds, cpu, peak = measure(path)
-            note = printed if status == 0 else f"exit status {status}"
-            print(f"{name:<52} {seconds:>8.3f} {cpu:>7.3f} {peak:>8.1f}  {note}")
+            for job, words in [(f"solve {n}", ["solve", problem, "--workers", str(n)]) for n in (1, 2, 4)] + [("check", ["check", decision])]:
+                status, printed, seconds, cpu, peak = measure(*words)
+                if job != "check":
+                    with open(decision, "w") as out:
+                        out.write(printed)
+                print(f"{name:<52} {job:<8} {seconds:>8.3f} {cpu:>7.3f} {peak:>8.1f}  {note_of(status, printed)}")
 
 
 if __name__ == "__main__":

@@ -9,7 +9,8 @@ use Rattle.moos_top.specs.declared.status.FileKind.{FileKind}
 use Rattle.moos_top.specs.declared.status.Refusal.{Refusal}
 use Rattle.moos_top.specs.declared.status.Status.{Status}
 use Rattle.moos_top.specs.declared.status.Status.TheVariants.{Done, CheckNo, Usage, LoadFault, WriteFault, Refused, NoMemory}
-use Rattle.moos_top.specs.Jobs.{Content, content_of, file_of, job_named, kind_of}
+use Rattle.moos_top.specs.Jobs.Task.{Checking, Playing, Solving}
+use Rattle.moos_top.specs.Jobs.{HasEnded, IsOutput, Task, file_of, job_named, kind_of, task_of}
 use Rattle.moos_top.specs.Run.{Surroundings, Ran, Completes, Refuses, IsServed, IsWritten, HasBytes, HasFile}
 
 -- two jobs that the words name are one
@@ -17,22 +18,22 @@ same_job : (run : Surroundings) (job other : Job) → job_named run.words ≡ So
 same_job run job other named named' = let same : Some job ≡ Some other = sym named ∙ named' in cc
 
 -- what the job's file holds is told once
-the_content : (run : Surroundings) (job other : Job) (bytes there : List ℕ) → IsServed run job bytes → HasFile run.words run.told other there →
-    content_of other there ≡ content_of job bytes
-the_content run job other bytes there served file =
+the_task : (run : Surroundings) (job other : Job) (bytes there : List ℕ) → IsServed run job bytes → HasFile run.words run.told other there →
+    task_of other there ≡ task_of job bytes
+the_task run job other bytes there served file =
     let job_same : other ≡ job = same_job run other job file.named served.named in
     let told : HasBytes (Some served.files) (file_of other) there = subst (λ (t : Option (List ℕ → Option (List ℕ))). HasBytes t (file_of other) there) served.told file.content in
     let here : served.files (file_of other) ≡ Some bytes = ap (λ (one : Job). served.files (file_of one)) job_same ∙ served.content in
     let both : Some there ≡ Some bytes = sym told ∙ here in
     let bytes_same : there ≡ bytes = cc in
-    ap (λ (one : Job). content_of one there) job_same ∙ ap (content_of job) bytes_same
+    ap (λ (one : Job). task_of one there) job_same ∙ ap (task_of job) bytes_same
 
--- bytes don't stand for a content and for a refusal
-not_both : (read : Result Content ReadFault) (content : Content) (fault : ReadFault) → read ≡ Ok content → read ≡ Err fault → ⊥
-not_both read content fault good bad = let both : Ok content ≡ Err fault = sym good ∙ bad in cc
+-- bytes don't stand for a task and for a refusal
+not_both : (read : Result Task ReadFault) (task : Task) (fault : ReadFault) → read ≡ Ok task → read ≡ Err fault → ⊥
+not_both read task fault good bad = let both : Ok task ≡ Err fault = sym good ∙ bad in cc
 
 -- two refusals of the same bytes are one
-the_refusal : (read : Result Content ReadFault) (refusal : Refusal) (kind : FileKind) (line : ℕ) (cause : Cause) → refusal.file ≡ kind →
+the_refusal : (read : Result Task ReadFault) (refusal : Refusal) (kind : FileKind) (line : ℕ) (cause : Cause) → refusal.file ≡ kind →
     read ≡ Err (At refusal.line refusal.cause) → read ≡ Err (At line cause) →
     Refused refusal ≡ Refused (record { file = kind; line = line; cause = cause })
 the_refusal read refusal kind line cause kind_same one other =
@@ -44,32 +45,63 @@ the_refusal read refusal kind line cause kind_same one other =
     ∙ ap (λ (reason : Cause). Refused (record { file = kind; line = line; cause = reason })) cause_same
 
 -- what was written was read from a good file
-written_not_refused : (run : Surroundings) (job : Job) (bytes text : List ℕ) → IsServed run job bytes → IsWritten run.words run.told text →
-    (fault : ReadFault) → content_of job bytes ≡ Err fault → ⊥
-written_not_refused run job bytes text served written fault bad =
-    not_both (content_of job bytes) written.content fault (sym (the_content run job written.job bytes written.bytes served written.file) ∙ written.read) bad
+written_not_refused : (run : Surroundings) (job : Job) (bytes text : List ℕ) (status : Status) → IsServed run job bytes → IsWritten run.words run.told status text →
+    (fault : ReadFault) → task_of job bytes ≡ Err fault → ⊥
+written_not_refused run job bytes text status served written fault bad =
+    not_both (task_of job bytes) written.task fault (sym (the_task run job written.job bytes written.bytes served written.file) ∙ written.read) bad
+
+-- a job that wrote all has ended so
+output_ends : (task : Task) (status : Status) (text : List ℕ) → IsOutput task status text → HasEnded task status
+output_ends (Playing order script) Done text output = refl
+output_ends (Playing order script) CheckNo text output = absurd output
+output_ends (Playing order script) Usage text output = absurd output
+output_ends (Playing order script) LoadFault text output = absurd output
+output_ends (Playing order script) WriteFault text output = absurd output
+output_ends (Playing order script) (Refused refusal) text output = absurd output
+output_ends (Playing order script) NoMemory text output = absurd output
+output_ends (Solving problem) Done text output = refl
+output_ends (Solving problem) CheckNo text output = absurd output
+output_ends (Solving problem) Usage text output = absurd output
+output_ends (Solving problem) LoadFault text output = absurd output
+output_ends (Solving problem) WriteFault text output = absurd output
+output_ends (Solving problem) (Refused refusal) text output = absurd output
+output_ends (Solving problem) NoMemory text output = absurd output
+output_ends (Checking decision) Done text output = inl (refl, output.0)
+output_ends (Checking decision) CheckNo text output = inr (refl, output.0)
+output_ends (Checking decision) Usage text output = absurd output
+output_ends (Checking decision) LoadFault text output = absurd output
+output_ends (Checking decision) WriteFault text output = absurd output
+output_ends (Checking decision) (Refused refusal) text output = absurd output
+output_ends (Checking decision) NoMemory text output = absurd output
+
+written_ends : (run : Surroundings) (job : Job) (bytes text : List ℕ) (task : Task) (status : Status) → IsServed run job bytes → task_of job bytes ≡ Ok task
+    → IsWritten run.words run.told status text → HasEnded task status
+written_ends run job bytes text task status served good written =
+    let both : Ok written.task ≡ Ok task = sym written.read ∙ the_task run job written.job bytes written.bytes served written.file ∙ good in
+    let same : written.task ≡ task = cc in
+    subst (λ (one : Task). HasEnded one status) same (output_ends written.task status text written.output)
 
 pub completes : (run : Surroundings) (status : Status) → Ran run status → Completes run status
-completes run Done ran job bytes content served good = inl refl
-completes run CheckNo ran job bytes content served good = absurd ran
-completes run Usage ran job bytes content served good =
+completes run Done ran job bytes task served good = inl (written_ends run job bytes ran.text task Done served good ran.written)
+completes run CheckNo ran job bytes task served good = inl (written_ends run job bytes ran.text task CheckNo served good ran.written)
+completes run Usage ran job bytes task served good =
     let both : None ≡ Some job = sym ran.unnamed ∙ served.named in absurd cc
-completes run LoadFault ran job bytes content served good = absurd (served.loads ran.rose)
-completes run WriteFault ran job bytes content served good = absurd (served.puts ran.rose)
-completes run (Refused refusal) ran job bytes content served good =
-    absurd (not_both (content_of job bytes) content (At refusal.line refusal.cause) good
-    (sym (the_content run job ran.refused.job bytes ran.refused.bytes served ran.refused.file) ∙ ran.refused.refused))
-completes run NoMemory ran job bytes content served good = inr refl
+completes run LoadFault ran job bytes task served good = absurd (served.loads ran.rose)
+completes run WriteFault ran job bytes task served good = absurd (served.puts ran.rose)
+completes run (Refused refusal) ran job bytes task served good =
+    absurd (not_both (task_of job bytes) task (At refusal.line refusal.cause) good
+    (sym (the_task run job ran.refused.job bytes ran.refused.bytes served ran.refused.file) ∙ ran.refused.refused))
+completes run NoMemory ran job bytes task served good = inr refl
 
 pub refuses : (run : Surroundings) (status : Status) → Ran run status → Refuses run status
-refuses run Done ran job bytes line cause served bad = absurd (written_not_refused run job bytes ran.text served ran.written (At line cause) bad)
-refuses run CheckNo ran job bytes line cause served bad = absurd ran
+refuses run Done ran job bytes line cause served bad = absurd (written_not_refused run job bytes ran.text Done served ran.written (At line cause) bad)
+refuses run CheckNo ran job bytes line cause served bad = absurd (written_not_refused run job bytes ran.text CheckNo served ran.written (At line cause) bad)
 refuses run Usage ran job bytes line cause served bad =
     let both : None ≡ Some job = sym ran.unnamed ∙ served.named in absurd cc
 refuses run LoadFault ran job bytes line cause served bad = absurd (served.loads ran.rose)
 refuses run WriteFault ran job bytes line cause served bad = absurd (served.puts ran.rose)
 refuses run (Refused refusal) ran job bytes line cause served bad =
     let job_same = same_job run ran.refused.job job ran.refused.file.named served.named in
-    inl (the_refusal (content_of job bytes) refusal (kind_of job) line cause (ran.refused.kind ∙ ap kind_of job_same)
-    (sym (the_content run job ran.refused.job bytes ran.refused.bytes served ran.refused.file) ∙ ran.refused.refused) bad)
+    inl (the_refusal (task_of job bytes) refusal (kind_of job) line cause (ran.refused.kind ∙ ap kind_of job_same)
+    (sym (the_task run job ran.refused.job bytes ran.refused.bytes served ran.refused.file) ∙ ran.refused.refused) bad)
 refuses run NoMemory ran job bytes line cause served bad = inr refl

@@ -1,78 +1,120 @@
--- What a command line asks for, what the file of a job holds, and what the job may write.
-use Rattle.std.specs.Prelude.{◌≡◌, ℕ, Bool, ◌&&◌, nat_le, if◌then◌else◌, List, [], ◌∷◌, filter, ◌==◌, codes, bytes_eq, Option, Some, None, Result, Ok, Err, IsTrue, true}
+-- What a command line asks for, what is to be done with the file of a job, and what the job may write.
+use Rattle.std.specs.Prelude.{◌≡◌, ℕ, ◌≤◌, ◌⊎◌, if◌then◌else◌, List, [], ◌∷◌, codes, bytes_eq, Option, None, option_map, option_and_then, Result, Ok, Err}
+use Rattle.clap.specs.Words.{Row, Text}
+use Rattle.ivp_cert.specs.declared.claim.Decision.{Decision}
+use Rattle.ivp_cert.specs.Certificates.{Accepts, certificate_of}
+use Rattle.ivp_cert.specs.Decisions.{decision_of}
 use Rattle.ivp_cert.specs.Problems.{problem_of}
+use Rattle.ivp_cert.specs.Texts.{decision_lines}
+use Rattle.ivp_problem.specs.Sums.{best_of, sum_at}
 use Rattle.ivp_problem.specs.Problems.{WeightedSum}
-use Rattle.moos_post.specs.declared.entry.Entry.{Entry}
 use Rattle.moos_post.specs.History.{History}
-use Rattle.moos_post.specs.Words.{is_text}
+use Rattle.moos_report.specs.Report.{report_text}
 use Rattle.moos_text.specs.declared.cause.ReadFault.{ReadFault}
+use Rattle.moos_top.specs.Commands.{check_command, file_in, found_in, is_set, play_command, solve_command, workers_in}
+use Rattle.moos_play.specs.Lawful.{IsLawful}
 use Rattle.moos_top.specs.declared.job.Job.{Job}
-use Rattle.moos_top.specs.declared.job.Job.TheVariants.{Play, Solve}
-use Rattle.script_reader.specs.declared.script.Script.{Script}
+use Rattle.moos_top.specs.declared.job.Job.TheVariants.{Play, Solve, Check}
+use Rattle.script_reader.specs.declared.script.Order.{Order}
+use Rattle.script_reader.specs.declared.script.Order.TheVariants.{Stamp, Race}
 use Rattle.moos_top.specs.declared.status.FileKind.{FileKind}
-use Rattle.moos_top.specs.declared.status.FileKind.TheVariants.{Script as ScriptFile, Problem as ProblemFile}
-use Rattle.moos_top.specs.Decision.{decision_text}
-use Rattle.moos_top.specs.Report.{report_text}
+use Rattle.moos_top.specs.declared.status.FileKind.TheVariants.{Script as ScriptFile, Problem as ProblemFile, Decision as DecisionFile}
+use Rattle.moos_top.specs.declared.status.Status.{Status}
+use Rattle.moos_top.specs.declared.status.Status.TheVariants.{Done, CheckNo}
+use Rattle.script_reader.specs.declared.script.Script.{Script}
 use Rattle.script_reader.specs.Script.{script_of}
 
--- the job of this word, with a file of this name
-abbrev pub job_of : List ℕ → List ℕ → Option Job
-job_of word name = if bytes_eq word (codes "play") then Some (Play name) else if bytes_eq word (codes "solve") then Some (Solve name) else None
+-- the order that was found: a race with `--race`
+abbrev pub order_in : List Row → Order
+order_in found = if is_set (codes "race") found then Race else Stamp
 
--- the job that a command line names: the words are that of a job and one name, which a text can hold
-abbrev pub job_named : List (List ℕ) → Option Job
+-- the job of what `play` found, what `solve` found and what `check` found; a name that no text can hold names no file
+abbrev pub play_of : List Row → Option Job
+play_of found = option_map (λ script. Play script (order_in found)) (file_in (codes "script") found)
+
+abbrev pub solve_of : List Row → Option Job
+solve_of found = option_map (λ problem. Solve problem (workers_in found)) (file_in (codes "problem") found)
+
+abbrev pub check_of : List Row → Option Job
+check_of found = option_map Check (file_in (codes "decision") found)
+
+-- the job of a line that begins with this word
+abbrev pub job_of : Text → List Text → Option Job
+job_of word line =
+    if bytes_eq word (codes "play") then option_and_then play_of (found_in play_command line)
+    else if bytes_eq word (codes "solve") then option_and_then solve_of (found_in solve_command line)
+    else if bytes_eq word (codes "check") then option_and_then check_of (found_in check_command line)
+    else None
+
+-- the job that a command line asks for: its first word is that of a job, whose command takes the line
+abbrev pub job_named : List Text → Option Job
 job_named [] = None
-job_named (word ∷ []) = None
-job_named (word ∷ name ∷ []) = if is_text name then job_of word name else None
-job_named (word ∷ name ∷ more ∷ rest) = None
+job_named (word ∷ rest) = job_of word (word ∷ rest)
 
 -- the name of a job's file
 abbrev pub file_of : Job → List ℕ
-file_of (Play name) = name
-file_of (Solve name) = name
+file_of (Play script order) = script
+file_of (Solve problem workers) = problem
+file_of (Check decision) = decision
 
 -- what a job's file is
 abbrev pub kind_of : Job → FileKind
-kind_of (Play name) = ScriptFile
-kind_of (Solve name) = ProblemFile
+kind_of (Play script order) = ScriptFile
+kind_of (Solve problem workers) = ProblemFile
+kind_of (Check decision) = DecisionFile
 
--- what a file holds
-pub data Content : Type 0 where
-  OfScript : Script → Content
-  OfProblem : WeightedSum → Content
+-- a job's workers are from 1 to 16
+abbrev pub HasFewWorkers : Job → Type 0
+HasFewWorkers (Play script order) = Unit {0}
+HasFewWorkers (Solve problem workers) = (1 ≤ workers) × (workers ≤ 16)
+HasFewWorkers (Check decision) = Unit {0}
 
--- what bytes stand for, as what a file holds
-abbrev pub held_as : {A : Type 0} → (A → Content) → Result A ReadFault → Result Content ReadFault
-held_as content (Ok value) = Ok (content value)
-held_as content (Err fault) = Err fault
+-- what is to be done: a script is played in an order, a problem is solved, a decision is checked
+pub data Task : Type 0 where
+  Playing : Order → Script → Task
+  Solving : WeightedSum → Task
+  Checking : Decision → Task
 
--- what the bytes of a job's file stand for, or their first refusal
-abbrev pub content_of : Job → List ℕ → Result Content ReadFault
-content_of (Play name) bytes = held_as OfScript (script_of bytes)
-content_of (Solve name) bytes = held_as OfProblem (problem_of bytes)
+-- what is to be done with what bytes stand for
+abbrev pub task_with : {A : Type 0} → (A → Task) → Result A ReadFault → Result Task ReadFault
+task_with task (Ok value) = Ok (task value)
+task_with task (Err fault) = Err fault
 
--- a client's own entries, in order
-abbrev pub entries_of : ℕ → History → List Entry
-entries_of client history = filter (λ entry. entry.client == client) history
-
--- no stamp is below the one before
-abbrev pub do_stamps_rise : ℕ → History → Bool
-do_stamps_rise last [] = true
-do_stamps_rise last (entry ∷ later) = nat_le last entry.stamp && do_stamps_rise entry.stamp later
-
--- A history is lawful for a script where each client's entries are its lines, in order and with their stamps, where
--- nobody else has an entry, and where no stamp goes back.
-pub record IsLawful (script : Script) (history : History) : Type 0 where
-  pub own : (client : ℕ) → entries_of client history ≡ entries_of client script.lines
-  pub rising : IsTrue (do_stamps_rise 0 history)
+-- what is to be done with the bytes of a job's file, or their first refusal; the number of workers is no part of it
+abbrev pub task_of : Job → List ℕ → Result Task ReadFault
+task_of (Play script order) bytes = task_with (Playing order) (script_of bytes)
+task_of (Solve problem workers) bytes = task_with Solving (problem_of bytes)
+task_of (Check decision) bytes = task_with Checking (decision_of bytes)
 
 -- the text is the report of a lawful history of the script
-pub record IsReport (script : Script) (text : List ℕ) : Type 0 where
+pub record IsReport (order : Order) (script : Script) (text : List ℕ) : Type 0 where
   pub history : History
-  pub lawful : IsLawful script history
+  pub lawful : IsLawful order script history
   pub printed : text ≡ report_text script.names history
 
--- what a job may write: of a script a report, of a problem its decision
-abbrev pub IsOutput : Content → List ℕ → Type 0
-IsOutput (OfScript script) text = IsReport script text
-IsOutput (OfProblem problem) text = text ≡ decision_text problem
+-- the decision on a problem: its best point, the sum there, and its certificate
+abbrev pub decision_on : WeightedSum → Decision
+decision_on problem =
+    record {
+      problem = problem;
+      claim = record { point = best_of problem; sum = sum_at problem (best_of problem) };
+      cert = certificate_of problem;
+    }
+
+-- the decision's certificate is accepted for what it claims
+abbrev pub IsAccepted : Decision → Type 0
+IsAccepted decision = Accepts decision.problem decision.claim decision.cert
+
+-- a job may end with this status and write this text
+abbrev pub IsOutput : Task → Status → List ℕ → Type 0
+IsOutput (Playing order script) Done text = IsReport order script text
+IsOutput (Solving problem) Done text = text ≡ decision_lines [] (decision_on problem)
+IsOutput (Checking decision) Done text = IsAccepted decision × (text ≡ codes "accepted\n")
+IsOutput (Checking decision) CheckNo text = (IsAccepted decision → ⊥) × (text ≡ codes "not accepted\n")
+IsOutput task status text = ⊥
+
+-- how a job ends that nothing fails at
+abbrev pub HasEnded : Task → Status → Type 0
+HasEnded (Playing order script) status = status ≡ Done
+HasEnded (Solving problem) status = status ≡ Done
+HasEnded (Checking decision) status = ((status ≡ Done) × IsAccepted decision) ⊎ ((status ≡ CheckNo) × (IsAccepted decision → ⊥))

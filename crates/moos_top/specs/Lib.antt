@@ -1,7 +1,5 @@
-pub mod Decision
+pub mod Commands
 pub mod Exit
 pub mod Jobs
-pub mod Report
 pub mod Run
 pub mod Steps
-pub mod Writing

@@ -9,7 +9,7 @@ use Rattle.moos_top.specs.declared.job.Job.{Job}
 use Rattle.moos_top.specs.declared.status.Refusal.{Refusal}
 use Rattle.moos_top.specs.declared.status.Status.{Status}
 use Rattle.moos_top.specs.declared.status.Status.TheVariants.{Done, CheckNo, Usage, LoadFault, WriteFault, Refused, NoMemory}
-use Rattle.moos_top.specs.Jobs.{Content, IsOutput, content_of, file_of, job_named, kind_of}
+use Rattle.moos_top.specs.Jobs.{HasEnded, IsOutput, Task, file_of, job_named, kind_of, task_of}
 
 -- What surrounds a run: the words of the command line; what the folder tells of its files, the names that it is sure
 -- of, and how often it failed before the run and after it; what the sink took and how often it failed, likewise.
@@ -48,14 +48,14 @@ pub record HasFile (words : List (List ℕ)) (told : Option (List ℕ → Option
   pub named : job_named words ≡ Some job
   pub content : HasBytes told (file_of job) bytes
 
--- the text is what the job that the words name may write, of what its file holds
-pub record IsWritten (words : List (List ℕ)) (told : Option (List ℕ → Option (List ℕ))) (text : List ℕ) : Type 0 where
+-- the text is what the job that the words name may write, of what its file holds, where it ends with this status
+pub record IsWritten (words : List (List ℕ)) (told : Option (List ℕ → Option (List ℕ))) (status : Status) (text : List ℕ) : Type 0 where
   pub job : Job
   pub bytes : List ℕ
   pub file : HasFile words told job bytes
-  pub content : Content
-  pub read : content_of job bytes ≡ Ok content
-  pub output : IsOutput content text
+  pub task : Task
+  pub read : task_of job bytes ≡ Ok task
+  pub output : IsOutput task status text
 
 -- the file of the job that the words name has this first refusal
 pub record HasRefusal (words : List (List ℕ)) (told : Option (List ℕ → Option (List ℕ))) (refusal : Refusal) : Type 0 where
@@ -63,17 +63,17 @@ pub record HasRefusal (words : List (List ℕ)) (told : Option (List ℕ → Opt
   pub bytes : List ℕ
   pub file : HasFile words told job bytes
   pub kind : refusal.file ≡ kind_of job
-  pub refused : content_of job bytes ≡ Err (At refusal.line refusal.cause)
+  pub refused : task_of job bytes ≡ Err (At refusal.line refusal.cause)
 
 -- nothing was written, and no writing failed
 pub record IsSilent (run : Surroundings) : Type 0 where
   pub taken : run.taken_after ≡ run.taken_before
   pub put_faults : run.put_faults_after ≡ run.put_faults_before
 
--- Done: the sink took all that the job writes
-pub record Finishes (run : Surroundings) : Type 0 where
+-- Done and CheckNo: the sink took all that the job writes that ends so
+pub record Finishes (run : Surroundings) (status : Status) : Type 0 where
   pub text : List ℕ
-  pub written : IsWritten run.words run.told text
+  pub written : IsWritten run.words run.told status text
   pub took : Took run.taken_before run.taken_after text
 
 -- Usage: the words name no job. Nothing is loaded or written.
@@ -95,17 +95,18 @@ pub record IsRefused (run : Surroundings) (refusal : Refusal) : Type 0 where
   pub refused : HasRefusal run.words run.told refusal
   pub silent : IsSilent run
 
--- WriteFault: the sink failed, and took a front of what the job writes, not the whole
+-- WriteFault: the sink failed, and took a front of what the job else writes, not the whole
 pub record FailsToWrite (run : Surroundings) : Type 0 where
   pub rose : Rose run.put_faults_before run.put_faults_after
+  pub status : Status
   pub text : List ℕ
-  pub written : IsWritten run.words run.told text
+  pub written : IsWritten run.words run.told status text
   pub took : TookFront run.taken_before run.taken_after text
 
 -- What a run did that ended with this status. No memory: nothing is written.
 abbrev pub Ran : Surroundings → Status → Type 0
-Ran run Done = Finishes run
-Ran run CheckNo = ⊥
+Ran run Done = Finishes run Done
+Ran run CheckNo = Finishes run CheckNo
 Ran run Usage = HasNoJob run
 Ran run LoadFault = FailsToLoad run
 Ran run WriteFault = FailsToWrite run
@@ -121,17 +122,15 @@ pub record IsServed (run : Surroundings) (job : Job) (bytes : List ℕ) : Type 0
   pub loads : Rose run.load_faults_before run.load_faults_after → ⊥
   pub puts : Rose run.put_faults_before run.put_faults_after → ⊥
 
--- a status, unless no memory was left
-abbrev pub IsUnlessNoMemory : Status → Status → Type 0
-IsUnlessNoMemory wanted status = (status ≡ wanted) ⊎ (status ≡ NoMemory)
-
--- a job whose file is good, and that nothing fails at, is done
+-- a job whose file is good, and that nothing fails at, is done, and a check answers whether the decision is accepted;
+-- unless no memory was left
 abbrev pub Completes : Surroundings → Status → Type 0
 Completes run status =
-    (job : Job) (bytes : List ℕ) (content : Content) → IsServed run job bytes → content_of job bytes ≡ Ok content → IsUnlessNoMemory Done status
+    (job : Job) (bytes : List ℕ) (task : Task) → IsServed run job bytes → task_of job bytes ≡ Ok task → HasEnded task status ⊎ (status ≡ NoMemory)
 
--- a job whose file isn't good, and that nothing fails at, is refused with the file's first refusal
+-- a job whose file isn't good, and that nothing fails at, is refused with the file's first refusal, unless no memory was
+-- left
 abbrev pub Refuses : Surroundings → Status → Type 0
 Refuses run status =
-    (job : Job) (bytes : List ℕ) (line : ℕ) (cause : Cause) → IsServed run job bytes → content_of job bytes ≡ Err (At line cause)
-    → IsUnlessNoMemory (Refused (record { file = kind_of job; line = line; cause = cause })) status
+    (job : Job) (bytes : List ℕ) (line : ℕ) (cause : Cause) → IsServed run job bytes → task_of job bytes ≡ Err (At line cause)
+    → (status ≡ Refused (record { file = kind_of job; line = line; cause = cause })) ⊎ (status ≡ NoMemory)

@@ -8,7 +8,7 @@ use Rattle.moos_text.specs.declared.cause.ReadFault.TheVariants.{At, NoMemory as
 use Rattle.moos_top.specs.declared.status.FileKind.{FileKind}
 use Rattle.moos_top.specs.declared.status.Status.{Status}
 use Rattle.moos_top.specs.declared.status.Status.TheVariants.{Done, CheckNo, Usage, LoadFault, WriteFault, Refused, NoMemory}
-use Rattle.moos_top.specs.Jobs.{Content, IsOutput}
+use Rattle.moos_top.specs.Jobs.{IsOutput, Task}
 
 -- why a file can't be loaded: the folder failed, and isn't sure of the name, or no memory was left
 abbrev pub CannotLoad : List (List ℕ) → ℕ → ℕ → List ℕ → Status → Type 0
@@ -41,27 +41,28 @@ pub record IsUntouched (sink : Sinking) : Type 0 where
   pub taken : sink.taken_after ≡ sink.taken_before
   pub faults : sink.faults_after ≡ sink.faults_before
 
--- all of a text was written that the file's content allows
-pub record WroteAll (read : Result Content ReadFault) (sink : Sinking) : Type 0 where
-  pub content : Content
-  pub good : read ≡ Ok content
+-- all of a text was written that the job may write and end with this status
+pub record WroteAll (read : Result Task ReadFault) (status : Status) (sink : Sinking) : Type 0 where
+  pub task : Task
+  pub good : read ≡ Ok task
   pub text : List ℕ
-  pub output : IsOutput content text
+  pub output : IsOutput task status text
   pub took : Took sink.taken_before sink.taken_after text
 
 -- only a front of it was written
-pub record WroteFront (read : Result Content ReadFault) (sink : Sinking) : Type 0 where
-  pub content : Content
-  pub good : read ≡ Ok content
+pub record WroteFront (read : Result Task ReadFault) (sink : Sinking) : Type 0 where
+  pub task : Task
+  pub good : read ≡ Ok task
+  pub status : Status
   pub text : List ℕ
-  pub output : IsOutput content text
+  pub output : IsOutput task status text
   pub took : TookFront sink.taken_before sink.taken_after text
   pub rose : Rose sink.faults_before sink.faults_after
 
 -- how a job ends whose file, of this kind, holds this or is refused
-abbrev pub Ended : FileKind → Result Content ReadFault → Sinking → Status → Type 0
-Ended kind read sink Done = WroteAll read sink
-Ended kind read sink CheckNo = ⊥
+abbrev pub Ended : FileKind → Result Task ReadFault → Sinking → Status → Type 0
+Ended kind read sink Done = WroteAll read Done sink
+Ended kind read sink CheckNo = WroteAll read CheckNo sink
 Ended kind read sink Usage = ⊥
 Ended kind read sink LoadFault = ⊥
 Ended kind read sink WriteFault = WroteFront read sink

@@ -1,19 +1,27 @@
 // The job that a command line asks for.
-ghost use Rattle.std.specs.Prelude.{◌≡◌, IfOk, Some, None, if◌then◌else◌};
-ghost use Rattle.moos_post.specs.Words.{is_text};
-ghost use Rattle.moos_top.specs.Jobs.{file_of, job_named, job_of};
+ghost use Rattle.std.specs.Prelude.{◌≡◌, IfOk, IfSome, option_and_then};
+ghost use Rattle.moos_top.specs.Commands.{check_command, found_in, play_command, solve_command};
+ghost use Rattle.moos_top.specs.Jobs.{HasFewWorkers, check_of, file_of, job_named, job_of, order_in, play_of, solve_of};
+ghost use Rattle.clap.specs.Words.{found_of, rows_of};
 
-use crate::words::Words;
-use moos_post::{NoMemory, Txt, TxtFault};
-use std::alloc::{AllocError, Global};
+use crate::commands::{
+    check_command, file_in, found_in, is_set, play_command, solve_command, workers_in,
+};
+use crate::words::{Word, Words};
+use clap::ArgMatches;
+use moos_play::Order;
+use moos_post::{NoMemory, Txt};
+use std::alloc::Global;
 
 /// A job, with the name of its file.
 #[derive(Debug, Drop)]
 pub enum Job {
     /// Plays a script, and reports what came of it.
-    Play(Txt),
-    /// Decides a problem.
-    Solve(Txt),
+    Play { script: Txt, order: Order },
+    /// Decides a problem by so many workers, from 1 to 16.
+    Solve { problem: Txt, workers: u32 },
+    /// Checks a decision.
+    Check { decision: Txt },
 }
 
 /// The name of the job's file.
@@ -21,46 +29,100 @@ pub fn file_name(job: &Job) -> &[u8]
     ensures { result.now ≡ file_of job.now }
 {
     match job {
-        Job::Play(name) => name.bytes(),
-        Job::Solve(name) => name.bytes(),
+        Job::Play { script, .. } => script.bytes(),
+        Job::Solve { problem, .. } => problem.bytes(),
+        Job::Check { decision } => decision.bytes(),
     }
 }
 
-/// The job that the words name: they are `play` or `solve`, and one name, which a text can hold.
+/// The job that the words name: the first is that of a job, whose command takes them.
 pub fn job_named(alloc: Global, words: &Words) -> Result<Option<Job>, NoMemory>
-    ensures { IfOk result (λ job. job ≡ job_named words.now) }
+    ensures named { IfOk result (λ job. job ≡ job_named words.now) }
+    ensures few { IfOk result (λ job. IfSome job HasFewWorkers) }
 {
-    let [word, name] = words.all() else {
-        return Ok(None);
-    };
-    match text_of(alloc, name.bytes()) {
-        Ok(Some(name)) => Ok(job_of(word.bytes(), name)),
+    let line = words.all();
+    match line {
+        [word, ..] if word.bytes() == b"play".as_slice() => play_named(alloc, line),
+        [word, ..] if word.bytes() == b"solve".as_slice() => solve_named(alloc, line),
+        [word, ..] if word.bytes() == b"check".as_slice() => check_named(alloc, line),
+        _ => Ok(None),
+    }
+}
+
+// The job of a line that begins with `play`.
+fn play_named(alloc: Global, line: &[Word]) -> Result<Option<Job>, NoMemory>
+    ensures named { IfOk result (λ job. job ≡ option_and_then play_of (found_in play_command line.now)) }
+    ensures few { IfOk result (λ job. IfSome job HasFewWorkers) }
+{
+    match found_in(play_command(alloc)?, line)? {
+        Some(matches) => play_of(alloc, &matches),
+        None => Ok(None),
+    }
+}
+
+fn play_of(alloc: Global, matches: &ArgMatches) -> Result<Option<Job>, NoMemory>
+    ensures named { IfOk result (λ job. job ≡ play_of (rows_of (found_of matches.now))) }
+    ensures few { IfOk result (λ job. IfSome job HasFewWorkers) }
+{
+    let order = order_in(matches);
+    match file_in(alloc, matches, "script") {
+        Ok(Some(script)) => Ok(Some(Job::Play { script, order })),
         Ok(None) => Ok(None),
         Err(no_memory) => Err(no_memory),
     }
 }
 
-// The job of this word.
-fn job_of(word: &[u8], name: Txt) -> Option<Job>
-    ensures { result ≡ job_of word.now name }
+fn order_in(matches: &ArgMatches) -> Order
+    ensures { result ≡ order_in (rows_of (found_of matches.now)) }
 {
-    if word == b"play".as_slice() {
-        Some(Job::Play(name))
-    } else if word == b"solve".as_slice() {
-        Some(Job::Solve(name))
+    if is_set(matches, "race") {
+        Order::Race
     } else {
-        None
+        Order::Stamp
     }
 }
 
-// The bytes as a text, where a text can hold them.
-fn text_of(alloc: Global, bytes: &[u8]) -> Result<Option<Txt>, NoMemory>
-    ensures { IfOk result (λ text. text ≡ (if is_text bytes.now then Some bytes.now else None)) }
+// The job of a line that begins with `solve`.
+fn solve_named(alloc: Global, line: &[Word]) -> Result<Option<Job>, NoMemory>
+    ensures named { IfOk result (λ job. job ≡ option_and_then solve_of (found_in solve_command line.now)) }
+    ensures few { IfOk result (λ job. IfSome job HasFewWorkers) }
 {
-    match Txt::new(alloc, bytes) {
-        Ok(text) => Ok(Some(text)),
-        Err(TxtFault::TooLong(_)) => Ok(None),
-        Err(TxtFault::BadByte(_)) => Ok(None),
-        Err(TxtFault::NoMemory) => Err(AllocError),
+    match found_in(solve_command(alloc)?, line)? {
+        Some(matches) => solve_of(alloc, &matches),
+        None => Ok(None),
+    }
+}
+
+fn solve_of(alloc: Global, matches: &ArgMatches) -> Result<Option<Job>, NoMemory>
+    ensures named { IfOk result (λ job. job ≡ solve_of (rows_of (found_of matches.now))) }
+    ensures few { IfOk result (λ job. IfSome job HasFewWorkers) }
+{
+    let workers = workers_in(matches);
+    match file_in(alloc, matches, "problem") {
+        Ok(Some(problem)) => Ok(Some(Job::Solve { problem, workers })),
+        Ok(None) => Ok(None),
+        Err(no_memory) => Err(no_memory),
+    }
+}
+
+// The job of a line that begins with `check`.
+fn check_named(alloc: Global, line: &[Word]) -> Result<Option<Job>, NoMemory>
+    ensures named { IfOk result (λ job. job ≡ option_and_then check_of (found_in check_command line.now)) }
+    ensures few { IfOk result (λ job. IfSome job HasFewWorkers) }
+{
+    match found_in(check_command(alloc)?, line)? {
+        Some(matches) => check_of(alloc, &matches),
+        None => Ok(None),
+    }
+}
+
+fn check_of(alloc: Global, matches: &ArgMatches) -> Result<Option<Job>, NoMemory>
+    ensures named { IfOk result (λ job. job ≡ check_of (rows_of (found_of matches.now))) }
+    ensures few { IfOk result (λ job. IfSome job HasFewWorkers) }
+{
+    match file_in(alloc, matches, "decision") {
+        Ok(Some(decision)) => Ok(Some(Job::Check { decision })),
+        Ok(None) => Ok(None),
+        Err(no_memory) => Err(no_memory),
     }
 }

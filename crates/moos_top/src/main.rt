@@ -2,16 +2,15 @@
 //!
 //! The contract that all below serves is that of `run`: whatever the words, the files and the sink, the status tells
 //! what was written. With `Done` that is the report of a lawful history of the script that the words name, or the
-//! decision of the problem.
+//! decision on the problem with its certificate, or that the decision is accepted.
 //!
-//! Reading order: `words`, `job` and `status`, `play`, `report`, `decision`, and `run` last. `main` is the trusted edge,
-//! which hands the real command line, files and standard output to `run`.
+//! Reading order: `words`, `commands`, `job` and `status`, `decide`, and `run` last. `main` is the trusted
+//! edge, which hands the real command line, files and standard output to `run`.
 #![tactic(auto)]
 
-mod decision;
+mod commands;
+mod decide;
 mod job;
-mod play;
-mod report;
 mod run;
 mod status;
 mod words;

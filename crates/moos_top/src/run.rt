@@ -1,20 +1,21 @@
 // The top call: from a command line to what was written and how it ended.
-ghost use Rattle.std.specs.Prelude.{◌≡◌, ◌<◌, ◌^◌, length, IfOk, IfErr};
+ghost use Rattle.std.specs.Prelude.{◌≡◌, ◌<◌, ◌≤◌, ◌^◌, length, IfOk, IfErr};
+ghost use Rattle.ivp_cert.specs.Decisions.{decision_of};
 ghost use Rattle.ivp_cert.specs.Problems.{problem_of};
-ghost use Rattle.moos_top.specs.Jobs.{Content, content_of, held_as, kind_of};
-ghost use Rattle.moos_top.specs.Jobs.Content.{OfProblem, OfScript};
+ghost use Rattle.moos_top.specs.Jobs.{HasFewWorkers, Task, kind_of, task_of, task_with};
+ghost use Rattle.moos_top.specs.Jobs.Task.{Checking, Playing, Solving};
 ghost use Rattle.moos_top.specs.Run.{Ran, Completes, HasBytes, Refuses, surroundings};
 ghost use Rattle.script_reader.specs.Script.{script_of};
 ghost use Rattle.moos_top.specs.Steps.{CannotLoad, Ended, sinking, status_of};
 
-use crate::decision::decision;
+use crate::decide::decide;
 use crate::job::{Job, file_name, job_named};
-use crate::play::play;
-use crate::report::report;
 use crate::status::{FileKind, Refusal, Status};
 use crate::words::Words;
-use ivp_cert::read_problem;
-use moos_io::{Folder, Gate, LoadFault, Sink};
+use ivp_cert::{accepts, print_decision, read_decision, read_problem};
+use moos_io::{Folder, Gate, LoadFault, Sink, put_all};
+use moos_play::{Order, play};
+use moos_report::report;
 use moos_text::ReadFault;
 use script_reader::read_script;
 use std::alloc::Global;
@@ -24,12 +25,12 @@ use std::thread::Threads;
 /// Runs the job that the command line names: loads and reads its files from `folder`, and writes to `out`. The status
 /// tells how it ended, and what was written with it.
 pub fn run<R: Threads + Wait + Sync, F: Folder, K: Sink, G: Gate>(
-    _rt: &R,
+    rt: &R,
     alloc: Global,
     words: &Words,
     folder: &mut F,
     out: &mut K,
-    _gate: &G,
+    gate: &G,
 ) -> Status
     // What each status says of the words, the files, and what was written.
     ensures ran { Ran (surroundings words.now (F.told folder.old) (F.sure folder.old)
@@ -41,10 +42,17 @@ pub fn run<R: Threads + Wait + Sync, F: Folder, K: Sink, G: Gate>(
     ensures refuses { Refuses (surroundings words.now (F.told folder.old) (F.sure folder.old)
         (F.faults folder.old) (F.faults folder.new) (K.taken out.old) (K.taken out.new) (K.faults out.old) (K.faults out.new)) result }
 {
-    run_job(alloc, words, folder, out)
+    run_job(rt, alloc, words, folder, out, gate)
 }
 
-fn run_job<F: Folder, K: Sink>(alloc: Global, words: &Words, folder: &mut F, out: &mut K) -> Status
+fn run_job<R: Threads + Wait + Sync, F: Folder, K: Sink, G: Gate>(
+    rt: &R,
+    alloc: Global,
+    words: &Words,
+    folder: &mut F,
+    out: &mut K,
+    gate: &G,
+) -> Status
     ensures { Ran (surroundings words.now (F.told folder.old) (F.sure folder.old)
         (F.faults folder.old) (F.faults folder.new) (K.taken out.old) (K.taken out.new) (K.faults out.old) (K.faults out.new)) result }
 {
@@ -57,7 +65,7 @@ fn run_job<F: Folder, K: Sink>(alloc: Global, words: &Words, folder: &mut F, out
         Ok(bytes) => bytes,
         Err(status) => return status,
     };
-    let status = do_job(alloc, &job, &bytes, out);
+    let status = do_job(rt, alloc, &job, &bytes, out, gate);
     status
 }
 
@@ -76,29 +84,45 @@ fn load<F: Folder>(alloc: Global, name: &[u8], folder: &mut F) -> Result<Vec<u8>
 }
 
 // Does the job with the bytes of its file.
-fn do_job<K: Sink>(alloc: Global, job: &Job, bytes: &[u8], out: &mut K) -> Status
-    requires { length bytes.now < 2 ^ 32 }
-    ensures { Ended (kind_of job.now) (content_of job.now bytes.now)
+fn do_job<R: Threads + Wait + Sync, K: Sink, G: Gate>(
+    rt: &R,
+    alloc: Global,
+    job: &Job,
+    bytes: &[u8],
+    out: &mut K,
+    gate: &G,
+) -> Status
+    requires short { length bytes.now < 2 ^ 32 }
+    requires few { HasFewWorkers job.now }
+    ensures { Ended (kind_of job.now) (task_of job.now bytes.now)
         (sinking (K.taken out.old) (K.taken out.new) (K.faults out.old) (K.faults out.new)) result }
 {
     match job {
-        Job::Play(_) => play_script(alloc, bytes, out),
-        Job::Solve(_) => solve_problem(alloc, bytes, out),
+        Job::Play { order, .. } => play_script(rt, alloc, *order, bytes, out, gate),
+        Job::Solve { workers, .. } => solve_problem(rt, alloc, *workers, bytes, out, gate),
+        Job::Check { .. } => check_decision(alloc, bytes, out),
     }
 }
 
 // Plays the script that the bytes stand for, and writes its report.
-fn play_script<K: Sink>(alloc: Global, bytes: &[u8], out: &mut K) -> Status
+fn play_script<R: Threads + Wait + Sync, K: Sink, G: Gate>(
+    rt: &R,
+    alloc: Global,
+    order: Order,
+    bytes: &[u8],
+    out: &mut K,
+    gate: &G,
+) -> Status
     requires { length bytes.now < 2 ^ 32 }
-    ensures { Ended FileKind.Script (held_as OfScript (script_of bytes.now))
+    ensures { Ended FileKind.Script (task_with (Playing order) (script_of bytes.now))
         (sinking (K.taken out.old) (K.taken out.new) (K.faults out.old) (K.faults out.new)) result }
 {
     let script = match read_script(alloc, bytes) {
         Ok(script) => script,
         Err(fault) => return refused(FileKind::Script, fault),
     };
-    match play(alloc, script) {
-        Ok(db) => match report(&db, out) {
+    match play(rt, alloc, &script, order, gate) {
+        Ok(ran) => match report(&ran.db, out) {
             Ok(()) => Status::Done,
             Err(_) => Status::WriteFault,
         },
@@ -106,19 +130,53 @@ fn play_script<K: Sink>(alloc: Global, bytes: &[u8], out: &mut K) -> Status
     }
 }
 
-// Solves the problem that the bytes stand for, and writes its decision.
-fn solve_problem<K: Sink>(alloc: Global, bytes: &[u8], out: &mut K) -> Status
-    requires { length bytes.now < 2 ^ 32 }
-    ensures { Ended FileKind.Problem (held_as OfProblem (problem_of bytes.now))
+// Solves the problem that the bytes stand for, and writes the problem, its decision and the certificate.
+fn solve_problem<R: Threads + Wait + Sync, K: Sink, G: Gate>(
+    rt: &R,
+    alloc: Global,
+    workers: u32,
+    bytes: &[u8],
+    out: &mut K,
+    gate: &G,
+) -> Status
+    requires short { length bytes.now < 2 ^ 32 }
+    requires few { (1 ≤ workers) × (workers ≤ 16) }
+    ensures { Ended FileKind.Problem (task_with Solving (problem_of bytes.now))
         (sinking (K.taken out.old) (K.taken out.new) (K.faults out.old) (K.faults out.new)) result }
 {
     let problem = match read_problem(alloc, bytes) {
         Ok(problem) => problem,
         Err(fault) => return refused(FileKind::Problem, fault),
     };
-    match decision(&problem, out) {
-        Ok(()) => Status::Done,
-        Err(_) => Status::WriteFault,
+    match decide(rt, alloc, problem, workers, gate) {
+        Ok(decision) => match print_decision(&decision, b"", out) {
+            Ok(()) => Status::Done,
+            Err(_) => Status::WriteFault,
+        },
+        Err(_) => Status::NoMemory,
+    }
+}
+
+// Checks the decision that the bytes stand for, and writes whether its certificate is accepted.
+fn check_decision<K: Sink>(alloc: Global, bytes: &[u8], out: &mut K) -> Status
+    requires { length bytes.now < 2 ^ 32 }
+    ensures { Ended FileKind.Decision (task_with Checking (decision_of bytes.now))
+        (sinking (K.taken out.old) (K.taken out.new) (K.faults out.old) (K.faults out.new)) result }
+{
+    let decision = match read_decision(alloc, bytes) {
+        Ok(decision) => decision,
+        Err(fault) => return refused(FileKind::Decision, fault),
+    };
+    if accepts(&decision.problem, &decision.claim, &decision.cert) {
+        match put_all(out, b"accepted\n") {
+            Ok(()) => Status::Done,
+            Err(_) => Status::WriteFault,
+        }
+    } else {
+        match put_all(out, b"not accepted\n") {
+            Ok(()) => Status::CheckNo,
+            Err(_) => Status::WriteFault,
+        }
     }
 }
 

@@ -1,6 +1,7 @@
 ghost use Rattle.std.specs.Prelude.{◌≡◌, ◌<◌, ◌++◌, ◌∷◌, [], Some, List, ℕ, length, string_bytes, slice_get, IfErr, OnOk, OnErr};
 
 use std::alloc::Global;
+use std::convert::AsStr;
 use std::marker::Model;
 
 /// One word of a command line. Contracts see its bytes.
@@ -30,6 +31,14 @@ impl Word {
         ensures { result.now ≡ self.now }
     {
         self.text.as_bytes()
+    }
+}
+
+impl AsStr for Word {
+    ghost text = { λ word. word };
+
+    fn as_str(&self) -> &str {
+        self.text.as_str()
     }
 }
 

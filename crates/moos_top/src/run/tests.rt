@@ -31,6 +31,19 @@ const SECOND_PROBLEM: &str = "ivp 1\ndomain a:0:2:3\ndomain b:0:1:2\ndomain d:0:
     function 2\npiece 0 2 0 1 0 1 0 10 0 0\n\
     function 3\npiece 0 0 0 1 0 1 20 0 5 0\npiece 1 2 0 1 0 1 0 0 5 0\nend\n";
 
+const FIRST_DECISION: &str = "decision 0 700\ncut : 700 0\ndone\n";
+
+const SECOND_DECISION: &str = "decision 0 1 0 75\ncut 0 0 : 75 2\ncut 0 1 : 55 10\ndone\n";
+
+const LEVELS_DECISION: &str = "decision 0 64000000000\ncut : 64000000000 0\ndone\n";
+
+// The lines of a problem and those of its decision.
+fn decided(alloc: Global, problem: &str, decision: &str) -> Result<String, Fail> {
+    let mut text = problem.to_string(alloc)?;
+    text.push_str(decision)?;
+    Ok(text)
+}
+
 // 64 functions over the course, each of value 100,000 everywhere: this weight, and then 10,000.
 fn levels(alloc: Global, first: &str) -> Result<String, Fail> {
     let mut text = String::new(alloc);
@@ -45,14 +58,14 @@ fn levels(alloc: Global, first: &str) -> Result<String, Fail> {
     Ok(text)
 }
 
-// Runs a job on the file `f.txt` into a sink with room to spare.
+// Runs a command line beside the file `f.txt`, into a sink with room to spare.
 fn run_on<R: Threads + Wait + Sync + Abort>(
     rt: &R,
     alloc: Global,
-    job: &str,
+    line: &[&str],
     text: &str,
 ) -> Result<(Status, MemSink), Fail> {
-    let words = command_line(rt, alloc, &[job, "f.txt"])?;
+    let words = command_line(rt, alloc, line)?;
     let mut folder = MemFolder::make(alloc);
     assert!(rt; text.len() < 10_000);
     folder.add(alloc, b"f.txt", text.as_bytes())?;
@@ -62,18 +75,75 @@ fn run_on<R: Threads + Wait + Sync + Abort>(
 }
 
 #[test]
-fn good_files_are_done(rt: HostRuntime) -> Result<(), Fail> {
-    let levels = levels(rt.alloc(), "10000")?;
-    for (job, text, written) in [
-        ("play", "", "%% moosdb play 1\n%% end 0 0\n"),
-        ("play", FIRST_SCRIPT, FIRST_REPORT),
-        ("solve", FIRST_PROBLEM, "decision 0 700\n"),
-        ("solve", SECOND_PROBLEM, "decision 0 1 0 75\n"),
-        ("solve", levels.as_str(), "decision 0 64000000000\n"),
+fn good_scripts_are_played(rt: HostRuntime) -> Result<(), Fail> {
+    for (text, written) in [
+        ("", "%% moosdb play 1\n%% end 0 0\n"),
+        (FIRST_SCRIPT, FIRST_REPORT),
     ] {
-        let (status, out) = run_on(&rt, rt.alloc(), job, text)?;
+        let (status, out) = run_on(&rt, rt.alloc(), &["play", "f.txt"], text)?;
         assert_eq!(rt; status, Status::Done, "{text}");
         assert_eq!(rt; out.bytes(), written.as_bytes(), "{text}");
+    }
+    Ok(())
+}
+
+#[test]
+fn good_problems_are_solved_by_any_number_of_workers(rt: HostRuntime) -> Result<(), Fail> {
+    let levels = levels(rt.alloc(), "10000")?;
+    for (text, decision) in [
+        (FIRST_PROBLEM, FIRST_DECISION),
+        (SECOND_PROBLEM, SECOND_DECISION),
+        (levels.as_str(), LEVELS_DECISION),
+    ] {
+        let wanted = decided(rt.alloc(), text, decision)?;
+        for workers in ["1", "2", "16"] {
+            let line = ["solve", "f.txt", "--workers", workers];
+            let (status, out) = run_on(&rt, rt.alloc(), &line, text)?;
+            assert_eq!(rt; status, Status::Done, "{text}");
+            assert_eq!(rt; out.bytes(), wanted.as_bytes(), "{text}");
+        }
+    }
+    Ok(())
+}
+
+#[test]
+fn decisions_are_checked(rt: HostRuntime) -> Result<(), Fail> {
+    for (decision, status, written) in [
+        (SECOND_DECISION, Status::Done, "accepted\n"),
+        (
+            "decision 0 1 0 75\ncut 0 0 : 74 2\ncut 0 1 : 55 10\ndone\n",
+            Status::CheckNo,
+            "not accepted\n",
+        ),
+        (
+            "decision 0 1 0 75\ncut 0 0 : 75 2\ndone\n",
+            Status::CheckNo,
+            "not accepted\n",
+        ),
+        (
+            "decision 0 1 0 75\ncut 0 0 : 75 2\ncut 0 0 : 75 2\ncut 0 1 : 55 10\ndone\n",
+            Status::CheckNo,
+            "not accepted\n",
+        ),
+        (
+            "decision 2 1 0 55\ncut 0 0 : 75 2\ncut 0 1 : 55 10\ndone\n",
+            Status::CheckNo,
+            "not accepted\n",
+        ),
+        (
+            "decision 0 1 0 75\ncut 0 0 : 75 2\ncut 0 1 : 55 10\n",
+            Status::Refused(Refusal {
+                file: FileKind::Decision,
+                line: 13,
+                cause: Cause::P9,
+            }),
+            "",
+        ),
+    ] {
+        let text = decided(rt.alloc(), SECOND_PROBLEM, decision)?;
+        let (ended, out) = run_on(&rt, rt.alloc(), &["check", "f.txt"], text.as_str())?;
+        assert_eq!(rt; ended, status, "{decision}");
+        assert_eq!(rt; out.bytes(), written.as_bytes(), "{decision}");
     }
     Ok(())
 }
@@ -115,7 +185,7 @@ fn bad_files_are_refused(rt: HostRuntime) -> Result<(), Fail> {
             Cause::P4,
         ),
     ] {
-        let (status, out) = run_on(&rt, rt.alloc(), job, text)?;
+        let (status, out) = run_on(&rt, rt.alloc(), &[job, "f.txt"], text)?;
         assert_eq!(rt;
             status,
             Status::Refused(Refusal { file, line, cause }),
@@ -141,16 +211,64 @@ fn ends<R: Threads + Wait + Sync + Abort>(
 }
 
 #[test]
+fn words_that_are_taken(rt: HostRuntime) -> Result<(), Fail> {
+    let decided = decided(rt.alloc(), FIRST_PROBLEM, FIRST_DECISION)?;
+    for (line, text, written) in [
+        (
+            ["play", "f.txt", "--race"].as_slice(),
+            FIRST_SCRIPT,
+            FIRST_REPORT,
+        ),
+        (&["play", "--race", "f.txt"], FIRST_SCRIPT, FIRST_REPORT),
+        (&["play", "--", "f.txt"], FIRST_SCRIPT, FIRST_REPORT),
+        (&["solve", "f.txt"], FIRST_PROBLEM, decided.as_str()),
+        (
+            &["solve", "--workers=2", "f.txt"],
+            FIRST_PROBLEM,
+            decided.as_str(),
+        ),
+        (
+            &["solve", "f.txt", "--workers", "+2"],
+            FIRST_PROBLEM,
+            decided.as_str(),
+        ),
+        (
+            &["solve", "f.txt", "--workers", "002"],
+            FIRST_PROBLEM,
+            decided.as_str(),
+        ),
+    ] {
+        let (status, out) = run_on(&rt, rt.alloc(), line, text)?;
+        assert_eq!(rt; status, Status::Done, "{line:?}");
+        assert_eq!(rt; out.bytes(), written.as_bytes(), "{line:?}");
+    }
+    Ok(())
+}
+
+#[test]
 fn other_words_are_usage(rt: HostRuntime) -> Result<(), Fail> {
     for line in [
         [].as_slice(),
         &["play"],
         &["Play", "s.txt"],
+        &["s.txt"],
         &["play", "s.txt", "m.moos"],
         &["play", "s\n"],
+        &["play", "s.txt", "--race", "--race"],
+        &["play", "s.txt", "--race=1"],
+        &["play", "s.txt", "--workers", "2"],
+        &["play", "s.txt", "--help"],
+        &["play", "s.txt", "-h"],
         &["solve"],
         &["solve", "p.txt", "q.txt"],
+        &["solve", "p.txt", "--race"],
         &["solve", "p.txt", "--workers", "17"],
+        &["solve", "p.txt", "--workers", "0"],
+        &["solve", "p.txt", "--workers"],
+        &["solve", "p.txt", "--workers", "two"],
+        &["solve", "p.txt", "--workers=2", "--workers=2"],
+        &["check"],
+        &["check", "d.txt", "--workers", "2"],
         &["--help"],
     ] {
         let words = command_line(&rt, rt.alloc(), line)?;
@@ -172,7 +290,7 @@ fn a_name_that_is_no_text_is_usage(rt: HostRuntime) -> Result<(), Fail> {
 
 #[test]
 fn an_absent_file_is_a_load_fault(rt: HostRuntime) -> Result<(), Fail> {
-    for job in ["play", "solve"] {
+    for job in ["play", "solve", "check"] {
         let words = command_line(&rt, rt.alloc(), &[job, "absent.txt"])?;
         assert_eq!(rt; ends(&rt, rt.alloc(), &words)?, Status::LoadFault);
     }
@@ -196,7 +314,7 @@ fn a_failed_put_leaves_a_front(rt: HostRuntime) -> Result<(), Fail> {
     out.fail_at(1)?;
     let status = run(&rt, rt.alloc(), &words, &mut folder, &mut out, &NoGate);
     assert_eq!(rt; status, Status::WriteFault);
-    assert_eq!(rt; out.bytes(), b"decisio".as_slice());
+    assert_eq!(rt; out.bytes(), b"ivp 1\nd".as_slice());
     Ok(())
 }
 

@@ -1,0 +1,37 @@
+-- Reports worked by hand.
+use Rattle.std.proofs.Common.{◌≡◌, ℕ, List, [], ◌∷◌, refl}
+use Rattle.std.specs.Prelude.{codes, pos, negsuc}
+use Rattle.std.specs.Fmt.{digits}
+use Rattle.moos_post.specs.declared.entry.Call.TheVariants.{Register, Unregister, Post as Posts, Fetch}
+use Rattle.moos_post.specs.declared.entry.Entry.{Entry}
+use Rattle.moos_post.specs.declared.value.Value.TheVariants.{Num, Text}
+use Rattle.moos_report.specs.Report.{report_text}
+
+abbrev first_lines : List Entry
+first_lines =
+    record { stamp = 0; client = 0; call = Register (record { var = codes "X"; source = codes "*"; interval = 0 } ∷ []) }
+    ∷ record { stamp = 1000; client = 0; call = Posts (record { var = codes "X"; value = Num (pos 5000) } ∷ []) }
+    ∷ record { stamp = 2000; client = 0; call = Fetch } ∷ record { stamp = 3000; client = 0; call = Fetch } ∷ []
+
+first_report : report_text (codes "pA" ∷ []) first_lines
+    ≡ codes "%% moosdb play 1\n%% client 0 pA\n%% entry 0 0 pA register\n%% reg X * 0\n%% entry 1 1 pA post 0 1\n1 X pA 5\n%% entry 2 2 pA fetch\n%% mail 0 1 X pA 5\n%% entry 3 3 pA fetch\n%% end 4 1\n"
+unfolding digits
+first_report = refl
+
+empty_report : report_text [] [] ≡ codes "%% moosdb play 1\n%% end 0 0\n"
+unfolding digits
+empty_report = refl
+
+abbrev said : List ℕ
+said = codes "say \"\\\""
+
+abbrev second_lines : List Entry
+second_lines =
+    record { stamp = 0; client = 0; call = Register (record { var = codes "T*"; source = codes "a"; interval = 500 } ∷ []) }
+    ∷ record { stamp = 1500; client = 1; call = Posts (record { var = codes "T"; value = Text said } ∷ record { var = codes "U"; value = Num (negsuc 1049) } ∷ []) }
+    ∷ record { stamp = 2000; client = 0; call = Unregister (codes "T*") (codes "a") } ∷ record { stamp = 2250; client = 0; call = Fetch } ∷ []
+
+second_report : report_text (codes "b" ∷ codes "a" ∷ []) second_lines
+    ≡ codes "%% moosdb play 1\n%% client 0 b\n%% client 1 a\n%% entry 0 0 b register\n%% reg T* a 0.5\n%% entry 1 1.5 a post 0 2\n1.5 T a \"say \\\"\\\\\\\"\"\n1.5 U a -1.05\n%% entry 2 2 b unregister\n%% reg T* a\n%% entry 3 2.25 b fetch\n%% mail 0 1.5 T a \"say \\\"\\\\\\\"\"\n%% end 4 2\n"
+unfolding digits
+second_report = refl

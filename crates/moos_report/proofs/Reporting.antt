@@ -1,0 +1,112 @@
+-- Lemmas on the parts of a report.
+use Rattle.std.proofs.Common.{◌≡◌, ℕ, zero, suc, ◌+◌, ◌<◌, ◌≤◌, Some, None, List, [], ◌∷◌, ◌++◌, map, flat_map, length, take, drop, refl, ap, sym, ◌∙◌, arith, add-one, codes, decimal, length-append, take-append-drop, length-take, length-take-le}
+use Rattle.std.specs.Prelude.{slice_get, option_map}
+use Rattle.std.specs.List.{concat}
+use Rattle.std.proofs.Math.Seq.{take-append_seam}
+use Rattle.std.proofs.lemmas.List.Concat.{flat_map-append}
+use Rattle.std.proofs.lemmas.Option.{slice_get_past, slice_get_within}
+use Rattle.moos_post.specs.declared.entry.Call.TheVariants.{Post as Posts, Fetch}
+use Rattle.moos_post.specs.declared.entry.Entry.{Entry}
+use Rattle.moos_post.specs.declared.value.Pair.{Pair}
+use Rattle.moos_post.specs.declared.value.Post.{Post}
+use Rattle.moos_post.specs.Delivery.{mail_at}
+use Rattle.moos_post.specs.History.{History, posts_of, posts_of_entry, post_of, name_of}
+use Rattle.moos_db.specs.declared.mail.Origin.{Origin}
+use Rattle.moos_db.specs.Database.{pair_of, origin_of}
+use Rattle.moos_report.specs.Report.{client_text, clients_text, entry_text, entries_text, said_text, post_text, letter_text, letters_text, call_text}
+
+-- what stands from a place on
+drop_at : {X : Type 0} (xs : List X) (i : ℕ) (x : X) → slice_get xs i ≡ Some x → drop i xs ≡ x ∷ drop (suc i) xs
+drop_at [] i x at = cc
+drop_at (y ∷ ys) zero x at = cc
+drop_at (y ∷ ys) (suc i) x at = drop_at ys i x at
+
+-- what stands up to a place and there
+take_at : {X : Type 0} (xs : List X) (i : ℕ) (x : X) → slice_get xs i ≡ Some x → take (suc i) xs ≡ take i xs ++ x ∷ []
+take_at [] i x at = cc
+take_at (y ∷ ys) zero x at = cc
+take_at (y ∷ ys) (suc i) x at = ap (λ end. y ∷ end) (take_at ys i x at)
+
+-- the first elements stand in the front where they stand in the list
+slice_get_take : {X : Type 0} (xs : List X) (n i : ℕ) → i < n → slice_get (take n xs) i ≡ slice_get xs i
+slice_get_take xs zero i below = absurd (omega (arith, below))
+slice_get_take [] (suc n) i below = refl
+slice_get_take (x ∷ xs) (suc n) zero below = refl
+slice_get_take (x ∷ xs) (suc n) (suc i) below = slice_get_take xs n i (omega (arith, below))
+
+-- the client that is due
+pub clients_due : (names : List (List ℕ)) (number : ℕ) {name : List ℕ} → slice_get names number ≡ Some name
+    → clients_text number (drop number names) ≡ client_text number name ++ clients_text (number + 1) (drop (number + 1) names)
+clients_due names number {name = name} at = rw (drop_at names number name at, add-one) refl
+
+-- the entry that is due
+pub entries_due : (names : List (List ℕ)) (history : History) (k : ℕ) {entry : Entry} → slice_get history k ≡ Some entry
+    → entries_text names (take k history) (drop k history)
+    ≡ entry_text names (take k history) entry ++ entries_text names (take (k + 1) history) (drop (k + 1) history)
+entries_due names history k {entry = entry} at = rw (drop_at history k entry at, add-one, take_at history k entry at) refl
+
+-- the posts up to an entry, and its own
+pub posts_more : (history : History) (k : ℕ) {entry : Entry} → slice_get history k ≡ Some entry
+    → length (posts_of (take (k + 1) history)) ≡ length (posts_of (take k history)) + length (posts_of_entry entry)
+posts_more history k {entry = entry} at =
+    rw (add-one, take_at history k entry at, flat_map-append posts_of_entry (take k history) (entry ∷ []))
+    (omega (arith, length-append (posts_of (take k history)) (posts_of (entry ∷ [])), length-append (posts_of_entry entry) []))
+
+posts_parted : (history : History) (k : ℕ) → posts_of (take k history) ++ posts_of (drop k history) ≡ posts_of history
+posts_parted history k = sym (flat_map-append posts_of_entry (take k history) (drop k history)) ∙ ap posts_of (take-append-drop k history)
+
+-- no more posts than in the whole history
+pub posts_within : (history : History) (k : ℕ) → length (posts_of (take k history)) ≤ length (posts_of history)
+posts_within history k =
+    rw (← posts_parted history k) (omega (arith, length-append (posts_of (take k history)) (posts_of (drop k history))))
+
+-- the posts up to an entry are the first ones of the history
+pub posts_front : (history : History) (k : ℕ) → take (length (posts_of (take k history))) (posts_of history) ≡ posts_of (take k history)
+posts_front history k = rw (← posts_parted history k) (take-append_seam (posts_of (take k history)) (posts_of (drop k history)))
+
+-- the lines of a batch
+pub batch_is : (names : List (List ℕ)) (stamp client : ℕ) (batch : List Pair)
+    → flat_map (post_text names) (map (post_of stamp client) batch) ≡ flat_map (λ pair. said_text stamp (name_of names client) pair.var pair.value) batch
+batch_is names stamp client [] = refl
+batch_is names stamp client (pair ∷ batch) =
+    ap (λ end. said_text stamp (name_of names client) pair.var pair.value ++ end) (batch_is names stamp client batch)
+
+-- as many entries as the number says stand before an entry
+pub length_past : (history : History) (k : ℕ) {entry : Entry} → slice_get history k ≡ Some entry → length (take k history) ≡ k
+length_past history k {entry = entry} at = length-take-le k history (omega (arith, slice_get_within history k entry at))
+
+-- the lines of an entry that posts
+pub post_is : (names : List (List ℕ)) (past : History) (entry : Entry) {batch pairs : List Pair} {first : ℕ} {source : List ℕ} → entry.call ≡ Posts batch
+    → first ≡ length (posts_of past) → source ≡ name_of names entry.client → pairs ≡ batch
+    → call_text names past entry entry.call
+    ≡ concat (codes " post " ∷ decimal first ∷ codes " " ∷ decimal (length pairs) ∷ codes "\n" ∷ []) ++ flat_map (λ pair. said_text entry.stamp source pair.var pair.value) pairs
+post_is names past entry {batch = batch} is behind named all = rw (is, behind, named, all, batch_is names entry.stamp entry.client batch) refl
+
+-- the lines of an entry that fetches
+pub fetch_is : (names : List (List ℕ)) (history : History) (k : ℕ) (entry : Entry) {first : ℕ} {mail : List ℕ} → slice_get history k ≡ Some entry → entry.call ≡ Fetch
+    → first ≡ length (posts_of (take k history)) → mail ≡ mail_at names history k
+    → call_text names (take k history) entry entry.call ≡ codes " fetch\n" ++ letters_text names (take first (posts_of history)) mail
+fetch_is names history k entry at is behind given = rw (given, at, is, behind, posts_front history k) refl
+
+-- a letter whose number none of the first posts has
+pub letter_none : (names : List (List ℕ)) (posts : List Post) (first number : ℕ) → first ≤ number
+    → letter_text names number (slice_get (take first posts) number) ≡ []
+letter_none names posts first number past =
+    rw (slice_get_past (take first posts) number (omega (arith, length-take first posts))) refl
+
+-- a letter whose number one of the first posts has
+pub letter_is : (names : List (List ℕ)) (posts : List Post) (first number : ℕ) {origin : Origin} {pair : Pair} → number < first
+    → option_map origin_of (slice_get posts number) ≡ Some origin → option_map pair_of (slice_get posts number) ≡ Some pair
+    → letter_text names number (slice_get (take first posts) number)
+    ≡ concat (codes "%% mail " ∷ decimal number ∷ codes " " ∷ []) ++ said_text origin.stamp (name_of names origin.client) pair.var pair.value
+letter_is names posts first number {origin = origin} {pair = pair} below =
+    rw (slice_get_take posts first number below)
+    (elim (slice_get posts number)
+    as (λ post. option_map origin_of post ≡ Some origin → option_map pair_of post ≡ Some pair
+    → letter_text names number post ≡ concat (codes "%% mail " ∷ decimal number ∷ codes " " ∷ []) ++ said_text origin.stamp (name_of names origin.client) pair.var pair.value) [
+      | None ↦ λ from said. cc
+      | Some post ↦ λ from said.
+          let same_origin : origin ≡ origin_of post = cc in
+          let same_pair : pair ≡ pair_of post = cc in
+          rw (same_origin, same_pair) refl
+    ])

@@ -1,0 +1,347 @@
+// The report of a database's history: what is printed of its clients, of each entry, and of what each fetch gave.
+//
+// The contract for the layers above: the report goes to a sink whole, or a front of it where the sink fails, and then the
+// sink's faults rose. No memory is taken: the text is gathered in a buffer on the stack, and what is full goes on.
+//
+// Reading order: `specs/Report` says what each line is; here are the entries and their parts, in `lines` the lines.
+#![tactic(auto)]
+
+ghost use Rattle.std.specs.Prelude.{◌≡◌, ◌+◌, ◌<◌, ◌≤◌, ◌++◌, [], ◌∷◌, Some, OnOk, OnErr, length, take, flat_map, map, codes, decimal, slice_get};
+ghost use Rattle.std.specs.List.{concat};
+ghost use Rattle.moos_io.specs.Faults.{Rose};
+ghost use Rattle.moos_io.specs.Pieces.{Took, TookFront};
+ghost use Rattle.moos_io.specs.Writing.{Wrote, way};
+ghost use Rattle.moos_post.specs.History.{name_of, posts_of, posts_of_entry, posts_of_call, post_of};
+ghost use Rattle.moos_text.specs.Numbers.{unsigned_text};
+ghost use Rattle.moos_report.specs.Report.{report_text, said_text, clients_text, entries_text, entry_text, call_text, reg_text, post_text, letter_text, letters_text, end_text};
+
+mod lines;
+#[cfg(test)]
+mod tests;
+
+use self::lines::{put, put_client, put_end, put_mail, put_post, put_reg};
+use moos_db::Db;
+use moos_io::{Buffer, Failed, Sink};
+use moos_post::{Call, Entry, Pair, Pattern, Reg};
+use moos_text::print_seconds;
+
+/// Writes the report of the database's history. Where the sink fails, it took a front of the report, not the whole.
+pub fn report<K: Sink>(db: &Db, out: &mut K) -> Result<(), Failed>
+    ensures ok { OnOk result (Took (K.taken out.old) (K.taken out.new) (report_text db.now.names db.now.history)) }
+    ensures front { OnErr result (TookFront (K.taken out.old) (K.taken out.new) (report_text db.now.names db.now.history)) }
+    ensures later { K.faults out.old ≤ K.faults out.new }
+    ensures rose { OnErr result (Rose (K.faults out.old) (K.faults out.new)) }
+{
+    let mut buffer = Buffer::new();
+    if let Err(failed) = put_report(db, &mut buffer, out) {
+        return Err(failed);
+    }
+    if let Err(failed) = buffer.flush(out) {
+        return Err(failed);
+    }
+    Ok(())
+}
+
+fn put_report<K: Sink>(db: &Db, buffer: &mut Buffer, out: &mut K) -> Result<(), Failed>
+    ensures { Wrote (way (K.taken out.old) buffer.old (K.faults out.old)) (way (K.taken out.new) buffer.new (K.faults out.new))
+        result (report_text db.now.names db.now.history) }
+{
+    if let Err(failed) = put(&[b"%% moosdb play 1\n"], buffer, out) {
+        return Err(failed);
+    }
+    if let Err(failed) = put_clients(db, buffer, out) {
+        return Err(failed);
+    }
+    if let Err(failed) = put_entries(db, buffer, out) {
+        return Err(failed);
+    }
+    put_end(db.entries(), db.posts(), buffer, out)
+}
+
+fn put_clients<K: Sink>(db: &Db, buffer: &mut Buffer, out: &mut K) -> Result<(), Failed>
+    ensures { Wrote (way (K.taken out.old) buffer.old (K.faults out.old)) (way (K.taken out.new) buffer.new (K.faults out.new))
+        result (clients_text 0 db.now.names) }
+{
+    for number in 0..db.clients() {
+        if let Err(failed) = put_client(number, db.name(number), buffer, out) {
+            return Err(failed);
+        }
+    }
+    Ok(())
+}
+
+fn put_entries<K: Sink>(db: &Db, buffer: &mut Buffer, out: &mut K) -> Result<(), Failed>
+    ensures { Wrote (way (K.taken out.old) buffer.old (K.faults out.old)) (way (K.taken out.new) buffer.new (K.faults out.new))
+        result (entries_text db.now.names [] db.now.history) }
+{
+    let posts = db.posts();
+    let mut first = 0;
+    for k in 0..db.entries() {
+        let entry = db.entry(k);
+        if let Err(failed) = put_entry(db, k, entry, first, buffer, out) {
+            return Err(failed);
+        }
+        first = posts_after(first, entry, posts);
+    }
+    Ok(())
+}
+
+// The number of the first post behind an entry whose own posts begin at `first`.
+fn posts_after(first: u64, entry: &Entry, posts: u64) -> u64
+    requires { first + length (posts_of_entry entry.now) ≤ posts }
+    ensures { result ≡ first + length (posts_of_entry entry.now) }
+{
+    match &entry.call {
+        Call::Post(batch) => first + batch.len() as u64,
+        _ => first,
+    }
+}
+
+// Entry `k` and what belongs to it, where `first` posts stand before it.
+fn put_entry<K: Sink>(
+    db: &Db,
+    k: u64,
+    entry: &Entry,
+    first: u64,
+    buffer: &mut Buffer,
+    out: &mut K,
+) -> Result<(), Failed>
+    requires at { slice_get db.now.history k ≡ Some entry.now }
+    requires behind { first ≡ length (posts_of (take k db.now.history)) }
+    ensures { Wrote (way (K.taken out.old) buffer.old (K.faults out.old)) (way (K.taken out.new) buffer.new (K.faults out.new))
+        result (entry_text db.now.names (take k db.now.history) entry.now) }
+{
+    if let Err(failed) = put_asking(k, entry.stamp, name_of(db, entry.client), buffer, out) {
+        return Err(failed);
+    }
+    put_call(db, k, entry, first, buffer, out)
+}
+
+// The client's name, or nothing for a number that no client has.
+fn name_of(db: &Db, client: u32) -> &[u8]
+    ensures { result.now ≡ name_of db.now.names client }
+{
+    if client < db.clients() {
+        db.name(client).bytes()
+    } else {
+        &[]
+    }
+}
+
+// What stands before the call on the line of an entry.
+fn put_asking<K: Sink>(
+    k: u64,
+    stamp: u64,
+    client: &[u8],
+    buffer: &mut Buffer,
+    out: &mut K,
+) -> Result<(), Failed>
+    ensures { Wrote (way (K.taken out.old) buffer.old (K.faults out.old)) (way (K.taken out.new) buffer.new (K.faults out.new))
+        result (concat (codes "%% entry " ∷ decimal k ∷ codes " " ∷ unsigned_text stamp ∷ codes " " ∷ client.now ∷ [])) }
+{
+    let mut digits = itoa::Buffer::new();
+    let stamp = print_seconds(stamp);
+    put(
+        &[
+            b"%% entry ",
+            digits.format(k).as_bytes(),
+            b" ",
+            stamp.bytes(),
+            b" ",
+            client,
+        ],
+        buffer,
+        out,
+    )
+}
+
+fn put_call<K: Sink>(
+    db: &Db,
+    k: u64,
+    entry: &Entry,
+    first: u64,
+    buffer: &mut Buffer,
+    out: &mut K,
+) -> Result<(), Failed>
+    requires at { slice_get db.now.history k ≡ Some entry.now }
+    requires behind { first ≡ length (posts_of (take k db.now.history)) }
+    ensures { Wrote (way (K.taken out.old) buffer.old (K.faults out.old)) (way (K.taken out.new) buffer.new (K.faults out.new))
+        result (call_text db.now.names (take k db.now.history) entry.now entry.now.call) }
+{
+    match &entry.call {
+        Call::Register(regs) => put_register(regs.all(), buffer, out),
+        Call::Unregister(var, source) => put_unregister(var, source, buffer, out),
+        Call::Post(batch) => put_batch(
+            first,
+            entry.stamp,
+            name_of(db, entry.client),
+            batch.all(),
+            buffer,
+            out,
+        ),
+        Call::Fetch => put_fetch(db, first, db.letters(k), buffer, out),
+    }
+}
+
+fn put_register<K: Sink>(regs: &[Reg], buffer: &mut Buffer, out: &mut K) -> Result<(), Failed>
+    ensures { Wrote (way (K.taken out.old) buffer.old (K.faults out.old)) (way (K.taken out.new) buffer.new (K.faults out.new))
+        result (codes " register\n" ++ flat_map reg_text regs.now) }
+{
+    if let Err(failed) = put(&[b" register\n"], buffer, out) {
+        return Err(failed);
+    }
+    put_regs(regs, buffer, out)
+}
+
+fn put_regs<K: Sink>(regs: &[Reg], buffer: &mut Buffer, out: &mut K) -> Result<(), Failed>
+    ensures { Wrote (way (K.taken out.old) buffer.old (K.faults out.old)) (way (K.taken out.new) buffer.new (K.faults out.new))
+        result (flat_map reg_text regs.now) }
+{
+    for reg in regs {
+        if let Err(failed) = put_reg(reg, buffer, out) {
+            return Err(failed);
+        }
+    }
+    Ok(())
+}
+
+fn put_unregister<K: Sink>(
+    var: &Pattern,
+    source: &Pattern,
+    buffer: &mut Buffer,
+    out: &mut K,
+) -> Result<(), Failed>
+    ensures { Wrote (way (K.taken out.old) buffer.old (K.faults out.old)) (way (K.taken out.new) buffer.new (K.faults out.new))
+        result (concat (codes " unregister\n%% reg " ∷ var.now ∷ codes " " ∷ source.now ∷ codes "\n" ∷ [])) }
+{
+    put(
+        &[
+            b" unregister\n%% reg ",
+            var.bytes(),
+            b" ",
+            source.bytes(),
+            b"\n",
+        ],
+        buffer,
+        out,
+    )
+}
+
+// A batch by the client with this name, whose first post has the number `first`.
+fn put_batch<K: Sink>(
+    first: u64,
+    stamp: u64,
+    source: &[u8],
+    pairs: &[Pair],
+    buffer: &mut Buffer,
+    out: &mut K,
+) -> Result<(), Failed>
+    ensures { Wrote (way (K.taken out.old) buffer.old (K.faults out.old)) (way (K.taken out.new) buffer.new (K.faults out.new))
+        result (concat (codes " post " ∷ decimal first ∷ codes " " ∷ decimal (length pairs.now) ∷ codes "\n" ∷ [])
+        ++ flat_map (λ pair. said_text stamp source.now pair.var pair.value) pairs.now) }
+{
+    if let Err(failed) = put_posting(first, pairs.len() as u64, buffer, out) {
+        return Err(failed);
+    }
+    put_pairs(stamp, source, pairs, buffer, out)
+}
+
+fn put_posting<K: Sink>(
+    first: u64,
+    count: u64,
+    buffer: &mut Buffer,
+    out: &mut K,
+) -> Result<(), Failed>
+    ensures { Wrote (way (K.taken out.old) buffer.old (K.faults out.old)) (way (K.taken out.new) buffer.new (K.faults out.new))
+        result (concat (codes " post " ∷ decimal first ∷ codes " " ∷ decimal count ∷ codes "\n" ∷ [])) }
+{
+    let (mut firsts, mut counts) = (itoa::Buffer::new(), itoa::Buffer::new());
+    put(
+        &[
+            b" post ",
+            firsts.format(first).as_bytes(),
+            b" ",
+            counts.format(count).as_bytes(),
+            b"\n",
+        ],
+        buffer,
+        out,
+    )
+}
+
+fn put_pairs<K: Sink>(
+    stamp: u64,
+    source: &[u8],
+    pairs: &[Pair],
+    buffer: &mut Buffer,
+    out: &mut K,
+) -> Result<(), Failed>
+    ensures { Wrote (way (K.taken out.old) buffer.old (K.faults out.old)) (way (K.taken out.new) buffer.new (K.faults out.new))
+        result (flat_map (λ pair. said_text stamp source.now pair.var pair.value) pairs.now) }
+{
+    for pair in pairs {
+        if let Err(failed) = put_post(stamp, source, pair, buffer, out) {
+            return Err(failed);
+        }
+    }
+    Ok(())
+}
+
+// The letters of these numbers, where `first` posts stand before the fetch.
+fn put_fetch<K: Sink>(
+    db: &Db,
+    first: u64,
+    letters: &[u64],
+    buffer: &mut Buffer,
+    out: &mut K,
+) -> Result<(), Failed>
+    requires { first ≤ length (posts_of db.now.history) }
+    ensures { Wrote (way (K.taken out.old) buffer.old (K.faults out.old)) (way (K.taken out.new) buffer.new (K.faults out.new))
+        result (codes " fetch\n" ++ letters_text db.now.names (take first (posts_of db.now.history)) letters.now) }
+{
+    if let Err(failed) = put(&[b" fetch\n"], buffer, out) {
+        return Err(failed);
+    }
+    put_letters(db, first, letters, buffer, out)
+}
+
+fn put_letters<K: Sink>(
+    db: &Db,
+    first: u64,
+    letters: &[u64],
+    buffer: &mut Buffer,
+    out: &mut K,
+) -> Result<(), Failed>
+    requires { first ≤ length (posts_of db.now.history) }
+    ensures { Wrote (way (K.taken out.old) buffer.old (K.faults out.old)) (way (K.taken out.new) buffer.new (K.faults out.new))
+        result (letters_text db.now.names (take first (posts_of db.now.history)) letters.now) }
+{
+    for &number in letters {
+        if let Err(failed) = put_letter(db, first, number, buffer, out) {
+            return Err(failed);
+        }
+    }
+    Ok(())
+}
+
+// The letter of this number, if one of the first posts has it.
+fn put_letter<K: Sink>(
+    db: &Db,
+    first: u64,
+    number: u64,
+    buffer: &mut Buffer,
+    out: &mut K,
+) -> Result<(), Failed>
+    requires { first ≤ length (posts_of db.now.history) }
+    ensures { Wrote (way (K.taken out.old) buffer.old (K.faults out.old)) (way (K.taken out.new) buffer.new (K.faults out.new))
+        result (letter_text db.now.names number (slice_get (take first (posts_of db.now.history)) number)) }
+{
+    if number >= first {
+        return Ok(());
+    }
+    let (origin, pair) = (db.origin(number), db.pair(number));
+    if let Err(failed) = put_mail(number, buffer, out) {
+        return Err(failed);
+    }
+    put_post(origin.stamp, name_of(db, origin.client), pair, buffer, out)
+}

@@ -1,0 +1,183 @@
+// The lines of the report, each written in one or a few pieces.
+ghost use Rattle.std.specs.Prelude.{◌≡◌, ◌<◌, ◌≤◌, [], ◌∷◌, ◌++◌, map, flat_map, length, take, slice_index, codes, IsTrue, decimal};
+ghost use Rattle.std.specs.List.{concat};
+ghost use Rattle.moos_io.specs.Writing.{Wrote, way};
+ghost use Rattle.moos_text.specs.Numbers.{unsigned_text};
+ghost use Rattle.moos_report.specs.Report.{client_text, reg_text, said_text, value_text, is_sign, escaped};
+
+use moos_io::{Buffer, Failed, Sink};
+use moos_post::{Name, Pair, Reg, Value};
+use moos_text::{print_milli, print_seconds};
+
+// Writes the pieces in order.
+pub(super) fn put<K: Sink>(pieces: &[&[u8]], buffer: &mut Buffer, out: &mut K) -> Result<(), Failed>
+    ensures { Wrote (way (K.taken out.old) buffer.old (K.faults out.old)) (way (K.taken out.new) buffer.new (K.faults out.new))
+        result (concat (map (λ piece. piece.now) pieces.now)) }
+{
+    buffer.write(out, pieces)
+}
+
+// The client of this number and name.
+pub(super) fn put_client<K: Sink>(
+    number: u32,
+    name: &Name,
+    buffer: &mut Buffer,
+    out: &mut K,
+) -> Result<(), Failed>
+    ensures { Wrote (way (K.taken out.old) buffer.old (K.faults out.old)) (way (K.taken out.new) buffer.new (K.faults out.new))
+        result (client_text number name.now) }
+{
+    let mut digits = itoa::Buffer::new();
+    let number = digits.format(number).as_bytes();
+    put(
+        &[b"%% client ", number, b" ", name.bytes(), b"\n"],
+        buffer,
+        out,
+    )
+}
+
+pub(super) fn put_reg<K: Sink>(reg: &Reg, buffer: &mut Buffer, out: &mut K) -> Result<(), Failed>
+    ensures { Wrote (way (K.taken out.old) buffer.old (K.faults out.old)) (way (K.taken out.new) buffer.new (K.faults out.new))
+        result (reg_text reg.now) }
+{
+    let interval = print_seconds(reg.interval);
+    let (var, source) = (reg.var.bytes(), reg.source.bytes());
+    put(
+        &[b"%% reg ", var, b" ", source, b" ", interval.bytes(), b"\n"],
+        buffer,
+        out,
+    )
+}
+
+// The line of a post by the client with this name.
+pub(super) fn put_post<K: Sink>(
+    stamp: u64,
+    source: &[u8],
+    pair: &Pair,
+    buffer: &mut Buffer,
+    out: &mut K,
+) -> Result<(), Failed>
+    ensures { Wrote (way (K.taken out.old) buffer.old (K.faults out.old)) (way (K.taken out.new) buffer.new (K.faults out.new))
+        result (said_text stamp source.now pair.now.var pair.now.value) }
+{
+    if let Err(failed) = put_saying(stamp, source, &pair.var, buffer, out) {
+        return Err(failed);
+    }
+    if let Err(failed) = put_value(&pair.value, buffer, out) {
+        return Err(failed);
+    }
+    put(&[b"\n"], buffer, out)
+}
+
+// What stands before the value on the line of a post.
+fn put_saying<K: Sink>(
+    stamp: u64,
+    source: &[u8],
+    var: &Name,
+    buffer: &mut Buffer,
+    out: &mut K,
+) -> Result<(), Failed>
+    ensures { Wrote (way (K.taken out.old) buffer.old (K.faults out.old)) (way (K.taken out.new) buffer.new (K.faults out.new))
+        result (concat (unsigned_text stamp ∷ codes " " ∷ var.now ∷ codes " " ∷ source.now ∷ codes " " ∷ [])) }
+{
+    let stamp = print_seconds(stamp);
+    put(
+        &[stamp.bytes(), b" ", var.bytes(), b" ", source, b" "],
+        buffer,
+        out,
+    )
+}
+
+// What stands before the post on the line of a letter.
+pub(super) fn put_mail<K: Sink>(number: u64, buffer: &mut Buffer, out: &mut K) -> Result<(), Failed>
+    ensures { Wrote (way (K.taken out.old) buffer.old (K.faults out.old)) (way (K.taken out.new) buffer.new (K.faults out.new))
+        result (concat (codes "%% mail " ∷ decimal number ∷ codes " " ∷ [])) }
+{
+    let mut digits = itoa::Buffer::new();
+    let number = digits.format(number).as_bytes();
+    put(&[b"%% mail ", number, b" "], buffer, out)
+}
+
+// The line at the end, which counts the entries and the posts.
+pub(super) fn put_end<K: Sink>(
+    entries: u64,
+    posts: u64,
+    buffer: &mut Buffer,
+    out: &mut K,
+) -> Result<(), Failed>
+    ensures { Wrote (way (K.taken out.old) buffer.old (K.faults out.old)) (way (K.taken out.new) buffer.new (K.faults out.new))
+        result (concat (codes "%% end " ∷ decimal entries ∷ codes " " ∷ decimal posts ∷ codes "\n" ∷ [])) }
+{
+    let (mut first, mut second) = (itoa::Buffer::new(), itoa::Buffer::new());
+    let (entries, posts) = (
+        first.format(entries).as_bytes(),
+        second.format(posts).as_bytes(),
+    );
+    put(&[b"%% end ", entries, b" ", posts, b"\n"], buffer, out)
+}
+
+fn put_value<K: Sink>(value: &Value, buffer: &mut Buffer, out: &mut K) -> Result<(), Failed>
+    ensures { Wrote (way (K.taken out.old) buffer.old (K.faults out.old)) (way (K.taken out.new) buffer.new (K.faults out.new))
+        result (value_text value.now) }
+{
+    match value {
+        Value::Num(number) => put(&[print_milli(*number).bytes()], buffer, out),
+        Value::Text(text) => put_quoted(text.bytes(), buffer, out),
+    }
+}
+
+// The text between quotes.
+fn put_quoted<K: Sink>(text: &[u8], buffer: &mut Buffer, out: &mut K) -> Result<(), Failed>
+    ensures { Wrote (way (K.taken out.old) buffer.old (K.faults out.old)) (way (K.taken out.new) buffer.new (K.faults out.new))
+        result (concat (codes "\"" ∷ flat_map escaped text.now ∷ codes "\"" ∷ [])) }
+{
+    if let Err(failed) = put(&[b"\""], buffer, out) {
+        return Err(failed);
+    }
+    if let Err(failed) = put_escaped(text, buffer, out) {
+        return Err(failed);
+    }
+    put(&[b"\""], buffer, out)
+}
+
+// The text in runs up to each byte that gets a `\`.
+fn put_escaped<K: Sink>(text: &[u8], buffer: &mut Buffer, out: &mut K) -> Result<(), Failed>
+    ensures { Wrote (way (K.taken out.old) buffer.old (K.faults out.old)) (way (K.taken out.new) buffer.new (K.faults out.new))
+        result (flat_map escaped text.now) }
+{
+    let mut rest = text;
+    while rest.len() > 0 {
+        let (plain, signs) = split_plain(rest);
+        let [sign, later @ ..] = signs else {
+            return put(&[plain], buffer, out);
+        };
+        if let Err(failed) = put(&[plain, b"\\", &[*sign]], buffer, out) {
+            return Err(failed);
+        }
+        rest = later;
+    }
+    Ok(())
+}
+
+// What stands before the first `"` or `\`, and the rest.
+fn split_plain(text: &[u8]) -> (&[u8], &[u8])
+    ensures parts { result.0.now ++ result.1.now ≡ text.now }
+    ensures plain { flat_map escaped result.0.now ≡ result.0.now }
+    ensures sign { 0 < length result.1.now → IsTrue (is_sign (slice_index result.1.now 0)) }
+{
+    text.split_at(plain_run(text))
+}
+
+// How many bytes stand before the first `"` or `\`.
+fn plain_run(text: &[u8]) -> usize
+    ensures within { result ≤ length text.now }
+    ensures plain { flat_map escaped (take result text.now) ≡ take result text.now }
+    ensures sign { result < length text.now → IsTrue (is_sign (slice_index text.now result)) }
+{
+    for (run, byte) in text.iter().enumerate() {
+        if *byte == b'"' || *byte == b'\\' {
+            return run;
+        }
+    }
+    text.len()
+}

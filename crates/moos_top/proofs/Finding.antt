@@ -1,0 +1,76 @@
+-- What the getters read of the matches, over what a command found.
+use Rattle.std.proofs.Common.{◌≡◌, ℕ, ◌<◌, ◌^◌, Bool, true, false, List, Option, Some, None, Result, Ok, Err, refl, sym, subst, ◌∙◌, codes, option_map, nat_lt, arith}
+use Rattle.std.specs.Borrow.{Bor}
+use Rattle.std.specs.Str.{bytes_eq}
+use Rattle.std.specs.Str.Parse.{IsNumeral, ParsesUnsigned, digits_value, without_leading_plus}
+use Rattle.clap.specs.Matches.{ReadsOne}
+use Rattle.clap.specs.ValueTests.{is_numeral, is_unsigned_in}
+use Rattle.clap.specs.declared.builder.value_parser.ValueParser.TheVariants.{Unsigned}
+use Rattle.clap.proofs.ValueTestLemmas.{Accepts-accepts, accepts-Accepts}
+use Rattle.clap.specs.Words.{Text, first_value, one_text, rows_of}
+use Rattle.clap.specs.declared.parser.matches.Found.{Found}
+use Rattle.clap.proofs.WalkLemmas.{both, first_value-rows, one_text-rows}
+use Rattle.moos_top.specs.Commands.{few, file_in, is_set, text_of, workers_in, workers_of}
+
+-- the flag's value that was found
+pub set_is : (f : Found) (id : Text) {got : Option (Bor Text)} {value : Bor Text} → option_map (λ text. text.now) got ≡ first_value f id → got ≡ Some value
+    → bytes_eq value.now (codes "true") ≡ is_set id (rows_of f)
+set_is f id found is = rw (← first_value-rows f id, ← found, is) refl
+
+pub set_none : (f : Found) (id : Text) {got : Option (Bor Text)} → option_map (λ text. text.now) got ≡ first_value f id → got ≡ None → false ≡ is_set id (rows_of f)
+set_none f id found is = rw (← first_value-rows f id, ← found, is) refl
+
+-- the name that was found
+pub file_is : (f : Found) (id : Text) {got : Option (Bor Text)} {name : Bor Text} → option_map (λ text. text.now) got ≡ first_value f id → got ≡ Some name
+    → text_of name.now ≡ file_in id (rows_of f)
+file_is f id found is = rw (← first_value-rows f id, ← found, is) refl
+
+pub file_none : (f : Found) (id : Text) {got : Option (Bor Text)} → option_map (λ text. text.now) got ≡ first_value f id → got ≡ None → None ≡ file_in id (rows_of f)
+file_none f id found is = rw (← first_value-rows f id, ← found, is) refl
+
+-- a text that reads as a number
+workers_read : (text : Text) (number : ℕ) → IsNumeral 10 (without_leading_plus text) → digits_value 10 (without_leading_plus text) < 2 ^ 64
+    → number ≡ digits_value 10 (without_leading_plus text) → few number ≡ workers_of text
+workers_read text number numeral small is =
+    let value = digits_value 10 (without_leading_plus text) in
+    let accepted : is_unsigned_in 0 (2 ^ 64) text ≡ true = Accepts-accepts false (Unsigned 0 (2 ^ 64)) text (numeral, small, omega arith, omega arith) in
+    let first = both (is_numeral (without_leading_plus text)) _ accepted in
+    let second = both (nat_lt value (2 ^ 64)) _ first.1 in
+    rw (is, first.0, second.0) refl
+
+-- and one that doesn't
+workers_refused : (text : Text) → (IsNumeral 10 (without_leading_plus text) × (digits_value 10 (without_leading_plus text) < 2 ^ 64) → ⊥) → 1 ≡ workers_of text
+workers_refused text unread = go (is_unsigned_in 1 16 text) refl
+  where
+    go : (passes : Bool) → is_unsigned_in 1 16 text ≡ passes → 1 ≡ workers_of text
+    go false is = rw is refl
+    go true is = let read = accepts-Accepts false (Unsigned 1 16) text is in absurd (unread (read.0, read.1))
+
+-- the number that was found, whatever an error is
+module _ {E : Type 0} (G : List ℕ → Result ℕ E → Type 0) (only : (text : Text) (read : Result ℕ E) → G text read → ParsesUnsigned 64 10 text read) (f : Found) where
+  abbrev id : Text
+  id = codes "workers"
+
+  abbrev IsRead : Option ℕ → Type 0
+  IsRead got = (text : Text) → one_text f id ≡ Some text → ReadsOne G text got
+
+  abbrev IsNot : Option ℕ → Type 0
+  IsNot got = one_text f id ≡ None → got ≡ None
+
+  pub workers_is : {got : Option ℕ} {number : ℕ} → IsNot got → IsRead got → got ≡ Some number → few number ≡ workers_in (rows_of f)
+  workers_is {got = got} {number = number} not read is = go (one_text f id) refl
+    where
+      go : (found : Option Text) → one_text f id ≡ found → few number ≡ workers_in (rows_of f)
+      go None at = let both_ways : Some number ≡ None = sym is ∙ not at in cc
+      go (Some text) at =
+          let parsed = only text (Ok number) (subst (ReadsOne G text) is (read text at)) in
+          rw (← one_text-rows f id, at) (workers_read text number parsed.0.0 parsed.0.1 parsed.1)
+
+  pub workers_none : {got : Option ℕ} → IsNot got → IsRead got → got ≡ None → 1 ≡ workers_in (rows_of f)
+  workers_none {got = got} not read is = go (one_text f id) refl
+    where
+      go : (found : Option Text) → one_text f id ≡ found → 1 ≡ workers_in (rows_of f)
+      go None at = rw (← one_text-rows f id, at) refl
+      go (Some text) at =
+          let failed = subst (ReadsOne G text) is (read text at) in
+          rw (← one_text-rows f id, at) (workers_refused text (only text (Err failed.0) failed.1))

@@ -1,7 +1,0 @@
-use Rattle.std.proofs.Common.{◌≡◌, flat_map, take}
-use Rattle.moos_top.specs.Report.{escaped}
-use Rattle.moos_top.proofs.report.lines.plain_run.Given as goal
-
--- none of the bytes so far gets a `\`
-abbrev pub invariant-loop-run : goal.invariant-loop-run
-invariant-loop-run l = flat_map escaped (take l.run l.text) ≡ take l.run l.text

@@ -1,0 +1,72 @@
+-- The commands of the program's jobs, as the command-line crate sees them, and what they find in the words of a line.
+-- A command reads the whole line: the word of its job stands where such a crate expects the name of a program.
+use Rattle.std.specs.Prelude.{◌≡◌, ℕ, Bool, true, false, List, [], ◌∷◌, codes, bytes_eq, nat_le, ◌&&◌, if◌then◌else◌, Option, Some, None, option_and_then}
+use Rattle.std.specs.List.{list_all}
+use Rattle.std.specs.Option.{option_map_or}
+use Rattle.std.specs.Str.Parse.{digits_value, without_leading_plus}
+use Rattle.clap.specs.Faults.{is_simple_and_free}
+use Rattle.clap.specs.Takes.{default_passes}
+use Rattle.clap.specs.Words.{App, Row, Rule, Text, built, first_of, matches_of, new_app, new_rule, one_of, takes, with_rule}
+use Rattle.clap.specs.ValueTests.{is_unsigned_in}
+use Rattle.clap.specs.declared.builder.ArgAction.TheVariants.{SetTrue}
+use Rattle.clap.specs.declared.builder.value_parser.ValueParser.TheVariants.{Unsigned}
+use Rattle.moos_post.specs.Words.{is_text}
+
+-- the name of a file, which must be there
+abbrev pub file_rule : Text → Rule
+file_rule id = record (new_rule id) { required = true }
+
+-- `--race`, which may be there once
+abbrev pub race_rule : Rule
+race_rule = record (new_rule (codes "race")) { long = Some (codes "race"); action = Some SetTrue }
+
+-- `--workers N`, which may be there once: N from 1 to 16, and 1 where it isn't there
+abbrev pub workers_rule : Rule
+workers_rule = record (new_rule (codes "workers")) { long = Some (codes "workers"); parser = Some (Unsigned 1 16); defaults = codes "1" ∷ [] }
+
+-- `play SCRIPT [--race]`
+abbrev pub play_command : App
+play_command = with_rule (with_rule (new_app (codes "play")) (file_rule (codes "script"))) race_rule
+
+-- `solve PROBLEM [--workers N]`
+abbrev pub solve_command : App
+solve_command = with_rule (with_rule (new_app (codes "solve")) (file_rule (codes "problem"))) workers_rule
+
+-- `check DECISION`
+abbrev pub check_command : App
+check_command = with_rule (new_app (codes "check")) (file_rule (codes "decision"))
+
+-- what a command finds in a line, where it takes it
+abbrev pub found_in : App → List Text → Option (List Row)
+found_in command line = if takes command line then Some (matches_of command line) else None
+
+-- the bytes, where a text can hold them
+abbrev pub text_of : List ℕ → Option (List ℕ)
+text_of bytes = if is_text bytes then Some bytes else None
+
+-- the name of the file that was found under this name of an argument
+abbrev pub file_in : Text → List Row → Option (List ℕ)
+file_in id found = option_and_then text_of (first_of id found)
+
+-- a flag was found: its value is `true`
+abbrev pub is_set : Text → List Row → Bool
+is_set id found = option_map_or (λ value. bytes_eq value (codes "true")) (first_of id found) false
+
+-- a number from 1 to 16, and else 1
+abbrev pub few : ℕ → ℕ
+few number = if nat_le 1 number && nat_le number 16 then number else 1
+
+-- the number that a value spells, where it passes `--workers`, as each value does that a command finds there
+abbrev pub workers_of : Text → ℕ
+workers_of value = if is_unsigned_in 1 16 value then digits_value 10 (without_leading_plus value) else 1
+
+-- the number of workers that was found
+abbrev pub workers_in : List Row → ℕ
+workers_in found = option_map_or workers_of (one_of (codes "workers") found) 1
+
+-- A command of which the command-line crate says exactly what it takes: it is simple, no argument has a rule on another,
+-- it has no subcommand, and its defaults pass their own parsers.
+pub record IsPlain (command : App) : Type 0 where
+  pub free : is_simple_and_free command ≡ true
+  pub alone : (built command).subs ≡ []
+  pub defaults : list_all default_passes (built command).top.rules ≡ true

@@ -1,0 +1,112 @@
+// The commands of the program's jobs, and what they find in the words of a command line.
+ghost use Rattle.std.specs.Prelude.{◌≡◌, ◌≤◌, IfOk, Some, option_map, codes, bytes_eq, false};
+ghost use Rattle.std.specs.Option.{option_map_or};
+ghost use Rattle.clap.specs.Words.{app_of, found_of, rows_of};
+ghost use Rattle.moos_top.specs.Commands.{IsPlain, check_command, file_in, found_in, few, is_set, play_command, solve_command, text_of, workers_in};
+
+use crate::words::Word;
+use clap::error::ErrorKind;
+use clap::{Arg, ArgAction, ArgMatches, Command, value_parser};
+use moos_post::{NoMemory, Txt, TxtFault};
+use std::alloc::{AllocError, Global};
+
+/// `play SCRIPT [--race]`
+pub fn play_command<'a>(alloc: Global) -> Result<Command<'a>, NoMemory>
+    ensures { IfOk result (λ command. app_of command ≡ play_command) }
+{
+    let script = Arg::new(alloc, "script").required(true);
+    let race = Arg::new(alloc, "race")
+        .long("race")
+        .action(ArgAction::SetTrue);
+    Command::new(alloc, "play").arg(script)?.arg(race)
+}
+
+/// `solve PROBLEM [--workers N]`
+pub fn solve_command<'a>(alloc: Global) -> Result<Command<'a>, NoMemory>
+    ensures { IfOk result (λ command. app_of command ≡ solve_command) }
+{
+    let problem = Arg::new(alloc, "problem").required(true);
+    let workers = Arg::new(alloc, "workers")
+        .long("workers")
+        .value_parser(value_parser!(u64).range(1..=16))
+        .default_value("1");
+    Command::new(alloc, "solve").arg(problem)?.arg(workers)
+}
+
+/// `check DECISION`
+pub fn check_command<'a>(alloc: Global) -> Result<Command<'a>, NoMemory>
+    ensures { IfOk result (λ command. app_of command ≡ check_command) }
+{
+    let decision = Arg::new(alloc, "decision").required(true);
+    Command::new(alloc, "check").arg(decision)
+}
+
+/// What a command finds in a line, or none where it doesn't take it.
+pub fn found_in<'a>(
+    command: Command<'a>,
+    line: &'a [Word],
+) -> Result<Option<ArgMatches<'a>>, NoMemory>
+    requires { IsPlain (app_of command) }
+    ensures { IfOk result (λ matches. option_map (λ m. rows_of (found_of m)) matches ≡ found_in (app_of command.entry) line.now) }
+{
+    match command.try_get_matches_from(line) {
+        Ok(matches) => Ok(Some(matches)),
+        Err(error) if error.kind() == ErrorKind::OutOfMemory => Err(AllocError),
+        Err(_) => Ok(None),
+    }
+}
+
+/// The name of the file that was found, where a text can hold it.
+pub fn file_in(alloc: Global, matches: &ArgMatches, id: &str) -> Result<Option<Txt>, NoMemory>
+    ensures { IfOk result (λ name. name ≡ file_in id.now (rows_of (found_of matches.now))) }
+{
+    match matches.get_str(id) {
+        Some(name) => text_of(alloc, name.as_bytes()),
+        None => Ok(None),
+    }
+}
+
+/// Whether a flag was found.
+pub fn is_set(matches: &ArgMatches, id: &str) -> bool
+    ensures { result ≡ is_set id.now (rows_of (found_of matches.now)) }
+{
+    match matches.get_str(id) {
+        Some(value) => value == "true",
+        None => false,
+    }
+}
+
+/// The number of workers that was found.
+pub fn workers_in(matches: &ArgMatches) -> u32
+    ensures found { result ≡ workers_in (rows_of (found_of matches.now)) }
+    ensures within { (1 ≤ result) × (result ≤ 16) }
+{
+    match matches.get_one::<u64>("workers") {
+        Some(number) => few(number),
+        None => 1,
+    }
+}
+
+// The number, where it is from 1 to 16, and else 1.
+fn few(number: u64) -> u32
+    ensures few { result ≡ few number }
+    ensures within { (1 ≤ result) × (result ≤ 16) }
+{
+    if 1 <= number && number <= 16 {
+        number as u32
+    } else {
+        1
+    }
+}
+
+// The bytes as a text, where a text can hold them.
+fn text_of(alloc: Global, bytes: &[u8]) -> Result<Option<Txt>, NoMemory>
+    ensures { IfOk result (λ text. text ≡ text_of bytes.now) }
+{
+    match Txt::new(alloc, bytes) {
+        Ok(text) => Ok(Some(text)),
+        Err(TxtFault::TooLong(_)) => Ok(None),
+        Err(TxtFault::BadByte(_)) => Ok(None),
+        Err(TxtFault::NoMemory) => Err(AllocError),
+    }
+}
