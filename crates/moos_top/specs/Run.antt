@@ -76,13 +76,13 @@ pub record Finishes (run : Surroundings) (status : Status) : Type 0 where
   pub written : IsWritten run.words run.told status text
   pub took : Took run.taken_before run.taken_after text
 
--- Usage: the words name no job. Nothing is loaded or written.
+-- Usage: the words name no job. No load failed, and nothing was written.
 pub record HasNoJob (run : Surroundings) : Type 0 where
   pub unnamed : job_named run.words ≡ None
   pub load_faults : run.load_faults_after ≡ run.load_faults_before
   pub silent : IsSilent run
 
--- LoadFault: the folder failed at the job's file, which it isn't sure of. Nothing is written.
+-- LoadFault: the folder failed, and it isn't sure of the job's file. Nothing was written.
 pub record FailsToLoad (run : Surroundings) : Type 0 where
   pub rose : Rose run.load_faults_before run.load_faults_after
   pub job : Job

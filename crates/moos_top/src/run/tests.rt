@@ -2,7 +2,7 @@
 use crate::run::run;
 use crate::status::{FileKind, Refusal, Status, code};
 use crate::words::{Word, Words};
-use moos_io::{MemFolder, MemSink, NoGate};
+use moos_io::{Gate, MemFolder, MemSink, NoGate};
 use moos_text::Cause;
 use std::alloc::Global;
 use std::process::Abort;
@@ -65,12 +65,23 @@ fn run_on<R: Threads + Wait + Sync + Abort>(
     line: &[&str],
     text: &str,
 ) -> Result<(Status, MemSink), Fail> {
+    run_under(rt, alloc, line, text, &NoGate)
+}
+
+// The same, where this gate is told of the calls of clients and workers.
+fn run_under<R: Threads + Wait + Sync + Abort, G: Gate>(
+    rt: &R,
+    alloc: Global,
+    line: &[&str],
+    text: &str,
+    gate: &G,
+) -> Result<(Status, MemSink), Fail> {
     let words = command_line(rt, alloc, line)?;
     let mut folder = MemFolder::make(alloc);
     assert!(rt; text.len() < 10_000);
     folder.add(alloc, b"f.txt", text.as_bytes())?;
     let mut out = MemSink::make(alloc, 10_000, 10_000)?;
-    let status = run(rt, alloc, &words, &mut folder, &mut out, &NoGate);
+    let status = run(rt, alloc, &words, &mut folder, &mut out, gate);
     Ok((status, out))
 }
 
@@ -341,3 +352,5 @@ fn exit_statuses(rt: HostRuntime) {
         assert_eq!(rt; code(&status), number);
     }
 }
+
+mod beside;
