@@ -204,7 +204,7 @@ impl Gate for Watch {
     }
 }
 
-fn watch() -> Watch {
+fn no_calls_yet() -> Watch {
     Watch {
         other: AtomicBool::new(false),
         missed: AtomicBool::new(false),
@@ -215,7 +215,7 @@ fn watch() -> Watch {
 // The two lines have stamps of their own, so in rounds the second client would wait for the first.
 #[test]
 fn a_race_has_no_rounds(rt: HostRuntime) -> Result<(), Fail> {
-    let gate = watch();
+    let gate = no_calls_yet();
     let line = ["play", "f.txt", "--race"];
     let (status, _) = run_under(&rt, rt.alloc(), &line, "0 a fetch\n1 b fetch\n", &gate)?;
     assert_eq!(rt; status, Status::Done);
@@ -229,7 +229,7 @@ fn so_many_workers_as_are_asked_for(rt: HostRuntime) -> Result<(), Fail> {
     let problem =
         "ivp 1\ndomain a:0:2:3\nfunction 1\npiece 0 0 0 0\npiece 1 1 5 0\npiece 2 2 0 0\nend\n";
     for (workers, third) in [("2", false), ("3", true)] {
-        let gate = watch();
+        let gate = no_calls_yet();
         let line = ["solve", "f.txt", "--workers", workers];
         let (status, _) = run_under(&rt, rt.alloc(), &line, problem, &gate)?;
         assert_eq!(rt; status, Status::Done);
