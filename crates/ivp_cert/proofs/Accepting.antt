@@ -28,12 +28,12 @@ use Rattle.ivp_cert.proofs.Paths.{beginning, beginning_cons, Each}
 use Rattle.ivp_cert.proofs.Walking.{covers_walk, topmost_covers, walk_covers}
 
 -- each of a list, by place
-each_at : {X : Type 0} (P : X → Type 0) (xs : List X) (k : ℕ) (x : X) → Each P xs → slice_get xs k ≡ Some x → P x
+pub each_at : {X : Type 0} (P : X → Type 0) (xs : List X) (k : ℕ) (x : X) → Each P xs → slice_get xs k ≡ Some x → P x
 each_at P [] k x h e = absurd (cc)
 each_at P (y ∷ ys) zero x h e = let same : y ≡ x = cc in subst P same h.0
 each_at P (y ∷ ys) (suc k) x h e = each_at P ys k x h.1 e
 
-each_from : {X : Type 0} (P : X → Type 0) (xs : List X) → ((k : ℕ) (x : X) → slice_get xs k ≡ Some x → P x) → Each P xs
+pub each_from : {X : Type 0} (P : X → Type 0) (xs : List X) → ((k : ℕ) (x : X) → slice_get xs k ≡ Some x → P x) → Each P xs
 each_from P [] h = tt
 each_from P (x ∷ xs) h = (h 0 x refl, each_from P xs (λ k. h (suc k)))
 

@@ -7,3 +7,4 @@ pub mod Certificates
 pub mod Walks
 pub mod Decisions
 pub mod Texts
+pub mod Printed

@@ -1,11 +1,15 @@
-ghost use Rattle.std.specs.Prelude.{◌≡◌, IsTrue};
+ghost use Rattle.std.specs.Prelude.{◌≡◌, IsTrue, Ok};
 ghost use Rattle.ivp_domain.specs.Domains.{is_point};
 ghost use Rattle.ivp_problem.specs.Sums.{best_of, sum_at};
 ghost use Rattle.ivp_cert.specs.declared.claim.Claim.{Claim};
 ghost use Rattle.ivp_cert.specs.Certificates.{Accepts, certificate_of};
+ghost use Rattle.ivp_cert.specs.Decisions.{decision_of};
+ghost use Rattle.ivp_cert.specs.Printed.{HasSums, IsPrefix};
+ghost use Rattle.ivp_cert.specs.Texts.{decision_lines};
 
 use crate::cert::Cert;
-use crate::claim::Claim;
+use crate::claim::{Claim, Decision};
+use crate::printed::{lines_print, places_print, problem_prints};
 use ivp_problem::Problem;
 
 /// What holds of a claim and a certificate that is accepted for it, by the definitions alone: the claim's point is the
@@ -25,4 +29,18 @@ pub fn certificate_law(problem: &Problem)
     ensures { (claim : Claim) → claim.point ≡ best_of problem.now → claim.sum ≡ sum_at problem.now claim.point → Accepts problem.now claim (certificate_of problem.now) }
 {
     let _ = problem.len();
+}
+
+/// What holds of the text of a decision, by the definitions alone: it stands for the decision, so reading what was printed
+/// gives the decision back. It changes nothing, and looks at each part of the decision once: what the type of a part says
+/// of its value is known where the part is at hand.
+pub fn printed_law(decision: &Decision, prefix: &[u8])
+    requires prefix { IsPrefix prefix.now }
+    requires point { IsTrue (is_point decision.now.problem.axes decision.now.claim.point) }
+    requires sums { HasSums decision.now }
+    ensures { decision_of (decision_lines prefix.now decision.now) ≡ Ok decision.now }
+{
+    problem_prints(&decision.problem);
+    places_print(&decision.claim.point);
+    lines_print(&decision.cert);
 }

@@ -2,11 +2,12 @@
 //!
 //! The contract for the layer above: `cut` gives the certificate of a problem; `accepts` tells whether a certificate is
 //! accepted for what is claimed, and then the claimed point is the best. `read_problem` and `read_decision` give what
-//! stands in the bytes, or the first refusal with its line and its cause; `print_decision` writes a decision.
+//! stands in the bytes, or the first refusal with its line and its cause; `print_decision` writes a decision, and what it
+//! writes stands for the decision.
 //!
 //! Reading order: `path`, `cert`, `claim`; `tree`, `trail`, `cutting`, `accept`, `law`; `words`, `piece`, `terms`,
-//! `unfinished`, `stage`, `read`; `line`, `phase`, `decision`; `put`, `put_problem`, `print`. Of specs/ read `Certificates`,
-//! `Problems`, `Decisions` and `Texts`; `Walks` serves the checker alone.
+//! `unfinished`, `stage`, `read`; `line`, `phase`, `decision`; `put`, `put_problem`, `print`, `printed`. Of specs/ read
+//! `Certificates`, `Problems`, `Decisions`, `Texts` and `Printed`; `Walks` serves the checker alone.
 #![tactic(auto)]
 
 mod accept;
@@ -20,6 +21,7 @@ mod path;
 mod phase;
 mod piece;
 mod print;
+mod printed;
 mod put;
 mod put_problem;
 mod read;
@@ -35,7 +37,7 @@ pub use cert::{Cert, Line};
 pub use claim::{Claim, Decision};
 pub use cutting::cut;
 pub use decision::read_decision;
-pub use law::{accepted_law, certificate_law};
+pub use law::{accepted_law, certificate_law, printed_law};
 pub use path::Path;
 pub use print::print_decision;
 pub use read::read_problem;

@@ -1,0 +1,191 @@
+-- The sums of a decision that was read are within the format's bounds.
+use Rattle.std.proofs.Common.{◌≡◌, ℕ, suc, ◌+◌, ◌≤◌, Bool, true, false, cond, ◌&&◌, nat_lt, nat_le, Option, Some, None, Result, Ok, Err, List, [], ◌∷◌, ◌++◌, length, refl, ap, sym, subst, ◌∙◌, arith}
+use Rattle.std.specs.Prelude.{bytes_eq, codes, IfOk, max}
+use Rattle.std.specs.List.{list_all}
+use Rattle.std.specs.Option.{option_and_then, option_map}
+use Rattle.std.proofs.lemmas.Bool.Decides.{nat_tests}
+use Rattle.moos_post.specs.Words.{is_digit}
+use Rattle.moos_text.specs.declared.cause.Cause.{Cause}
+use Rattle.moos_text.specs.declared.cause.Cause.TheVariants.{P1, P10}
+use Rattle.moos_text.specs.declared.cause.ReadFault.{ReadFault}
+use Rattle.moos_text.specs.Lines.{raw_lines}
+use Rattle.moos_text.specs.Numbers.{digits_value}
+use Rattle.ivp_problem.specs.Problems.{WeightedSum}
+use Rattle.ivp_cert.specs.declared.cert.Line.{Line}
+use Rattle.ivp_cert.specs.declared.claim.Decision.{Decision}
+use Rattle.ivp_cert.specs.declared.phase.Phase.{Phase}
+use Rattle.ivp_cert.specs.declared.phase.Phase.TheVariants.{Done, OfCuts, OfProblem}
+use Rattle.ivp_cert.specs.declared.stage.Stage.{Stage}
+use Rattle.ivp_cert.specs.declared.stage.Stage.TheVariants.{Start, Begun, Axes, Functions, Ended}
+use Rattle.ivp_cert.specs.Decisions.{after_cuts, after_problem, after_stage, are_on, bound_with, claimed, decision_of, in_form, line_from, line_with, of_problem, phase_after, point_at, spelled, Spelled, spelled_with, sum_word, whole_decision, with_done, with_line}
+use Rattle.ivp_cert.specs.Problems.{after_word, and_then, at_line, read_from}
+use Rattle.ivp_cert.specs.Words.{line_words, natural_of, place_of}
+use Rattle.ivp_cert.specs.Printed.{HasSums}
+use Rattle.ivp_cert.proofs.Accepting.{each_at}
+use Rattle.ivp_cert.proofs.Paths.{Each, each_append}
+use Rattle.ivp_cert.proofs.Reading.{IsRead}
+
+-- the claim's sum, and those of the lines
+record KeepsSums (decision : Decision) : Type 0 where
+  pub sum : decision.claim.sum ≤ 64000000000
+  pub sums : Each (λ (line : Line). line.sum ≤ 64000000000) decision.cert
+
+abbrev Good : Phase → Type 0
+Good (OfProblem stage) = Unit {0}
+Good (OfCuts decision) = KeepsSums decision
+Good (Done decision) = KeepsSums decision
+
+-- what a computation that succeeds was made of
+then_of : {A B E : Type 0} (next : A → Result B E) (r : Result A E) (b : B) → and_then next r ≡ Ok b → (a : A) × (r ≡ Ok a) × (next a ≡ Ok b)
+then_of next (Ok a) b e = (a, refl, e)
+then_of next (Err fault) b e = absurd (cc)
+
+line_of : {A : Type 0} (line : ℕ) (r : Result A Cause) (a : A) → at_line line r ≡ Ok a → r ≡ Ok a
+line_of line (Ok b) a e = let same : b ≡ a = cc in ap Ok same
+line_of line (Err cause) a e = absurd (cc)
+
+form_of : {A : Type 0} (o : Option A) (a : A) → in_form o ≡ Ok a → o ≡ Some a
+form_of None a e = absurd (cc)
+form_of (Some b) a e = let same : b ≡ a = cc in ap Some same
+
+some_of : {A B : Type 0} (f : A → Option B) (o : Option A) (b : B) → option_and_then f o ≡ Some b → (a : A) × (o ≡ Some a) × (f a ≡ Some b)
+some_of f None b e = absurd (cc)
+some_of f (Some a) b e = (a, refl, e)
+
+least : (a b : ℕ) → nat_le a b ≡ true → a ≤ b
+least a b h = grind (arith, nat_tests)
+
+natural_most : (most : ℕ) (word : List ℕ) (n : ℕ) → natural_of most word ≡ Some n → n ≤ most
+natural_most most word n e = by (nat_lt 0 (length word) && list_all is_digit word) (nat_le (digits_value word) most) refl e
+  where
+    by : (front fits : Bool) → nat_le (digits_value word) most ≡ fits → cond (front && fits) (Some (digits_value word)) None ≡ Some n → n ≤ most
+    by true true f e = let same : digits_value word ≡ n = cc in subst (λ m. m ≤ most) same (least (digits_value word) most f)
+    by true false f e = absurd (cc)
+    by false fits f e = absurd (cc)
+
+-- the sum of a `decision` line
+abbrev sum_in : Option Spelled → ℕ
+sum_in None = 0
+sum_in (Some of) = of.sum
+
+one_sum : (places word : List ℕ) (o : Option ℕ) (of : Spelled) → sum_word word ≡ o → option_map (spelled_with places) o ≡ Some of → of.sum ≤ 64000000000
+one_sum places word None of f e = absurd (cc)
+one_sum places word (Some n) of f e = let same : n ≡ of.sum = ap sum_in e in subst (λ m. m ≤ 64000000000) same (natural_most 64000000000 word n f)
+
+spelled_sum : (places : List ℕ) (words : List (List ℕ)) (of : Spelled) → spelled places words ≡ Some of → of.sum ≤ 64000000000
+spelled_sum places [] of e = absurd (cc)
+spelled_sum places (word ∷ []) of e = one_sum places word (sum_word word) of refl e
+spelled_sum places (word ∷ next ∷ rest) of e =
+    let one = some_of (λ place. spelled (places ++ place ∷ []) (next ∷ rest)) (place_of word) of e in
+    spelled_sum (places ++ one.0 ∷ []) (next ∷ rest) of one.2
+
+-- and that of a line of a certificate
+abbrev line_sum : Option Line → ℕ
+line_sum None = 0
+line_sum (Some line) = line.sum
+
+bound_sum : (path : List ℕ) (sum : List ℕ) (s index : Option ℕ) (line : Line) → sum_word sum ≡ s → line_with path s index ≡ Some line → line.sum ≤ 64000000000
+bound_sum path sum (Some n) (Some k) line f e = let same : n ≡ line.sum = ap line_sum e in subst (λ m. m ≤ 64000000000) same (natural_most 64000000000 sum n f)
+bound_sum path sum (Some n) None line f e = absurd (cc)
+bound_sum path sum None index line f e = absurd (cc)
+
+cut_sum : (path : List ℕ) (words : List (List ℕ)) (line : Line) → bound_with path words ≡ Some line → line.sum ≤ 64000000000
+cut_sum path [] line e = absurd (cc)
+cut_sum path (sum ∷ []) line e = absurd (cc)
+cut_sum path (sum ∷ index ∷ []) line e = bound_sum path sum (sum_word sum) (place_of index) line refl e
+cut_sum path (sum ∷ index ∷ more ∷ rest) line e = absurd (cc)
+
+from_sum : (path : List ℕ) (words : List (List ℕ)) (line : Line) → line_from path words ≡ Some line → line.sum ≤ 64000000000
+from_sum path [] line e = absurd (cc)
+from_sum path (word ∷ words) line e = by (bytes_eq word (codes ":")) (nat_lt (length path) 64) (λ number. from_sum (path ++ number ∷ []) words line) e
+  where
+    by : (colon room : Bool) → ((number : ℕ) → line_from (path ++ number ∷ []) words ≡ Some line → line.sum ≤ 64000000000) → cond colon (bound_with path words) (cond room (option_and_then (λ number. line_from (path ++ number ∷ []) words) (place_of word)) None) ≡ Some line → line.sum ≤ 64000000000
+    by true room more e = cut_sum path words line e
+    by false true more e = let one = some_of (λ number. line_from (path ++ number ∷ []) words) (place_of word) line e in more one.0 one.2
+    by false false more e = absurd (cc)
+
+-- one line more keeps the sums within their bounds
+ok_inside : {E : Type 0} {p q : Phase} → ◌≡◌ {A = Result Phase E} (Ok p) (Ok q) → p ≡ q
+ok_inside e = cc
+
+good_at : {E : Type 0} (phase next : Phase) → ◌≡◌ {A = Result Phase E} (Ok phase) (Ok next) → Good phase → Good next
+good_at phase next e good = subst Good (ok_inside e) good
+
+of_good : (r : Result Stage ReadFault) (next : Phase) → of_problem r ≡ Ok next → Good next
+of_good (Ok stage) next e = good_at (OfProblem stage) next e tt
+of_good (Err fault) next e = absurd (cc)
+
+claimed_good : (problem : WeightedSum) (of : Spelled) (next : Phase) → of.sum ≤ 64000000000 → claimed problem of ≡ Ok next → Good next
+claimed_good problem of next few e = by (are_on problem.axes of.places) e
+  where
+    by : (b : Bool) → cond b (Ok (OfCuts (record { problem = problem; claim = record { point = point_at of.places; sum = of.sum }; cert = [] }))) (Err P10) ≡ Ok next → Good next
+    by true e = good_at (OfCuts (record { problem = problem; claim = record { point = point_at of.places; sum = of.sum }; cert = [] })) next e (record { sum = few; sums = tt })
+    by false e = absurd (cc)
+
+problem_good : (problem : WeightedSum) (word : List ℕ) (words : List (List ℕ)) (next : Phase) → after_problem problem word words ≡ Ok next → Good next
+problem_good problem word words next e = by (bytes_eq word (codes "decision")) e
+  where
+    by : (b : Bool) → cond b (and_then (claimed problem) (in_form (spelled [] words))) (Err P1) ≡ Ok next → Good next
+    by true e =
+        let one = then_of (claimed problem) (in_form (spelled [] words)) next e in
+        claimed_good problem one.0 next (spelled_sum [] words one.0 (form_of (spelled [] words) one.0 one.1)) one.2
+    by false e = absurd (cc)
+
+done_good : (decision : Decision) (words : List (List ℕ)) (next : Phase) → KeepsSums decision → with_done decision words ≡ Ok next → Good next
+done_good decision [] next good e = good_at (Done decision) next e good
+done_good decision (word ∷ words) next good e = absurd (cc)
+
+cuts_good : (decision : Decision) (word : List ℕ) (words : List (List ℕ)) (next : Phase) → KeepsSums decision → after_cuts decision word words ≡ Ok next → Good next
+cuts_good decision word words next good e = by (bytes_eq word (codes "cut")) (bytes_eq word (codes "done")) e
+  where
+    by : (cut done : Bool) → cond cut (and_then (λ line. Ok (with_line decision line)) (in_form (line_from [] words))) (cond done (with_done decision words) (Err P1)) ≡ Ok next → Good next
+    by true done e =
+        let one = then_of (λ line. Ok (with_line decision line)) (in_form (line_from [] words)) next e in
+        let few = from_sum [] words one.0 (form_of (line_from [] words) one.0 one.1) in
+        good_at (with_line decision one.0) next one.2 (record { sum = good.sum; sums = each_append (λ (line : Line). line.sum ≤ 64000000000) decision.cert (one.0 ∷ []) good.sums (few, tt) })
+    by false true e = done_good decision words next good e
+    by false false e = absurd (cc)
+
+stage_good : (line : ℕ) (stage : Stage) (word : List ℕ) (words : List (List ℕ)) (next : Phase) → after_stage line stage word words ≡ Ok next → Good next
+stage_good line Start word words next e = of_good (after_word line Start word words) next e
+stage_good line Begun word words next e = of_good (after_word line Begun word words) next e
+stage_good line (Axes axes) word words next e = of_good (after_word line (Axes axes) word words) next e
+stage_good line (Functions sum) word words next e = of_good (after_word line (Functions sum) word words) next e
+stage_good line (Ended problem) word words next e = problem_good problem word words next (line_of line (after_problem problem word words) next e)
+
+phase_good : (line : ℕ) (phase : Phase) (words : List (List ℕ)) (next : Phase) → Good phase → phase_after line phase words ≡ Ok next → Good next
+phase_good line phase [] next good e = good_at phase next e good
+phase_good line (OfProblem stage) (word ∷ words) next good e = stage_good line stage word words next e
+phase_good line (OfCuts decision) (word ∷ words) next good e = cuts_good decision word words next good (line_of line (after_cuts decision word words) next e)
+phase_good line (Done decision) (word ∷ words) next good e = absurd (cc)
+
+read_good : (raws : List (List ℕ)) (lines : ℕ) (phase last : Phase) → Good phase → read_from phase_after lines phase raws ≡ Ok last → Good last
+read_good [] lines phase last good e = good_at phase last e good
+read_good (raw ∷ raws) lines phase last good e =
+    let one = then_of (λ next. read_from phase_after (suc lines) next raws) (phase_after (suc lines) phase (line_words raw)) last e in
+    read_good raws (suc lines) one.0 last (phase_good (suc lines) phase (line_words raw) one.0 good one.1) one.2
+
+whole_good : (last : ℕ) (phase : Phase) (decision : Decision) → Good phase → whole_decision last phase ≡ Ok decision → KeepsSums decision
+whole_good last (OfProblem stage) decision good e = absurd (cc)
+whole_good last (OfCuts cuts) decision good e = absurd (cc)
+whole_good last (Done done) decision good e = let same : done ≡ decision = cc in subst KeepsSums same good
+
+read_keeps : (bytes : List ℕ) (decision : Decision) → decision_of bytes ≡ Ok decision → KeepsSums decision
+read_keeps bytes decision e =
+    let one = then_of (whole_decision (max 1 (length (raw_lines bytes)))) (read_from phase_after 0 (OfProblem Start) (raw_lines bytes)) decision e in
+    whole_good (max 1 (length (raw_lines bytes))) one.0 decision (read_good (raw_lines bytes) 0 (OfProblem Start) one.0 tt one.1) one.2
+
+-- as the reader answers
+pub read_sums : (bytes : List ℕ) (answer : Result Decision ReadFault) → decision_of bytes ≡ answer → IfOk answer HasSums
+read_sums bytes (Ok decision) e =
+    let kept = read_keeps bytes decision e in
+    record { claim = kept.sum; lines = λ k line at. each_at (λ (l : Line). l.sum ≤ 64000000000) decision.cert k line kept.sums at }
+read_sums bytes (Err fault) e = tt
+
+-- where no line is left
+pub read_whole : (bytes : List ℕ) (lines last : ℕ) (phase : Phase) (left : List ℕ) → IsRead phase_after (OfProblem Start) bytes lines phase left → left ≡ [] → last ≡ max lines 1 → decision_of bytes ≡ whole_decision last phase
+read_whole bytes lines last phase left read none is =
+    let so_far : read_from phase_after 0 (OfProblem Start) (raw_lines bytes) ≡ Ok phase = read.so_far ∙ ap (λ text. read_from phase_after lines phase (raw_lines text)) none in
+    let counted : length (raw_lines bytes) ≡ lines = sym read.counted ∙ (ap (λ text. lines + length (raw_lines text)) none ∙ omega arith) in
+    let same : max 1 (length (raw_lines bytes)) ≡ last = omega (arith, counted, is) in
+    ap (and_then (whole_decision (max 1 (length (raw_lines bytes))))) so_far ∙ ap (λ n. whole_decision n phase) same
