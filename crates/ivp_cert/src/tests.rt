@@ -3,7 +3,7 @@ ghost use Rattle.ivp_problem.specs.Sums.{best_of, key_at};
 
 use crate::{
     Cert, Claim, Decision, Line, Path, accepted_law, accepts, certificate_law, cut, print_decision,
-    read_decision, read_problem,
+    printed_law, read_decision, read_problem,
 };
 use ivp_domain::{Point, Steps};
 use ivp_problem::{Key, Problem, sum_of};
@@ -85,12 +85,14 @@ fn solved(
     Ok(sink)
 }
 
-/// Whether a decision is accepted, where the text is one.
+/// Whether a decision is accepted, where the text is one. What the decision prints stands for it.
 fn is_accepted(rt: &impl Abort, alloc: Global, text: &[u8]) -> Option<bool> {
     assert!(rt; text.len() < 4_000_000_000);
     match read_decision(alloc, text) {
         Ok(decision) => {
             accepted_law(&decision.problem, &decision.claim, &decision.cert);
+            printed_law(&decision, b"");
+            printed_law(&decision, b"%% ");
             Some(accepts(&decision.problem, &decision.claim, &decision.cert))
         }
         Err(_) => None,
