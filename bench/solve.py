@@ -1,13 +1,15 @@
 #!/usr/bin/env python3
-"""Solves problems of growing size, and prints seconds and peak memory of each.
+"""Solves problems of growing size with 1, 2 and 4 workers and checks the decision, and prints seconds, peak memory and the
+lines of the certificate.
 
     bench/solve.py [SEED]          1 where none is given
 
 The problems: 64 functions of one piece each, at the greatest weight; 8 functions of 100 random pieces over course and
-speed; and such over course, speed and depth. Random pieces are boxes that the domain falls into when a box is cut in
-two at a random place, again and again, each with random slopes and with values from 0 to 100,000. Nothing here is part
-of the gate, and no figure is promised. Steps of the search can't be seen in a run: they have no bytes. A peak of some
-14 MB is what this script itself has when it starts the program; the program's own is below that.
+speed; such over course, speed and depth; and 10 functions of 4,096 random pieces over 2000 x 2000 points. Random pieces
+are boxes that the domain falls into when a box is cut in two at a random place, again and again, each with random slopes
+and with values from 0 to 100,000. Nothing here is part of the gate, and no figure is promised. Steps of the search and
+how many nodes each worker closed can't be seen in a run of the program: workers.md has the counts of such problems. A
+peak of some 14 MB is what this script itself has when it starts the program; the program's own is below that.
 """
 import os
 import random
@@ -20,6 +22,8 @@ TOP = os.path.dirname(os.path.dirname(os.path.abspath(__file__)))
 COURSE = ("course:0:359:360", 360)
 SPEED = ("speed:0:4:41", 41)
 DEPTH = ("depth:0:100:101", 101)
+ACROSS = ("x:0:1999:2000", 2000)
+ALONG = ("y:0:1999:2000", 2000)
 
 
 def boxes(random_, sizes, count):
@@ -76,9 +80,13 @@ def measure(*words):
 
 
 def note_of(status, printed):
-    """The decision, what a check answers, or the exit status."""
-    said = [line for line in printed.splitlines() if line.startswith(("decision", "accepted"))]
-    return said[0] if status == 0 and said else f"exit status {status}"
+    """The decision and the number of the certificate's lines, what a check answers, or the exit status."""
+    lines = printed.splitlines()
+    said = [line for line in lines if line.startswith(("decision", "accepted"))]
+    if status != 0 or not said:
+        return f"exit status {status}"
+    cuts = sum(line.startswith("cut ") for line in lines)
+    return f"{said[0]}, {cuts:,} lines" if cuts else said[0]
 
 
 def main():
@@ -87,6 +95,7 @@ def main():
         ("64 level functions over course", level()),
         ("8 functions of 100 pieces over course, speed", mixed(random.Random(seed), [COURSE, SPEED], 8, 100)),
         ("8 functions of 100 pieces over course, speed, depth", mixed(random.Random(seed), [COURSE, SPEED, DEPTH], 8, 100)),
+        ("10 functions of 4,096 pieces over 2000 x 2000", mixed(random.Random(seed), [ACROSS, ALONG], 10, 4096)),
     ]
     # Builds the program where it is stale, so that no run pays for that.
     subprocess.run([os.path.join(TOP, "moos"), "solve"], stderr=subprocess.DEVNULL)
