@@ -61,6 +61,7 @@ is_unclosed bytes = fold is_quoted_after false bytes
 abbrev pub is_blank : ℕ → Bool
 is_blank byte = byte == 32 || byte == 9
 
+-- the bytes from the first on that is no blank
 abbrev pub without_front_blanks : List ℕ → List ℕ
 without_front_blanks [] = []
 without_front_blanks (byte ∷ bytes) = if is_blank byte then without_front_blanks bytes else byte ∷ bytes

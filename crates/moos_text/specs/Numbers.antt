@@ -36,6 +36,7 @@ milli_of (first ∷ rest) =
     else if first == 45 then option_map (λ n. neg_ℤ (pos n)) (unsigned_of rest)
     else option_map pos (unsigned_of (first ∷ rest))
 
+-- a digit as its byte
 abbrev pub digit_text : ℕ → List ℕ
 digit_text digit = (48 + digit) ∷ []
 

@@ -10,9 +10,11 @@ use Rattle.moos_text.specs.declared.pair.PairFault.TheVariants.{NoEquals, BadNam
 use Rattle.moos_text.specs.Lines.{trimmed, without_last, ends_with, is_quoted_after, onto_first}
 use Rattle.moos_text.specs.Numbers.{milli_of}
 
+-- `=`
 abbrev pub is_equals : ℕ → Bool
 is_equals byte = byte == 61
 
+-- `"`
 abbrev pub is_quote : ℕ → Bool
 is_quote byte = byte == 34
 
@@ -41,6 +43,7 @@ value_of as_text (first ∷ rest) =
     else if as_text then text_value (first ∷ rest)
     else plain_value (milli_of (first ∷ rest)) (first ∷ rest)
 
+-- the pair of this variable and the value, or the value's fault
 abbrev pub with_value : List ℕ → Result Value PairFault → Result Pair PairFault
 with_value var (Ok value) = Ok (record { var = var; value = value })
 with_value var (Err fault) = Err fault

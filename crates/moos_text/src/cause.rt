@@ -24,8 +24,6 @@ pub enum Limit {
 /// decision, `G` in a bridge file, `V` in a vehicle file and `C` in a contacts file.
 #[derive(Clone, Copy, Debug, PartialEq, Eq)]
 pub enum Cause {
-    /// A line outside the form of the first scripts.
-    S0,
     /// A line's first word is no stamp.
     S1,
     /// A stamp below one of an earlier line.
@@ -187,7 +185,6 @@ impl Cause {
     /// The cause as it is printed: its letter and number, a space and its name. That of a limit is the limit's.
     pub fn text(&self) -> &'static str {
         match self {
-            Cause::S0 => "S0 FirstForm",
             Cause::S1 => "S1 BadStamp",
             Cause::S2 => "S2 StampGoesBack",
             Cause::S3 => "S3 UnknownOp",

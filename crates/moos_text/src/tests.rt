@@ -108,7 +108,6 @@ fn lines(rt: HostRuntime) {
 #[test]
 fn causes(rt: HostRuntime) {
     for (cause, text) in [
-        (Cause::S0, "S0 FirstForm"),
         (Cause::S1, "S1 BadStamp"),
         (Cause::S2, "S2 StampGoesBack"),
         (Cause::S3, "S3 UnknownOp"),
