@@ -60,7 +60,7 @@ impl<S: Journaled> TurnLock<S> {
     pub fn split(&self, pass: &mut Pass<S>) -> Pass<S>
         requires lock { IsOf self.now pass.old }
         requires free { IsFree pass.old }
-        requires first { (pass.old.number ≡ 0) × (0 < pass.old.left) }
+        requires some { 0 < pass.old.left }
         ensures pass { pass.new ≡ record pass.old { left = pass.old.left - 1; made = pass.old.made + 1 } }
         ensures new { result ≡ beside pass.old (pass.old.made + 1) [] }
     {

@@ -24,7 +24,7 @@ impl<S: Journaled> Model for Pass<S> {
 
     ghost view = { λ p. shown p.seat.table_id p.seat.me.0 };
 
-    ghost invariant = { λ p. (p.number ≡ p.seat.me.0.number) × (p.made ≡ p.seat.me.0.made) × (p.made + p.seat.me.0.left < 2 ^ 32) × (p.seat.me.1 ≡ hand_of p.seat.me.0.turn) × IsAtRest p.seat.me.0.turn };
+    ghost invariant = { λ p. (p.number ≡ p.seat.me.0.number) × (p.made ≡ p.seat.me.0.made) × (p.made + p.seat.me.0.left < 2 ^ 32) × (0 < p.seat.me.0.number → p.seat.me.0.left ≡ 0) × (p.seat.me.1 ≡ hand_of p.seat.me.0.turn) × IsAtRest p.seat.me.0.turn };
 }
 
 impl<S: Journaled> Pass<S> {
