@@ -4,12 +4,16 @@
 // more can be mailed without memory. Memory is taken by `reserve` alone, so that a caller can take it for a whole call
 // before anything changes. Asking whether a number was mailed and mailing one take constant time, on average.
 //
-// Reading order: `numbers` is the list that a fetch takes, `mailbox` the rest.
+// `delivery_law` says the delivery rule over again, in sentences about the places of a history.
+//
+// Reading order: `numbers` is the list that a fetch takes, `mailbox` the rest, `law` the sentences.
 #![tactic(auto)]
 
+mod law;
 mod mailbox;
 mod numbers;
 
+pub use law::delivery_law;
 pub use mailbox::Mailbox;
 pub use numbers::Numbers;
 

@@ -1,5 +1,5 @@
 // What each call answers with ample memory.
-use crate::{Mailbox, Numbers};
+use crate::{Mailbox, Numbers, delivery_law};
 use std::test::Fail;
 
 // Numbers wait until they are taken, in the order of mailing, and stay mailed for good.
@@ -31,5 +31,12 @@ fn numbers_are_a_list(rt: HostRuntime) -> Result<(), Fail> {
     assert_eq!(rt; numbers.len(), 2);
     assert_eq!(rt; numbers.get(1), 4);
     assert_eq!(rt; numbers.all(), [9, 4].as_slice());
+    Ok(())
+}
+
+// A law does nothing, and says what it says to whoever calls it.
+#[test]
+fn law_holds(_rt: HostRuntime) -> Result<(), Fail> {
+    delivery_law();
     Ok(())
 }
