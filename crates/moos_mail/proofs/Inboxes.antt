@@ -77,21 +77,29 @@ fetch-call names inbox true stamp source (Unregister var from) fetch = absurd (l
 fetch-call names inbox true stamp source (Posts batch) fetch = absurd (let e : false ≡ true = fetch in cc)
 fetch-call names inbox true stamp source Fetch fetch = refl
 
+entries-catching : (names : List (List ℕ)) (number : ℕ) (inbox : Inbox) (posts : List Post) → (after_catching_up names number inbox posts).entries ≡ inbox.entries
+entries-catching names number inbox [] = refl
+entries-catching names number inbox (post ∷ later) =
+    entries-catching names (suc number) _ later ∙ elim (catches_up names inbox number post later) as (λ b. (if b then with_caught_up names inbox number post else inbox).entries ≡ inbox.entries) [ true ↦ refl | false ↦ refl ]
+
+-- an entry counts only at its end
+pub entries-own : (names : List (List ℕ)) (inbox : Inbox) (own : Bool) (call : Call) → (if own then with_own names inbox call else inbox).entries ≡ inbox.entries
+entries-own names inbox false call = refl
+entries-own names inbox true (Register regs) = entries-catching names 0 (record inbox { lives = fold (with_reg inbox.entries) inbox.lives regs }) inbox.posts
+entries-own names inbox true (Unregister var source) = refl
+entries-own names inbox true (Posts batch) = refl
+entries-own names inbox true Fetch = refl
+
+entries-posts : (names : List (List ℕ)) (inbox : Inbox) (posts : List Post) → (fold (with_post names) inbox posts).entries ≡ inbox.entries
+entries-posts names inbox [] = refl
+entries-posts names inbox (post ∷ posts) = entries-posts names (with_post names inbox post) posts
+
 -- what stands at the end of an entry before it counts
 abbrev pub ended : List (List ℕ) → ℕ → Inbox → Entry → Inbox
 ended names client inbox entry = fold (with_post names) (if entry.client == client then with_own names inbox entry.call else inbox) (posts_of_entry entry)
 
--- an entry counts as one from its end on
-abbrev Counts : ℕ → Inbox → Type 0
-Counts n inbox = inbox.entries ≡ n
-
 pub entries-ended : (names : List (List ℕ)) (client : ℕ) (inbox : Inbox) (entry : Entry) → (ended names client inbox entry).entries ≡ inbox.entries
-entries-ended names client inbox entry =
-    elim (cases_Bool ((entry.client == client) && is_fetch entry.call)) [
-      | inl fetch ↦ ap (λ (one : Inbox). one.entries) (fetch-call names inbox (entry.client == client) entry.stamp entry.client entry.call fetch)
-      | inr other ↦ keeps-call names (Counts inbox.entries) (record { posted = λ one post h. h; caught = λ one number post below new h. h; relived = λ one lives h. h })
-          inbox (entry.client == client) entry.call (posts_of_entry entry) other refl
-    ]
+entries-ended names client inbox entry = entries-posts names _ (posts_of_entry entry) ∙ entries-own names inbox (entry.client == client) entry.call
 
 pub with_entry-ended : (names : List (List ℕ)) (client : ℕ) (inbox : Inbox) (entry : Entry) → with_entry names client inbox entry ≡ over (ended names client inbox entry)
 with_entry-ended names client inbox entry = ap (λ n. record (ended names client inbox entry) { entries = suc n }) (sym (entries-ended names client inbox entry))

@@ -1,6 +1,11 @@
+pub mod Catching
+pub mod Coming
 pub mod Examples
 pub mod Inboxes
 pub mod Lists
+pub mod Living
 pub mod Mailed
 pub mod Mailing
 pub mod Orderly
+pub mod Sending
+pub mod Standing

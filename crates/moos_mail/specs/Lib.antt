@@ -1,2 +1,3 @@
 pub mod Mailboxes
+pub mod Registrations
 pub mod Sentences

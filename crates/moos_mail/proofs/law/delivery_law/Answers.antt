@@ -1,4 +1,6 @@
+use Rattle.moos_mail.proofs.Living.{lives-are}
 use Rattle.moos_mail.proofs.Mailed.{given, once-each}
+use Rattle.moos_mail.proofs.Sending.{sent}
 use Rattle.moos_mail.proofs.law.delivery_law.Goals as goal
 
 pub returns-clause-once : goal.returns-clause-once
@@ -6,3 +8,9 @@ returns-clause-once c = once-each
 
 pub returns-clause-given : goal.returns-clause-given
 returns-clause-given c = given
+
+pub returns-clause-mailed : goal.returns-clause-mailed
+returns-clause-mailed c = sent
+
+pub returns-clause-live : goal.returns-clause-live
+returns-clause-live c = lives-are
