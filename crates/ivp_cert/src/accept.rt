@@ -36,11 +36,12 @@ fn is_line_of(problem: &Problem, key: Key, node: &Node, path: &[u32], line: &Lin
     requires { IsNode problem.now node.now }
     ensures { result ≡ is_line_of problem.now key path.now node.now line.now }
 {
+    // Most lines differ here, and a bound costs a walk over the functions.
+    if line.path.all() != path {
+        return false;
+    }
     let bound = bound_of(problem, node);
-    line.path.all() == path
-        && line.sum == sum_of(bound)
-        && line.index == index_of_key(bound)
-        && bound <= key
+    line.sum == sum_of(bound) && line.index == index_of_key(bound) && bound <= key
 }
 
 // The place behind the line at this one, where that line is the node's.

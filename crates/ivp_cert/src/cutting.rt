@@ -1,4 +1,4 @@
-ghost use Rattle.std.specs.Prelude.{◌≡◌, ◌++◌, ◌∷◌, [], ◌≤◌, IfOk, OnOk, drop, length, take};
+ghost use Rattle.std.specs.Prelude.{◌≡◌, ◌++◌, ◌∷◌, [], ◌≤◌, IfOk, OnOk, drop, length};
 ghost use Rattle.ivp_problem.specs.Keys.{index_of_key, sum_of};
 ghost use Rattle.ivp_problem.specs.Sums.{best_of, key_at};
 ghost use Rattle.ivp_problem.specs.Trees.{IsNode};
@@ -31,26 +31,12 @@ pub fn cut(alloc: Global, problem: &Problem, key: Key) -> Result<Cert, NoMemory>
     Ok(cert)
 }
 
-// A path of these numbers.
-fn path_of(alloc: Global, numbers: &[u32]) -> Result<Path, NoMemory>
-    requires { length numbers.now ≤ 64 }
-    ensures { IfOk result (λ path. path ≡ numbers.now) }
-{
-    let mut path = Path::new(alloc);
-    for number in numbers {
-        if path.push(*number).is_err() {
-            return Err(AllocError);
-        }
-    }
-    Ok(path)
-}
-
 // Adds the line of a node with this bound.
 fn add_line(alloc: Global, numbers: &[u32], bound: Key, cert: &mut Cert) -> Result<(), NoMemory>
     requires { length numbers.now ≤ 64 }
     ensures { OnOk result (cert.new ≡ cert.old ++ record { path = numbers.now; sum = sum_of bound; index = index_of_key bound } ∷ []) }
 {
-    let path = path_of(alloc, numbers)?;
+    let path = Path::of(alloc, numbers)?;
     let line = Line {
         path,
         sum: sum_of(bound),

@@ -6,6 +6,7 @@ ghost use Rattle.ivp_cert.specs.Decisions.{bound_with, in_form, line_from};
 use crate::cert::Line;
 use crate::claim::sum_word;
 use crate::path::{MOST_NUMBERS, Path};
+use crate::trail::Trail;
 use crate::words::place_of;
 use moos_text::{Cause, LineFault, next_word};
 use std::alloc::Global;
@@ -29,24 +30,25 @@ pub fn line_of(alloc: Global, text: &[u8]) -> Result<Line, LineFault>
     ensures read { IfOk result (λ line. line_from [] (words_of text.now) ≡ Some line) }
     ensures refused { IfErr result (λ fault. IsLineFault fault (in_form (line_from [] (words_of text.now)))) }
 {
-    let mut path = Path::new(alloc);
+    let mut numbers = Trail::new();
     let mut left = text;
     while let Some((word, rest)) = next_word(left) {
         if word == b":".as_slice() {
+            let Ok(path) = Path::of(alloc, numbers.all()) else {
+                return Err(LineFault::NoMemory);
+            };
             return match bound_with(path, rest) {
                 Some(line) => Ok(line),
                 None => Err(LineFault::Refused(Cause::P1)),
             };
         }
-        if path.len() >= MOST_NUMBERS {
+        if numbers.all().len() >= MOST_NUMBERS {
             return Err(LineFault::Refused(Cause::P1));
         }
         let Some(number) = place_of(word) else {
             return Err(LineFault::Refused(Cause::P1));
         };
-        if path.push(number).is_err() {
-            return Err(LineFault::NoMemory);
-        }
+        numbers.push(number);
         left = rest;
     }
     Err(LineFault::Refused(Cause::P1))

@@ -1,5 +1,6 @@
-ghost use Rattle.std.specs.Prelude.{◌≡◌, ◌<◌, ◌≤◌, ◌++◌, ◌∷◌, [], length, OnOk, OnErr, IfErr, slice_get, Some};
+ghost use Rattle.std.specs.Prelude.{◌≡◌, ◌<◌, ◌≤◌, ◌++◌, ◌∷◌, [], length, OnOk, OnErr, IfOk, IfErr, slice_get, Some};
 
+use moos_post::NoMemory;
 use std::alloc::Global;
 use std::marker::Model;
 
@@ -30,6 +31,15 @@ impl Path {
         Path {
             numbers: Vec::new(alloc),
         }
+    }
+
+    /// The path of these numbers.
+    pub fn of(alloc: Global, numbers: &[u32]) -> Result<Path, NoMemory>
+        requires { length numbers.now ≤ 64 }
+        ensures { IfOk result (λ path. path ≡ numbers.now) }
+    {
+        let numbers = Vec::from_slice(alloc, numbers)?;
+        Ok(Path { numbers })
     }
 
     /// Adds the number at the end. Where no memory is left it is handed back, and the path stays as it was.

@@ -47,10 +47,10 @@ impl Terms {
     }
 
     /// The domain.
-    pub fn domain(&self) -> Domain
-        ensures { result ≡ self.now.axes }
+    pub fn domain(&self) -> &Domain
+        ensures { result.now ≡ self.now.axes }
     {
-        self.domain
+        &self.domain
     }
 
     /// One function more.

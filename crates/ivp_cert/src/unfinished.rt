@@ -68,8 +68,8 @@ impl Unfinished {
     }
 
     /// The domain.
-    pub fn domain(&self) -> Domain
-        ensures { result ≡ self.now.before.axes }
+    pub fn domain(&self) -> &Domain
+        ensures { result.now ≡ self.now.before.axes }
     {
         self.before.domain()
     }
@@ -83,7 +83,7 @@ impl Unfinished {
         if self.pieces.len() >= MOST_PIECES {
             return Err(LineFault::Refused(Cause::P7));
         }
-        if !is_piece_of(&self.before.domain(), &piece) {
+        if !is_piece_of(self.before.domain(), &piece) {
             return Err(LineFault::Refused(Cause::P3));
         }
         match self.pieces.push(piece) {
@@ -104,7 +104,7 @@ impl Unfinished {
             weight,
             pieces,
         } = self;
-        match Func::make(alloc, &before.domain(), pieces) {
+        match Func::make(alloc, before.domain(), pieces) {
             Ok(func) => match before.push(Term { weight, func }) {
                 Ok(()) => Ok(before),
                 Err(_) => Err(ReadFault::NoMemory),
