@@ -1,5 +1,5 @@
 -- The definitions on worked examples.
-use Rattle.std.proofs.Common.{◌≡◌, ℕ, Some, None, Ok, Err, ℤ, pos, List, [], ◌∷◌, replicate, refl}
+use Rattle.std.proofs.Common.{◌≡◌, ℕ, zero, suc, Some, None, Ok, Err, ℤ, pos, List, [], ◌∷◌, replicate, refl, arith}
 use Rattle.std.specs.Prelude.{codes}
 use Rattle.ivp_domain.specs.declared.axis.Axis.{Axis}
 use Rattle.ivp_domain.specs.Boxes.{point_of}
@@ -11,7 +11,7 @@ use Rattle.ivp_problem.specs.Keys.{index_of_key, key_of, sum_of}
 use Rattle.ivp_problem.specs.Problems.{problem_of, WeightedSum}
 use Rattle.ivp_problem.specs.Sums.{best_of, key_at, sum_at}
 use Rattle.ivp_problem.specs.Nodes.{nodes_of, tree_size}
-use Rattle.ivp_problem.specs.Trees.{bound_of, child_of, children_of, node_of, root_of}
+use Rattle.ivp_problem.specs.Trees.{AreTops, bound_of, child_of, children_of, node_of, own_top, root_of}
 
 abbrev axis : List ℕ → ℕ → ℕ → Axis
 axis name high points = record { name = name; low = pos 0; high = pos high; points = points }
@@ -51,6 +51,16 @@ best_of_two = (refl, refl, refl)
 -- the root's bound: nothing is chosen, and the tops are 2 * 20 and 3 * 25
 root_bound : bound_of two (root_of two) ≡ key_of 115 0
 root_bound = refl
+
+-- these tops, from each number on
+tops_of_two : (own_top rising ≡ 40) × (own_top split ≡ 75) × AreTops (rising ∷ split ∷ []) (115 ∷ 75 ∷ 0 ∷ [])
+tops_of_two = (refl, refl, each)
+  where
+    each : AreTops (rising ∷ split ∷ []) (115 ∷ 75 ∷ 0 ∷ [])
+    each zero within = refl
+    each (suc zero) within = refl
+    each (suc (suc zero)) within = refl
+    each (suc (suc (suc from))) within = absurd (omega arith)
 
 -- the one child of the root, and its two children
 abbrev first : Node

@@ -4,6 +4,7 @@ pub mod Nodes
 pub mod Linear
 pub mod Totals
 pub mod Terms
+pub mod Tops
 pub mod KeyOrder
 pub mod Bounds
 pub mod Makes

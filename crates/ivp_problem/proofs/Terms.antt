@@ -18,7 +18,7 @@ use Rattle.ivp_func.specs.Pieces.{holds, is_value, value_at, value_in}
 use Rattle.ivp_problem.specs.declared.term.Term.{Term}
 use Rattle.ivp_problem.specs.Problems.{IsTermOf}
 use Rattle.ivp_problem.specs.Sums.{greatest, weighted_at, weighted_sum}
-use Rattle.ivp_problem.specs.Trees.{top_of}
+use Rattle.ivp_problem.specs.Trees.{own_top, top_of}
 use Rattle.ivp_problem.proofs.Slopes.{weight_most}
 use Rattle.ivp_problem.proofs.Totals.{greatest_each, greatest_is, greatest_within}
 
@@ -133,3 +133,11 @@ top_is axes xs top values h =
     no_more (pos a) (pos b) h le = omega (arith, ints)
     no_more (pos a) (negsuc b) h le = absurd (omega (arith, ints))
     no_more (negsuc a) b h le = absurd (grind (arith, nat_tests, ints))
+
+-- over the domain of all the own tops are the tops
+pub own_tops : (axes : List Axis) (terms : List Term) → AreTerms axes terms → sum_by own_top terms ≡ sum_by (top_of axes) terms
+own_tops axes [] h = refl
+own_tops axes (t ∷ ts) h =
+    let rest = own_tops axes ts (λ k. h (suc k)) in
+    let first : own_top t ≡ top_of axes t = ap (λ (a : List Axis). top_of a t) (h 0 t refl).domain in
+    omega (arith, sum_by-cons own_top t ts, sum_by-cons (top_of axes) t ts)

@@ -1,5 +1,5 @@
 -- The tree of a problem: a node is a choice of one piece from each of the first functions whose boxes share a point.
-use Rattle.std.specs.Prelude.{◌≡◌, ℕ, ◌+◌, ◌*◌, Bool, ℤ, pos, ◌+ℤ◌, ◌*ℤ◌, nat_abs, nat_lt, if◌then◌else◌, Option, Some, None, option_map, List, [], ◌∷◌, length, take, drop, slice_get, slice_index_or}
+use Rattle.std.specs.Prelude.{◌≡◌, ℕ, ◌+◌, ◌*◌, ◌≤◌, Bool, ℤ, pos, ◌+ℤ◌, ◌*ℤ◌, nat_abs, nat_lt, if◌then◌else◌, Option, Some, None, option_map, List, [], ◌∷◌, length, take, drop, slice_get, slice_index, slice_index_or}
 use Rattle.std.specs.List.{flat_map, list_any, sum_by}
 use Rattle.std.specs.Option.{option_and_then, option_to_list}
 use Rattle.ivp_domain.specs.declared.axis.Axis.{Axis}
@@ -87,6 +87,14 @@ pub record IsNode (problem : WeightedSum) (node : Node) : Type 0 where
 -- the weighted top of a term: its weight times the greatest value over the domain
 abbrev pub top_of : List Axis → Term → ℕ
 top_of axes term = term.weight * greatest (λ point. nat_abs (value_at term.func.pieces point)) (points_of axes)
+
+-- the weighted top of a term over its own domain
+abbrev pub own_top : Term → ℕ
+own_top term = top_of term.func.axes term
+
+-- these are the sums of the weighted tops of the terms from each number on
+abbrev pub AreTops : List Term → List ℕ → Type 0
+AreTops terms tops = (from : ℕ) → from ≤ length terms → slice_index tops from ≡ sum_by own_top (drop from terms)
 
 -- the most that the functions not chosen yet can add
 abbrev pub rest_of : WeightedSum → Node → ℕ

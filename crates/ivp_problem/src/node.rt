@@ -130,12 +130,12 @@ impl Problem {
         ensures node { IsNode self.now result }
         ensures whole { (p : Point) → has_point result.area p ≡ is_point self.now.axes p }
     {
-        let domain = self.domain();
+        let domain = self.lent_domain();
         let high = [
-            last_place(&domain, 0),
-            last_place(&domain, 1),
-            last_place(&domain, 2),
-            last_place(&domain, 3),
+            last_place(domain, 0),
+            last_place(domain, 1),
+            last_place(domain, 2),
+            last_place(domain, 3),
         ];
         Node {
             depth: 0,
@@ -182,7 +182,7 @@ impl Problem {
         ensures above { (p : Point) → IsTrue (has_point node.now.area p) → key_at self.now p ≤ result }
     {
         let len = self.len();
-        let domain = self.domain();
+        let domain = self.lent_domain();
         let corner = high_corner(node);
         let most = self.chosen_sum(node, &corner);
         if node.depth < len {

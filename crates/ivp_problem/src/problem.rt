@@ -4,7 +4,7 @@ ghost use Rattle.ivp_domain.specs.Domains.{is_point};
 ghost use Rattle.ivp_func.specs.Functions.{IsFunction};
 ghost use Rattle.ivp_problem.specs.Problems.{bad_weight, IsProblem, is_weight, other_domain, problem_of, same_domain};
 ghost use Rattle.ivp_problem.specs.Sums.{sum_at, weighted_at};
-ghost use Rattle.ivp_problem.specs.Trees.{top_of};
+ghost use Rattle.ivp_problem.specs.Trees.{AreTops, top_of};
 
 use crate::same::same_domain;
 use crate::term::{ProblemFault, Term};
@@ -24,16 +24,19 @@ const MOST_WEIGHT: u32 = 10_000;
 pub struct Problem {
     domain: Domain,
     terms: Vec<Term>,
+    /// The sums of the weighted tops from each number on, so that no bound adds them up anew.
+    tops: [u64; MOST_FUNCTIONS + 1],
 }
 
 impl Model for Problem {
     ghost use Rattle.ivp_problem.specs.Problems.{IsProblem, WeightedSum};
+    ghost use Rattle.ivp_problem.specs.Trees.{AreTops};
 
     ghost Value = { WeightedSum };
 
     ghost view = { λ p. record { axes = p.domain; terms = p.terms.items } };
 
-    ghost invariant = { λ p. IsProblem (record { axes = p.domain; terms = p.terms.items }) };
+    ghost invariant = { λ p. IsProblem (record { axes = p.domain; terms = p.terms.items }) × AreTops p.terms.items p.tops };
 }
 
 /// From 1 to 10,000.
@@ -94,6 +97,19 @@ fn top(term: &Term) -> u64
     term.weight as u64 * value as u64
 }
 
+/// The sums of the weighted tops of the terms from each number on.
+fn tops_of(terms: &[Term]) -> [u64; MOST_FUNCTIONS + 1]
+    requires few { length terms.now ≤ 64 }
+    requires terms { (place : ℕ) (term : Term) → slice_get terms.now place ≡ Some term → IsTrue (is_weight term.weight) × IsFunction term.func }
+    ensures { AreTops terms.now result }
+{
+    let mut tops = [0; MOST_FUNCTIONS + 1];
+    for place in (0..terms.len()).rev() {
+        tops[place] = tops[place + 1] + top(&terms[place]);
+    }
+    tops
+}
+
 impl Problem {
     /// The problem of these terms over the domain, or the first refusal: `NoFunction` where there is
     /// none; `TooMany` above 64; `BadWeight` at the first weight outside 1 to 10,000; `OtherDomain`
@@ -113,7 +129,12 @@ impl Problem {
         if let Some(place) = other_domain(&domain, &terms) {
             return Err(ProblemFault::OtherDomain(place as u32));
         }
-        Ok(Problem { domain, terms })
+        let tops = tops_of(&terms);
+        Ok(Problem {
+            domain,
+            terms,
+            tops,
+        })
     }
 
     /// The domain.
@@ -121,6 +142,13 @@ impl Problem {
         ensures { result ≡ self.now.axes }
     {
         self.domain
+    }
+
+    /// The domain, lent.
+    pub(crate) fn lent_domain(&self) -> &Domain
+        ensures { result.now ≡ self.now.axes }
+    {
+        &self.domain
     }
 
     /// How many functions there are.
@@ -184,10 +212,6 @@ impl Problem {
         requires { from ≤ length self.now.terms }
         ensures { result ≡ sum_by (top_of self.now.axes) (drop from self.now.terms) }
     {
-        let mut sum = 0;
-        for term in &self.terms[from as usize..] {
-            sum += top(term);
-        }
-        sum
+        self.tops[from as usize]
     }
 }

@@ -40,7 +40,7 @@ pub index_of-requires : goal.index_of-requires
 index_of-requires c =
     let problem = c.args.self.now in
     let keeps = node_keeps problem c.args.node.now c.len-len.ensures.problem c.requires in
-    rw c.domain-domain.ensures (first_inside problem c.args.node.now (record { at = c.args.node.now.area.low }) keeps refl)
+    rw c.lent_domain-domain.ensures (first_inside problem c.args.node.now (record { at = c.args.node.now.area.low }) keeps refl)
 
 pub key_of-requires-clause-sum : goal.key_of-requires-clause-sum
 key_of-requires-clause-sum c =
@@ -53,14 +53,14 @@ key_of-requires-clause-index c =
     let h = c.len-len.ensures.problem in
     let keeps = node_keeps problem c.args.node.now h c.requires in
     let first : Point = record { at = c.args.node.now.area.low } in
-    let same : c.index_of.result ≡ index_of problem.axes first = c.index_of.ensures.index ∙ ap (λ a. index_of a first) c.domain-domain.ensures in
+    let same : c.index_of.result ≡ index_of problem.axes first = c.index_of.ensures.index ∙ ap (λ a. index_of a first) c.lent_domain-domain.ensures in
     rw same (index_small problem.axes first h.domain (first_inside problem c.args.node.now first keeps refl))
 
 pub index_of-requires-else-node-len : goal.index_of-requires-else-node-len
 index_of-requires-else-node-len c =
     let problem = c.args.self.now in
     let keeps = node_keeps problem c.args.node.now c.len-len.ensures.problem c.requires in
-    rw c.domain-domain.ensures (inside_point problem.axes c.args.node.now.area c.high_corner-corner.result keeps.inside c.high_corner-corner.ensures.inside)
+    rw c.lent_domain-domain.ensures (inside_point problem.axes c.args.node.now.area c.high_corner-corner.result keeps.inside c.high_corner-corner.ensures.inside)
 
 pub key_of-requires-else-node-len-clause-sum : goal.key_of-requires-else-node-len-clause-sum
 key_of-requires-else-node-len-clause-sum c =
@@ -77,7 +77,7 @@ key_of-requires-else-node-len-clause-index c =
     let h = c.len-len.ensures.problem in
     let keeps = node_keeps problem c.args.node.now h c.requires in
     let corner = c.high_corner-corner.result in
-    let same : c.index_of-else-node-len.result ≡ index_of problem.axes corner = c.index_of-else-node-len.ensures.index ∙ ap (λ a. index_of a corner) c.domain-domain.ensures in
+    let same : c.index_of-else-node-len.result ≡ index_of problem.axes corner = c.index_of-else-node-len.ensures.index ∙ ap (λ a. index_of a corner) c.lent_domain-domain.ensures in
     rw same (index_small problem.axes corner h.domain (inside_point problem.axes c.args.node.now.area corner keeps.inside c.high_corner-corner.ensures.inside))
 
 pub returns-then-node-len-clause-bound : goal.returns-then-node-len-clause-bound
@@ -88,7 +88,7 @@ returns-then-node-len-clause-bound c =
     let corner = c.high_corner-corner.result in
     let first : Point = record { at = node.area.low } in
     let high : IsHighCorner node corner = record { inside = c.high_corner-corner.ensures.inside; most = c.high_corner-corner.ensures.most } in
-    let same : c.index_of.result ≡ index_of problem.axes first = c.index_of.ensures.index ∙ ap (λ a. index_of a first) c.domain-domain.ensures in
+    let same : c.index_of.result ≡ index_of problem.axes first = c.index_of.ensures.index ∙ ap (λ a. index_of a first) c.lent_domain-domain.ensures in
     let bound = bound_below problem node corner first keeps high refl (omega (arith, c.if-node-len.true, c.len-len.ensures.len)) in
     c.key_of.ensures.key ∙ (rw (c.chosen_sum-most.ensures.sum, c.tops_from.ensures, same) bound)
 
@@ -100,7 +100,7 @@ returns-then-node-len-clause-above c = λ p inside.
     let corner = c.high_corner-corner.result in
     let first : Point = record { at = node.area.low } in
     let high : IsHighCorner node corner = record { inside = c.high_corner-corner.ensures.inside; most = c.high_corner-corner.ensures.most } in
-    let same : c.index_of.result ≡ index_of problem.axes first = c.index_of.ensures.index ∙ ap (λ a. index_of a first) c.domain-domain.ensures in
+    let same : c.index_of.result ≡ index_of problem.axes first = c.index_of.ensures.index ∙ ap (λ a. index_of a first) c.lent_domain-domain.ensures in
     let bound = bound_below problem node corner first keeps high refl (omega (arith, c.if-node-len.true, c.len-len.ensures.len)) in
     let whole : key_of (c.chosen_sum-most.result + c.tops_from.result) c.index_of.result ≡ bound_of problem node = rw (c.chosen_sum-most.ensures.sum, c.tops_from.ensures, same) bound in
     rw (c.key_of.ensures.key ∙ whole) (key_bound problem node p keeps inside)
@@ -112,7 +112,7 @@ returns-else-node-len-clause-bound c =
     let keeps = node_keeps problem node c.len-len.ensures.problem c.requires in
     let corner = c.high_corner-corner.result in
     let high : IsHighCorner node corner = record { inside = c.high_corner-corner.ensures.inside; most = c.high_corner-corner.ensures.most } in
-    let same : c.index_of-else-node-len.result ≡ index_of problem.axes corner = c.index_of-else-node-len.ensures.index ∙ ap (λ a. index_of a corner) c.domain-domain.ensures in
+    let same : c.index_of-else-node-len.result ≡ index_of problem.axes corner = c.index_of-else-node-len.ensures.index ∙ ap (λ a. index_of a corner) c.lent_domain-domain.ensures in
     let bound = bound_full problem node corner keeps high (omega (arith, c.if-node-len.false, c.len-len.ensures.len)) in
     c.key_of-else-node-len.ensures.key ∙ (rw (c.chosen_sum-most.ensures.sum, same) bound)
 
@@ -123,7 +123,7 @@ returns-else-node-len-clause-above c = λ p inside.
     let keeps = node_keeps problem node c.len-len.ensures.problem c.requires in
     let corner = c.high_corner-corner.result in
     let high : IsHighCorner node corner = record { inside = c.high_corner-corner.ensures.inside; most = c.high_corner-corner.ensures.most } in
-    let same : c.index_of-else-node-len.result ≡ index_of problem.axes corner = c.index_of-else-node-len.ensures.index ∙ ap (λ a. index_of a corner) c.domain-domain.ensures in
+    let same : c.index_of-else-node-len.result ≡ index_of problem.axes corner = c.index_of-else-node-len.ensures.index ∙ ap (λ a. index_of a corner) c.lent_domain-domain.ensures in
     let bound = bound_full problem node corner keeps high (omega (arith, c.if-node-len.false, c.len-len.ensures.len)) in
     let whole : key_of c.chosen_sum-most.result c.index_of-else-node-len.result ≡ bound_of problem node = rw (c.chosen_sum-most.ensures.sum, same) bound in
     rw (c.key_of-else-node-len.ensures.key ∙ whole) (key_bound problem node p keeps inside)
