@@ -7,5 +7,6 @@ pub mod Living
 pub mod Mailed
 pub mod Mailing
 pub mod Orderly
+pub mod Rising
 pub mod Sending
 pub mod Standing

@@ -14,6 +14,7 @@ use Rattle.moos_mail.specs.Sentences.{posts_before, AreOnceEach, is_fetch_of, si
 use Rattle.moos_mail.proofs.Inboxes.{Keeps, fetch-call, keeps-call, keeps-history, entries-inbox_of, posts-inbox_of}
 use Rattle.moos_mail.proofs.Lists.{take-next, found-below, filter-alike, filter-none, and-true}
 use Rattle.moos_mail.proofs.Orderly.{IsSettled, settled-inbox_of}
+use Rattle.moos_mail.proofs.Rising.{rising-mailed}
 
 -- more was mailed, all of it at this entry or later
 pub record Grown (from : ℕ) (before after : List Mailing) : Type 0 where
@@ -108,7 +109,7 @@ once-each names client history =
               | inr made ↦ made
             ];
           };
-      rising = settled.orderly.rising;
+      rising = rising-mailed names client history;
     }
 
 -- the inbox behind entry k

@@ -1,5 +1,5 @@
 -- The delivery rule in sentences about the places of a history: what was mailed when, and what a fetch gives.
-use Rattle.std.specs.Prelude.{◌≢◌, ℕ, zero, suc, ◌<◌, ◌≤◌, Bool, false, ◌&&◌, ◌==◌, nat_le, nat_lt, if◌then◌else◌, List, [], length, map, filter, take, All, AllPairs, Option, Some, None, slice_get}
+use Rattle.std.specs.Prelude.{◌≡◌, ◌≢◌, ℕ, zero, suc, ◌<◌, ◌⊎◌, Bool, false, ◌&&◌, ◌==◌, nat_le, nat_lt, if◌then◌else◌, List, [], length, map, filter, take, All, AllPairs, Option, Some, None, slice_get}
 use Rattle.moos_post.specs.declared.entry.Entry.{Entry}
 use Rattle.moos_post.specs.Delivery.{Mailing, mailed_to, is_fetch}
 use Rattle.moos_post.specs.History.{History, posts_of}
@@ -13,11 +13,16 @@ pub record IsMadeBy (history : History) (one : Mailing) : Type 0 where
   pub entry : one.entry < length history
   pub number : one.number < posts_before history (suc one.entry)
 
--- no post is mailed twice, each is mailed when it was made or later, and the mailings stand in the order of their entries
+-- at an earlier entry, or at the same one with a lower number
+abbrev pub IsBefore : Mailing → Mailing → Type 0
+IsBefore one later = (one.entry < later.entry) ⊎ ((one.entry ≡ later.entry) × (one.number < later.number))
+
+-- no post is mailed twice, each is mailed when it was made or later, and the mailings stand in the order of their entries,
+-- those of one entry in the order of their numbers
 pub record AreOnceEach (history : History) (mailed : List Mailing) : Type 0 where
   pub once : AllPairs (λ one later. one.number ≢ later.number) mailed
   pub made : All (IsMadeBy history) mailed
-  pub rising : AllPairs (λ one later. one.entry ≤ later.entry) mailed
+  pub rising : AllPairs IsBefore mailed
 
 -- the entry is a fetch of the client
 abbrev pub is_fetch_of : ℕ → Option Entry → Bool
