@@ -1,14 +1,16 @@
 -- The delivery rule worked by hand: what each fetch of some small histories gives.
-use Rattle.std.proofs.Common.{◌≡◌, ℕ, ◌*◌, List, [], ◌∷◌, refl}
+use Rattle.std.proofs.Common.{◌≡◌, ℕ, ◌*◌, List, [], ◌∷◌, map, replicate, Some, refl}
 use Rattle.std.specs.Prelude.{pos, codes, true, false}
 use Rattle.moos_post.specs.declared.entry.Call.{Call}
 use Rattle.moos_post.specs.declared.entry.Call.TheVariants.{Register, Unregister, Post as Posts, Fetch}
 use Rattle.moos_post.specs.declared.entry.Entry.{Entry}
 use Rattle.moos_post.specs.declared.value.Pair.{Pair}
+use Rattle.moos_post.specs.declared.value.Post.{Post}
 use Rattle.moos_post.specs.declared.value.Value.TheVariants.{Num}
 use Rattle.moos_post.specs.Delivery.{mail_at}
-use Rattle.moos_post.specs.History.{History}
+use Rattle.moos_post.specs.History.{History, name_of, posts_of}
 use Rattle.moos_post.specs.Patterns.{matches}
+use Rattle.moos_post.specs.Words.{bad_place, is_name, is_pattern, is_text}
 
 abbrev at : ℕ → ℕ → Call → Entry
 at stamp client call = record { stamp = stamp; client = client; call = call }
@@ -70,3 +72,28 @@ star_again = refl
 
 no_run : matches (codes "a*b") (codes "abc") ≡ false
 no_run = refl
+
+-- The posts of a history have their number from their place, and their stamp and source from their entry.
+stamps : map (λ (post : Post). post.stamp) (posts_of patterned) ≡ 1000 ∷ 1000 ∷ 1000 ∷ 2000 ∷ []
+stamps = refl
+
+sources : map (λ (post : Post). name_of patterned_names post.source) (posts_of patterned) ≡ codes "p" ∷ codes "p" ∷ codes "p" ∷ codes "q" ∷ []
+sources = refl
+
+-- Names: not empty, at most 64 bytes, and a digit not in front.
+good_names : map is_name (codes "_" ∷ codes "a-1.B" ∷ replicate 64 97 ∷ []) ≡ true ∷ true ∷ true ∷ []
+good_names = refl
+
+bad_names : map is_name (codes "" ∷ codes "1a" ∷ codes "a b" ∷ codes "a*" ∷ replicate 65 97 ∷ []) ≡ false ∷ false ∷ false ∷ false ∷ false ∷ []
+bad_names = refl
+
+-- A pattern may begin with any of its bytes.
+pattern : map is_pattern (codes "1?*" ∷ codes "" ∷ codes "a b" ∷ []) ≡ true ∷ false ∷ false ∷ []
+pattern = refl
+
+-- Texts may be empty and hold a tab and any byte above 127, but neither a line's end nor byte 127.
+bad_first : bad_place (97 ∷ 9 ∷ 10 ∷ 0 ∷ []) ≡ Some 2
+bad_first = refl
+
+text : map is_text ([] ∷ (9 ∷ 32 ∷ 255 ∷ []) ∷ (127 ∷ []) ∷ (31 ∷ []) ∷ []) ≡ true ∷ true ∷ false ∷ false ∷ []
+text = refl

@@ -39,10 +39,11 @@ pub record Inbox : Type 0 where
 abbrev pub empty_inbox : Inbox
 empty_inbox = record { fetched = 0; entries = 0; posts = []; lives = []; mailed = [] }
 
--- the stamp of the last of these posts that is of the variable
+-- the last stamp of the variable after one post more
 abbrev pub newer_stamp : List ℕ → Option ℕ → Post → Option ℕ
 newer_stamp var last post = if bytes_eq post.var var then Some post.stamp else last
 
+-- the stamp of the last of these posts that is of the variable, where one is
 abbrev pub last_stamp : List ℕ → List Post → Option ℕ
 last_stamp var posts = fold (newer_stamp var) None posts
 
@@ -60,6 +61,7 @@ is_due names post live = selects names live.reg post && is_past (last_stamp post
 abbrev pub with_came : Post → Live → Live
 with_came post live = record live { came = live.came ++ post ∷ [] }
 
+-- the post with this number, mailed at this entry
 abbrev pub mailing : ℕ → ℕ → Mailing
 mailing number entry = record { number = number; entry = entry }
 
@@ -87,6 +89,7 @@ is_new_for names entry post live = live.made == entry && selects names live.reg 
 abbrev pub is_latest : Post → List Post → Bool
 is_latest post later = not (list_any (λ other. bytes_eq other.var post.var) later)
 
+-- the post with this number was mailed at some entry
 abbrev pub was_mailed : ℕ → List Mailing → Bool
 was_mailed number mailed = list_any (λ one. one.number == number) mailed
 
@@ -133,16 +136,18 @@ inbox_of names client history = fold (with_entry names client) empty_inbox histo
 abbrev pub mailed_to : List (List ℕ) → ℕ → History → List Mailing
 mailed_to names client history = (inbox_of names client history).mailed
 
+-- the call is a fetch
 abbrev pub is_fetch : Call → Bool
 is_fetch (Register regs) = false
 is_fetch (Unregister var source) = false
 is_fetch (Posts batch) = false
 is_fetch Fetch = true
 
--- what a fetch of the client gives after a history: the numbers of the posts mailed since its fetch before
+-- the numbers of the posts that were mailed since the client's fetch before
 abbrev pub waiting : Inbox → List ℕ
 waiting inbox = map (λ one. one.number) (filter (λ one. nat_le inbox.fetched one.entry) inbox.mailed)
 
+-- what a fetch of the client gives after a history
 abbrev pub mail_after : List (List ℕ) → ℕ → History → List ℕ
 mail_after names client history = waiting (inbox_of names client history)
 

@@ -21,6 +21,7 @@ posts_of_call stamp client (Unregister var source) = []
 posts_of_call stamp client (Posts batch) = map (post_of stamp client) batch
 posts_of_call stamp client Fetch = []
 
+-- the posts that an entry makes
 abbrev pub posts_of_entry : Entry → List Post
 posts_of_entry entry = posts_of_call entry.stamp entry.client entry.call
 

@@ -10,17 +10,19 @@ IsMilli n = (neg_ℤ (pos (10 ^ 12)) ≤ℤ n) × (n ≤ℤ pos (10 ^ 12))
 abbrev pub is_between : ℕ → ℕ → ℕ → Bool
 is_between low high byte = nat_le low byte && nat_le byte high
 
+-- the byte is a digit, `0` to `9`
 abbrev pub is_digit : ℕ → Bool
 is_digit byte = is_between 48 57 byte
 
+-- the byte is a letter, `A` to `Z` or `a` to `z`
 abbrev pub is_letter : ℕ → Bool
 is_letter byte = is_between 65 90 byte || is_between 97 122 byte
 
--- a name begins with a letter or `_`
+-- a name may begin with the byte: a letter or `_`
 abbrev pub begins_name : ℕ → Bool
 begins_name byte = is_letter byte || byte == 95
 
--- letters, digits, `_`, `-` and `.`
+-- the byte may stand in a name: a letter, a digit, `_`, `-` or `.`
 abbrev pub is_name_byte : ℕ → Bool
 is_name_byte byte = is_letter byte || is_digit byte || byte == 95 || byte == 45 || byte == 46
 
@@ -29,7 +31,7 @@ abbrev pub is_name : List ℕ → Bool
 is_name [] = false
 is_name (first ∷ rest) = begins_name first && list_all is_name_byte (first ∷ rest) && nat_le (length (first ∷ rest)) 64
 
--- a byte of a name, `*` or `?`
+-- the byte may stand in a pattern: one of a name, `*` or `?`
 abbrev pub is_pattern_byte : ℕ → Bool
 is_pattern_byte byte = is_name_byte byte || byte == 42 || byte == 63
 
@@ -37,7 +39,7 @@ is_pattern_byte byte = is_name_byte byte || byte == 42 || byte == 63
 abbrev pub is_pattern : List ℕ → Bool
 is_pattern bytes = nat_le 1 (length bytes) && list_all is_pattern_byte bytes && nat_le (length bytes) 64
 
--- a control byte other than the tab can't stand in a text
+-- the byte can't stand in a text: a control byte other than the tab
 abbrev pub is_control : ℕ → Bool
 is_control byte = (nat_le byte 31 && not (byte == 9)) || byte == 127
 
