@@ -1,3 +1,8 @@
+pub mod Cuts
+pub mod EachPart
 pub mod Escapes
 pub mod Examples
+pub mod PrintedCalls
+pub mod PrintedReports
+pub mod PrintedValues
 pub mod Reporting

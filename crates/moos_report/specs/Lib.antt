@@ -1,1 +1,2 @@
+pub mod Community
 pub mod Report

@@ -3,7 +3,8 @@
 // The contract for the layers above: the report goes to a sink whole, or a front of it where the sink fails, and then the
 // sink's faults rose. No memory is taken: the text is gathered in a buffer on the stack, and what is full goes on.
 //
-// Reading order: `specs/Report` says what each line is; here are the entries and their parts, in `lines` the lines.
+// Reading order: `specs/Report` says what each line is; here are the entries and their parts, in `lines` the lines. `law`
+// says that a report tells its history.
 #![tactic(auto)]
 
 ghost use Rattle.std.specs.Prelude.{◌≡◌, ◌+◌, ◌<◌, ◌≤◌, ◌++◌, [], ◌∷◌, Some, OnOk, OnErr, length, take, flat_map, map, codes, decimal, slice_get};
@@ -15,10 +16,12 @@ ghost use Rattle.moos_post.specs.History.{name_of, posts_of, posts_of_entry, pos
 ghost use Rattle.moos_text.specs.Numbers.{unsigned_text};
 ghost use Rattle.moos_report.specs.Report.{report_text, said_text, clients_text, entries_text, entry_text, call_text, reg_text, post_text, letter_text, letters_text, end_text};
 
+mod law;
 mod lines;
 #[cfg(test)]
 mod tests;
 
+pub use self::law::report_law;
 use self::lines::{put, put_client, put_end, put_mail, put_post, put_reg};
 use moos_db::Db;
 use moos_io::{Buffer, Failed, Sink};

@@ -1,0 +1,117 @@
+-- Histories of which one report is printed are the same.
+use Rattle.std.proofs.Common.{◌≡◌, ℕ, suc, ◌+◌, ◌<◌, ◌^◌, List, [], ◌∷◌, ◌++◌, length, drop, get_or, refl, ap, sym, ◌∙◌, subst, arith, append_assoc}
+use Rattle.std.specs.Prelude.{codes, decimal, IsTrue, slice_index_or}
+use Rattle.std.specs.List.{All, concat}
+use Rattle.std.proofs.lemmas.List.{append_cancel_left}
+use Rattle.std.proofs.lemmas.List.Elements.{All-head, All-tail}
+use Rattle.moos_post.specs.declared.entry.Call.{Call}
+use Rattle.moos_post.specs.declared.entry.Call.TheVariants.{Register, Unregister, Post as Posts, Fetch}
+use Rattle.moos_post.specs.declared.entry.Entry.{Entry}
+use Rattle.moos_post.specs.History.{History, name_of}
+use Rattle.moos_post.specs.Words.{is_name}
+use Rattle.moos_text.specs.Numbers.{unsigned_text}
+use Rattle.moos_report.specs.Community.{HaveClients, HaveOwnNames, IsCommunity, IsEntry}
+use Rattle.moos_report.specs.Report.{call_text, client_text, clients_text, end_text, entries_text, entry_text, report_text}
+use Rattle.moos_report.proofs.Cuts.{cut_at, Lacks}
+use Rattle.moos_report.proofs.PrintedCalls.{call_cut, Follows, name_lacks}
+use Rattle.moos_report.proofs.PrintedValues.{unsigned_lacks, unsigned_same}
+
+-- a client's name
+abbrev Named : List ℕ → Type 0
+Named name = IsTrue (is_name name)
+
+-- the name of a client holds no blank
+client_lacks : (names : List (List ℕ)) (client : ℕ) → All Named names → client < length names → Lacks 32 (name_of names client)
+client_lacks names client named within = name_lacks 32 (name_of names client) refl (named client [] within)
+
+-- a blank stands before what an entry asks for
+call_blank : (names : List (List ℕ)) (past : History) (entry : Entry) (call : Call) → call_text names past entry call ≡ 32 ∷ drop 1 (call_text names past entry call)
+call_blank names past entry (Register regs) = refl
+call_blank names past entry (Unregister var source) = refl
+call_blank names past entry (Posts batch) = refl
+call_blank names past entry Fetch = refl
+
+-- the line of an entry, and what stands behind it
+asking_open : (number stamp name asked after : List ℕ) → (concat (codes "%% entry " ∷ number ∷ codes " " ∷ stamp ∷ codes " " ∷ name ∷ []) ++ 32 ∷ asked) ++ after
+    ≡ (codes "%% entry " ++ (number ++ codes " ")) ++ (stamp ++ 32 ∷ (name ++ 32 ∷ (asked ++ after)))
+asking_open number stamp name asked after = simp append_assoc refl
+
+entry_open : (names : List (List ℕ)) (past : History) (entry : Entry) (after : List ℕ) → entry_text names past entry ++ after
+    ≡ (codes "%% entry " ++ (decimal (length past) ++ codes " ")) ++ (unsigned_text entry.stamp ++ 32 ∷ (name_of names entry.client ++ 32 ∷ (drop 1 (call_text names past entry entry.call) ++ after)))
+entry_open names past entry after =
+    ap (λ t. (concat (codes "%% entry " ∷ decimal (length past) ∷ codes " " ∷ unsigned_text entry.stamp ∷ codes " " ∷ name_of names entry.client ∷ []) ++ t) ++ after) (call_blank names past entry entry.call)
+    ∙ asking_open (decimal (length past)) (unsigned_text entry.stamp) (name_of names entry.client) (drop 1 (call_text names past entry entry.call)) after
+
+entry_cut : (names : List (List ℕ)) (past : History) (one other : Entry) (after later : List ℕ) → All Named names → HaveOwnNames names
+    → IsEntry one → IsEntry other → one.client < length names → other.client < length names → Follows after → Follows later
+    → entry_text names past one ++ after ≡ entry_text names past other ++ later → (one ≡ other) × (after ≡ later)
+entry_cut names past one other after later named own h k within within' f g e =
+    let heads = append_cancel_left (codes "%% entry " ++ (decimal (length past) ++ codes " ")) _ _ (sym (entry_open names past one after) ∙ e ∙ entry_open names past other later) in
+    let stamps = cut_at 32 (unsigned_text one.stamp) (unsigned_text other.stamp) _ _
+    (unsigned_lacks 32 one.stamp h.stamp refl (λ e. absurd (omega (arith, e)))) (unsigned_lacks 32 other.stamp k.stamp refl (λ e. absurd (omega (arith, e)))) heads in
+    let stamp : one.stamp ≡ other.stamp = unsigned_same one.stamp other.stamp h.stamp k.stamp stamps.0 in
+    let clients = cut_at 32 (name_of names one.client) (name_of names other.client) _ _ (client_lacks names one.client named within) (client_lacks names other.client named within') stamps.1 in
+    let client : one.client ≡ other.client = own one.client other.client within within' clients.0 in
+    let lines : call_text names past one one.call ++ after ≡ call_text names past other other.call ++ later =
+    ap (λ t. t ++ after) (call_blank names past one one.call) ∙ ap (λ t. 32 ∷ t) clients.1 ∙ sym (ap (λ t. t ++ later) (call_blank names past other other.call)) in
+    let calls = call_cut names past one.stamp one.client one.call other.call after later h.call k.call f g
+    (lines ∙ (λ i. call_text names past (record { stamp = sym stamp i; client = sym client i; call = other.call }) other.call ++ later)) in
+    (λ i. record { stamp = stamp i; client = client i; call = calls.0 i }, calls.1)
+
+-- the line at the end
+abbrev Ends : List ℕ → Type 0
+Ends text = (rest : List ℕ) × (text ≡ codes "%% end " ++ rest)
+
+-- entries and the end follow an entry
+entries_follow : (names : List (List ℕ)) (past history : History) (end : List ℕ) → Ends end → Follows (entries_text names past history ++ end)
+entries_follow names past [] end ends = (codes "nd " ++ ends.0, ends.1)
+entries_follow names past (entry ∷ later) end ends = (_, refl)
+
+entries_cut : (names : List (List ℕ)) (past one other : History) (end end' : List ℕ) → All Named names → HaveOwnNames names → All IsEntry one → All IsEntry other
+    → HaveClients (length names) one → HaveClients (length names) other → Ends end → Ends end' → entries_text names past one ++ end ≡ entries_text names past other ++ end' → one ≡ other
+entries_cut names past [] [] end end' named own h k within within' f g e = refl
+entries_cut names past [] (y ∷ other) end end' named own h k within within' f g e = absurd (omega (arith, ap (λ l. get_or l 5 0) (sym f.1 ∙ e)))
+entries_cut names past (x ∷ one) [] end end' named own h k within within' f g e = absurd (omega (arith, ap (λ l. get_or l 5 0) (e ∙ g.1)))
+entries_cut names past (x ∷ one) (y ∷ other) end end' named own h k within within' f g e =
+    let behind : History → Entry → List ℕ → List ℕ = λ history entry end. entries_text names (past ++ entry ∷ []) history ++ end in
+    let first = entry_cut names past x y (behind one x end) (behind other y end') named own (All-head IsEntry x one h) (All-head IsEntry y other k)
+    (All-head (λ entry. entry.client < length names) x one within) (All-head (λ entry. entry.client < length names) y other within')
+    (entries_follow names (past ++ x ∷ []) one end f) (entries_follow names (past ++ y ∷ []) other end' g)
+    (sym (append_assoc (entry_text names past x) (entries_text names (past ++ x ∷ []) one) end) ∙ e ∙ append_assoc (entry_text names past y) (entries_text names (past ++ y ∷ []) other) end') in
+    let rest = entries_cut names (past ++ x ∷ []) one other end end' named own (All-tail IsEntry x one h) (All-tail IsEntry y other k)
+    (All-tail (λ entry. entry.client < length names) x one within) (All-tail (λ entry. entry.client < length names) y other within') f g
+    (first.1 ∙ (λ i. behind other (sym first.0 i) end')) in
+    λ i. first.0 i ∷ rest i
+
+-- the line of a client, and what stands behind it
+client_open : (number : ℕ) (name after : List ℕ) → client_text number name ++ after ≡ (codes "%% client " ++ (decimal number ++ codes " ")) ++ (name ++ 10 ∷ after)
+client_open number name after = simp append_assoc refl
+
+clients_cut : (number : ℕ) (one other : List (List ℕ)) (after later : List ℕ) → All Named one → All Named other → Follows after → Follows later
+    → clients_text number one ++ after ≡ clients_text number other ++ later → (one ≡ other) × (after ≡ later)
+clients_cut number [] [] after later h k f g e = (refl, e)
+clients_cut number [] (y ∷ other) after later h k f g e = absurd (omega (arith, ap (λ l. get_or l 3 0) (sym f.1 ∙ e)))
+clients_cut number (x ∷ one) [] after later h k f g e = absurd (omega (arith, ap (λ l. get_or l 3 0) (e ∙ g.1)))
+clients_cut number (x ∷ one) (y ∷ other) after later h k f g e =
+    let lines = append_cancel_left (codes "%% client " ++ (decimal number ++ codes " ")) _ _
+    (sym (client_open number x (clients_text (suc number) one ++ after)) ∙ sym (append_assoc (client_text number x) (clients_text (suc number) one) after)
+    ∙ e ∙ append_assoc (client_text number y) (clients_text (suc number) other) later ∙ client_open number y (clients_text (suc number) other ++ later)) in
+    let first = cut_at 10 x y _ _ (name_lacks 10 x refl (All-head Named x one h)) (name_lacks 10 y refl (All-head Named y other k)) lines in
+    let rest = clients_cut (suc number) one other after later (All-tail Named x one h) (All-tail Named y other k) f g first.1 in
+    (λ i. first.0 i ∷ rest.0 i, rest.1)
+
+end_is : (history : History) → Ends (end_text history)
+end_is history = (_, refl)
+
+-- clients and histories of which one report is printed
+pub report_same : (names others : List (List ℕ)) (history other : History) → HaveOwnNames names → IsCommunity names history → IsCommunity others other
+    → report_text others other ≡ report_text names history → (others ≡ names) × (other ≡ history)
+report_same names others history other own h k e =
+    let clients = clients_cut 0 others names (entries_text others [] other ++ end_text other) (entries_text names [] history ++ end_text history) k.named h.named
+    (entries_follow others [] other (end_text other) (end_is other)) (entries_follow names [] history (end_text history) (end_is history))
+    (append_cancel_left (codes "%% moosdb play 1\n") _ _ e) in
+    let entries : entries_text names [] other ++ end_text other ≡ entries_text names [] history ++ end_text history = ap (λ ns. entries_text ns [] other ++ end_text other) (sym clients.0) ∙ clients.1 in (
+      clients.0,
+      entries_cut names [] other history (end_text other) (end_text history) h.named own k.entries h.entries
+          (subst (λ ns. HaveClients (length ns) other) clients.0 k.clients) h.clients (end_is other) (end_is history) entries,
+    )
