@@ -3,6 +3,7 @@
 use Rattle.std.proofs.Common.{◌≡◌, ℕ, zero, suc, ◌+◌, ◌<◌, ◌≤◌, Bool, true, false, ◌||◌, ◌&&◌, ◌==◌, not, List, [], ◌∷◌, ◌++◌, length, map, fold, take, drop, get_or, slice_get, Some, All, append_assoc, refl, ap, sym, ◌∙◌, arith, subst, if◌then◌else◌}
 use Rattle.std.specs.List.{list_any, AllByRecursion}
 use Rattle.std.proofs.lemmas.List.{length-take, take-append-drop}
+use Rattle.std.proofs.lemmas.List.Elements.{All-from_recursion}
 use Rattle.std.proofs.lemmas.List.Sums.{fold-append}
 use Rattle.std.proofs.Math.Seq.{take-suc}
 use Rattle.moos_post.specs.declared.entry.Call.{Call}
@@ -10,16 +11,10 @@ use Rattle.moos_post.specs.declared.entry.Call.TheVariants.{Register, Unregister
 use Rattle.moos_post.specs.declared.value.Post.{Post}
 use Rattle.moos_post.specs.Delivery.{is_latest}
 use Rattle.moos_post.specs.History.{name_of}
-use Rattle.moos_db.specs.Kept.{Kept, Held, is_due_held, is_new_held, with_stamp, passed, with_mailed, with_due, kept_post, catch_post, catch_found, catch_number, catches_kept, with_caught, kept_catching, kept_own, IsFresh}
+use Rattle.moos_db.specs.Kept.{Kept, KeptLive, is_due_held, is_new_held, with_stamp, passed, with_mailed, with_due, kept_post, catch_post, catch_found, catch_number, catches_kept, with_caught, kept_catching, kept_own, IsFresh}
 use Rattle.moos_db.specs.Tables.{latest_from}
-use Rattle.moos_db.proofs.Latests.{list_any-push}
-use Rattle.moos_db.proofs.Orderly.{length-push}
+use Rattle.moos_mail.proofs.Lists.{found-below, length-push, list_any-push}
 use Rattle.moos_db.proofs.Standing.{slice_get-seam}
-
-pub slice_get-some : {X : Type 0} (xs : List X) (i : ℕ) → i < length xs → (x : X) × (slice_get xs i ≡ Some x)
-slice_get-some [] i below = absurd (omega arith)
-slice_get-some (x ∷ xs) zero below = (x, refl)
-slice_get-some (x ∷ xs) (suc i) below = slice_get-some xs i (omega arith)
 
 slice_get-take : {X : Type 0} (xs : List X) (i n : ℕ) → i < n → slice_get (take n xs) i ≡ slice_get xs i
 slice_get-take [] i (suc n) below = refl
@@ -28,7 +23,7 @@ slice_get-take (x ∷ xs) (suc i) (suc n) below = slice_get-take xs i n (omega a
 slice_get-take xs i zero below = absurd (omega arith)
 
 -- a post that is due nowhere changes no registration
-passed-none : (stamp : ℕ) (var source : List ℕ) (lives : List Held) → list_any (is_due_held stamp var source) lives ≡ false → map (passed stamp var source) lives ≡ lives
+passed-none : (stamp : ℕ) (var source : List ℕ) (lives : List KeptLive) → list_any (is_due_held stamp var source) lives ≡ false → map (passed stamp var source) lives ≡ lives
 passed-none stamp var source [] none = refl
 passed-none stamp var source (live ∷ lives) none = through (is_due_held stamp var source live) none (passed-none stamp var source lives)
   where
@@ -75,15 +70,10 @@ latest-below number (post ∷ later) = through (is_latest post later) (subst (λ
     through true rest = (omega arith, rest)
     through false rest = rest
 
-pub all-below : (number : ℕ) (numbers : List ℕ) → AllByRecursion (λ n. n < number) numbers → All (λ n. n < number) numbers
-all-below number [] below k d within = absurd (omega arith)
-all-below number (n ∷ numbers) below zero d within = below.0
-all-below number (n ∷ numbers) below (suc k) d within = all-below number numbers below.1 k d (omega arith)
-
 -- each of the latest posts is a post
 pub latest-posts : (posts : List Post) (count : ℕ) (numbers : List ℕ) (place number : ℕ) → numbers ≡ latest_from 0 (take count posts) → place < length numbers → number ≡ get_or numbers place 0 → number < length posts
 latest-posts posts count numbers place number are below is =
-    let some : All (λ n. n < 0 + length (take count posts)) (latest_from 0 (take count posts)) = all-below (0 + length (take count posts)) _ (latest-below 0 (take count posts)) in
+    let some : All (λ n. n < 0 + length (take count posts)) (latest_from 0 (take count posts)) = All-from_recursion (λ n. n < 0 + length (take count posts)) _ (latest-below 0 (take count posts)) in
     let here : get_or numbers place 0 < 0 + length (take count posts) = subst (All (λ n. n < 0 + length (take count posts))) (sym are) some place 0 below in
     omega (arith, here, is, length-take count posts)
 
@@ -92,7 +82,7 @@ pub catching-next : (names : List (List ℕ)) (posts : List Post) (start old new
     ((post : Post) → slice_get posts number ≡ Some post → new ≡ catch_post names number old post) → old ≡ fold (catch_number names posts) start (take place numbers) →
     new ≡ fold (catch_number names posts) start (take (place + 1) numbers)
 catching-next names posts start old new numbers place number within below is step before =
-    let found : (post : Post) × (slice_get posts number ≡ Some post) = slice_get-some posts number within in
+    let found : (post : Post) × (slice_get posts number ≡ Some post) = found-below posts number within in
     let next : place + 1 ≡ suc place = omega arith in
     step found.0 found.1
     ∙ ap (catch_found names number old) (sym found.1)

@@ -1,9 +1,9 @@
 -- What is kept of a client after one entry more is its inbox of the delivery rule after it, in short.
-use Rattle.std.proofs.Common.{◌≡◌, ℕ, suc, ◌≤◌, Bool, true, false, cond, ◌&&◌, ◌||◌, ◌==◌, not, nat_le, List, [], ◌∷◌, ◌++◌, length, map, filter, fold, refl, ap, sym, ◌∙◌, if◌then◌else◌}
+use Rattle.std.proofs.Common.{◌≡◌, ℕ, suc, ◌≤◌, Bool, true, false, cond, ◌&&◌, ◌==◌, not, nat_le, List, [], ◌∷◌, ◌++◌, length, map, filter, fold, refl, ap, sym, ◌∙◌, arith, if◌then◌else◌}
 use Rattle.std.specs.List.{list_any}
-use Rattle.std.proofs.lemmas.Bool.{le-leb}
+use Rattle.std.proofs.lemmas.Bool.{le-leb, lt-leb}
 use Rattle.std.proofs.lemmas.List.{map-append}
-use Rattle.std.proofs.lemmas.List.Elements.{filter-append}
+use Rattle.std.proofs.lemmas.List.Elements.{All-weaker, filter-append}
 use Rattle.std.proofs.lemmas.List.Sums.{fold-append}
 use Rattle.moos_post.specs.declared.entry.Call.{Call}
 use Rattle.moos_post.specs.declared.entry.Call.TheVariants.{Register, Unregister, Post as Posts, Fetch}
@@ -15,16 +15,10 @@ use Rattle.moos_post.specs.Delivery.{Live, Mailing, Inbox, is_due, is_past, sele
 use Rattle.moos_post.specs.History.{name_of, post_of, posts_of_call}
 use Rattle.moos_db.specs.Kept.{Kept, held_of, kept_of, held_of_reg, is_due_held, with_stamp, passed, is_new_held, caught, has_patterns, without_held, with_held, with_mailed, kept_post, kept_batch, catches_kept, with_caught, kept_catching, kept_regs, kept_own, kept_posts, kept_entry}
 use Rattle.moos_db.proofs.Lasts.{last_in-lasts_of}
-use Rattle.moos_db.proofs.Orderly.{IsOrderly, filter-past, length-push}
+use Rattle.moos_mail.proofs.Lists.{filter-map, filter-none, length-push, list_any-alike, list_any-map}
+use Rattle.moos_mail.proofs.Orderly.{IsOrderly, IsPast}
 
 -- lists
-
-pub list_any-map : {X Y : Type 0} (p : Y → Bool) (h : X → Y) (xs : List X) → list_any p (map h xs) ≡ list_any (λ x. p (h x)) xs
-list_any-map p h [] = refl
-list_any-map p h (x ∷ xs) = ap (λ rest. p (h x) || rest) (list_any-map p h xs)
-
-list_any-alike : {X : Type 0} (p q : X → Bool) (xs : List X) → ((x : X) → p x ≡ q x) → list_any p xs ≡ list_any q xs
-list_any-alike p q xs alike = ap (λ test. list_any test xs) (λ i x. alike x i)
 
 map-through : {X Y : Type 0} (h : X → Y) (f : X → X) (g : Y → Y) (xs : List X) → ((x : X) → h (f x) ≡ g (h x)) → map h (map f xs) ≡ map g (map h xs)
 map-through h f g [] through = refl
@@ -33,10 +27,6 @@ map-through h f g (x ∷ xs) through = ap (λ y. y ∷ map h (map f xs)) (throug
 cond-through : {X Y : Type 0} (h : X → Y) (b : Bool) (x y : X) → h (if b then x else y) ≡ (if b then h x else h y)
 cond-through h true x y = refl
 cond-through h false x y = refl
-
-filter-map : {X Y : Type 0} (p : Y → Bool) (h : X → Y) (xs : List X) → filter p (map h xs) ≡ map h (filter (λ x. p (h x)) xs)
-filter-map p h [] = refl
-filter-map p h (x ∷ xs) = ap (λ rest. cond (p (h x)) (h x ∷ rest) rest) (filter-map p h xs) ∙ sym (cond-through (map h) (p (h x)) (x ∷ filter (λ y. p (h y)) xs) (filter (λ y. p (h y)) xs))
 
 -- registrations
 
@@ -164,6 +154,12 @@ kept-regs names inbox regs before =
     kept-catching names 0 (record inbox { lives = fold (with_reg inbox.entries) inbox.lives regs }) inbox.posts before
     ∙ ap (λ lives. kept_catching names 0 (record (kept_of inbox) { lives = lives }) inbox.posts) (held-with_regs inbox.entries inbox.lives regs)
 
+-- a fetch after all mailings leaves nothing waiting
+none-after : (inbox : Inbox) → IsOrderly inbox → filter (λ one. nat_le (suc inbox.entries) one.entry) inbox.mailed ≡ []
+none-after inbox orderly =
+    filter-none (λ one. nat_le (suc inbox.entries) one.entry) inbox.mailed
+    (All-weaker (IsPast inbox.entries (length inbox.posts)) (λ one. nat_le (suc inbox.entries) one.entry ≡ false) (λ one past. lt-leb (suc inbox.entries) one.entry (omega (arith, past.entry))) inbox.mailed orderly.past)
+
 kept-call : (names : List (List ℕ)) (inbox : Inbox) (own : Bool) (stamp source : ℕ) (call : Call) → IsOrderly inbox →
     kept_of (record (fold (with_post names) (if own then with_own names inbox call else inbox) (posts_of_call stamp source call)) { entries = suc inbox.entries })
     ≡ record (kept_posts names stamp source (if own then kept_own names inbox.posts (kept_of inbox) call else kept_of inbox) call) { seen = suc inbox.entries }
@@ -174,7 +170,7 @@ kept-call names inbox false stamp source (Unregister var from) orderly = refl
 kept-call names inbox true stamp source (Posts batch) orderly = ap (λ (kept : Kept). record kept { seen = suc inbox.entries }) (kept-batch names stamp source inbox batch orderly.fetched)
 kept-call names inbox false stamp source (Posts batch) orderly = ap (λ (kept : Kept). record kept { seen = suc inbox.entries }) (kept-batch names stamp source inbox batch orderly.fetched)
 kept-call names inbox true stamp source Fetch orderly =
-    ap (λ mailed. record (kept_of inbox) { seen = suc inbox.entries; waits = map (λ (one : Mailing). one.number) mailed }) (filter-past inbox.entries (length inbox.posts) inbox.mailed orderly.past)
+    ap (λ mailed. record (kept_of inbox) { seen = suc inbox.entries; waits = map (λ (one : Mailing). one.number) mailed }) (none-after inbox orderly)
 kept-call names inbox false stamp source Fetch orderly = refl
 
 -- What is kept after one entry more is the inbox after it, in short.

@@ -12,6 +12,7 @@ use Rattle.moos_post.specs.declared.value.Post.{Post}
 use Rattle.moos_post.specs.Delivery.{is_latest}
 use Rattle.moos_db.specs.Database.{pair_of}
 use Rattle.moos_db.specs.Tables.{Row, Latest, IsLatest, is_of, with_row, rows_from, rows_of, latest_from}
+use Rattle.moos_mail.proofs.Lists.{list_any-push}
 use Rattle.moos_db.proofs.Sorting.{total, total-permutation, IsFrom, IsRising, from-lower, same_rising, rising-sorted}
 
 -- the row of this post
@@ -26,10 +27,6 @@ latest_rows number (post ∷ later) =
 
 abbrev others : List ℕ → List Row → List Row
 others var rows = filter (λ row. not (is_of var row)) rows
-
-pub list_any-push : {X : Type 0} (p : X → Bool) (xs : List X) (x : X) → list_any p (xs ++ x ∷ []) ≡ (list_any p xs || p x)
-list_any-push p [] x = elim (p x) as (λ b. (b || false) ≡ b) [ true ↦ refl | false ↦ refl ]
-list_any-push p (y ∷ xs) x = ap (λ b. p y || b) (list_any-push p xs x) ∙ elim (p y) as (λ b. (b || (list_any p xs || p x)) ≡ ((b || list_any p xs) || p x)) [ true ↦ refl | false ↦ refl ]
 
 -- one post more takes the place of its variable's latest post
 latest-push : (number : ℕ) (posts : List Post) (post : Post) →

@@ -4,7 +4,6 @@ pub mod Growth
 pub mod Keeping
 pub mod Lasts
 pub mod Latests
-pub mod Orderly
 pub mod Rows
 pub mod Runs
 pub mod Sorting

@@ -9,9 +9,8 @@ use Rattle.moos_post.specs.Delivery.{mail_of_entry, mail_at}
 use Rattle.moos_post.specs.History.{History, posts_of}
 use Rattle.moos_db.specs.declared.mail.Letter.{Letter}
 use Rattle.moos_db.specs.Database.{AreLetters, AreMails}
-use Rattle.moos_db.proofs.Catching.{slice_get-some}
-use Rattle.moos_db.proofs.Orderly.{length-push}
-use Rattle.moos_db.proofs.Standing.{slice_get-front, slice_get-seam}
+use Rattle.moos_mail.proofs.Lists.{found-below, length-push, slice_get-front}
+use Rattle.moos_db.proofs.Standing.{slice_get-seam}
 use Rattle.moos_db.proofs.Whole.{mail_at-stays, mail_at-seam}
 
 pub AreMails-push : (names : List (List ℕ)) (history : History) (mails : List (List Letter)) (entry : Entry) (mail : List Letter) → AreLetters (posts_of history) (mail_of_entry names history (Some entry)) mail →
@@ -23,7 +22,7 @@ AreMails-push names history mails entry mail letters are =
       each = length-push mails mail ∙ ap suc each ∙ sym (length-push history entry);
       mail = λ k one there. elim (cases_lt k (length history)) [
         | inl before ↦
-            let found : (x : List Letter) × (slice_get mails k ≡ Some x) = slice_get-some mails k (omega arith) in
+            let found : (x : List Letter) × (slice_get mails k ≡ Some x) = found-below mails k (omega arith) in
             let same : found.0 ≡ one = (let e : Some found.0 ≡ Some one = sym (slice_get-front mails (mail ∷ []) k found.0 found.1) ∙ there in cc) in
             subst (AreLetters (posts_of (take k more)) (mail_at names more k)) same
             (subst (λ numbers. AreLetters (posts_of (take k more)) numbers found.0) (sym (mail_at-stays names history entry k before))

@@ -1,5 +1,5 @@
 -- Each post stands at the place that is kept for it, also when the history grows.
-use Rattle.std.proofs.Common.{◌≡◌, ℕ, zero, suc, ◌+◌, ◌<◌, List, [], ◌∷◌, ◌++◌, length, map, get_or, slice_get, Option, Some, None, option_map, option_and_then, append_assoc, append-nil, refl, ap, sym, ◌∙◌, arith}
+use Rattle.std.proofs.Common.{◌≡◌, ℕ, suc, ◌+◌, ◌<◌, List, [], ◌∷◌, ◌++◌, length, map, get_or, slice_get, Option, Some, None, option_map, option_and_then, append_assoc, append-nil, refl, ap, sym, ◌∙◌, arith}
 use Rattle.std.specs.List.{range_with_len}
 use Rattle.std.proofs.lemmas.List.{map-append, length-map}
 use Rattle.std.proofs.lemmas.List.Concat.{flat_map-append}
@@ -14,12 +14,7 @@ use Rattle.moos_db.specs.declared.log.Place.{Place}
 use Rattle.moos_db.specs.declared.mail.Origin.{Origin}
 use Rattle.moos_db.specs.Database.{origin_of}
 use Rattle.moos_db.specs.Places.{post_in, place_at, IsLog}
-use Rattle.moos_db.proofs.Orderly.{length-push}
-
-pub slice_get-front : {X : Type 0} (xs ys : List X) (i : ℕ) (x : X) → slice_get xs i ≡ Some x → slice_get (xs ++ ys) i ≡ Some x
-slice_get-front [] ys i x there = absurd (let e : None ≡ Some x = there in cc)
-slice_get-front (y ∷ xs) ys zero x there = there
-slice_get-front (y ∷ xs) ys (suc i) x there = slice_get-front xs ys i x there
+use Rattle.moos_mail.proofs.Lists.{length-push, slice_get-front}
 
 pub slice_get-seam : {X : Type 0} (xs : List X) (x : X) (ys : List X) → slice_get (xs ++ x ∷ ys) (length xs) ≡ Some x
 slice_get-seam [] x ys = refl

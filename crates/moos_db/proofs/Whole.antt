@@ -11,10 +11,9 @@ use Rattle.moos_db.specs.Kept.{Kept, IsInbox, empty_kept}
 use Rattle.moos_db.specs.Places.{Journal, AreInboxes, IsDb}
 use Rattle.moos_db.specs.Tables.{Latest, IsLatest, rows_of}
 use Rattle.std.proofs.lemmas.List.Concat.{flat_map-append}
-use Rattle.moos_db.proofs.Catching.{slice_get-some}
 use Rattle.moos_db.proofs.Growth.{IsInbox-stays, IsInbox-empty}
-use Rattle.moos_db.proofs.Orderly.{length-push}
-use Rattle.moos_db.proofs.Standing.{slice_get-front, slice_get-seam}
+use Rattle.moos_mail.proofs.Lists.{found-below, length-push, slice_get-front}
+use Rattle.moos_db.proofs.Standing.{slice_get-seam}
 
 -- what stands somewhere after a write: the value written, or what stood there
 slice_get-set : {X : Type 0} (xs : List X) (i j : ℕ) (v x : X) (P : ℕ → X → Type 0) → P i v → ((k : ℕ) (y : X) → slice_get xs k ≡ Some y → P k y) → slice_get (set xs i v) j ≡ Some x → P j x
@@ -65,7 +64,7 @@ IsDb-empty names journal table inboxes client db = IsDb-set names journal table 
 
 pub mail_at-stays : (names : List (List ℕ)) (history : History) (entry : Entry) (k : ℕ) → k < length history → mail_at names (history ++ entry ∷ []) k ≡ mail_at names history k
 mail_at-stays names history entry k below =
-    let found : (one : Entry) × (slice_get history k ≡ Some one) = slice_get-some history k below in
+    let found : (one : Entry) × (slice_get history k ≡ Some one) = found-below history k below in
     ap (λ h. mail_of_entry names h (slice_get (history ++ entry ∷ []) k)) (take-append-le k history (entry ∷ []) (omega arith))
     ∙ ap (mail_of_entry names (take k history)) (slice_get-front history (entry ∷ []) k found.0 found.1 ∙ sym found.1)
 

@@ -14,8 +14,8 @@ pub record Database : Type 0 where
   pub history : History
 
 -- the database after one entry more
-abbrev pub with_entry : Database → Entry → Database
-with_entry database entry = record database { history = database.history ++ entry ∷ [] }
+abbrev pub after_entry : Database → Entry → Database
+after_entry database entry = record database { history = database.history ++ entry ∷ [] }
 
 -- what a post says, without when and by whom
 abbrev pub pair_of : Post → Pair

@@ -13,47 +13,54 @@ use Rattle.moos_post.specs.Patterns.{matches}
 use Rattle.moos_db.specs.Tables.{Row, number_of, with_row, lasts_of}
 
 -- a live registration as it is kept: the last stamp of each variable in place of the posts that came through
-pub record Held : Type 0 where
+pub record KeptLive : Type 0 where
   pub reg : Reg
   pub made : ℕ
   pub lasts : List Row
 
-abbrev pub held_of : Live → Held
+-- what is kept of a live registration
+abbrev pub held_of : Live → KeptLive
 held_of live = record { reg = live.reg; made = live.made; lasts = lasts_of live.came }
 
 -- a registration made at this entry, with nothing come through
-abbrev pub held_of_reg : ℕ → Reg → Held
+abbrev pub held_of_reg : ℕ → Reg → KeptLive
 held_of_reg made reg = record { reg = reg; made = made; lasts = [] }
 
 -- the registration selects a post of the variable from the source
 abbrev pub picks : Reg → List ℕ → List ℕ → Bool
 picks reg var source = matches reg.var var && matches reg.source source
 
-abbrev pub is_due_held : ℕ → List ℕ → List ℕ → Held → Bool
+-- a post of this stamp, of the variable and from the source, is due
+abbrev pub is_due_held : ℕ → List ℕ → List ℕ → KeptLive → Bool
 is_due_held stamp var source held =
     picks held.reg var source && is_past (number_of var held.lasts) stamp held.reg.interval
 
-abbrev pub with_stamp : ℕ → List ℕ → Held → Held
+-- after a post of this stamp and variable came through
+abbrev pub with_stamp : ℕ → List ℕ → KeptLive → KeptLive
 with_stamp stamp var held = record held { lasts = with_row var stamp held.lasts }
 
 -- after a post, which comes through where it is due
-abbrev pub passed : ℕ → List ℕ → List ℕ → Held → Held
+abbrev pub passed : ℕ → List ℕ → List ℕ → KeptLive → KeptLive
 passed stamp var source held = if is_due_held stamp var source held then with_stamp stamp var held else held
 
-abbrev pub is_new_held : ℕ → List ℕ → List ℕ → Held → Bool
+-- the registration was made at this entry and selects a post of the variable from the source
+abbrev pub is_new_held : ℕ → List ℕ → List ℕ → KeptLive → Bool
 is_new_held made var source held = held.made == made && picks held.reg var source
 
 -- after a post that catches up, which comes through where the registration is new and selects it
-abbrev pub caught : ℕ → ℕ → List ℕ → List ℕ → Held → Held
+abbrev pub caught : ℕ → ℕ → List ℕ → List ℕ → KeptLive → KeptLive
 caught made stamp var source held = if is_new_held made var source held then with_stamp stamp var held else held
 
-abbrev pub has_patterns : List ℕ → List ℕ → Held → Bool
+-- the registration has both these patterns
+abbrev pub has_patterns : List ℕ → List ℕ → KeptLive → Bool
 has_patterns var source held = bytes_eq held.reg.var var && bytes_eq held.reg.source source
 
-abbrev pub without_held : List ℕ → List ℕ → List Held → List Held
+-- the registrations without the one that has both these patterns
+abbrev pub without_held : List ℕ → List ℕ → List KeptLive → List KeptLive
 without_held var source helds = filter (λ held. not (has_patterns var source held)) helds
 
-abbrev pub with_held : ℕ → List Held → Reg → List Held
+-- the registrations after this entry made one more, which withdraws one with the same patterns
+abbrev pub with_held : ℕ → List KeptLive → Reg → List KeptLive
 with_held made helds reg = without_held reg.var reg.source helds ++ held_of_reg made reg ∷ []
 
 -- an inbox as it is kept: how many entries it has seen and how many posts were in them, the live registrations, the
@@ -61,10 +68,11 @@ with_held made helds reg = without_held reg.var reg.source helds ++ held_of_reg 
 pub record Kept : Type 0 where
   pub seen : ℕ
   pub posts : ℕ
-  pub lives : List Held
+  pub lives : List KeptLive
   pub mailed : List ℕ
   pub waits : List ℕ
 
+-- what is kept of an inbox
 abbrev pub kept_of : Inbox → Kept
 kept_of inbox = record {
   seen = inbox.entries;
@@ -74,6 +82,7 @@ kept_of inbox = record {
   waits = waiting inbox;
 }
 
+-- before the first entry
 abbrev pub empty_kept : Kept
 empty_kept = record { seen = 0; posts = 0; lives = []; mailed = []; waits = [] }
 
@@ -88,10 +97,11 @@ with_due stamp source kept var =
       lives = map (passed stamp var source) kept.lives;
     }
 
--- and which counts as one post more
+-- after such a post, which counts as one more
 abbrev pub kept_post : ℕ → List ℕ → Kept → List ℕ → Kept
 kept_post stamp source kept var = record (with_due stamp source kept var) { posts = suc kept.posts }
 
+-- after the posts of a batch, one after the other
 abbrev pub kept_batch : ℕ → List ℕ → Kept → List Pair → Kept
 kept_batch stamp source kept pairs = fold (λ now pair. kept_post stamp source now pair.var) kept pairs
 
@@ -107,9 +117,11 @@ abbrev pub with_missed : ℕ → ℕ → List ℕ → Kept → List ℕ → Kept
 with_missed number stamp source kept var =
     record (with_mailed number kept) { lives = map (caught kept.seen stamp var source) kept.lives }
 
+-- after this post, which has this number, caught up
 abbrev pub with_caught : List (List ℕ) → Kept → ℕ → Post → Kept
 with_caught names kept number post = with_missed number post.stamp (name_of names post.source) kept post.var
 
+-- after the posts from this number on, each of which may catch up
 abbrev pub kept_catching : List (List ℕ) → ℕ → Kept → List Post → Kept
 kept_catching names number kept [] = kept
 kept_catching names number kept (post ∷ later) =
@@ -124,10 +136,12 @@ catch_post names number kept post =
     then with_caught names kept number post
     else kept
 
+-- the same, where there is a post with this number
 abbrev pub catch_found : List (List ℕ) → ℕ → Kept → Option Post → Kept
 catch_found names number kept None = kept
 catch_found names number kept (Some post) = catch_post names number kept post
 
+-- after the post with this number, among these, caught up where it may
 abbrev pub catch_number : List (List ℕ) → List Post → Kept → ℕ → Kept
 catch_number names posts kept number = catch_found names number kept (slice_get posts number)
 

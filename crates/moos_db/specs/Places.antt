@@ -17,6 +17,7 @@ abbrev pub post_in : History → Place → Option Post
 post_in history place =
     option_and_then (λ entry. slice_get (posts_of_entry entry) place.pair) (slice_get history place.entry)
 
+-- this place of the batch of this entry
 abbrev pub place_at : ℕ → ℕ → Place
 place_at entry pair = record { entry = entry; pair = pair }
 

@@ -128,7 +128,7 @@ fn fetch(
 }
 
 impl Db {
-    ghost use Rattle.moos_db.specs.Database.{with_entry, pair_of, origin_of, AreLetters};
+    ghost use Rattle.moos_db.specs.Database.{after_entry, pair_of, origin_of, AreLetters};
 
     /// A database of clients with these names, where nothing has happened yet. A client goes by its number, so nothing
     /// here rests on names that differ.
@@ -148,7 +148,7 @@ impl Db {
     // Adds an entry that is no fetch.
     fn add(&mut self, alloc: Global, entry: Entry) -> Result<(), NoMemory>
         requires { is_fetch entry.call ≡ false }
-        ensures ok { OnOk result (self.new ≡ with_entry self.old entry) }
+        ensures ok { OnOk result (self.new ≡ after_entry self.old entry) }
         ensures same { OnErr result (self.new ≡ self.old) }
     {
         self.latest.see_posts(alloc, &self.log, self.log.posts())?;
@@ -172,7 +172,7 @@ impl Db {
         regs: Regs,
     ) -> Result<(), NoMemory>
         requires { client < length self.old.names }
-        ensures ok { OnOk result (self.new ≡ with_entry self.old (record {
+        ensures ok { OnOk result (self.new ≡ after_entry self.old (record {
           stamp = stamp;
           client = client;
           call = Call.Register regs;
@@ -200,7 +200,7 @@ impl Db {
         source: Pattern,
     ) -> Result<(), NoMemory>
         requires { client < length self.old.names }
-        ensures ok { OnOk result (self.new ≡ with_entry self.old (record {
+        ensures ok { OnOk result (self.new ≡ after_entry self.old (record {
           stamp = stamp;
           client = client;
           call = Call.Unregister var source;
@@ -227,7 +227,7 @@ impl Db {
         batch: Batch,
     ) -> Result<(), NoMemory>
         requires { client < length self.old.names }
-        ensures ok { OnOk result (self.new ≡ with_entry self.old (record {
+        ensures ok { OnOk result (self.new ≡ after_entry self.old (record {
           stamp = stamp;
           client = client;
           call = Call.Post batch;
@@ -250,7 +250,7 @@ impl Db {
         requires { client < length self.old.names }
         ensures mail { let numbers = mail_after self.old.names client self.old.history
             in IfOk result (AreLetters (posts_of self.old.history) numbers) }
-        ensures ok { OnOk result (self.new ≡ with_entry self.old (record {
+        ensures ok { OnOk result (self.new ≡ after_entry self.old (record {
           stamp = stamp;
           client = client;
           call = Call.Fetch;

@@ -17,9 +17,9 @@ pub(crate) struct Live {
 }
 
 impl Model for Live {
-    ghost use Rattle.moos_db.specs.Kept.{Held};
+    ghost use Rattle.moos_db.specs.Kept.{KeptLive};
 
-    ghost Value = { Held };
+    ghost Value = { KeptLive };
 
     ghost view = { λ live. record { reg = live.reg; made = live.made; lasts = live.lasts } };
 }

@@ -1,7 +1,7 @@
 ghost use Rattle.std.specs.Prelude.{◌≡◌, ◌^◌, ◌<◌, length, All, IfOk, OnOk, Some};
 ghost use Rattle.moos_post.specs.Delivery.{mail_of_entry};
 ghost use Rattle.moos_post.specs.History.{posts_of};
-ghost use Rattle.moos_db.specs.Database.{with_entry, AreLetters, AreMails};
+ghost use Rattle.moos_db.specs.Database.{after_entry, AreLetters, AreMails};
 
 use crate::db::Db;
 use crate::mail::Mail;
@@ -11,7 +11,7 @@ use std::alloc::Global;
 // The mail that this entry gives, the next of the database.
 fn mail_of(alloc: Global, db: &mut Db, entry: Entry) -> Result<Mail, NoMemory>
     requires { entry.client < length db.old.names }
-    ensures ok { OnOk result (db.new ≡ with_entry db.old entry) }
+    ensures ok { OnOk result (db.new ≡ after_entry db.old entry) }
     ensures mail { let numbers = mail_of_entry db.old.names db.old.history (Some entry)
         in IfOk result (AreLetters (posts_of db.old.history) numbers) }
 {

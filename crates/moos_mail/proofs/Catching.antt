@@ -7,7 +7,8 @@ use Rattle.moos_post.specs.Delivery.{Live, Inbox, selects, with_came, mailed_to,
 use Rattle.moos_post.specs.History.{History, posts_of}
 use Rattle.moos_mail.specs.Sentences.{posts_before}
 use Rattle.moos_mail.specs.Registrations.{Made, is_mailed_at, live_with, came_through, live_at}
-use Rattle.moos_mail.proofs.Coming.{list_any-map, list_any-alike, map-map, mailed-own, mailed-other, was-other, StandFrom, stand-rest, stand-first}
+use Rattle.moos_mail.proofs.Coming.{mailed-own, mailed-other, was-other, StandFrom, stand-rest, stand-first}
+use Rattle.moos_mail.proofs.Lists.{list_any-alike, list_any-map, map-map}
 
 module _ (names : List (List ℕ)) where
   -- the inbox after a post that may catch up

@@ -7,8 +7,7 @@ use Rattle.moos_post.specs.Delivery.{Live, Mailing, Inbox, is_due, with_came, wi
 use Rattle.moos_post.specs.History.{History, posts_of}
 use Rattle.moos_mail.specs.Sentences.{posts_before}
 use Rattle.moos_mail.specs.Registrations.{Made, is_mailed_at, live_with, came_through, live_at}
-use Rattle.moos_mail.proofs.Lists.{length-push}
-use Rattle.moos_mail.proofs.Standing.{list_any-push}
+use Rattle.moos_mail.proofs.Lists.{length-push, list_any-map, list_any-push, map-map, or-false}
 
 -- each of these was made at an entry of which, and of those before, this is so
 abbrev pub AllMade : (ℕ → Type 0) → List Made → Type 0
@@ -18,21 +17,6 @@ AllMade P (made ∷ more) = P made.entry × AllMade P more
 pub map-made : {Y : Type 0} (P : ℕ → Type 0) (f g : Made → Y) (mades : List Made) → ((made : Made) → P made.entry → f made ≡ g made) → AllMade P mades → map f mades ≡ map g mades
 map-made P f g [] alike all = refl
 map-made P f g (made ∷ more) alike all = ap (λ y. y ∷ map f more) (alike made all.0) ∙ ap (λ rest. g made ∷ rest) (map-made P f g more alike all.1)
-
-pub map-map : {X Y Z : Type 0} (f : Y → Z) (g : X → Y) (xs : List X) → map f (map g xs) ≡ map (λ x. f (g x)) xs
-map-map f g [] = refl
-map-map f g (x ∷ xs) = ap (λ rest. f (g x) ∷ rest) (map-map f g xs)
-
-pub list_any-map : {X Y : Type 0} (p : Y → Bool) (h : X → Y) (xs : List X) → list_any p (map h xs) ≡ list_any (λ x. p (h x)) xs
-list_any-map p h [] = refl
-list_any-map p h (x ∷ xs) = ap (λ rest. p (h x) || rest) (list_any-map p h xs)
-
-pub list_any-alike : {X : Type 0} (p q : X → Bool) (xs : List X) → ((x : X) → p x ≡ q x) → list_any p xs ≡ list_any q xs
-list_any-alike p q xs alike = ap (λ (test : _ → Bool). list_any test xs) (λ i x. alike x i)
-
-pub or-false : (b : Bool) → (b || false) ≡ b
-or-false true = refl
-or-false false = refl
 
 -- one mailing more is of its own number
 pub mailed-own : (number entry : ℕ) (mailed : List Mailing) → is_mailed_at number entry (mailed ++ mailing number entry ∷ []) ≡ true

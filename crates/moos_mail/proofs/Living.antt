@@ -1,5 +1,5 @@
 -- The live registrations before each entry, and what came through them.
-use Rattle.std.proofs.Common.{◌≡◌, ℕ, zero, suc, ◌+◌, ◌-◌, ◌<◌, ◌≤◌, Bool, true, false, cond, ◌==◌, ◌&&◌, ◌||◌, not, List, [], ◌∷◌, ◌++◌, append-nil, length, map, filter, fold, take, drop, slice_get, Some, None, All, refl, ap, sym, ◌∙◌, arith, subst, if◌then◌else◌, length-append}
+use Rattle.std.proofs.Common.{◌≡◌, ℕ, zero, suc, ◌+◌, ◌-◌, ◌<◌, ◌≤◌, Bool, true, false, cond, ◌==◌, ◌&&◌, ◌||◌, not, List, [], ◌∷◌, ◌++◌, append-nil, length, map, filter, fold, take, drop, slice_get, Some, All, refl, ap, sym, ◌∙◌, arith, subst, if◌then◌else◌, length-append}
 use Rattle.std.proofs.lemmas.Bool.{eq-eqb, ne_eqb, and_right}
 use Rattle.std.proofs.lemmas.List.{map-append, length-take-le, take-append-drop}
 use Rattle.std.proofs.lemmas.List.Concat.{flat_map-append}
@@ -17,11 +17,11 @@ use Rattle.moos_post.specs.History.{History, posts_of, posts_of_entry}
 use Rattle.moos_mail.specs.Sentences.{posts_before}
 use Rattle.moos_mail.specs.Registrations.{Made, made_at, is_alike, is_ended_by, regs_of_call, last_of_each, live_from, live_before, is_mailed_at, live_at}
 use Rattle.moos_mail.proofs.Catching.{catching, catching_as, lives-caught}
-use Rattle.moos_mail.proofs.Coming.{AllMade, map-made, map-map, StandFrom, IsBy, lives-posts, posted-before, or-false}
+use Rattle.moos_mail.proofs.Coming.{AllMade, map-made, StandFrom, IsBy, lives-posts, posted-before}
 use Rattle.moos_mail.proofs.Inboxes.{ended, entries-inbox_of, posts-inbox_of, posts-own}
-use Rattle.moos_mail.proofs.Lists.{found-below, take-next}
+use Rattle.moos_mail.proofs.Lists.{filter-all, filter-map, found-below, map-map, or-false, slice_get-behind, slice_get-front, take-next}
 use Rattle.moos_mail.proofs.Mailed.{Grown, inbox-next, mailed-front, mailed-past}
-use Rattle.moos_mail.proofs.Standing.{filter-all, filter-map, live-next, lives-regs, new_live}
+use Rattle.moos_mail.proofs.Standing.{live-next, lives-regs, new_live}
 
 -- entries that made registrations
 
@@ -59,15 +59,6 @@ pub live-under : (client : ℕ) (history : History) (k : ℕ) → k ≤ length h
 live-under client history k within = made-under client k 0 (take k history) (omega (arith, length-take-le k history within))
 
 -- posts by number
-
-slice_get-front : {X : Type 0} (xs ys : List X) (i : ℕ) (x : X) → slice_get xs i ≡ Some x → slice_get (xs ++ ys) i ≡ Some x
-slice_get-front [] ys i x there = absurd (let e : None ≡ Some x = there in cc)
-slice_get-front (y ∷ xs) ys zero x there = there
-slice_get-front (y ∷ xs) ys (suc i) x there = slice_get-front xs ys i x there
-
-slice_get-behind : {X : Type 0} (xs ys : List X) (i : ℕ) → slice_get (xs ++ ys) (length xs + i) ≡ slice_get ys i
-slice_get-behind [] ys i = (let e : 0 + i ≡ i = omega arith in ap (slice_get ys) e)
-slice_get-behind (x ∷ xs) ys i = (let e : suc (length xs) + i ≡ suc (length xs + i) = omega arith in ap (slice_get (x ∷ xs ++ ys)) e) ∙ slice_get-behind xs ys i
 
 posts-split : (history : History) (k : ℕ) → posts_of history ≡ posts_of (take k history) ++ posts_of (drop k history)
 posts-split history k = sym (ap posts_of (take-append-drop k history)) ∙ flat_map-append posts_of_entry (take k history) (drop k history)

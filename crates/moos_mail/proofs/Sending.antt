@@ -14,9 +14,9 @@ use Rattle.moos_post.specs.History.{History, posts_of, posts_of_call, posts_of_e
 use Rattle.moos_mail.specs.Sentences.{posts_before}
 use Rattle.moos_mail.specs.Registrations.{Made, live_before, is_mailed_at, live_at, is_due_at, is_wanted_anew, catches_up_at, is_to_mail}
 use Rattle.moos_mail.proofs.Catching.{caught-at, catching, catching_as}
-use Rattle.moos_mail.proofs.Coming.{AllMade, list_any-map, list_any-alike, posted-at}
+use Rattle.moos_mail.proofs.Coming.{AllMade, posted-at}
 use Rattle.moos_mail.proofs.Inboxes.{ended, entries-own, posts-own, posts-inbox_of, keeps-catching}
-use Rattle.moos_mail.proofs.Lists.{found-below}
+use Rattle.moos_mail.proofs.Lists.{found-below, list_any-alike, list_any-map}
 use Rattle.moos_mail.proofs.Living.{front, own_part, front-entries, front-posts, next_live, live-after, live-same, lives-new, lives-part, lives-are, mailed-here, mailed-at, mailed-own, none-before, within, IsUnder, live-under, live-by, made-filter, post-front, stand-entry, before-next}
 use Rattle.moos_mail.proofs.Mailed.{mailed-past}
 use Rattle.moos_mail.proofs.Orderly.{IsPast, IsOrderly, orderly-keeps, settled-inbox_of}

@@ -2,28 +2,13 @@
 use Rattle.std.proofs.Common.{◌≡◌, ℕ, suc, ◌+◌, ◌≤◌, Bool, true, false, cond, ◌||◌, not, List, [], ◌∷◌, ◌++◌, append_assoc, append-nil, length, map, filter, fold, take, slice_get, Some, refl, ap, sym, ◌∙◌, arith, if◌then◌else◌}
 use Rattle.std.proofs.lemmas.List.{length-take-le}
 use Rattle.std.proofs.lemmas.List.Elements.{filter-append}
-use Rattle.std.proofs.lemmas.List.Folds.{list_any-append}
 use Rattle.std.specs.List.{list_any}
 use Rattle.moos_post.specs.declared.entry.Entry.{Entry}
 use Rattle.moos_post.specs.declared.registration.Reg.{Reg}
 use Rattle.moos_post.specs.Delivery.{Live, with_reg, without}
 use Rattle.moos_post.specs.History.{History}
 use Rattle.moos_mail.specs.Registrations.{Made, made_at, is_alike, regs_of, ends, last_of_each, live_from, live_before}
-use Rattle.moos_mail.proofs.Lists.{take-next}
-
--- lists
-
-pub filter-all : {X : Type 0} (p : X → Bool) (xs : List X) → ((x : X) → p x ≡ true) → filter p xs ≡ xs
-filter-all p [] all = refl
-filter-all p (x ∷ xs) all = ap (λ b. cond b (x ∷ filter p xs) (filter p xs)) (all x) ∙ ap (λ rest. x ∷ rest) (filter-all p xs all)
-
-pub filter-map : {X Y : Type 0} (p : Y → Bool) (h : X → Y) (xs : List X) → filter p (map h xs) ≡ map h (filter (λ x. p (h x)) xs)
-filter-map p h [] = refl
-filter-map p h (x ∷ xs) = through (p (h x)) (filter-map p h xs)
-  where
-    through : (passes : Bool) → filter p (map h xs) ≡ map h (filter (λ y. p (h y)) xs) → cond passes (h x ∷ filter p (map h xs)) (filter p (map h xs)) ≡ map h (cond passes (x ∷ filter (λ y. p (h y)) xs) (filter (λ y. p (h y)) xs))
-    through true rest = ap (λ more. h x ∷ more) rest
-    through false rest = rest
+use Rattle.moos_mail.proofs.Lists.{filter-all, filter-map, list_any-push, take-next}
 
 -- what neither test finds
 filter-neither : {X : Type 0} (p q : X → Bool) (xs : List X) → filter (λ x. not (p x || q x)) xs ≡ filter (λ x. not (q x)) (filter (λ x. not (p x)) xs)
@@ -34,13 +19,6 @@ filter-neither p q (x ∷ xs) = through (p x) (filter-neither p q xs)
         ≡ filter (λ y. not (q y)) (cond (not found) (x ∷ filter (λ y. not (p y)) xs) (filter (λ y. not (p y)) xs))
     through true rest = rest
     through false rest = ap (λ more. cond (not (q x)) (x ∷ more) more) rest
-
-pub list_any-push : {X : Type 0} (p : X → Bool) (xs : List X) (x : X) → list_any p (xs ++ x ∷ []) ≡ (list_any p xs || p x)
-list_any-push p xs x = list_any-append p xs (x ∷ []) ∙ ap (λ b. list_any p xs || b) (or-false (p x))
-  where
-    or-false : (b : Bool) → (b || false) ≡ b
-    or-false true = refl
-    or-false false = refl
 
 -- live registrations
 

@@ -1,5 +1,5 @@
 ghost use Rattle.std.specs.Prelude.{◌≡◌, ◌≤◌, ◌+◌, ◌++◌, ◌∷◌, [], false, OnOk, OnErr};
-ghost use Rattle.moos_mail.specs.Mailboxes.{is_among};
+ghost use Rattle.moos_mail.specs.Mailboxes.{is_one_of};
 
 use crate::numbers::Numbers;
 use indexmap::IndexSet;
@@ -21,9 +21,9 @@ pub struct Mailbox {
 impl Model for Mailbox {
     ghost use Rattle.std.specs.Prelude.{◌-◌, min, vec_len, vec_capacity};
     ghost use Rattle.indexmap.specs.IndexSet.{spare};
-    ghost use Rattle.moos_mail.specs.Mailboxes.{Held};
+    ghost use Rattle.moos_mail.specs.Mailboxes.{MailboxState};
 
-    ghost Value = { Held };
+    ghost Value = { MailboxState };
 
     ghost view = { λ mailbox. record {
       waiting = mailbox.waiting.items;
@@ -61,7 +61,7 @@ impl Mailbox {
     #[tactic(auto, using(crate::proofs::Mailing::goes_last))]
     pub fn append(&mut self, number: u64)
         requires room { 1 ≤ self.old.spare }
-        requires new { is_among number self.old.mailed ≡ false }
+        requires new { is_one_of number self.old.mailed ≡ false }
         ensures waiting { self.new.waiting ≡ self.old.waiting ++ number ∷ [] }
         ensures mailed { self.new.mailed ≡ self.old.mailed ++ number ∷ [] }
         ensures spare { self.old.spare ≤ self.new.spare + 1 }
@@ -72,7 +72,7 @@ impl Mailbox {
 
     /// Whether the post with this number was ever mailed.
     pub fn mailed(&self, number: u64) -> bool
-        ensures { result ≡ is_among number self.now.mailed }
+        ensures { result ≡ is_one_of number self.now.mailed }
     {
         self.mailed.contains(&number)
     }
@@ -89,6 +89,7 @@ impl Mailbox {
         ensures given { result ≡ self.old.waiting }
         ensures waiting { self.new.waiting ≡ [] }
         ensures mailed { self.new.mailed ≡ self.old.mailed }
+        ensures spare { self.new.spare ≡ 0 }
     {
         Numbers::of(mem::replace(&mut self.waiting, Vec::new(alloc)))
     }

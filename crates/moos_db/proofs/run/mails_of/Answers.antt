@@ -1,7 +1,7 @@
 use Rattle.std.proofs.Common.{ap, sym, ◌∙◌, subst, Some}
 use Rattle.moos_post.specs.Delivery.{mail_of_entry}
 use Rattle.moos_post.specs.History.{posts_of}
-use Rattle.moos_db.specs.Database.{Database, with_entry, AreLetters, AreMails}
+use Rattle.moos_db.specs.Database.{Database, after_entry, AreLetters, AreMails}
 use Rattle.moos_db.proofs.Runs.{AreMails-push}
 use Rattle.moos_db.proofs.run.mails_of.Goals as goal
 
@@ -9,7 +9,7 @@ pub loop-call-preserved : goal.loop-call-preserved
 loop-call-preserved c = record {
   next = tt;
   finite = tt;
-  db = c.in_ok-mail_of.ensures.ok ∙ ap (λ (db : Database). with_entry db c.in-Some.call) c.loop-call.invariant.db;
+  db = c.in_ok-mail_of.ensures.ok ∙ ap (λ (db : Database). after_entry db c.in-Some.call) c.loop-call.invariant.db;
   mails =
       subst (AreMails c.args.names _) (sym c.in_ok-push.ensures.items)
       (AreMails-push c.args.names c.loop-call.yielded c.loop-call.mails.items c.in-Some.call _
