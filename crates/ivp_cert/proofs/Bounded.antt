@@ -17,12 +17,16 @@ use Rattle.ivp_cert.specs.declared.phase.Phase.{Phase}
 use Rattle.ivp_cert.specs.declared.phase.Phase.TheVariants.{Done, OfCuts, OfProblem}
 use Rattle.ivp_cert.specs.declared.stage.Stage.{Stage}
 use Rattle.ivp_cert.specs.declared.stage.Stage.TheVariants.{Start, Begun, Axes, Functions, Ended}
-use Rattle.ivp_cert.specs.Decisions.{after_cuts, after_problem, after_stage, are_on, bound_with, claimed, decision_of, in_form, line_from, line_with, of_problem, phase_after, point_at, spelled, Spelled, spelled_with, sum_word, whole_decision, with_done, with_line}
-use Rattle.ivp_cert.specs.Problems.{after_word, and_then, at_line, read_from}
+use Rattle.ivp_cert.specs.Decisions.{are_on, bound_with, claimed, decision_of, in_form, line_from, line_with, point_at, spelled, Spelled, spelled_with, sum_word, with_claim, with_cut, with_line}
+use Rattle.ivp_cert.specs.Problems.{ended, problem_of}
+use Rattle.ivp_cert.specs.Stages.{after_cuts, after_problem, after_stage, after_word, after_words, as_now, phase_after, read_from, whole_decision, whole_problem}
+use Rattle.moos_text.specs.Refusals.{and_then}
+use Rattle.ivp_cert.specs.Said.{at_line}
 use Rattle.ivp_cert.specs.Words.{line_words, natural_of, place_of}
 use Rattle.ivp_cert.specs.Printed.{HasSums}
 use Rattle.ivp_cert.proofs.Accepting.{each_at}
 use Rattle.ivp_cert.proofs.Paths.{Each, each_append}
+use Rattle.ivp_cert.proofs.Following.{decision_read, problem_read}
 use Rattle.ivp_cert.proofs.Reading.{IsRead}
 
 -- the claim's sum, and those of the lines
@@ -105,44 +109,51 @@ from_sum path (word ∷ words) line e = by (bytes_eq word (codes ":")) (nat_lt (
     by false false more e = absurd (cc)
 
 -- one line more keeps the sums within their bounds
-ok_inside : {E : Type 0} {p q : Phase} → ◌≡◌ {A = Result Phase E} (Ok p) (Ok q) → p ≡ q
+ok_inside : {A E : Type 0} {p q : A} → ◌≡◌ {A = Result A E} (Ok p) (Ok q) → p ≡ q
 ok_inside e = cc
 
 good_at : {E : Type 0} (phase next : Phase) → ◌≡◌ {A = Result Phase E} (Ok phase) (Ok next) → Good phase → Good next
 good_at phase next e good = subst Good (ok_inside e) good
 
-of_good : (r : Result Stage ReadFault) (next : Phase) → of_problem r ≡ Ok next → Good next
+of_good : (r : Result Stage ReadFault) (next : Phase) → as_now OfProblem r ≡ Ok next → Good next
 of_good (Ok stage) next e = good_at (OfProblem stage) next e tt
 of_good (Err fault) next e = absurd (cc)
 
-claimed_good : (problem : WeightedSum) (of : Spelled) (next : Phase) → of.sum ≤ 64000000000 → claimed problem of ≡ Ok next → Good next
-claimed_good problem of next few e = by (are_on problem.axes of.places) e
+claimed_good : (problem : WeightedSum) (of : Spelled) (decision : Decision) → of.sum ≤ 64000000000 → claimed problem of ≡ Ok decision → KeepsSums decision
+claimed_good problem of decision few e = by (are_on problem.axes of.places) e
   where
-    by : (b : Bool) → cond b (Ok (OfCuts (record { problem = problem; claim = record { point = point_at of.places; sum = of.sum }; cert = [] }))) (Err P10) ≡ Ok next → Good next
-    by true e = good_at (OfCuts (record { problem = problem; claim = record { point = point_at of.places; sum = of.sum }; cert = [] })) next e (record { sum = few; sums = tt })
+    bare : Decision
+    bare = record { problem = problem; claim = record { point = point_at of.places; sum = of.sum }; cert = [] }
+
+    by : (b : Bool) → cond b (Ok bare) (Err P10) ≡ Ok decision → KeepsSums decision
+    by true e = let same : bare ≡ decision = cc in subst KeepsSums same (record { sum = few; sums = tt })
     by false e = absurd (cc)
 
 problem_good : (problem : WeightedSum) (word : List ℕ) (words : List (List ℕ)) (next : Phase) → after_problem problem word words ≡ Ok next → Good next
 problem_good problem word words next e = by (bytes_eq word (codes "decision")) e
   where
-    by : (b : Bool) → cond b (and_then (claimed problem) (in_form (spelled [] words))) (Err P1) ≡ Ok next → Good next
+    by : (b : Bool) → cond b (as_now OfCuts (with_claim problem words)) (Err P1) ≡ Ok next → Good next
     by true e =
-        let one = then_of (claimed problem) (in_form (spelled [] words)) next e in
-        claimed_good problem one.0 next (spelled_sum [] words one.0 (form_of (spelled [] words) one.0 one.1)) one.2
+        let claim = then_of (λ decision. Ok (OfCuts decision)) (with_claim problem words) next e in
+        let one = then_of (claimed problem) (in_form (spelled [] words)) claim.0 claim.1 in
+        good_at (OfCuts claim.0) next claim.2 (claimed_good problem one.0 claim.0 (spelled_sum [] words one.0 (form_of (spelled [] words) one.0 one.1)) one.2)
     by false e = absurd (cc)
 
-done_good : (decision : Decision) (words : List (List ℕ)) (next : Phase) → KeepsSums decision → with_done decision words ≡ Ok next → Good next
+done_good : (decision : Decision) (words : List (List ℕ)) (next : Phase) → KeepsSums decision → as_now Done (ended decision words) ≡ Ok next → Good next
 done_good decision [] next good e = good_at (Done decision) next e good
 done_good decision (word ∷ words) next good e = absurd (cc)
 
 cuts_good : (decision : Decision) (word : List ℕ) (words : List (List ℕ)) (next : Phase) → KeepsSums decision → after_cuts decision word words ≡ Ok next → Good next
 cuts_good decision word words next good e = by (bytes_eq word (codes "cut")) (bytes_eq word (codes "done")) e
   where
-    by : (cut done : Bool) → cond cut (and_then (λ line. Ok (with_line decision line)) (in_form (line_from [] words))) (cond done (with_done decision words) (Err P1)) ≡ Ok next → Good next
+    by : (cut done : Bool) → cond cut (as_now OfCuts (with_cut decision words)) (cond done (as_now Done (ended decision words)) (Err P1)) ≡ Ok next → Good next
     by true done e =
-        let one = then_of (λ line. Ok (with_line decision line)) (in_form (line_from [] words)) next e in
+        let more = then_of (λ decision. Ok (OfCuts decision)) (with_cut decision words) next e in
+        let one = then_of (λ line. Ok (with_line decision line)) (in_form (line_from [] words)) more.0 more.1 in
         let few = from_sum [] words one.0 (form_of (line_from [] words) one.0 one.1) in
-        good_at (with_line decision one.0) next one.2 (record { sum = good.sum; sums = each_append (λ (line : Line). line.sum ≤ 64000000000) decision.cert (one.0 ∷ []) good.sums (few, tt) })
+        let keeps : KeepsSums (with_line decision one.0) = record { sum = good.sum; sums = each_append (λ (line : Line). line.sum ≤ 64000000000) decision.cert (one.0 ∷ []) good.sums (few, tt) } in
+        let same : with_line decision one.0 ≡ more.0 = ok_inside one.2 in
+        good_at (OfCuts more.0) next more.2 (subst KeepsSums same keeps)
     by false true e = done_good decision words next good e
     by false false e = absurd (cc)
 
@@ -172,7 +183,7 @@ whole_good last (Done done) decision good e = let same : done ≡ decision = cc 
 
 read_keeps : (bytes : List ℕ) (decision : Decision) → decision_of bytes ≡ Ok decision → KeepsSums decision
 read_keeps bytes decision e =
-    let one = then_of (whole_decision (max 1 (length (raw_lines bytes)))) (read_from phase_after 0 (OfProblem Start) (raw_lines bytes)) decision e in
+    let one = then_of (whole_decision (max 1 (length (raw_lines bytes)))) (read_from phase_after 0 (OfProblem Start) (raw_lines bytes)) decision (decision_read bytes ∙ e) in
     whole_good (max 1 (length (raw_lines bytes))) one.0 decision (read_good (raw_lines bytes) 0 (OfProblem Start) one.0 tt one.1) one.2
 
 -- as the reader answers
@@ -188,4 +199,11 @@ read_whole bytes lines last phase left read none is =
     let so_far : read_from phase_after 0 (OfProblem Start) (raw_lines bytes) ≡ Ok phase = read.so_far ∙ ap (λ text. read_from phase_after lines phase (raw_lines text)) none in
     let counted : length (raw_lines bytes) ≡ lines = sym read.counted ∙ (ap (λ text. lines + length (raw_lines text)) none ∙ omega arith) in
     let same : max 1 (length (raw_lines bytes)) ≡ last = omega (arith, counted, is) in
-    ap (and_then (whole_decision (max 1 (length (raw_lines bytes))))) so_far ∙ ap (λ n. whole_decision n phase) same
+    sym (decision_read bytes) ∙ ap (and_then (whole_decision (max 1 (length (raw_lines bytes))))) so_far ∙ ap (λ n. whole_decision n phase) same
+
+pub problem_whole : (bytes : List ℕ) (lines last : ℕ) (stage : Stage) (left : List ℕ) → IsRead after_words Start bytes lines stage left → left ≡ [] → last ≡ max lines 1 → problem_of bytes ≡ whole_problem last stage
+problem_whole bytes lines last stage left read none is =
+    let so_far : read_from after_words 0 Start (raw_lines bytes) ≡ Ok stage = read.so_far ∙ ap (λ text. read_from after_words lines stage (raw_lines text)) none in
+    let counted : length (raw_lines bytes) ≡ lines = sym read.counted ∙ (ap (λ text. lines + length (raw_lines text)) none ∙ omega arith) in
+    let same : max 1 (length (raw_lines bytes)) ≡ last = omega (arith, counted, is) in
+    sym (problem_read bytes) ∙ ap (and_then (whole_problem (max 1 (length (raw_lines bytes))))) so_far ∙ ap (λ n. whole_problem n stage) same

@@ -6,11 +6,13 @@ use Rattle.moos_text.specs.Lines.{raw_lines}
 use Rattle.ivp_cert.specs.declared.claim.Decision.{Decision}
 use Rattle.ivp_cert.specs.declared.phase.Phase.TheVariants.{Done, OfCuts, OfProblem}
 use Rattle.ivp_cert.specs.declared.stage.Stage.TheVariants.{Ended, Start}
-use Rattle.ivp_cert.specs.Decisions.{decision_of, whole_decision}
+use Rattle.ivp_cert.specs.Decisions.{decision_of}
 use Rattle.ivp_cert.specs.Printed.{AllOf, IsPrefix, IsPrintableLine, IsPrintableProblem}
-use Rattle.ivp_cert.specs.Problems.{and_then}
+use Rattle.ivp_cert.specs.Stages.{whole_decision}
+use Rattle.moos_text.specs.Refusals.{and_then}
 use Rattle.ivp_cert.specs.Texts.{claim_text, decision_lines, line_text, problem_text}
 use Rattle.ivp_cert.proofs.Accepting.{each_from}
+use Rattle.ivp_cert.proofs.Following.{decision_read}
 use Rattle.ivp_cert.proofs.Taking.{Leads, takes_both}
 use Rattle.ivp_cert.proofs.TakingClaims.{claim_taken, IsPrintableClaim}
 use Rattle.ivp_cert.proofs.TakingCuts.{cuts_taken, done_taken}
@@ -44,4 +46,4 @@ pub decision_back : (prefix : List ℕ) (decision : Decision) → IsPrefix prefi
 decision_back prefix decision at is =
     let text = decision_lines prefix decision in
     let read = (decision_taken prefix decision at is).takes.on [] in
-    ap decision_of (sym (append-nil text)) ∙ ap (and_then (whole_decision (max 1 (length (raw_lines (text ++ [])))))) read
+    ap decision_of (sym (append-nil text)) ∙ sym (decision_read (text ++ [])) ∙ ap (and_then (whole_decision (max 1 (length (raw_lines (text ++ [])))))) read

@@ -5,7 +5,8 @@ use Rattle.std.proofs.lemmas.Bool.Decides.{nat_tests}
 use Rattle.std.proofs.lemmas.List.{reverse-append, reverse-reverse}
 use Rattle.moos_text.specs.Lines.{is_blank, onto_first, raw_lines, trimmed, without_front_blanks, without_return, words_of}
 use Rattle.ivp_cert.specs.Printed.{IsPrefix}
-use Rattle.ivp_cert.specs.Problems.{and_then, read_from}
+use Rattle.moos_text.specs.Refusals.{and_then}
+use Rattle.ivp_cert.specs.Stages.{read_from}
 use Rattle.ivp_cert.specs.Words.{line_words, without_prefix}
 use Rattle.ivp_cert.proofs.Paths.{Each}
 use Rattle.ivp_cert.proofs.Reading.{After}

@@ -1,8 +1,11 @@
 -- The lines of a file one after another, and what the whole comes to.
-use Rattle.std.proofs.Common.{◌≡◌, ℕ, suc, ◌+◌, ◌≤◌, Result, Ok, List, ◌∷◌, length, ap, sym, ◌∙◌, arith, add-one}
+use Rattle.std.proofs.Common.{◌≡◌, ℕ, suc, ◌+◌, ◌≤◌, Result, Ok, Err, List, ◌∷◌, length, ap, sym, subst, ◌∙◌, arith, add-one}
+use Rattle.std.specs.Prelude.{IfErr, IfOk}
 use Rattle.moos_text.specs.declared.cause.ReadFault.{ReadFault}
+use Rattle.moos_text.specs.declared.cause.ReadFault.TheVariants.{At, NoMemory}
 use Rattle.moos_text.specs.Lines.{first_line, raw_lines, trimmed, without_return, words_of}
-use Rattle.ivp_cert.specs.Problems.{and_then, read_from}
+use Rattle.moos_text.specs.Refusals.{and_then, IsFirst}
+use Rattle.ivp_cert.specs.Stages.{read_from}
 use Rattle.ivp_cert.specs.Words.{without_prefix}
 
 -- what one line more comes to, by its number and its words
@@ -39,3 +42,27 @@ one_read after start bytes lines state then left line rest read next good = reco
   counted = let long = ap length next.lines in omega (arith, read.counted);
   within = omega (arith, read.within, next.shorter);
 }
+
+-- a line that is refused, which is the first one
+first_then : {S A : Type 0} (whole : S → Result A ReadFault) (fault : ReadFault) (r : Result S ReadFault) → IsFirst fault r → IsFirst fault (and_then whole r)
+first_then whole (At line cause) r e = ap (and_then whole) e
+first_then whole NoMemory r e = tt
+
+first_as : {S : Type 0} (fault : ReadFault) (r same : Result S ReadFault) → r ≡ same → IsFirst fault r → IsFirst fault same
+first_as fault r same e is = subst (IsFirst fault) e is
+
+pub one_refused : {S A : Type 0} (after : After S) (start : S) (whole : S → Result A ReadFault) (all : Result A ReadFault) (bytes : List ℕ) (lines : ℕ) (state : S) (left line rest : List ℕ) (fault : ReadFault) → and_then whole (read_from after 0 start (raw_lines bytes)) ≡ all → IsRead after start bytes lines state left → IsNext left line rest → IsFirst fault (after (lines + 1) state (said_by line)) → IsFirst fault all
+one_refused after start whole all bytes lines state left line rest fault e read next is =
+    let here = first_then (λ s. read_from after (lines + 1) s (raw_lines rest)) fault (after (lines + 1) state (said_by line)) is in
+    let same = read.so_far ∙ lines_left after lines state left line rest next in
+    first_as fault _ all e (first_then whole fault _ (first_as fault _ _ (sym same) here))
+
+-- what the reader answers, where it is what the bytes stand for
+pub told_value : {A : Type 0} (all answer : Result A ReadFault) → all ≡ answer → IfOk answer (λ value. all ≡ Ok value)
+told_value all (Ok value) e = e
+told_value all (Err fault) e = tt
+
+pub told_fault : {A : Type 0} (all answer : Result A ReadFault) → all ≡ answer → IfErr answer (λ fault. IsFirst fault all)
+told_fault all (Ok value) e = tt
+told_fault all (Err (At line cause)) e = e
+told_fault all (Err NoMemory) e = tt

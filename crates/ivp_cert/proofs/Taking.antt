@@ -2,9 +2,9 @@
 use Rattle.std.proofs.Common.{◌≡◌, ℕ, suc, ◌≤◌, Ok, List, [], ◌∷◌, ◌++◌, refl, ap, sym, ◌∙◌, append_assoc}
 use Rattle.moos_text.specs.Lines.{raw_lines}
 use Rattle.ivp_cert.specs.declared.phase.Phase.{Phase}
-use Rattle.ivp_cert.specs.Decisions.{after_first, phase_after}
 use Rattle.ivp_cert.specs.Printed.{IsPrefix}
-use Rattle.ivp_cert.specs.Problems.{and_then, read_from}
+use Rattle.ivp_cert.specs.Stages.{after_first, phase_after, read_from}
+use Rattle.moos_text.specs.Refusals.{and_then}
 use Rattle.ivp_cert.proofs.Paths.{Each}
 use Rattle.ivp_cert.proofs.PrintedLines.{IsWord, line_of, line_taken}
 

@@ -8,9 +8,9 @@ use Rattle.ivp_domain.proofs.Sizes.{four_axes}
 use Rattle.ivp_cert.specs.declared.phase.Phase.TheVariants.{OfProblem}
 use Rattle.ivp_cert.specs.declared.stage.Stage.{Stage}
 use Rattle.ivp_cert.specs.declared.stage.Stage.TheVariants.{Begun, Axes}
-use Rattle.ivp_cert.specs.Decisions.{after_first}
 use Rattle.ivp_cert.specs.Printed.{IsPrefix}
 use Rattle.ivp_cert.specs.Problems.{with_domain}
+use Rattle.ivp_cert.specs.Stages.{after_first}
 use Rattle.ivp_cert.specs.Texts.{axis_text}
 use Rattle.ivp_cert.proofs.Paths.{Each}
 use Rattle.ivp_cert.proofs.PrintedAxes.{axis_back, axis_is_word, axis_line, axis_word, IsPrintedAxis}
@@ -27,7 +27,7 @@ stage_more : (before : List Axis) (axis : Axis) → stage_at (before ++ axis ∷
 stage_more [] axis = refl
 stage_more (first ∷ before) axis = refl
 
-axis_added : (before after : List Axis) (axis : Axis) → is_domain (before ++ axis ∷ after) ≡ true → IsPrintedAxis axis → with_domain before (axis_word axis ∷ []) ≡ Ok (Axes (before ++ axis ∷ []))
+axis_added : (before after : List Axis) (axis : Axis) → is_domain (before ++ axis ∷ after) ≡ true → IsPrintedAxis axis → with_domain before (axis_word axis ∷ []) ≡ Ok (before ++ axis ∷ [])
 axis_added before after axis domain is =
     let few : nat_lt (length before) 4 ≡ true = less (length before) (length (before ++ axis ∷ after)) (length-append before (axis ∷ after)) (four_axes (before ++ axis ∷ after) domain) in
     let whole : is_domain ((before ++ axis ∷ []) ++ after) ≡ true = ap is_domain (append_assoc before (axis ∷ []) after) ∙ domain in

@@ -10,7 +10,8 @@ use Rattle.ivp_problem.specs.Problems.{WeightedSum}
 use Rattle.ivp_cert.specs.declared.claim.Claim.{Claim}
 use Rattle.ivp_cert.specs.declared.phase.Phase.TheVariants.{OfCuts, OfProblem}
 use Rattle.ivp_cert.specs.declared.stage.Stage.TheVariants.{Ended}
-use Rattle.ivp_cert.specs.Decisions.{after_first, are_on, spelled, spelled_with}
+use Rattle.ivp_cert.specs.Decisions.{are_on, spelled, spelled_with}
+use Rattle.ivp_cert.specs.Stages.{after_first}
 use Rattle.ivp_cert.specs.Printed.{IsPrefix}
 use Rattle.ivp_cert.specs.Texts.{claim_text}
 use Rattle.ivp_cert.proofs.Paths.{Each, each_append}

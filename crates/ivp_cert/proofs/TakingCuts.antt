@@ -5,7 +5,8 @@ use Rattle.std.proofs.lemmas.Bool.Decides.{nat_tests}
 use Rattle.ivp_cert.specs.declared.cert.Line.{Line}
 use Rattle.ivp_cert.specs.declared.claim.Decision.{Decision}
 use Rattle.ivp_cert.specs.declared.phase.Phase.TheVariants.{Done, OfCuts}
-use Rattle.ivp_cert.specs.Decisions.{after_first, line_from}
+use Rattle.ivp_cert.specs.Decisions.{line_from}
+use Rattle.ivp_cert.specs.Stages.{after_first}
 use Rattle.ivp_cert.specs.Printed.{IsPrefix, IsPrintableLine}
 use Rattle.ivp_cert.specs.Texts.{line_text}
 use Rattle.ivp_cert.proofs.Accepting.{each_from}

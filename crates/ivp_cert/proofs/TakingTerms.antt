@@ -12,9 +12,10 @@ use Rattle.ivp_problem.specs.Problems.{is_weight, WeightedSum}
 use Rattle.ivp_cert.specs.declared.phase.Phase.TheVariants.{OfProblem}
 use Rattle.ivp_cert.specs.declared.stage.Stage.{Stage}
 use Rattle.ivp_cert.specs.declared.stage.Stage.TheVariants.{Axes, Ended, Functions}
-use Rattle.ivp_cert.specs.Decisions.{after_first, of_problem}
 use Rattle.ivp_cert.specs.Printed.{HasFourPlaces, IsPrefix}
-use Rattle.ivp_cert.specs.Problems.{at_line, finished, with_function}
+use Rattle.ivp_cert.specs.Problems.{finished, with_function}
+use Rattle.ivp_cert.specs.Stages.{after_first, as_now}
+use Rattle.ivp_cert.specs.Said.{at_line}
 use Rattle.ivp_cert.specs.Texts.{piece_text, term_text}
 use Rattle.ivp_cert.specs.Unfinished.{UnfinishedSum}
 use Rattle.ivp_cert.proofs.Paths.{Each}
@@ -39,7 +40,7 @@ with_terms before terms = record { axes = before.axes; terms = before.terms ++ t
 
 -- behind this stage a function may stand, with these before it
 pub record Opens (before : WeightedSum) (stage : Stage) : Type 0 where
-  pub function : (line : ℕ) (words : List (List ℕ)) → after_first line (OfProblem stage) (codes "function") words ≡ of_problem (at_line line (with_function before line words))
+  pub function : (line : ℕ) (words : List (List ℕ)) → after_first line (OfProblem stage) (codes "function") words ≡ as_now OfProblem (at_line line (as_now Functions (with_function before line words)))
 
 pub axes_open : (axis : Axis) (axes : List Axis) → Opens (record { axes = axis ∷ axes; terms = [] }) (Axes (axis ∷ axes))
 axes_open axis axes = record { function = λ line words. refl }
@@ -72,10 +73,10 @@ weight_taken lines prefix before stage term at opens weight few =
     let then = OfProblem (Functions (bare before (suc lines) term)) in
     let small = small_weight term.weight weight in
     let room : nat_lt (length before.terms) 64 ≡ true = less (length before.terms) few in
-    let good : with_function before (suc lines) (decimal term.weight ∷ []) ≡ Ok (Functions (bare before (suc lines) term)) = rw (room, whole_back term.weight (omega (arith, small)), weight) refl in
+    let good : with_function before (suc lines) (decimal term.weight ∷ []) ≡ Ok (bare before (suc lines) term) = rw (room, whole_back term.weight (omega (arith, small)), weight) refl in
     takes_as lines (suc lines) (OfProblem stage) then _ _ (function_line prefix term.weight)
     (takes_line lines (OfProblem stage) then prefix 102 (codes "unction") (decimal term.weight ∷ []) at (omega arith) function_word (decimal_word term.weight (omega (arith, small)), tt)
-    (opens.function (suc lines) (decimal term.weight ∷ []) ∙ ap (λ r. of_problem (at_line (suc lines) r)) good))
+    (opens.function (suc lines) (decimal term.weight ∷ []) ∙ ap (λ r. as_now OfProblem (at_line (suc lines) (as_now Functions r))) good))
   where
     less : (n : ℕ) → n < 64 → nat_lt n 64 ≡ true
     less n h = grind (arith, nat_tests)

@@ -2,9 +2,11 @@ pub mod Unfinished
 pub mod Words
 pub mod Making
 pub mod Pieces
+pub mod Said
 pub mod Problems
 pub mod Certificates
 pub mod Walks
 pub mod Decisions
+pub mod Stages
 pub mod Texts
 pub mod Printed

@@ -34,7 +34,7 @@ impl Path {
     }
 
     /// The path of these numbers.
-    pub fn of(alloc: Global, numbers: &[u32]) -> Result<Path, NoMemory>
+    pub(crate) fn of(alloc: Global, numbers: &[u32]) -> Result<Path, NoMemory>
         requires { length numbers.now ≤ 64 }
         ensures { IfOk result (λ path. path ≡ numbers.now) }
     {

@@ -2,7 +2,8 @@ ghost use Rattle.std.specs.Prelude.{◌≡◌, Ok, IfOk, IfErr, IsTrue};
 ghost use Rattle.moos_text.specs.Lines.{trimmed, words_of};
 ghost use Rattle.ivp_domain.specs.Domains.{is_point};
 ghost use Rattle.moos_text.specs.Refusals.{IsFirst, IsLineFault};
-ghost use Rattle.ivp_cert.specs.Decisions.{after_cuts, after_first, after_problem, after_stage, claimed, HasPoint, phase_after, spelled_with, whole_decision, with_done};
+ghost use Rattle.ivp_cert.specs.Decisions.{claimed, spelled_with};
+ghost use Rattle.ivp_cert.specs.Stages.{HasPoint, after_cuts, after_first, after_problem, after_stage, phase_after, whole_decision};
 ghost use Rattle.ivp_cert.specs.Words.{without_prefix};
 
 use crate::cert::Cert;
@@ -121,15 +122,15 @@ fn after_problem(
     }
     let spelled = spelled_in(alloc, rest)?;
     match claimed(alloc, problem, &spelled) {
-        Ok(phase) => Ok(phase),
+        Ok(decision) => Ok(Phase::OfCuts(decision)),
         Err(cause) => Err(LineFault::Refused(cause)),
     }
 }
 
 // The decision on a problem, which has no line yet; a point outside the domain is refused.
-fn claimed(alloc: Global, problem: Problem, of: &Spelled) -> Result<Phase, Cause>
+fn claimed(alloc: Global, problem: Problem, of: &Spelled) -> Result<Decision, Cause>
     ensures claimed { result ≡ claimed problem (spelled_with of.now.places.items of.now.sum) }
-    ensures point { IfOk result HasPoint }
+    ensures point { IfOk result (λ decision. IsTrue (is_point decision.problem.axes decision.claim.point)) }
 {
     if !are_on(problem.domain().all(), &of.places) {
         return Err(Cause::P10);
@@ -138,11 +139,11 @@ fn claimed(alloc: Global, problem: Problem, of: &Spelled) -> Result<Phase, Cause
         point: point_at(&of.places),
         sum: of.sum,
     };
-    Ok(Phase::OfCuts(Decision {
+    Ok(Decision {
         problem,
         claim,
         cert: Cert::new(alloc),
-    }))
+    })
 }
 
 // In a certificate stands one line more, or its end.

@@ -2,9 +2,10 @@ ghost use Rattle.std.specs.Prelude.{◌≡◌, ◌+◌, ◌<◌, ◌∷◌, ◌+
 ghost use Rattle.moos_text.specs.Lines.{trimmed, words_of};
 ghost use Rattle.moos_text.specs.Refusals.{IsFirst, IsLineFault};
 ghost use Rattle.ivp_problem.specs.Problems.{is_weight};
-ghost use Rattle.ivp_cert.specs.Problems.{after_axes, after_begun, after_functions, after_word, after_words, at_line, begun, ended, ended_early, over, whole_problem, with_axis, with_domain, with_function, with_piece, with_weight};
+ghost use Rattle.ivp_cert.specs.Problems.{ended, ended_early, over, with_axis, with_domain, with_function, with_piece, with_weight};
+ghost use Rattle.ivp_cert.specs.Stages.{after_axes, after_begun, after_functions, after_word, after_words, begun, whole_problem};
+ghost use Rattle.ivp_cert.specs.Said.{at_line};
 ghost use Rattle.ivp_cert.specs.Pieces.{piece_of};
-ghost use Rattle.ivp_cert.specs.declared.stage.Stage.TheVariants.{Functions};
 ghost use Rattle.ivp_cert.specs.Words.{axis_of, without_prefix};
 
 use crate::piece::piece_of;
@@ -120,7 +121,8 @@ fn after_begun(word: &[u8], rest: &[u8]) -> Result<Stage, Cause>
     ensures { result ≡ after_begun word.now (words_of rest.now) }
 {
     if word == b"domain".as_slice() {
-        with_domain(&[], rest)
+        let domain = with_domain(&[], rest)?;
+        Ok(Stage::Axes(domain))
     } else {
         Err(Cause::P1)
     }
@@ -137,9 +139,11 @@ fn after_axes(
     ensures { result ≡ after_axes domain.now number word.now (words_of rest.now) }
 {
     if word == b"domain".as_slice() {
-        with_domain(domain.all(), rest)
+        let domain = with_domain(domain.all(), rest)?;
+        Ok(Stage::Axes(domain))
     } else if word == b"function".as_slice() {
-        with_function(alloc, Terms::new(alloc, *domain), number, rest)
+        let sum = with_function(alloc, Terms::new(alloc, *domain), number, rest)?;
+        Ok(Stage::Functions(sum))
     } else if word == b"end".as_slice() {
         Err(ended_early(rest))
     } else {
@@ -166,17 +170,23 @@ fn after_functions(
     }
     if word == b"function".as_slice() {
         let before = sum.finished(alloc)?;
-        return at_line(number, with_function(alloc, before, number, rest));
+        return match with_function(alloc, before, number, rest) {
+            Ok(sum) => Ok(Stage::Functions(sum)),
+            Err(cause) => at_line(number, Err(cause)),
+        };
     }
     if word == b"end".as_slice() {
         let whole = sum.finished(alloc)?;
-        return at_line(number, ended(whole, rest));
+        return match ended(whole, rest) {
+            Ok(problem) => Ok(Stage::Ended(problem)),
+            Err(cause) => at_line(number, Err(cause)),
+        };
     }
     at_line(number, Err(Cause::P1))
 }
 
 // What stands behind `domain` is one word.
-fn with_domain(axes: &[Axis], rest: &[u8]) -> Result<Stage, Cause>
+fn with_domain(axes: &[Axis], rest: &[u8]) -> Result<Domain, Cause>
     ensures { result ≡ with_domain axes.now (words_of rest.now) }
 {
     let Some((word, rest)) = next_word(rest) else {
@@ -192,14 +202,14 @@ fn with_domain(axes: &[Axis], rest: &[u8]) -> Result<Stage, Cause>
 }
 
 // One axis more: the fifth is refused, and one that makes no domain with those before it.
-fn with_axis(axes: &[Axis], axis: Axis) -> Result<Stage, Cause>
+fn with_axis(axes: &[Axis], axis: Axis) -> Result<Domain, Cause>
     ensures { result ≡ with_axis axes.now (Some axis) }
 {
     if axes.len() >= MOST_AXES {
         return Err(Cause::P2);
     }
     match Domain::make(&one_more(axes, axis)[..axes.len() + 1]) {
-        Ok(domain) => Ok(Stage::Axes(domain)),
+        Ok(domain) => Ok(domain),
         Err(_) => Err(Cause::P2),
     }
 }
@@ -215,7 +225,7 @@ fn one_more(axes: &[Axis], axis: Axis) -> [Axis; 4]
 }
 
 // What stands behind `function` is one word; a 65th function is refused, and a weight out of range.
-fn with_function(alloc: Global, before: Terms, line: u32, rest: &[u8]) -> Result<Stage, Cause>
+fn with_function(alloc: Global, before: Terms, line: u32, rest: &[u8]) -> Result<Unfinished, Cause>
     ensures { result ≡ with_function before line (words_of rest.now) }
 {
     let Some((word, rest)) = next_word(rest) else {
@@ -234,12 +244,12 @@ fn with_function(alloc: Global, before: Terms, line: u32, rest: &[u8]) -> Result
 }
 
 // One function more, which has no piece yet.
-fn with_weight(alloc: Global, before: Terms, line: u32, weight: u32) -> Result<Stage, Cause>
+fn with_weight(alloc: Global, before: Terms, line: u32, weight: u32) -> Result<Unfinished, Cause>
     requires { length before.terms < 64 }
     ensures { result ≡ with_weight before line (Some weight) }
 {
     if 1 <= weight && weight <= MOST_WEIGHT {
-        Ok(Stage::Functions(Unfinished::new(alloc, before, line, weight)))
+        Ok(Unfinished::new(alloc, before, line, weight))
     } else {
         Err(Cause::P6)
     }
@@ -247,7 +257,7 @@ fn with_weight(alloc: Global, before: Terms, line: u32, weight: u32) -> Result<S
 
 // One piece more of the last function.
 fn with_piece(sum: Unfinished, rest: &[u8]) -> Result<Unfinished, LineFault>
-    ensures read { IfOk result (λ more. with_piece sum (piece_of (length sum.before.axes) (words_of rest.now)) ≡ Ok (Functions more)) }
+    ensures read { IfOk result (λ more. with_piece sum (piece_of (length sum.before.axes) (words_of rest.now)) ≡ Ok more) }
     ensures refused { IfErr result (λ fault. IsLineFault fault (with_piece sum (piece_of (length sum.before.axes) (words_of rest.now)))) }
 {
     match piece_of(sum.domain().axes(), rest) {
@@ -257,19 +267,19 @@ fn with_piece(sum: Unfinished, rest: &[u8]) -> Result<Unfinished, LineFault>
 }
 
 // No word stands behind `end`.
-fn ended(whole: Terms, rest: &[u8]) -> Result<Stage, Cause>
+fn ended(whole: Terms, rest: &[u8]) -> Result<Problem, Cause>
     requires { 0 < length whole.terms }
     ensures { result ≡ ended whole (words_of rest.now) }
 {
     if next_word(rest).is_some() {
         return Err(Cause::P1);
     }
-    Ok(Stage::Ended(whole.into_problem()))
+    Ok(whole.into_problem())
 }
 
-// `end` without a function.
+// Why `end` without a function is refused.
 fn ended_early(rest: &[u8]) -> Cause
-    ensures { ended_early (words_of rest.now) ≡ Err result }
+    ensures { result ≡ ended_early (words_of rest.now) }
 {
     if next_word(rest).is_some() {
         Cause::P1

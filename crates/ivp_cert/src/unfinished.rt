@@ -4,7 +4,6 @@ ghost use Rattle.ivp_func.specs.Pieces.{is_box_of, is_piece_of};
 ghost use Rattle.ivp_problem.specs.Problems.{is_weight};
 ghost use Rattle.ivp_cert.specs.Making.{line_fault};
 ghost use Rattle.ivp_cert.specs.Problems.{finished, with_piece};
-ghost use Rattle.ivp_cert.specs.declared.stage.Stage.TheVariants.{Functions};
 
 use crate::terms::Terms;
 use ivp_domain::Domain;
@@ -77,7 +76,7 @@ impl Unfinished {
     /// One piece more of the last function.
     pub fn with_piece(mut self, piece: Piece) -> Result<Unfinished, LineFault>
         requires { is_piece_of self.before.axes piece ≡ is_box_of self.before.axes piece.area }
-        ensures read { IfOk result (λ sum. with_piece self (Some piece) ≡ Ok (Functions sum)) }
+        ensures read { IfOk result (λ sum. with_piece self (Some piece) ≡ Ok sum) }
         ensures refused { IfErr result (λ fault. IsLineFault fault (with_piece self (Some piece))) }
     {
         if self.pieces.len() >= MOST_PIECES {

@@ -1,5 +1,5 @@
 -- What a reader of a file answers where it doesn't give the file's value.
-use Rattle.std.specs.Prelude.{◌≡◌, ℕ, Result, Err}
+use Rattle.std.specs.Prelude.{◌≡◌, ℕ, Result, Ok, Err}
 use Rattle.moos_text.specs.declared.cause.Cause.{Cause}
 use Rattle.moos_text.specs.declared.cause.LineFault.{LineFault}
 use Rattle.moos_text.specs.declared.cause.LineFault.TheVariants.{Refused, NoMemory as OutOfMemory}
@@ -20,3 +20,8 @@ IsLineFault OutOfMemory read = Unit {0}
 abbrev pub fault_at : ℕ → LineFault → ReadFault
 fault_at line (Refused cause) = At line cause
 fault_at line OutOfMemory = NoMemory
+
+-- what comes of a good value, or the refusal
+abbrev pub and_then : {A B E : Type 0} → (A → Result B E) → Result A E → Result B E
+and_then next (Ok value) = next value
+and_then next (Err fault) = Err fault

@@ -1,6 +1,6 @@
 use Rattle.std.proofs.Common.{length}
 use Rattle.ivp_cert.specs.declared.stage.Stage.TheVariants.{Start}
-use Rattle.ivp_cert.specs.Problems.{after_words}
+use Rattle.ivp_cert.specs.Stages.{after_words}
 use Rattle.ivp_cert.proofs.Reading.{IsRead}
 use Rattle.ivp_cert.proofs.read.read_problem.Given as goal
 

@@ -1,0 +1,33 @@
+-- The lines that say something, of a problem and of a decision.
+use Rattle.std.specs.Prelude.{ℕ, suc, List, [], ◌∷◌, Result, Ok, Err}
+use Rattle.moos_text.specs.declared.cause.Cause.{Cause}
+use Rattle.moos_text.specs.declared.cause.Cause.TheVariants.{P1}
+use Rattle.moos_text.specs.declared.cause.ReadFault.{ReadFault}
+use Rattle.moos_text.specs.declared.cause.ReadFault.TheVariants.{At}
+use Rattle.ivp_cert.specs.Words.{line_words}
+
+-- a line that says something: its number, its first word, and those behind
+pub record Said : Type 0 where
+  pub line : ℕ
+  pub word : List ℕ
+  pub rest : List (List ℕ)
+
+-- the line of this number and these words in front of the lines behind it; without a word it says nothing
+abbrev pub said_with : ℕ → List (List ℕ) → List Said → List Said
+said_with line [] behind = behind
+said_with line (word ∷ rest) behind = record { line = line; word = word; rest = rest } ∷ behind
+
+-- the lines that say something, where so many lines stand before them
+abbrev pub said_from : ℕ → List (List ℕ) → List Said
+said_from before [] = []
+said_from before (raw ∷ raws) = said_with (suc before) (line_words raw) (said_from (suc before) raws)
+
+-- a refusal of this line
+abbrev pub at_line : {A : Type 0} → ℕ → Result A Cause → Result A ReadFault
+at_line line (Ok value) = Ok value
+at_line line (Err cause) = Err (At line cause)
+
+-- what was read, where no line behind it says anything
+abbrev pub last_of : {A : Type 0} → A → List Said → Result A ReadFault
+last_of value [] = Ok value
+last_of value (said ∷ behind) = Err (At said.line P1)
