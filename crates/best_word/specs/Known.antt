@@ -13,7 +13,7 @@ use Rattle.best_word.specs.declared.best.View.{View}
 abbrev pub IsKeyOf : WeightedSum → ℕ → Type 0
 IsKeyOf problem key = (p : Point) × IsTrue (is_point problem.axes p) × (key_at problem p ≡ key)
 
--- 0, while nothing was offered, or the key of a point of the problem
+-- 0, which is no point's key, or the key of a point of the problem
 abbrev pub IsKnown : WeightedSum → ℕ → Type 0
 IsKnown problem key = (key ≡ 0) ⊎ IsKeyOf problem key
 

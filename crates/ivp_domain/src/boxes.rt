@@ -14,8 +14,8 @@ pub struct BoxN {
     pub high: [u32; 4],
 }
 
-/// On each axis `low` is at most `high`.
-fn is_proper(area: &BoxN) -> bool
+/// On each axis `low` is at most `high`, so the box has points.
+pub fn is_proper(area: &BoxN) -> bool
     ensures { result ≡ is_box area.now }
 {
     area.low[0] <= area.high[0]

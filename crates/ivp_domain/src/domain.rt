@@ -5,7 +5,7 @@ ghost use Rattle.ivp_domain.specs.Boxes.{is_box, volume_of};
 ghost use Rattle.ivp_domain.specs.Domains.{bad_place, domain_of, index_of, is_domain, is_point, points_of, repeated_place, same_name, size_of, size_on, whole};
 
 use crate::axis::{Axis, filler, good_axis, number_at};
-use crate::boxes::Point;
+use crate::boxes::{BoxN, Point};
 use std::marker::Model;
 
 /// The most points that a domain may have: 2^22.
@@ -183,6 +183,22 @@ impl Domain {
         ensures proper { IsTrue (is_box (whole self.now)) }
     {
         self.size(0) * self.size(1) * self.size(2) * self.size(3)
+    }
+
+    /// The box of all points.
+    pub fn whole(&self) -> BoxN
+        ensures whole { result ≡ whole self.now }
+        ensures lawful { IsTrue (is_domain self.now) }
+    {
+        BoxN {
+            low: [0; 4],
+            high: [
+                self.size(0) - 1,
+                self.size(1) - 1,
+                self.size(2) - 1,
+                self.size(3) - 1,
+            ],
+        }
     }
 
     /// The number at a place of an axis, in thousandths of the unit: `low + floor(i * (high - low)

@@ -14,7 +14,7 @@ mod domain;
 mod steps;
 
 pub use axis::{Axis, AxisName};
-pub use boxes::{BoxN, Point, meet, volume};
+pub use boxes::{BoxN, Point, is_proper, meet, volume};
 pub use domain::{Domain, DomainFault};
 pub use steps::Steps;
 

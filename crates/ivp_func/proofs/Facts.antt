@@ -112,10 +112,6 @@ pub left_false : (a b : Bool) → (a && b) ≡ false → b ≡ true → a ≡ fa
 left_false false b h e = refl
 left_false true b h e = absurd (cc)
 
-pub if_none : {A : Type 0} (o : Option A) (P Q : Type 0) → (P → Q) → IfNone o P → IfNone o Q
-if_none None P Q f h = f h
-if_none (Some x) P Q f h = tt
-
 pub take_whole : {A : Type 0} (xs : List A) (n : ℕ) → length xs ≤ n → take n xs ≡ xs
 take_whole [] zero h = refl
 take_whole [] (suc n) h = refl

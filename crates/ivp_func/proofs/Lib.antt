@@ -1,3 +1,4 @@
+mod Examples
 pub mod Facts
 pub mod Counting
 pub mod Cover

@@ -6,11 +6,11 @@ use Rattle.ivp_domain.specs.declared.boxes.Point.{Point}
 use Rattle.ivp_domain.specs.Boxes.{common, has_point, is_box, volume_of}
 use Rattle.ivp_func.specs.declared.piece.Piece.{Piece}
 
--- the common points of a box and a piece
+-- how many points a box and a piece have in common
 abbrev pub shared_with : BoxN → Piece → ℕ
 shared_with area piece = volume_of (common area piece.area)
 
--- the points that the pieces have in the box, a point counted once for each piece that holds it
+-- how many points of the box the pieces hold, a point counted once for each piece that holds it
 abbrev pub covered_in : BoxN → List Piece → ℕ
 covered_in area pieces = sum_by (shared_with area) pieces
 

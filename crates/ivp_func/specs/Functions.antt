@@ -15,10 +15,11 @@ IsPartition axes pieces = (point : Point) → IsTrue (is_point axes point) → c
 abbrev pub HasValues : List Axis → List Piece → Type 0
 HasValues axes pieces = (point : Point) → IsTrue (is_point axes point) → IsTrue (is_value (value_at pieces point))
 
--- the same two, as tests of all points
+-- the test, point by point, that each lies in exactly one piece's box
 abbrev pub is_partition : List Axis → List Piece → Bool
 is_partition axes pieces = list_all (λ point. count_at pieces point == 1) (points_of axes)
 
+-- the test, point by point, that each value is one from 0 to 100,000
 abbrev pub has_values : List Axis → List Piece → Bool
 has_values axes pieces = list_all (λ point. is_value (value_at pieces point)) (points_of axes)
 

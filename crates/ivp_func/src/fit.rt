@@ -1,26 +1,15 @@
 ghost use Rattle.std.specs.Prelude.{◌≡◌, ◌<◌, ◌&&◌, nat_lt};
-ghost use Rattle.ivp_domain.specs.Boxes.{is_box};
 ghost use Rattle.ivp_domain.specs.Domains.{size_on};
 ghost use Rattle.ivp_func.specs.Pieces.{are_pieces_of, is_base, is_box_of, is_flat_past, is_piece_of, is_slope, is_small, slope_on};
 
 use crate::piece::Piece;
-use ivp_domain::{BoxN, Domain};
+use ivp_domain::{BoxN, Domain, is_proper};
 
 /// The greatest base, either way.
 const MOST_BASE: i64 = 1_000_000_000_000;
 
 /// The greatest slope, either way.
 const MOST_SLOPE: i64 = 100_000;
-
-/// On each axis `low` is at most `high`.
-fn is_proper(area: &BoxN) -> bool
-    ensures { result ≡ is_box area.now }
-{
-    area.low[0] <= area.high[0]
-        && area.low[1] <= area.high[1]
-        && area.low[2] <= area.high[2]
-        && area.low[3] <= area.high[3]
-}
 
 /// The domain has the place on this axis; past the last axis it has the place 0 alone.
 fn has_place(domain: &Domain, axis: u32, place: u32) -> bool

@@ -1,6 +1,6 @@
-ghost use Rattle.std.specs.Prelude.{◌≡◌, ◌≢◌, ℕ, ◌-◌, ◌*◌, ◌^◌, ◌<◌, ◌≤◌, length, IsTrue, IfSome, IfNone, nat_lt, slice_index};
+ghost use Rattle.std.specs.Prelude.{◌≡◌, ◌≢◌, ℕ, ◌*◌, ◌^◌, ◌<◌, ◌≤◌, length, IsTrue, IfSome, IfNone, nat_lt, slice_index};
 ghost use Rattle.ivp_domain.specs.Boxes.{has_point, is_box, volume_of};
-ghost use Rattle.ivp_domain.specs.Domains.{is_domain, is_point, size_on, whole};
+ghost use Rattle.ivp_domain.specs.Domains.{is_domain, is_point};
 ghost use Rattle.ivp_func.specs.Covering.{covered_in, shared_with, CutOn, SameOn, Shorter};
 ghost use Rattle.ivp_func.specs.Functions.{IsPartition};
 ghost use Rattle.ivp_func.specs.Pieces.{are_pieces_of, count_at, holds};
@@ -145,34 +145,6 @@ fn gap(area: BoxN, pieces: &[Piece]) -> Point
     first_point(&short)
 }
 
-/// The last place of the domain on an axis.
-fn last_place(domain: &Domain, axis: u32) -> u32
-    ensures last { result ≡ size_on axis domain.now - 1 }
-    ensures domain { IsTrue (is_domain domain.now) }
-{
-    if axis < domain.axes() {
-        domain.axis(axis).points - 1
-    } else {
-        0
-    }
-}
-
-/// The box of all points of the domain.
-fn whole(domain: &Domain) -> BoxN
-    ensures whole { result ≡ whole domain.now }
-    ensures domain { IsTrue (is_domain domain.now) }
-{
-    BoxN {
-        low: [0; 4],
-        high: [
-            last_place(domain, 0),
-            last_place(domain, 1),
-            last_place(domain, 2),
-            last_place(domain, 3),
-        ],
-    }
-}
-
 /// A point of the domain that no piece holds, or several.
 pub(crate) fn misfit(domain: &Domain, pieces: &[Piece]) -> Option<Point>
     requires few { length pieces.now ≤ 4096 }
@@ -184,7 +156,7 @@ pub(crate) fn misfit(domain: &Domain, pieces: &[Piece]) -> Option<Point>
     if let Some(point) = overlap(pieces) {
         return Some(point);
     }
-    let area = whole(domain);
+    let area = domain.whole();
     let points = domain.points();
     if covered(&area, pieces) < points as u64 {
         return Some(gap(area, pieces));

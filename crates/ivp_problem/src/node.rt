@@ -1,6 +1,6 @@
-ghost use Rattle.std.specs.Prelude.{◌≡◌, ℕ, ◌+◌, ◌-◌, ◌*◌, ◌^◌, ◌<◌, ◌≤◌, ◌↔◌, pos, neg_ℤ, ◌*ℤ◌, ◌≤ℤ◌, length, Some, IsTrue, IsNone, IfSome, false, ◌&&◌, slice_get, slice_index, take};
+ghost use Rattle.std.specs.Prelude.{◌≡◌, ℕ, ◌+◌, ◌*◌, ◌^◌, ◌<◌, ◌≤◌, ◌↔◌, pos, neg_ℤ, ◌*ℤ◌, ◌≤ℤ◌, length, Some, IsTrue, IsNone, IfSome, false, ◌&&◌, slice_get, slice_index, take};
 ghost use Rattle.ivp_domain.specs.Boxes.{has_point, is_box};
-ghost use Rattle.ivp_domain.specs.Domains.{is_point, size_on};
+ghost use Rattle.ivp_domain.specs.Domains.{is_point};
 ghost use Rattle.ivp_func.specs.Pieces.{is_small};
 ghost use Rattle.ivp_problem.specs.Problems.{is_weight};
 ghost use Rattle.ivp_problem.specs.Sums.{key_at, weighted_sum};
@@ -9,7 +9,7 @@ ghost use Rattle.ivp_problem.specs.Trees.{bound_of, child_of, chosen_at, IsNode,
 
 use crate::key::{Key, key_of};
 use crate::problem::Problem;
-use ivp_domain::{BoxN, Domain, Point, Steps, meet};
+use ivp_domain::{BoxN, Point, Steps, meet};
 use ivp_func::Piece;
 use std::sync::ledger::Ledger;
 
@@ -21,18 +21,6 @@ pub struct Node {
     pub area: BoxN,
     pub base: i64,
     pub slope: [i64; 4],
-}
-
-/// The last place on an axis, 0 past the last one.
-fn last_place(domain: &Domain, axis: u32) -> u32
-    requires { axis < 4 }
-    ensures { result ≡ size_on axis domain.now - 1 }
-{
-    if axis < domain.axes() {
-        domain.axis(axis).points - 1
-    } else {
-        0
-    }
 }
 
 /// The slope along an axis with that of a weighted piece added.
@@ -130,16 +118,9 @@ impl Problem {
         ensures node { IsNode self.now result }
         ensures whole { (p : Point) → has_point result.area p ≡ is_point self.now.axes p }
     {
-        let domain = self.lent_domain();
-        let high = [
-            last_place(domain, 0),
-            last_place(domain, 1),
-            last_place(domain, 2),
-            last_place(domain, 3),
-        ];
         Node {
             depth: 0,
-            area: BoxN { low: [0; 4], high },
+            area: self.lent_domain().whole(),
             base: 0,
             slope: [0; 4],
         }
