@@ -10,6 +10,7 @@ pub record Way : Type 0 where
   pub held : List ℕ
   pub faults : ℕ
 
+-- these three together
 abbrev pub way : Option (List ℕ) → List ℕ → ℕ → Way
 way taken held faults = record { taken = taken; held = held; faults = faults }
 

@@ -3,7 +3,7 @@ ghost use Rattle.std.specs.Prelude.{◌≡◌, ◌<◌, ◌≤◌, ℕ, List, Op
 ghost use Rattle.moos_io.specs.Faults.{Rose};
 ghost use Rattle.moos_io.specs.Pieces.{Took, TookFront};
 
-/// The sink failed, and took nothing of the piece.
+/// A put failed: the sink took nothing of what that put was given.
 #[derive(Clone, Copy, PartialEq, Eq, Debug)]
 pub struct Failed;
 

@@ -7,7 +7,7 @@ use Rattle.std.proofs.lemmas.List.{append_cancel_left}
 use Rattle.std.proofs.lemmas.List.Elements.{filter-append}
 use Rattle.moos_post.specs.declared.entry.Entry.{Entry}
 use Rattle.moos_post.specs.History.{History}
-use Rattle.moos_play.specs.Lawful.{entries_of, do_stamps_rise, KeepsOrder}
+use Rattle.moos_play.specs.Lawful.{entries_of, no_stamp_goes_back, KeepsOrder}
 use Rattle.moos_play.specs.Rounds.{IsOneRound}
 use Rattle.script_reader.specs.declared.script.Order.{Order}
 use Rattle.script_reader.specs.declared.script.Order.TheVariants.{Stamp, Race}
@@ -60,48 +60,48 @@ own_rest before rest more n h =
     append_cancel_left (entries_of n before) (entries_of n rest) (entries_of n more) (sym (filter-append (λ entry. entry.client == n) before rest) ∙ h)
 
 -- stamps that rise behind entries of later lines
-pub rise_front : (last : ℕ) (xs ys : History) → do_stamps_rise last (xs ++ ys) ≡ true → do_stamps_rise last xs ≡ true
+pub rise_front : (last : ℕ) (xs ys : History) → no_stamp_goes_back last (xs ++ ys) ≡ true → no_stamp_goes_back last xs ≡ true
 rise_front last [] ys h = refl
 rise_front last (x ∷ xs) ys h =
-    and_both (nat_le last x.stamp) (do_stamps_rise x.stamp xs) (and_left (nat_le last x.stamp) (do_stamps_rise x.stamp (xs ++ ys)) h) (rise_front x.stamp xs ys (and_right (nat_le last x.stamp) (do_stamps_rise x.stamp (xs ++ ys)) h))
+    and_both (nat_le last x.stamp) (no_stamp_goes_back x.stamp xs) (and_left (nat_le last x.stamp) (no_stamp_goes_back x.stamp (xs ++ ys)) h) (rise_front x.stamp xs ys (and_right (nat_le last x.stamp) (no_stamp_goes_back x.stamp (xs ++ ys)) h))
 
 le_along : (a b c : ℕ) → nat_le a b ≡ true → nat_le b c ≡ true → nat_le a c ≡ true
 le_along a b c h g = grind (arith, nat_tests)
 
 -- a stamp behind rising ones is not below the first
-rise_last : (last : ℕ) (xs ys : History) (y : Entry) → do_stamps_rise last (xs ++ y ∷ ys) ≡ true → nat_le last y.stamp ≡ true
-rise_last last [] ys y h = and_left (nat_le last y.stamp) (do_stamps_rise y.stamp ys) h
+rise_last : (last : ℕ) (xs ys : History) (y : Entry) → no_stamp_goes_back last (xs ++ y ∷ ys) ≡ true → nat_le last y.stamp ≡ true
+rise_last last [] ys y h = and_left (nat_le last y.stamp) (no_stamp_goes_back y.stamp ys) h
 rise_last last (x ∷ xs) ys y h =
-    le_along last x.stamp y.stamp (and_left (nat_le last x.stamp) (do_stamps_rise x.stamp (xs ++ y ∷ ys)) h)
-    (rise_last x.stamp xs ys y (and_right (nat_le last x.stamp) (do_stamps_rise x.stamp (xs ++ y ∷ ys)) h))
+    le_along last x.stamp y.stamp (and_left (nat_le last x.stamp) (no_stamp_goes_back x.stamp (xs ++ y ∷ ys)) h)
+    (rise_last x.stamp xs ys y (and_right (nat_le last x.stamp) (no_stamp_goes_back x.stamp (xs ++ y ∷ ys)) h))
 
 -- and not below any of them
-rise_all : (last : ℕ) (xs ys : History) (y : Entry) → do_stamps_rise last (xs ++ y ∷ ys) ≡ true → list_all (λ entry. nat_le entry.stamp y.stamp) xs ≡ true
+rise_all : (last : ℕ) (xs ys : History) (y : Entry) → no_stamp_goes_back last (xs ++ y ∷ ys) ≡ true → list_all (λ entry. nat_le entry.stamp y.stamp) xs ≡ true
 rise_all last [] ys y h = refl
 rise_all last (x ∷ xs) ys y h =
-    let later = and_right (nat_le last x.stamp) (do_stamps_rise x.stamp (xs ++ y ∷ ys)) h in
+    let later = and_right (nat_le last x.stamp) (no_stamp_goes_back x.stamp (xs ++ y ∷ ys)) h in
     and_both (nat_le x.stamp y.stamp) (list_all (λ entry. nat_le entry.stamp y.stamp) xs) (rise_last x.stamp xs ys y later) (rise_all x.stamp xs ys y later)
 
 -- entries of one stamp rise from an earlier one
-rise_one : (last stamp : ℕ) (ys : History) → nat_le last stamp ≡ true → list_all (λ entry. entry.stamp == stamp) ys ≡ true → do_stamps_rise last ys ≡ true
+rise_one : (last stamp : ℕ) (ys : History) → nat_le last stamp ≡ true → list_all (λ entry. entry.stamp == stamp) ys ≡ true → no_stamp_goes_back last ys ≡ true
 rise_one last stamp [] below h = refl
 rise_one last stamp (y ∷ ys) below h =
     let here = and_left (y.stamp == stamp) (list_all (λ entry. entry.stamp == stamp) ys) h in
     let rest = and_right (y.stamp == stamp) (list_all (λ entry. entry.stamp == stamp) ys) h in
-    and_both (nat_le last y.stamp) (do_stamps_rise y.stamp ys) (grind (arith, nat_tests)) (rise_one y.stamp stamp ys (grind (arith, nat_tests)) rest)
+    and_both (nat_le last y.stamp) (no_stamp_goes_back y.stamp ys) (grind (arith, nat_tests)) (rise_one y.stamp stamp ys (grind (arith, nat_tests)) rest)
 
 -- entries of one stamp behind earlier ones
-rise_on : (last stamp : ℕ) (xs ys : History) → nat_le last stamp ≡ true → do_stamps_rise last xs ≡ true → list_all (λ entry. nat_le entry.stamp stamp) xs ≡ true → list_all (λ entry. entry.stamp == stamp) ys ≡ true → do_stamps_rise last (xs ++ ys) ≡ true
+rise_on : (last stamp : ℕ) (xs ys : History) → nat_le last stamp ≡ true → no_stamp_goes_back last xs ≡ true → list_all (λ entry. nat_le entry.stamp stamp) xs ≡ true → list_all (λ entry. entry.stamp == stamp) ys ≡ true → no_stamp_goes_back last (xs ++ ys) ≡ true
 rise_on last stamp [] ys below rises early one = rise_one last stamp ys below one
 rise_on last stamp (x ∷ xs) ys below rises early one =
-    and_both (nat_le last x.stamp) (do_stamps_rise x.stamp (xs ++ ys)) (and_left (nat_le last x.stamp) (do_stamps_rise x.stamp xs) rises)
-    (rise_on x.stamp stamp xs ys (and_left (nat_le x.stamp stamp) (list_all (λ entry. nat_le entry.stamp stamp) xs) early) (and_right (nat_le last x.stamp) (do_stamps_rise x.stamp xs) rises)
+    and_both (nat_le last x.stamp) (no_stamp_goes_back x.stamp (xs ++ ys)) (and_left (nat_le last x.stamp) (no_stamp_goes_back x.stamp xs) rises)
+    (rise_on x.stamp stamp xs ys (and_left (nat_le x.stamp stamp) (list_all (λ entry. nat_le entry.stamp stamp) xs) early) (and_right (nat_le last x.stamp) (no_stamp_goes_back x.stamp xs) rises)
     (and_right (nat_le x.stamp stamp) (list_all (λ entry. nat_le entry.stamp stamp) xs) early) one)
 
 -- A round's lines stand behind those of earlier rounds in the script, and what the round adds stands behind what the
 -- earlier rounds left. So stamps keep rising.
-pub rounds_rise : (done lines before rest : History) (stamp : ℕ) → do_stamps_rise 0 (done ++ lines) ≡ true → list_all (λ entry. entry.stamp == stamp) lines ≡ true
-    → ((n : ℕ) → entries_of n before ≡ entries_of n done) → ((n : ℕ) → entries_of n rest ≡ entries_of n lines) → do_stamps_rise 0 before ≡ true → do_stamps_rise 0 (before ++ rest) ≡ true
+pub rounds_rise : (done lines before rest : History) (stamp : ℕ) → no_stamp_goes_back 0 (done ++ lines) ≡ true → list_all (λ entry. entry.stamp == stamp) lines ≡ true
+    → ((n : ℕ) → entries_of n before ≡ entries_of n done) → ((n : ℕ) → entries_of n rest ≡ entries_of n lines) → no_stamp_goes_back 0 before ≡ true → no_stamp_goes_back 0 (before ++ rest) ≡ true
 rounds_rise done [] before rest stamp rises one own added kept = rw (none_left rest added, append-nil before) kept
 rounds_rise done (y ∷ ys) before rest stamp rises one own added kept =
     let here = and_left (y.stamp == stamp) (list_all (λ entry. entry.stamp == stamp) ys) one in
@@ -111,7 +111,7 @@ rounds_rise done (y ∷ ys) before rest stamp rises one own added kept =
     rise_on 0 y.stamp before rest (rise_last 0 done ys y rises) kept early (all_same (λ entry. entry.stamp == y.stamp) rest (y ∷ ys) added all)
 
 -- the same for either order
-pub order_kept : (order : Order) (done lines before rest : History) → do_stamps_rise 0 (done ++ lines) ≡ true → IsOneRound order lines
+pub order_kept : (order : Order) (done lines before rest : History) → no_stamp_goes_back 0 (done ++ lines) ≡ true → IsOneRound order lines
     → ((n : ℕ) → entries_of n before ≡ entries_of n done) → ((n : ℕ) → entries_of n rest ≡ entries_of n lines) → KeepsOrder order before → KeepsOrder order (before ++ rest)
 order_kept Stamp done lines before rest rises one own added kept = rounds_rise done lines before rest one.0 rises one.1 own added kept
 order_kept Race done lines before rest rises one own added kept = tt

@@ -1,3 +1,4 @@
+pub mod Examples
 pub mod Histories
 pub mod Mets
 pub mod Playing

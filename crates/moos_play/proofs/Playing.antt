@@ -10,19 +10,12 @@ use Rattle.moos_play.specs.Lawful.{entries_of}
 use Rattle.moos_play.specs.Rounds.{CommunityLock, EndsRound, HasPlayed}
 use Rattle.moos_play.proofs.Histories.{and_both}
 use Rattle.script_reader.specs.declared.script.Order.TheVariants.{Stamp, Race}
-use Rattle.turn_lock.specs.Passes.{Begins}
-
--- what begins with what begins
-pub begins_on : (a b c : List Entry) → Begins b a → Begins c b → Begins c a
-begins_on a b c one two = (one.0 ++ two.0, two.1 ∙ ap (λ front. front ++ two.0) one.1 ∙ append_assoc a one.0 two.0)
-
-pub begins_same : (a : List Entry) → Begins a a
-begins_same a = ([], sym (append-nil a))
+use Rattle.turn_lock.proofs.Fronts.{begins_itself, begins_on}
 
 -- no line is played yet
 pub played_none : (lines : List Entry) (seat : SeatState) → entries_of seat.number lines ≡ [] → HasPlayed lines seat seat
 played_none lines seat none = record {
-  later = begins_same seat.seen;
+  later = begins_itself seat.seen;
   same = ap (λ mine. record seat { mine = mine }) (sym (append-nil seat.mine) ∙ ap (λ more. seat.mine ++ more) (sym none));
 }
 

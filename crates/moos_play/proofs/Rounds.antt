@@ -10,11 +10,12 @@ use Rattle.moos_client.specs.Calls.{MayCall, SeatState}
 use Rattle.moos_post.specs.declared.entry.Entry.{Entry}
 use Rattle.moos_play.specs.declared.player.Player.{Player}
 use Rattle.moos_play.specs.Lawful.{entries_of}
-use Rattle.moos_play.specs.Rounds.{AreParted, CommunityLock, is_among, IsApart, IsGathered, KnowsNothing, met_of, times}
+use Rattle.moos_play.specs.Rounds.{AreParted, CommunityLock, has_line, IsApart, IsGathered, KnowsNothing, met_of, times_met}
 use Rattle.moos_play.proofs.Histories.{and_left, and_right}
-use Rattle.moos_play.proofs.Mets.{length_without, moved_of, moves_each, moves_known, times_cons, times_more}
+use Rattle.moos_play.proofs.Mets.{moved_of, moves_each, moves_known}
 use Rattle.turn_lock.specs.declared.view.Met.{Met}
 use Rattle.turn_lock.specs.Passes.{beside, events_in, first_of, has_number, met_with, without}
+use Rattle.turn_lock.proofs.Mets.{count_more, count_one, length_without}
 
 -- The seats of the clients below this one are split off and taken in, with nothing seen and no calls.
 pub record AreSeated (lock : CommunityLock) (clients client : ℕ) (first : SeatState) : Type 0 where
@@ -22,9 +23,9 @@ pub record AreSeated (lock : CommunityLock) (clients client : ℕ) (first : Seat
   pub left : first.left + client ≡ clients
   pub made : first.made + 1 ≡ client
   pub all : length first.met ≡ first.made
-  pub each : (n : ℕ) → 0 < n → n < client → 0 < times n first.met
-  pub once : (n : ℕ) → times n first.met ≤ 1
-  pub later : (n : ℕ) → client ≤ n → times n first.met ≡ 0
+  pub each : (n : ℕ) → 0 < n → n < client → 0 < times_met n first.met
+  pub once : (n : ℕ) → times_met n first.met ≤ 1
+  pub later : (n : ℕ) → client ≤ n → times_met n first.met ≡ 0
   pub known : (n : ℕ) → events_in first.met n ≡ []
 
 -- a number without events at the end
@@ -41,17 +42,17 @@ none_more (one ∷ met) number n h = by (none_more met number n) (has_number n o
     by rest false k = rest k
 
 -- how often a number is among others and one at the end
-times_here : (met : List (Met Entry)) (one : Met Entry) (n : ℕ) → one.number ≡ n → times n (met ++ one ∷ []) ≡ times n met + 1
+times_here : (met : List (Met Entry)) (one : Met Entry) (n : ℕ) → one.number ≡ n → times_met n (met ++ one ∷ []) ≡ times_met n met + 1
 times_here met one n e =
     let single : ℕ = 1 in
     let here : cond (one.number == n) single 0 ≡ single = ap (λ b. cond b single 0) (eq-eqb one.number n e) in
-    omega (arith, here, times_more n met (one ∷ []), times_cons n one [])
+    omega (arith, here, count_more n met (one ∷ []), count_one n one [])
 
-times_other : (met : List (Met Entry)) (one : Met Entry) (n : ℕ) → one.number ≢ n → times n (met ++ one ∷ []) ≡ times n met
+times_other : (met : List (Met Entry)) (one : Met Entry) (n : ℕ) → one.number ≢ n → times_met n (met ++ one ∷ []) ≡ times_met n met
 times_other met one n ne =
     let nought : ℕ = 0 in
     let other : cond (one.number == n) 1 nought ≡ nought = ap (λ b. cond b 1 nought) (ne_eqb one.number n ne) in
-    omega (arith, other, times_more n met (one ∷ []), times_cons n one [])
+    omega (arith, other, count_more n met (one ∷ []), count_one n one [])
 
 -- one seat more is split off and taken in
 seated_on : (lock : CommunityLock) (clients client : ℕ) (left made : ℕ) (met : List (Met Entry)) → AreSeated lock clients client (record (first_of lock clients) { left = left; made = made; met = met }) → client < clients
@@ -70,11 +71,11 @@ seated_on lock clients client left made met so below = record {
     one : Met Entry
     one = record { number = made + 1; events = [] }
 
-    each : (n : ℕ) → 0 < n → n < client + 1 → Dec (made + 1 ≡ n) → 0 < times n (met ++ one ∷ [])
+    each : (n : ℕ) → 0 < n → n < client + 1 → Dec (made + 1 ≡ n) → 0 < times_met n (met ++ one ∷ [])
     each n above below' (yes e) = omega (arith, times_here met one n e)
     each n above below' (no ne) = omega (arith, times_other met one n ne, so.each n above (omega (arith, below', ne, so.made)))
 
-    once : (n : ℕ) → Dec (made + 1 ≡ n) → times n (met ++ one ∷ []) ≤ 1
+    once : (n : ℕ) → Dec (made + 1 ≡ n) → times_met n (met ++ one ∷ []) ≤ 1
     once n (yes e) = omega (arith, times_here met one n e, so.later n (omega (arith, e, so.made)))
     once n (no ne) = omega (arith, times_other met one n ne, so.once n)
 
@@ -123,17 +124,17 @@ pub record ArePartedTo (lock : CommunityLock) (lines : List Entry) (client : ℕ
   pub same : first ≡ record before { met = first.met }
   pub apart : All (λ player. IsApart lock player.seat) players
   pub all : length first.met + length players ≡ length before.met
-  pub each : (n : ℕ) → times n first.met + times n (map met_of players) ≡ times n before.met
+  pub each : (n : ℕ) → times_met n first.met + times_met n (map met_of players) ≡ times_met n before.met
   pub known : (n : ℕ) → events_in (first.met ++ map met_of players) n ≡ events_in before.met n
-  pub busy : (n : ℕ) → 0 < n → n < client → times n (map met_of players) ≡ 0 → entries_of n lines ≡ []
-  pub fresh : (n : ℕ) → client ≤ n → times n (map met_of players) ≡ 0
+  pub busy : (n : ℕ) → 0 < n → n < client → times_met n (map met_of players) ≡ 0 → entries_of n lines ≡ []
+  pub fresh : (n : ℕ) → client ≤ n → times_met n (map met_of players) ≡ 0
 
 -- no client that isn't among the lines has one
-pub none_among : (client : ℕ) (lines : List Entry) → is_among client lines ≡ false → entries_of client lines ≡ []
+pub none_among : (client : ℕ) (lines : List Entry) → has_line client lines ≡ false → entries_of client lines ≡ []
 none_among client [] h = refl
 none_among client (line ∷ lines) h = by (none_among client lines) (line.client == client) h
   where
-    by : (is_among client lines ≡ false → entries_of client lines ≡ []) → (b : Bool) → (b || is_among client lines) ≡ false → cond b (line ∷ entries_of client lines) (entries_of client lines) ≡ []
+    by : (has_line client lines ≡ false → entries_of client lines ≡ []) → (b : Bool) → (b || has_line client lines) ≡ false → cond b (line ∷ entries_of client lines) (entries_of client lines) ≡ []
     by rest true k = absurd (false≢true (sym k))
     by rest false k = rest k
 
@@ -159,7 +160,7 @@ parted_none lock lines first players none = subst (ArePartedTo lock lines 1 firs
 
 -- a client without lines stays
 pub parted_skip : (lock : CommunityLock) (lines : List Entry) (client : ℕ) (before first : SeatState) (players : List Player)
-    → ArePartedTo lock lines client before first players → is_among client lines ≡ false → ArePartedTo lock lines (client + 1) before first players
+    → ArePartedTo lock lines client before first players → has_line client lines ≡ false → ArePartedTo lock lines (client + 1) before first players
 parted_skip lock lines client before first players so none = record {
   same = so.same;
   apart = so.apart;
@@ -170,13 +171,13 @@ parted_skip lock lines client before first players so none = record {
   fresh = λ n past. so.fresh n (omega (arith, past));
 }
   where
-    by : (n : ℕ) → 0 < n → n < client + 1 → times n (map met_of players) ≡ 0 → Dec (client ≡ n) → entries_of n lines ≡ []
+    by : (n : ℕ) → 0 < n → n < client + 1 → times_met n (map met_of players) ≡ 0 → Dec (client ≡ n) → entries_of n lines ≡ []
     by n above below absent (yes e) = subst (λ k. entries_of k lines ≡ []) e (none_among client lines none)
     by n above below absent (no ne) = so.busy n above (omega (arith, below, ne)) absent
 
 -- a client that isn't parted yet is with the first seat, once
 pub is_with : (lock : CommunityLock) (lines : List Entry) (client : ℕ) (before first : SeatState) (players : List Player) → IsGathered lock before → ArePartedTo lock lines client before first players
-    → 0 < client → client < length lock.base → times client first.met ≡ 1
+    → 0 < client → client < length lock.base → times_met client first.met ≡ 1
 is_with lock lines client before first players gathered so above below =
     omega (arith, so.each client, so.fresh client (omega arith), gathered.each client above below, gathered.once client)
 
@@ -189,16 +190,16 @@ parted_more lock lines client before first after seat players player gathered so
       same = refl;
       apart = All-push (λ player. IsApart lock player.seat) players player so.apart (subst (IsApart lock) (sym seat_is) apart);
       all = omega (arith, so.all, length_without client first.met, with', length-append players (player ∷ []));
-      each = λ n. ap (λ met. times n (without client first.met) + times n met) mets ∙ moves_each client first.met (map met_of players) with' n ∙ so.each n;
+      each = λ n. ap (λ met. times_met n (without client first.met) + times_met n met) mets ∙ moves_each client first.met (map met_of players) with' n ∙ so.each n;
       known = λ n. ap (λ met. events_in (without client first.met ++ met) n) mets ∙ moves_known client first.met (map met_of players) with' (so.fresh client (omega arith)) n ∙ so.known n;
-      busy = λ n above' below' absent. busy n above' below' (subst (λ met. times n met ≡ 0) mets absent) (ℕ_discrete client n);
-      fresh = λ n past. ap (times n) mets ∙ times_other (map met_of players) moved n (λ e. omega (arith, e, past)) ∙ so.fresh n (omega (arith, past));
+      busy = λ n above' below' absent. busy n above' below' (subst (λ met. times_met n met ≡ 0) mets absent) (ℕ_discrete client n);
+      fresh = λ n past. ap (times_met n) mets ∙ times_other (map met_of players) moved n (λ e. omega (arith, e, past)) ∙ so.fresh n (omega (arith, past));
     })
   where
     shape : after ≡ record before { met = without client first.met }
     shape = after_is ∙ ap {A = SeatState} (λ s. record s { met = without client first.met }) so.same
 
-    with' : times client first.met ≡ 1
+    with' : times_met client first.met ≡ 1
     with' = is_with lock lines client before first players gathered so above below
 
     moved : Met Entry
@@ -220,7 +221,7 @@ parted_more lock lines client before first after seat players player gathered so
       alone = refl;
     }
 
-    busy : (n : ℕ) → 0 < n → n < client + 1 → times n (map met_of players ++ moved ∷ []) ≡ 0 → Dec (client ≡ n) → entries_of n lines ≡ []
+    busy : (n : ℕ) → 0 < n → n < client + 1 → times_met n (map met_of players ++ moved ∷ []) ≡ 0 → Dec (client ≡ n) → entries_of n lines ≡ []
     busy n above' below' absent (yes e) = absurd (omega (arith, absent, times_here (map met_of players) moved n e))
     busy n above' below' absent (no ne) = so.busy n above' (omega (arith, below', ne)) (omega (arith, absent, times_other (map met_of players) moved n ne))
 
@@ -236,6 +237,6 @@ parted_all lock lines client before first players so past clients = record {
   busy = λ n above absent. by n above absent (nat_lt n (length lock.base)) refl;
 }
   where
-    by : (n : ℕ) → 0 < n → times n (map met_of players) ≡ 0 → (b : Bool) → nat_lt n (length lock.base) ≡ b → entries_of n lines ≡ []
+    by : (n : ℕ) → 0 < n → times_met n (map met_of players) ≡ 0 → (b : Bool) → nat_lt n (length lock.base) ≡ b → entries_of n lines ≡ []
     by n above absent true e = so.busy n above (grind (arith, nat_tests)) absent
     by n above absent false e = none_past (length lock.base) n lines clients (grind (arith, nat_tests))

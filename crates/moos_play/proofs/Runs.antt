@@ -9,7 +9,7 @@ use Rattle.std.proofs.lemmas.List.Folds.{list_all-append}
 use Rattle.moos_client.specs.Calls.{SeatState}
 use Rattle.moos_post.specs.declared.entry.Entry.{Entry}
 use Rattle.moos_post.specs.History.{History}
-use Rattle.moos_play.specs.Lawful.{do_stamps_rise, entries_of, IsLawful, KeepsOrder}
+use Rattle.moos_play.specs.Lawful.{no_stamp_goes_back, entries_of, IsLawful, KeepsOrder}
 use Rattle.moos_play.specs.Rounds.{EndsRound, GoesOn, HasSeen, IsOneRound, KnowsNothing}
 use Rattle.moos_play.proofs.Histories.{and_both, and_left, and_right, none_keeps, none_left, order_kept, own_rest, rise_front}
 use Rattle.script_reader.specs.declared.script.Order.{Order}
@@ -26,7 +26,7 @@ seen_none order first lines nothing = record {
 }
 
 -- one round more
-seen_on : (order : Order) (first after : SeatState) (done lines : List Entry) → HasSeen order first done → GoesOn lines first after → IsTrue (do_stamps_rise 0 (done ++ lines)) → IsOneRound order lines
+seen_on : (order : Order) (first after : SeatState) (done lines : List Entry) → HasSeen order first done → GoesOn lines first after → IsTrue (no_stamp_goes_back 0 (done ++ lines)) → IsOneRound order lines
     → HasSeen order after (done ++ lines)
 seen_on order first after done lines so on rises one = record {
   known = known;
@@ -49,10 +49,10 @@ parts lines from to below =
     ∙ ap (λ end. take from lines ++ end) (ap (λ k. drop from (take k lines)) (sym n) ∙ drop-take from (to - from) lines)
 
 pub seen_more : (order : Order) (first after : SeatState) (lines : List Entry) (from to : ℕ) → HasSeen order first (take from lines) → GoesOn (take (to - from) (drop from lines)) first after
-    → IsTrue (do_stamps_rise 0 lines) → EndsRound order lines from to → HasSeen order after (take to lines)
+    → IsTrue (no_stamp_goes_back 0 lines) → EndsRound order lines from to → HasSeen order after (take to lines)
 seen_more order first after lines from to so on rises ends =
     let cut = parts lines from to (omega (arith, ends.more)) in
-    let front = subst (λ l. do_stamps_rise 0 l ≡ true) cut (rise_front 0 (take to lines) (drop to lines) (subst (λ l. do_stamps_rise 0 l ≡ true) (sym (take-append-drop to lines)) rises)) in
+    let front = subst (λ l. no_stamp_goes_back 0 l ≡ true) cut (rise_front 0 (take to lines) (drop to lines) (subst (λ l. no_stamp_goes_back 0 l ≡ true) (sym (take-append-drop to lines)) rises)) in
     subst (HasSeen order after) (sym cut) (seen_on order first after (take from lines) (take (to - from) (drop from lines)) so on front ends.one)
 
 -- the clients of a part of the lines
@@ -82,12 +82,12 @@ lines_clients clients last stop (line ∷ lines) valid =
     (lines_clients clients line.stamp stop lines (and_right (own && keeps_limits line.call) (are_lines clients line.stamp stop lines) valid))
 
 -- and their stamps don't go back
-pub lines_rise : (clients last stop : ℕ) (lines : List Entry) → are_lines clients last stop lines ≡ true → do_stamps_rise last lines ≡ true
+pub lines_rise : (clients last stop : ℕ) (lines : List Entry) → are_lines clients last stop lines ≡ true → no_stamp_goes_back last lines ≡ true
 lines_rise clients last stop [] valid = refl
 lines_rise clients last stop (line ∷ lines) valid =
     let own : Bool = nat_lt line.client clients && nat_le last line.stamp in
     let here = and_left (own && keeps_limits line.call) (are_lines clients line.stamp stop lines) valid in
-    and_both (nat_le last line.stamp) (do_stamps_rise line.stamp lines)
+    and_both (nat_le last line.stamp) (no_stamp_goes_back line.stamp lines)
     (and_right (nat_lt line.client clients) (nat_le last line.stamp) (and_left own (keeps_limits line.call) here))
     (lines_rise clients line.stamp stop lines (and_right (own && keeps_limits line.call) (are_lines clients line.stamp stop lines) valid))
 

@@ -9,10 +9,12 @@ use Rattle.moos_client.specs.Calls.{SeatState}
 use Rattle.moos_post.specs.declared.entry.Entry.{Entry}
 use Rattle.moos_play.specs.declared.player.Player.{Player}
 use Rattle.moos_play.specs.Lawful.{entries_of}
-use Rattle.moos_play.specs.Rounds.{AreParted, CommunityLock, GoesOn, HasEnded, HasPlayed, HasSeenAll, HasTaken, IsApart, IsGathered, met_of, times}
-use Rattle.moos_play.proofs.Mets.{known_after, times_cons, times_more}
-use Rattle.moos_play.proofs.Playing.{begins_on, begins_same, may_on}
+use Rattle.moos_play.specs.Rounds.{AreParted, CommunityLock, GoesOn, HasEnded, HasPlayed, HasSeenAll, HasTaken, IsApart, IsGathered, met_of, times_met}
+use Rattle.moos_play.proofs.Mets.{known_after}
+use Rattle.moos_play.proofs.Playing.{may_on}
 use Rattle.turn_lock.specs.Passes.{Begins, events_in, IsFree, IsOf, known_of, met_with}
+use Rattle.turn_lock.proofs.Fronts.{begins_itself, begins_on}
+use Rattle.turn_lock.proofs.Mets.{count_more, count_one}
 
 -- a relation at each place of two lists of one length
 pub zip_all : (R : Player → Player → Type 0) (xs ys : List Player) → length ys ≡ length xs → ((i : ℕ) (d : Player) → i < length xs → R (slice_index_or xs i d) (slice_index_or ys i d)) → AllZip R xs ys
@@ -74,7 +76,7 @@ ended_apart lock lines (p ∷ ps) (q ∷ qs) zip apart =
 -- the first seat has taken in nobody yet
 pub taken_none : (first : SeatState) (players : List Player) → players ≡ [] → HasTaken first first players
 taken_none first players none = subst (HasTaken first first) (sym none) (record {
-  later = begins_same first.seen;
+  later = begins_itself first.seen;
   same = ap (λ met. record first { met = met }) (sym (append-nil first.met));
   ended = All-nil (λ player. player.ended ≡ Ok tt);
 })
@@ -102,7 +104,7 @@ taken_may lock before first players so may = subst (λ s. IsOf lock s × IsFree 
 
 -- how often a number is among the players, and its events, after they have played
 ended_times : (lines : List Entry) (n : ℕ) (befores afters : List Player) → AllZip (HasEnded lines) befores afters → All (λ player. player.ended ≡ Ok tt) afters
-    → times n (map met_of afters) ≡ times n (map met_of befores)
+    → times_met n (map met_of afters) ≡ times_met n (map met_of befores)
 ended_times lines n [] [] zip ended = refl
 ended_times lines n [] (q ∷ qs) zip ended = absurd zip
 ended_times lines n (p ∷ ps) [] zip ended = absurd zip
@@ -112,7 +114,7 @@ ended_times lines n (p ∷ ps) (q ∷ qs) zip ended =
     let number : q.seat.number ≡ p.seat.number = ap (λ s. s.number) played.same in
     let one : ℕ = 1 in
     let same : cond (q.seat.number == n) one 0 ≡ cond (p.seat.number == n) one 0 = ap (λ k. cond (k == n) one 0) number in
-    omega (arith, rest, same, times_cons n (met_of p) (map met_of ps), times_cons n (met_of q) (map met_of qs))
+    omega (arith, rest, same, count_one n (met_of p) (map met_of ps), count_one n (met_of q) (map met_of qs))
 
 -- the events of the number, where the first of the players may have it
 pick : (number n : ℕ) (mine others befores : List Entry) (lines : List Entry) → Dec (number ≡ n) → (number ≢ n → others ≡ befores ++ entries_of n lines)
@@ -123,7 +125,7 @@ pick number n mine others befores lines (no ne) rest =
     ap (λ b. cond b (mine ++ entries_of number lines) others) (ne_eqb number n ne) ∙ rest ne ∙ sym (ap (λ b. cond b mine befores ++ entries_of n lines) (ne_eqb number n ne))
 
 ended_events : (lines : List Entry) (n : ℕ) (befores afters : List Player) → AllZip (HasEnded lines) befores afters → All (λ player. player.ended ≡ Ok tt) afters
-    → 0 < times n (map met_of befores) → events_in (map met_of afters) n ≡ events_in (map met_of befores) n ++ entries_of n lines
+    → 0 < times_met n (map met_of befores) → events_in (map met_of afters) n ≡ events_in (map met_of befores) n ++ entries_of n lines
 ended_events lines n [] [] zip ended some = absurd (omega (arith, some))
 ended_events lines n [] (q ∷ qs) zip ended some = absurd zip
 ended_events lines n (p ∷ ps) [] zip ended some = absurd zip
@@ -133,7 +135,7 @@ ended_events lines n (p ∷ ps) (q ∷ qs) zip ended some =
     (pick p.seat.number n p.seat.mine (events_in (map met_of qs) n) (events_in (map met_of ps) n) lines (ℕ_discrete p.seat.number n) (λ ne.
     let nought : ℕ = 0 in
     let other : cond (p.seat.number == n) 1 nought ≡ nought = ap (λ b. cond b 1 nought) (ne_eqb p.seat.number n ne) in
-    ended_events lines n ps qs zip.1 (All-tail (λ player. player.ended ≡ Ok tt) q qs ended) (omega (arith, other, some, times_cons n (met_of p) (map met_of ps)))))
+    ended_events lines n ps qs zip.1 (All-tail (λ player. player.ended ≡ Ok tt) q qs ended) (omega (arith, other, some, count_one n (met_of p) (map met_of ps)))))
 
 -- the first seat after a round
 round_shape : {lock : CommunityLock} {lines : List Entry} {before parted played after : SeatState} {players ended : List Player} → AreParted lock lines before parted players
@@ -145,9 +147,9 @@ round_shape {lines = lines} {parted = parted} {after = after} {ended = ended} ap
 
 -- how often a number is with it then
 round_times : {lock : CommunityLock} {lines : List Entry} {before parted : SeatState} {players : List Player} (ended : List Player) (n : ℕ) → AreParted lock lines before parted players
-    → AllZip (HasEnded lines) players ended → All (λ player. player.ended ≡ Ok tt) ended → times n (parted.met ++ map met_of ended) ≡ times n before.met
+    → AllZip (HasEnded lines) players ended → All (λ player. player.ended ≡ Ok tt) ended → times_met n (parted.met ++ map met_of ended) ≡ times_met n before.met
 round_times {lines = lines} {parted = parted} {players = players} ended n apart zip all =
-    omega (arith, times_more n parted.met (map met_of ended), ended_times lines n players ended zip all, apart.each n)
+    omega (arith, count_more n parted.met (map met_of ended), ended_times lines n players ended zip all, apart.each n)
 
 -- what is known of each client after a round, before the first seat has seen it
 round_known : (lock : CommunityLock) (lines : List Entry) (before parted played after : SeatState) (players ended : List Player) → IsGathered lock before → AreParted lock lines before parted players
@@ -197,7 +199,7 @@ seen_gathered lock before after seen gathered = subst (IsGathered lock) (sym see
 pub round_goes_on : (lock : CommunityLock) (lines : List Entry) (before parted played taken after : SeatState) (players ended : List Player) → IsGathered lock before → AreParted lock lines before parted players
     → HasPlayed lines parted played → AllZip (HasEnded lines) players ended → HasTaken played taken ended → HasSeenAll taken after → GoesOn lines before after
 round_goes_on lock lines before parted played taken after players ended gathered apart first zip in' seen = record {
-  later = begins_on before.seen parted.seen after.seen (subst (λ s. Begins s before.seen) (sym (ap (λ s. s.seen) apart.same)) (begins_same before.seen))
+  later = begins_on before.seen parted.seen after.seen (subst (λ s. Begins s before.seen) (sym (ap (λ s. s.seen) apart.same)) (begins_itself before.seen))
       (begins_on parted.seen played.seen after.seen first.later (begins_on played.seen taken.seen after.seen in'.later seen.later));
   known = λ n. same n ∙ round_known lock lines before parted played taken players ended gathered apart first zip in' n;
   whole = λ n. seen.whole n ∙ sym (same n);

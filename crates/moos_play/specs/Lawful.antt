@@ -11,13 +11,13 @@ abbrev pub entries_of : ℕ → History → List Entry
 entries_of client history = filter (λ entry. entry.client == client) history
 
 -- no stamp is below the one before
-abbrev pub do_stamps_rise : ℕ → History → Bool
-do_stamps_rise last [] = true
-do_stamps_rise last (entry ∷ later) = nat_le last entry.stamp && do_stamps_rise entry.stamp later
+abbrev pub no_stamp_goes_back : ℕ → History → Bool
+no_stamp_goes_back last [] = true
+no_stamp_goes_back last (entry ∷ later) = nat_le last entry.stamp && no_stamp_goes_back entry.stamp later
 
 -- what an order asks of the stamps: by their stamps none goes back, and in a race they may stand in any order
 abbrev pub KeepsOrder : Order → History → Type 0
-KeepsOrder Stamp history = IsTrue (do_stamps_rise 0 history)
+KeepsOrder Stamp history = IsTrue (no_stamp_goes_back 0 history)
 KeepsOrder Race history = Unit {0}
 
 -- A history is lawful for an order and a script where each client's entries are its lines, in order and with their

@@ -29,24 +29,24 @@ pub record IsApart (lock : CommunityLock) (seat : SeatState) : Type 0 where
   pub alone : seat.met ≡ []
 
 -- whether the client has one of the lines
-abbrev pub is_among : ℕ → List Entry → Bool
-is_among client lines = list_any (λ line. line.client == client) lines
+abbrev pub has_line : ℕ → List Entry → Bool
+has_line client lines = list_any (λ line. line.client == client) lines
 
 -- what the first seat keeps of a player that it takes in
 abbrev pub met_of : Player → Met Entry
 met_of player = record { number = player.seat.number; events = player.seat.mine }
 
 -- how often a number is among those taken in
-abbrev pub times : ℕ → List (Met Entry) → ℕ
-times n met = count_by (has_number n) met
+abbrev pub times_met : ℕ → List (Met Entry) → ℕ
+times_met n met = count_by (has_number n) met
 
 -- the first seat has taken in the seats of all other clients, and no number twice
 pub record IsGathered (lock : CommunityLock) (first : SeatState) : Type 0 where
   pub may : MayCall lock first
   pub number : first.number ≡ 0
   pub all : length first.met ≡ first.made
-  pub each : (n : ℕ) → 0 < n → n < length lock.base → 0 < times n first.met
-  pub once : (n : ℕ) → times n first.met ≤ 1
+  pub each : (n : ℕ) → 0 < n → n < length lock.base → 0 < times_met n first.met
+  pub once : (n : ℕ) → times_met n first.met ≤ 1
 
 -- The seats of these players are parted from the first, and it knows with them what it knew before. Each other client
 -- but that of number 0 has none of the lines.
@@ -54,9 +54,9 @@ pub record AreParted (lock : CommunityLock) (lines : List Entry) (before first :
   pub same : first ≡ record before { met = first.met }
   pub apart : All (λ player. IsApart lock player.seat) players
   pub all : length first.met + length players ≡ length before.met
-  pub each : (n : ℕ) → times n first.met + times n (map met_of players) ≡ times n before.met
+  pub each : (n : ℕ) → times_met n first.met + times_met n (map met_of players) ≡ times_met n before.met
   pub known : (n : ℕ) → events_in (first.met ++ map met_of players) n ≡ events_in before.met n
-  pub busy : (n : ℕ) → 0 < n → times n (map met_of players) ≡ 0 → entries_of n lines ≡ []
+  pub busy : (n : ℕ) → 0 < n → times_met n (map met_of players) ≡ 0 → entries_of n lines ≡ []
 
 -- the first seat after it took these players in, of which none found no memory
 pub record HasTaken (before after : SeatState) (players : List Player) : Type 0 where
@@ -76,7 +76,8 @@ pub record GoesOn (lines : List Entry) (before after : SeatState) : Type 0 where
   pub known : (n : ℕ) → known_of after n ≡ known_of before n ++ entries_of n lines
   pub whole : (n : ℕ) → entries_of n after.seen ≡ known_of after n
 
--- the first seat, which has taken in all others, has seen a history of just these lines, in this order
+-- the first seat, which has taken in all others, has seen a history of just these lines: each client's in their order, and
+-- with stamps as the order asks
 pub record HasSeen (order : Order) (first : SeatState) (lines : List Entry) : Type 0 where
   pub known : (n : ℕ) → known_of first n ≡ entries_of n lines
   pub whole : (n : ℕ) → entries_of n first.seen ≡ entries_of n lines

@@ -3,7 +3,7 @@
 ghost use Rattle.std.specs.Prelude.{◌≡◌, ◌<◌, ◌^◌, length, nat_lt, IsTrue, IfOk, OnOk, Ok};
 ghost use Rattle.std.specs.List.{All, AllZip, list_all};
 ghost use Rattle.moos_client.specs.Calls.{MayCall};
-ghost use Rattle.moos_play.specs.Rounds.{AreParted, GoesOn, HasEnded, HasPlayed, HasSeenAll, HasTaken, is_among, IsApart, IsGathered};
+ghost use Rattle.moos_play.specs.Rounds.{AreParted, GoesOn, HasEnded, HasPlayed, HasSeenAll, HasTaken, has_line, IsApart, IsGathered};
 ghost use Rattle.turn_lock.specs.Passes.{HasAll, IsFree, IsOf};
 
 use crate::player::{Player, play_part};
@@ -40,7 +40,7 @@ pub(crate) fn play_round<R: Threads + Wait + Sync, G: Gate>(
 
 // Whether the client has one of the lines.
 fn has_lines(lines: &[Entry], client: u32) -> bool
-    ensures { result ≡ is_among client lines.now }
+    ensures { result ≡ has_line client lines.now }
 {
     lines.iter().any(|line| line.client == client)
 }

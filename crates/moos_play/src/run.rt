@@ -1,7 +1,7 @@
 // The whole of a run: its database under a lock, its rounds, and the history that they leave.
 ghost use Rattle.std.specs.Prelude.{◌≡◌, ◌<◌, IfOk, IsTrue, length, nat_lt};
 ghost use Rattle.std.specs.List.{list_all};
-ghost use Rattle.moos_play.specs.Lawful.{IsLawful, do_stamps_rise};
+ghost use Rattle.moos_play.specs.Lawful.{IsLawful, no_stamp_goes_back};
 ghost use Rattle.moos_play.specs.Rounds.{EndsRound, HasSeen, IsGathered, KnowsNothing};
 ghost use Rattle.script_reader.specs.Validity.{IsValid};
 ghost use Rattle.turn_lock.specs.Passes.{first_of};
@@ -94,7 +94,7 @@ fn play_rounds<R: Threads + Wait + Sync, G: Gate>(
     requires gathered { IsGathered lock.now first }
     requires nothing { KnowsNothing first }
     requires clients { IsTrue (list_all (λ line. nat_lt line.client clients) lines.now) }
-    requires stamps { IsTrue (do_stamps_rise 0 lines.now) }
+    requires stamps { IsTrue (no_stamp_goes_back 0 lines.now) }
     ensures gathered { IfOk result (IsGathered lock.now) }
     ensures seen { IfOk result (λ after. HasSeen order after lines.now) }
 {

@@ -82,7 +82,7 @@ fn of_client(alloc: Global, all: &[Told], client: u32) -> Result<Vec<Told>, Allo
     Ok(own)
 }
 
-fn do_stamps_rise(history: &[Told]) -> bool {
+fn no_stamp_goes_back(history: &[Told]) -> bool {
     let mut last = 0;
     for (stamp, _, _, _) in history {
         if *stamp < last {
@@ -103,7 +103,7 @@ fn check_lawful(
 ) -> Result<(), Fail> {
     let (lines, history) = (lines_told(alloc, script)?, history_told(alloc, db)?);
     assert!(rt; history.len() == lines.len());
-    assert!(rt; order == Order::Race || do_stamps_rise(history.as_slice()));
+    assert!(rt; order == Order::Race || no_stamp_goes_back(history.as_slice()));
     for client in 0..db.clients() {
         let own = of_client(alloc, lines.as_slice(), client)?;
         let made = of_client(alloc, history.as_slice(), client)?;

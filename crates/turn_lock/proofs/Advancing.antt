@@ -1,29 +1,24 @@
 -- Putting the value back: the turn goes on, and the history has the events more that the pass added.
-use Rattle.std.proofs.Common.{◌≡◌, ◌≢◌, ℕ, zero, suc, ◌+◌, ◌-◌, ◌%◌, ◌^◌, ◌<◌, ◌≤◌, ◌==◌, ◌⊎◌, inl, inr, Bool, true, false, cond, List, [], ◌∷◌, ◌++◌, set, drop, filter, length, length-append, append-nil, append_assoc, Option, Some, None, unwrap_or, eq-eqb, ne_eqb, sym, refl, ap, ◌∙◌, subst, arith}
+use Rattle.std.proofs.Common.{◌≡◌, ◌≢◌, ℕ, zero, suc, ◌+◌, ◌%◌, ◌^◌, ◌<◌, ◌==◌, ◌⊎◌, inl, inr, true, false, cond, List, [], ◌∷◌, ◌++◌, set, drop, length, append-nil, Option, Some, unwrap_or, eq-eqb, ne_eqb, sym, refl, ap, ◌∙◌, subst, arith}
 use Rattle.std.specs.Prelude.{slice_index}
-use Rattle.std.specs.List.{sum_by}
 use Rattle.std.proofs.lemmas.Bool.{false≢true, false_from_ne_true}
 use Rattle.std.proofs.lemmas.List.Elements.{filter-append}
-use mathlib.Core.Option.{some, none, some-injective, some-ne-none}
+use mathlib.Core.Option.{some, some-injective, some-ne-none}
 use mathlib.Core.Logic.{dite}
 use native.Mathlib.Decide.{ℕ_discrete}
 use native.Mathlib.Nat.{mod-add-mod}
 use lib.ListN.{get_elem?}
-use Rattle.atomic_table.specs.Table.{Act, Allows, carried_after, gives, Me, put_back, rest, State, step, Step, stepped, Valid}
-use Rattle.atomic_table.proofs.Lists.{at_set, set_else, set_here}
+use Rattle.atomic_table.specs.Table.{Allows, gives, Me, put_back, State, Step}
+use Rattle.atomic_table.proofs.Lists.{at_set}
 use Rattle.turn_lock.specs.declared.view.Known.{Known}
-use Rattle.turn_lock.specs.declared.view.Met.{Met}
 use Rattle.turn_lock.specs.declared.view.Turn.{Turn}
 use Rattle.turn_lock.specs.declared.view.Turn.TheVariants.{Idle, Waits, Holds}
-use Rattle.turn_lock.specs.Passes.{Begins, events_in, has_number, own}
-use Rattle.turn_lock.specs.Rule.{Book, Fits, has_turn, has_ticket, IsHeldAt, IsHome, IsKnown, IsOut, IsPlaced, Kept, known_in, Stands, tickets, times, weight}
+use Rattle.turn_lock.specs.Passes.{events_in, own}
+use Rattle.turn_lock.specs.Rule.{Book, Fits, has_turn, IsHome, IsOut, IsPlaced, Kept, known_in, Stands, tickets, times, weight}
 use Rattle.turn_lock.specs.Steps.{Adds, advanced, Advances, began, in_hand, Returns}
-use Rattle.turn_lock.proofs.Queues.{held_set, tickets_of, within}
+use Rattle.turn_lock.proofs.Fronts.{longer_begins}
+use Rattle.turn_lock.proofs.Queues.{held_set, tickets_of}
 use Rattle.turn_lock.proofs.Sums.{sum_set}
-
--- the history goes on
-pub longer_begins : {E : Type 0} (log front added : List E) → Begins log front → Begins (log ++ added) front
-longer_begins log front added h = (h.0 ++ added, ap (λ l. l ++ added) h.1 ∙ append_assoc front h.0 added)
 
 -- what is dropped with the front is the rest
 drop_front : {A : Type 0} (xs ys : List A) → drop (length xs) (xs ++ ys) ≡ ys

@@ -1,3 +1,6 @@
+pub mod Examples
+pub mod Fronts
+pub mod Mets
 pub mod Sums
 pub mod Queues
 pub mod Turns

@@ -1,72 +1,30 @@
 -- A pass that takes another one in, and sees what the other has seen.
-use Rattle.std.proofs.Common.{◌≡◌, ◌≢◌, ℕ, zero, suc, ◌+◌, ◌-◌, ◌%◌, ◌^◌, ◌<◌, ◌≤◌, ◌==◌, ◌⊎◌, inl, inr, Bool, true, false, cond, List, [], ◌∷◌, ◌++◌, set, drop, get_or, length, length-append, length-set, count_by, Option, Some, None, eq-eqb, ne_eqb, nat_lt, lt_of_not-le, sym, refl, ap, ◌∙◌, subst, arith}
+use Rattle.std.proofs.Common.{◌≡◌, ◌≢◌, ℕ, ◌+◌, ◌<◌, ◌≤◌, ◌==◌, ◌⊎◌, inl, inr, Bool, true, false, cond, List, ◌∷◌, set, length-append, count_by, Option, eq-eqb, ne_eqb, sym, refl, ap, ◌∙◌, subst, arith}
 use Rattle.std.specs.Prelude.{slice_index}
-use Rattle.std.specs.List.{sum_by}
 use Rattle.std.proofs.lemmas.Bool.{false≢true}
-use Rattle.std.proofs.lemmas.Bool.Decides.{nat_tests}
-use Rattle.std.proofs.lemmas.List.Sums.{sum_by-append, sum_by-cons}
-use mathlib.Core.Option.{some, none, some-injective, some-ne-none}
+use mathlib.Core.Option.{some, some-injective}
 use mathlib.Core.Logic.{dite}
 use native.Mathlib.Decide.{dec_le, ℕ_discrete}
 use lib.ListN.{get_elem?}
-use Rattle.atomic_table.specs.Table.{Allows, Joins, keeps, Me, State, step, Step}
+use Rattle.atomic_table.specs.Table.{Allows, Joins, keeps, Me, State, Step}
 use Rattle.atomic_table.proofs.Lists.{at_set, set_else, set_here}
 use Rattle.turn_lock.specs.declared.view.Known.{Known}
 use Rattle.turn_lock.specs.declared.view.Met.{Met}
-use Rattle.turn_lock.specs.declared.view.Turn.{Turn}
 use Rattle.turn_lock.specs.declared.view.Turn.TheVariants.{Idle}
-use Rattle.turn_lock.specs.Passes.{Begins, events_in, has_number, longer, own}
+use Rattle.turn_lock.specs.Passes.{Begins, events_in, has_number, longer}
 use Rattle.turn_lock.specs.Rule.{Book, Fits, has_turn, IsHeldAt, IsHome, IsKnown, IsOut, IsPlaced, Kept, known_in, Stands, tickets, times, weight}
 use Rattle.turn_lock.specs.Steps.{joined, Settles, spent}
+use Rattle.turn_lock.proofs.Fronts.{longer_of}
+use Rattle.turn_lock.proofs.Mets.{count_more, count_one, events_back, events_front}
 use Rattle.turn_lock.proofs.Queues.{held_set, holder_stays, tickets_of, within}
 use Rattle.turn_lock.proofs.Sums.{sum_set}
 use Rattle.turn_lock.proofs.Turns.{weight_of}
 
--- of two fronts of one list the longer begins with the shorter
-shorter_begins : {E : Type 0} (xs ys r q : List E) → xs ++ r ≡ ys ++ q → length xs ≤ length ys → Begins ys xs
-shorter_begins [] ys r q e short = (ys, refl)
-shorter_begins (x ∷ xs) [] r q e short = absurd (omega arith)
-shorter_begins (x ∷ xs) (y ∷ ys) r q e short =
-    let rest = shorter_begins xs ys r q (ap (drop 1) e) (omega arith) in
-    (rest.0, λ i. sym (ap (λ l. get_or l 0 x) e) i ∷ rest.1 i)
-
--- a list begins with itself
-pub begins_itself : {E : Type 0} (xs : List E) → Begins xs xs
-begins_itself [] = ([], refl)
-begins_itself (x ∷ xs) = let rest = begins_itself xs in (rest.0, ap (λ l. x ∷ l) rest.1)
-
--- of two fronts of one list, both begin the longer, which is a front too
-pub longer_of : {E : Type 0} (log xs ys : List E) → Begins log xs → Begins log ys → Begins log (longer xs ys) × Begins (longer xs ys) xs × Begins (longer xs ys) ys
-longer_of {E} log xs ys h k = by (nat_lt (length xs) (length ys)) refl
-  where
-    by : (b : Bool) → nat_lt (length xs) (length ys) ≡ b → Begins log (cond b ys xs) × Begins (cond b ys xs) xs × Begins (cond b ys xs) ys
-    by true e = (k, shorter_begins xs ys h.0 k.0 (sym h.1 ∙ k.1) (grind (arith, nat_tests)), begins_itself ys)
-    by false e = (h, begins_itself xs, shorter_begins ys xs k.0 h.0 (sym k.1 ∙ h.1) (grind (arith, nat_tests)))
-
--- the events of a number that was taken in first
-events_front : {E : Type 0} (met more : List (Met E)) (n : ℕ) → 0 < count_by (has_number n) met → events_in (met ++ more) n ≡ events_in met n
-events_front [] more n some' = absurd (omega arith)
-events_front {E} (one ∷ met) more n some' = by (events_front met more n) (has_number n one) (omega (arith, some', sum_by-cons (λ (k : Met E). cond (has_number n k) 1 0) one met))
-  where
-    by : (0 < count_by (has_number n) met → events_in (met ++ more) n ≡ events_in met n) → (b : Bool) → 0 < cond b 1 0 + count_by (has_number n) met → cond b one.events (events_in (met ++ more) n) ≡ cond b one.events (events_in met n)
-    by rest true h = refl
-    by rest false h = rest (omega arith)
-
--- the events of a number that was not
-events_back : {E : Type 0} (met more : List (Met E)) (n : ℕ) → count_by (has_number n) met ≡ 0 → events_in (met ++ more) n ≡ events_in more n
-events_back [] more n none' = refl
-events_back {E} (one ∷ met) more n none' = by (events_back met more n) (has_number n one) (omega (arith, none', sum_by-cons (λ (k : Met E). cond (has_number n k) 1 0) one met))
-  where
-    by : (count_by (has_number n) met ≡ 0 → events_in (met ++ more) n ≡ events_in more n) → (b : Bool) → cond b 1 0 + count_by (has_number n) met ≡ 0 → cond b one.events (events_in (met ++ more) n) ≡ events_in more n
-    by rest true h = absurd (omega arith)
-    by rest false h = rest (omega arith)
-
 -- what two passes know together
 joined_times : {E B : Type 0} (v w : Known E B) (n : ℕ) → times (joined v w) n ≡ times v n + times w n
 joined_times {E} v w n =
-    let f : Met E → ℕ = λ k. cond (has_number n k) 1 0 in
     let one : Met E = record { number = w.number; events = w.mine } in
-    omega (arith, sum_by-append f v.met (one ∷ w.met), sum_by-cons f one w.met)
+    omega (arith, count_more n v.met (one ∷ w.met), count_one n one w.met)
 
 joined_front : {E B : Type 0} (v w : Known E B) (n : ℕ) → 0 < times v n → known_in (joined v w) n ≡ known_in v n
 joined_front {E} v w n some' = by (v.number == n) (omega (arith, some'))

@@ -1,20 +1,19 @@
 -- Drawing a ticket: the queue grows by the seat that drew.
-use Rattle.std.proofs.Common.{◌≡◌, ◌≢◌, ℕ, zero, suc, ◌+◌, ◌%◌, ◌^◌, ◌<◌, ◌≤◌, ◌⊎◌, inl, inr, Bool, true, false, cond, List, [], ◌∷◌, ◌++◌, set, length, length-append, Option, Some, None, sym, refl, ap, ◌∙◌, subst, arith}
+use Rattle.std.proofs.Common.{◌≡◌, ◌≢◌, ℕ, zero, suc, ◌+◌, ◌%◌, ◌^◌, ◌<◌, ◌⊎◌, inl, inr, Bool, true, false, cond, List, [], ◌∷◌, ◌++◌, set, length, length-append, Option, sym, refl, ap, ◌∙◌, subst, arith}
 use Rattle.std.specs.Prelude.{slice_index}
 use Rattle.std.specs.List.{sum_by}
-use mathlib.Core.Option.{some, none, some-injective, some-ne-none}
+use mathlib.Core.Option.{some, some-injective, some-ne-none}
 use mathlib.Core.Logic.{dite}
 use Rattle.std.proofs.Math.Logic.{⊎_map}
 use native.Mathlib.Decide.{ℕ_discrete}
 use native.Mathlib.Nat.{mod-add-mod}
 use Rattle.std.proofs.lemmas.Bool.{false≢true}
 use lib.ListN.{get_elem?}
-use Rattle.atomic_table.specs.Table.{Allows, keeps, Me, State, step, Step}
+use Rattle.atomic_table.specs.Table.{Allows, keeps, Me, State, Step}
 use Rattle.atomic_table.proofs.Lists.{at_last, at_longer, at_set, set_else, set_here}
 use Rattle.turn_lock.specs.declared.view.Known.{Known}
 use Rattle.turn_lock.specs.declared.view.Turn.{Turn}
 use Rattle.turn_lock.specs.declared.view.Turn.TheVariants.{Idle, Waits, Holds}
-use Rattle.turn_lock.specs.Passes.{own}
 use Rattle.turn_lock.specs.Rule.{Book, Fits, has_ticket, has_turn, IsHeldAt, IsHome, IsOut, IsPlaced, Kept, Stands, tickets, times, weight}
 use Rattle.turn_lock.specs.Steps.{Draws}
 use Rattle.turn_lock.proofs.Sums.{sum_set}
@@ -47,10 +46,6 @@ pub placed_longer : {E : Type 0} (book : Book E) (more : List ℕ) (seat : ℕ) 
 placed_longer book more seat Idle h = tt
 placed_longer book more seat (Waits ticket) h = (h.0, h.1, at_longer book.queue more h.0 seat h.2)
 placed_longer book more seat (Holds ticket history) h = (h.0, at_longer book.queue more 0 seat h.1, h.2)
-
--- the first place of a longer queue is that of the queue, where it has one
-pub first_longer : (queue more : List ℕ) (seat : ℕ) → get_elem? queue 0 ≡ some seat → get_elem? (queue ++ more) 0 ≡ some seat
-first_longer queue more seat e = at_longer queue more 0 seat e
 
 module _ {E B S : Type 0} (base_of : S → B) (history_of : S → List E) (number : E → ℕ) (base : B) where
   -- who holds the turn still does, after a pass without it changed

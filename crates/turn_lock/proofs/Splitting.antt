@@ -1,23 +1,20 @@
 -- A pass that is split off the first one, new or taken in before.
-use Rattle.std.proofs.Common.{◌≡◌, ◌≢◌, ℕ, zero, suc, ◌+◌, ◌-◌, ◌%◌, ◌^◌, ◌<◌, ◌≤◌, ◌==◌, ◌⊎◌, inl, inr, Bool, true, false, cond, not, ◌||◌, List, [], ◌∷◌, ◌++◌, set, filter, length, length-append, length-set, count_by, Option, Some, None, eq-eqb, ne_eqb, sym, refl, ap, ◌∙◌, subst, arith}
-use Rattle.std.specs.List.{list_any, sum_by}
-use Rattle.std.proofs.lemmas.Bool.{false≢true}
-use Rattle.std.proofs.lemmas.List.Sums.{sum_by-cons}
-use Rattle.std.proofs.Math.Logic.{⊎_map}
-use mathlib.Core.Option.{some, none, some-injective, some-ne-none}
+use Rattle.std.proofs.Common.{◌≡◌, ◌≢◌, ℕ, zero, suc, ◌+◌, ◌-◌, ◌^◌, ◌<◌, ◌≤◌, ◌==◌, ◌⊎◌, inl, inr, Bool, true, false, cond, List, [], ◌∷◌, ◌++◌, set, length, length-set, count_by, Option, eq-eqb, ne_eqb, sym, refl, ap, ◌∙◌, subst, arith}
+use Rattle.std.specs.List.{list_any}
+use mathlib.Core.Option.{some, some-injective, some-ne-none}
 use mathlib.Core.Logic.{dite}
 use native.Mathlib.Decide.{ℕ_discrete}
 use lib.ListN.{get_elem?}
 use Rattle.atomic_table.specs.Table.{Splits, State}
-use Rattle.atomic_table.proofs.Lists.{at_last, at_longer, at_set, at_snoc, set_again}
+use Rattle.atomic_table.proofs.Lists.{at_last, at_longer, at_set, at_snoc}
 use Rattle.turn_lock.specs.declared.view.Known.{Known}
 use Rattle.turn_lock.specs.declared.view.Met.{Met}
-use Rattle.turn_lock.specs.declared.view.Turn.{Turn}
 use Rattle.turn_lock.specs.declared.view.Turn.TheVariants.{Idle}
-use Rattle.turn_lock.specs.Passes.{Begins, events_in, has_number, own, without}
+use Rattle.turn_lock.specs.Passes.{events_in, has_number, own, without}
 use Rattle.turn_lock.specs.Rule.{Book, Fits, has_turn, IsHeldAt, IsHome, IsKnown, IsOut, IsPlaced, Kept, known_in, Stands, tickets, times, weight}
-use Rattle.turn_lock.specs.Steps.{apart, closed, dealt, new_of, parted, part_of}
-use Rattle.turn_lock.proofs.Queues.{held_set, holder_stays, home_set, tickets_of, within}
+use Rattle.turn_lock.specs.Steps.{apart, dealt, new_of, parted, part_of}
+use Rattle.turn_lock.proofs.Mets.{count_gone, count_kept, events_kept, length_without, met_counts}
+use Rattle.turn_lock.proofs.Queues.{held_set, holder_stays, home_set}
 use Rattle.turn_lock.proofs.Sums.{sum_set, sum_snoc}
 use Rattle.turn_lock.proofs.Turns.{weight_of}
 
@@ -204,77 +201,6 @@ module _ {E B S : Type 0} (base_of : S → B) (history_of : S → List E) (numbe
       by seat u live' (inl at') = still.4 seat u at' live'
       by seat u live' (inr is) = sym (ap (λ (k : Known E B). has_turn k.turn) is)
 
--- how often a number is among those taken in, without one of them
-count_without : {E : Type 0} (n m : ℕ) (met : List (Met E)) → m ≢ n → count_by (has_number m) (without n met) ≡ count_by (has_number m) met
-count_without n m [] ne = refl
-count_without {E} n m (one ∷ met) ne = by (count_without n m met ne) (ℕ_discrete one.number n)
-  where
-    counted : (xs : List (Met E)) → count_by (has_number m) (one ∷ xs) ≡ cond (one.number == m) 1 0 + count_by (has_number m) xs
-    counted xs = sum_by-cons (λ (k : Met E). cond (has_number m k) 1 0) one xs
-
-    by : count_by (has_number m) (without n met) ≡ count_by (has_number m) met → Dec (one.number ≡ n) → count_by (has_number m) (without n (one ∷ met)) ≡ count_by (has_number m) (one ∷ met)
-    by rest (yes e) =
-        let nought : ℕ = 0 in
-        let drops : without n (one ∷ met) ≡ without n met = ap (λ b. cond (not b) (one ∷ without n met) (without n met)) (eq-eqb one.number n e) in
-        let other : cond (one.number == m) 1 nought ≡ nought = ap (λ b. cond b 1 nought) (ne_eqb one.number m (λ e'. ne (sym e' ∙ e))) in
-        ap (count_by (has_number m)) drops ∙ omega (arith, rest, counted met, other)
-    by rest (no ne') =
-        let keeps : without n (one ∷ met) ≡ one ∷ without n met = ap (λ b. cond (not b) (one ∷ without n met) (without n met)) (ne_eqb one.number n ne') in
-        ap (count_by (has_number m)) keeps ∙ omega (arith, rest, counted met, counted (without n met))
-
--- and it is there no more
-count_gone : {E : Type 0} (n : ℕ) (met : List (Met E)) → count_by (has_number n) (without n met) ≡ 0
-count_gone n [] = refl
-count_gone {E} n (one ∷ met) = by (count_gone n met) (ℕ_discrete one.number n)
-  where
-    by : count_by (has_number n) (without n met) ≡ 0 → Dec (one.number ≡ n) → count_by (has_number n) (without n (one ∷ met)) ≡ 0
-    by rest (yes e) = ap (λ b. count_by (has_number n) (cond (not b) (one ∷ without n met) (without n met))) (eq-eqb one.number n e) ∙ rest
-    by rest (no ne) =
-        let nought : ℕ = 0 in
-        let other : cond (one.number == n) 1 nought ≡ nought = ap (λ b. cond b 1 nought) (ne_eqb one.number n ne) in
-        ap (λ b. count_by (has_number n) (cond (not b) (one ∷ without n met) (without n met))) (ne_eqb one.number n ne) ∙ omega (arith, rest, other, sum_by-cons (λ (k : Met E). cond (has_number n k) 1 0) one (without n met))
-
-length_without : {E : Type 0} (n : ℕ) (met : List (Met E)) → length (without n met) + count_by (has_number n) met ≡ length met
-length_without n [] = refl
-length_without {E} n (one ∷ met) = by (length_without n met) (ℕ_discrete one.number n)
-  where
-    counted : count_by (has_number n) (one ∷ met) ≡ cond (one.number == n) 1 0 + count_by (has_number n) met
-    counted = sum_by-cons (λ (k : Met E). cond (has_number n k) 1 0) one met
-
-    by : length (without n met) + count_by (has_number n) met ≡ length met → Dec (one.number ≡ n) → length (without n (one ∷ met)) + count_by (has_number n) (one ∷ met) ≡ length (one ∷ met)
-    by rest (yes e) =
-        let single : ℕ = 1 in
-        let drops : length (without n (one ∷ met)) ≡ length (without n met) = ap (λ b. length (cond (not b) (one ∷ without n met) (without n met))) (eq-eqb one.number n e) in
-        let here : cond (one.number == n) single 0 ≡ single = ap (λ b. cond b single 0) (eq-eqb one.number n e) in
-        omega (arith, rest, counted, drops, here)
-    by rest (no ne) =
-        let nought : ℕ = 0 in
-        let keeps : length (without n (one ∷ met)) ≡ length (one ∷ without n met) = ap (λ b. length (cond (not b) (one ∷ without n met) (without n met))) (ne_eqb one.number n ne) in
-        let other : cond (one.number == n) 1 nought ≡ nought = ap (λ b. cond b 1 nought) (ne_eqb one.number n ne) in
-        omega (arith, rest, counted, keeps, other)
-
-events_without : {E : Type 0} (n m : ℕ) (met : List (Met E)) → m ≢ n → events_in (without n met) m ≡ events_in met m
-events_without n m [] ne = refl
-events_without {E} n m (one ∷ met) ne = by (events_without n m met ne) (ℕ_discrete one.number n)
-  where
-    by : events_in (without n met) m ≡ events_in met m → Dec (one.number ≡ n) → events_in (without n (one ∷ met)) m ≡ events_in (one ∷ met) m
-    by rest (yes e) = ap (λ b. events_in (cond (not b) (one ∷ without n met) (without n met)) m) (eq-eqb one.number n e)
-        ∙ (rest ∙ sym (ap (λ b. cond b one.events (events_in met m)) (ne_eqb one.number m (λ e'. ne (sym e' ∙ e)))))
-    by rest (no ne') = ap (λ b. events_in (cond (not b) (one ∷ without n met) (without n met)) m) (ne_eqb one.number n ne')
-        ∙ ap (λ (l : List E). cond (one.number == m) one.events l) rest
-
--- a number that was taken in is counted
-pub met_counts : {E : Type 0} (n : ℕ) (met : List (Met E)) → list_any (has_number n) met ≡ true → 0 < count_by (has_number n) met
-met_counts n [] e = absurd (false≢true e)
-met_counts {E} n (one ∷ met) e = by (met_counts n met) (has_number n one) e counted
-  where
-    counted : count_by (has_number n) (one ∷ met) ≡ cond (has_number n one) 1 0 + count_by (has_number n) met
-    counted = sum_by-cons (λ (k : Met E). cond (has_number n k) 1 0) one met
-
-    by : (list_any (has_number n) met ≡ true → 0 < count_by (has_number n) met) → (b : Bool) → (b || list_any (has_number n) met) ≡ true → count_by (has_number n) (one ∷ met) ≡ cond b 1 0 + count_by (has_number n) met → 0 < count_by (has_number n) (one ∷ met)
-    by rest true e' c = omega (arith, c)
-    by rest false e' c = omega (arith, c, rest e')
-
 module _ {E B S : Type 0} (base_of : S → B) (history_of : S → List E) (number : E → ℕ) (base : B) where
   -- a new pass may be split off the first
   pub deals : (id : ℕ) (v : Known E B) → v.live ≡ true → v.turn ≡ Idle → v.number ≡ 0 → 0 < v.left → Splits (Kept base_of history_of number base) id v (dealt v) (new_of v)
@@ -357,7 +283,7 @@ module _ {E B S : Type 0} (base_of : S → B) (history_of : S → List E) (numbe
             live = live;
             idle = idle;
             first = first;
-            kept = λ m ne. (ap (λ k. cond (v.number == m) 1 0 + k) (count_without n m v.met ne), ap (λ (l : List E). cond (v.number == m) v.mine l) (events_without n m v.met ne));
+            kept = λ m ne. (ap (λ k. cond (v.number == m) 1 0 + k) (count_kept n m v.met ne), ap (λ (l : List E). cond (v.number == m) v.mine l) (events_kept n m v.met ne));
             gone = (λ i. cond (not_own i) 1 0 + count_gone n v.met i);
             mine_is = known.events ∙ ap (λ b. cond b v.mine mine) not_own;
             positive = omega (arith, first, apart_here);

@@ -1,33 +1,22 @@
 -- Looking at the turn: it is taken where it is the ticket's. And what the first pass knows that has taken in all others.
-use Rattle.std.proofs.Common.{◌≡◌, ◌≢◌, ℕ, zero, suc, ◌+◌, ◌%◌, ◌^◌, ◌<◌, ◌≤◌, ◌==◌, ◌⊎◌, inl, inr, Bool, true, false, cond, List, [], ◌∷◌, ◌++◌, set, length, Option, Some, None, count_by, eq-eqb, ne_eqb, lt_of_not-le, MatchBool, sym, refl, ap, ◌∙◌, subst, arith}
+use Rattle.std.proofs.Common.{◌≡◌, ◌≢◌, ℕ, zero, suc, ◌+◌, ◌%◌, ◌^◌, ◌<◌, ◌≤◌, ◌==◌, ◌⊎◌, inl, inr, Bool, true, false, cond, List, [], ◌∷◌, set, length, Option, Some, count_by, eq-eqb, ne_eqb, lt_of_not-le, MatchBool, sym, refl, ap, ◌∙◌, subst, arith}
 use Rattle.std.specs.Prelude.{slice_index}
-use Rattle.std.specs.List.{sum_by}
 use Rattle.std.proofs.lemmas.Bool.{false≢true}
-use Rattle.std.proofs.lemmas.List.Sums.{sum_by-cons}
-use mathlib.Core.Option.{some, none, some-injective, some-ne-none}
+use mathlib.Core.Option.{some, none, some-injective}
 use mathlib.Core.Logic.{dite}
 use native.Mathlib.Decide.{dec_le, ℕ_discrete}
 use lib.ListN.{get_elem?}
-use Rattle.atomic_table.specs.Table.{Act, Allows, carried_after, keeps, Me, State, step, Step, stepped, takes, Valid}
+use Rattle.atomic_table.specs.Table.{Act, Allows, carried_after, keeps, Me, State, Step, stepped, takes, Valid}
 use Rattle.atomic_table.proofs.Lists.{at_set, one_turn, set_again, set_here}
 use Rattle.turn_lock.specs.declared.view.Known.{Known}
-use Rattle.turn_lock.specs.declared.view.Met.{Met}
 use Rattle.turn_lock.specs.declared.view.Turn.{Turn}
 use Rattle.turn_lock.specs.declared.view.Turn.TheVariants.{Idle, Waits, Holds}
 use Rattle.turn_lock.specs.Passes.{Begins, events_in, has_number, own}
-use Rattle.turn_lock.specs.Rule.{Book, Fits, has_turn, has_ticket, IsHeldAt, IsHome, IsOut, IsPlaced, Kept, known_in, Stands, tickets, times, weight}
+use Rattle.turn_lock.specs.Rule.{Book, Fits, has_turn, has_ticket, IsHome, IsOut, IsPlaced, Kept, known_in, Stands, tickets, times, weight}
 use Rattle.turn_lock.specs.Steps.{Polls, Takes}
-use Rattle.turn_lock.proofs.Queues.{held_set, tickets_of, turned, within}
+use Rattle.turn_lock.proofs.Mets.{events_none}
+use Rattle.turn_lock.proofs.Queues.{held_set, turned, within}
 use Rattle.turn_lock.proofs.Sums.{sum_below, sum_set, sum_two}
-
--- who has met a number no time has no events of it
-unmet : {E : Type 0} (met : List (Met E)) (n : ℕ) → count_by (has_number n) met ≡ 0 → events_in met n ≡ []
-unmet [] n e = refl
-unmet {E} (one ∷ met) n e = by (unmet met n) (has_number n one) (omega (arith, e, sum_by-cons (λ (m : Met E). cond (has_number n m) 1 0) one met))
-  where
-    by : (count_by (has_number n) met ≡ 0 → events_in met n ≡ []) → (b : Bool) → cond b 1 0 + count_by (has_number n) met ≡ 0 → cond b one.events (events_in met n) ≡ []
-    by rest true h = absurd (omega arith)
-    by rest false h = rest (omega arith)
 
 -- who knows a number no time knows no events of it
 unknown : {E B : Type 0} (v : Known E B) (n : ℕ) → times v n ≡ 0 → known_in v n ≡ []
@@ -35,7 +24,7 @@ unknown v n e = by (v.number == n) (omega arith)
   where
     by : (b : Bool) → cond b 1 0 + count_by (has_number n) v.met ≡ 0 → cond b v.mine (events_in v.met n) ≡ []
     by true h = absurd (omega arith)
-    by false h = unmet v.met n (omega arith)
+    by false h = events_none v.met n (omega arith)
 
 -- a live pass stands for itself and those that it has taken in
 pub weight_of : {E B : Type 0} (v : Known E B) → v.live ≡ true → weight v ≡ 1 + length v.met

@@ -47,7 +47,7 @@ abbrev pub IsFree : {E B : Type 0} → PassState E B → Type 0
 IsFree pass = pass.turn ≡ None
 
 -- what was lent to a pass of this number, when the value had this history, was lent to this pass in the turn that it holds
-pub record CameFrom {E B : Type 0} (pass : PassState E B) (number : ℕ) (history : List E) : Type 0 where
+pub record WasLent {E B : Type 0} (pass : PassState E B) (number : ℕ) (history : List E) : Type 0 where
   pub number_is : number ≡ pass.number
   pub turn_is : pass.turn ≡ Some history
 

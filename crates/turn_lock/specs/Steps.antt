@@ -2,7 +2,6 @@
 use Rattle.std.specs.Prelude.{◌≡◌, ℕ, ◌+◌, ◌-◌, ◌%◌, ◌^◌, ◌==◌, ◌⊎◌, true, false, List, [], ◌∷◌, ◌++◌, length, drop, Option, Some, None, MatchBool}
 use Rattle.atomic_table.specs.Table.{Me, rest, Step}
 use Rattle.turn_lock.specs.declared.view.Known.{Known}
-use Rattle.turn_lock.specs.declared.view.Met.{Met}
 use Rattle.turn_lock.specs.declared.view.Turn.{Turn}
 use Rattle.turn_lock.specs.declared.view.Turn.TheVariants.{Idle, Waits, Holds}
 use Rattle.turn_lock.specs.Passes.{Begins, events_in, longer, own, without}
@@ -82,17 +81,19 @@ abbrev pub apart : {E B : Type 0} → Known E B → ℕ → List E → Known E B
 apart v number mine =
     record { live = true; base = v.base; number = number; seen = v.seen; told = []; mine = mine; left = 0; made = 0; met = []; turn = Idle }
 
--- the first pass after a new one was split off, and the new one
+-- the first pass after a new one was split off
 abbrev pub dealt : {E B : Type 0} → Known E B → Known E B
 dealt v = record v { left = v.left - 1; made = v.made + 1 }
 
+-- the new pass: it has the next number and no events
 abbrev pub new_of : {E B : Type 0} → Known E B → Known E B
 new_of v = apart v (v.made + 1) []
 
--- the first pass after it parted with the pass of a number, and that pass
+-- the first pass after it parted with the pass of a number
 abbrev pub parted : {E B : Type 0} → ℕ → Known E B → Known E B
 parted n v = record v { met = without n v.met }
 
+-- the pass that was parted: it has the number's events
 abbrev pub part_of : {E B : Type 0} → ℕ → Known E B → Known E B
 part_of n v = apart v n (events_in v.met n)
 

@@ -1,6 +1,6 @@
 ghost use Rattle.std.specs.Prelude.{◌≡◌, ◌+◌, ◌-◌, ◌<◌, ◌≤◌, ◌++◌, ◌∷◌, [], true, false, Some, None, IfOk, IfErr};
 ghost use Rattle.std.specs.List.{list_any};
-ghost use Rattle.turn_lock.specs.Passes.{Begins, beside, CameFrom, events_in, first_of, has_number, HasAll, IsFree, IsOf, IsWhole, met_with, without};
+ghost use Rattle.turn_lock.specs.Passes.{Begins, beside, WasLent, events_in, first_of, has_number, HasAll, IsFree, IsOf, IsWhole, met_with, without};
 
 use crate::board::{self, Locked};
 use crate::held::Held;
@@ -160,7 +160,7 @@ impl<S: Journaled> TurnLock<S> {
     /// Gives the value back with one event more, which names the number of the pass.
     pub fn give(&self, pass: &mut Pass<S>, held: Held<S>)
         requires lock { IsOf self.now pass.old }
-        requires held { CameFrom pass.old held.number (S.history held.start.value) }
+        requires held { WasLent pass.old held.number (S.history held.start.value) }
         requires base { S.base held.value ≡ self.now.base }
         requires event { (event : S.Event) × (S.number event ≡ pass.old.number) × (S.history held.value ≡ S.history held.start.value ++ event ∷ []) }
         ensures { (event : S.Event) → S.history held.value ≡ S.history held.start.value ++ event ∷ [] → pass.new ≡ record pass.old { seen = S.history held.value; mine = pass.old.mine ++ event ∷ []; turn = None } }
@@ -176,7 +176,7 @@ impl<S: Journaled> TurnLock<S> {
     /// Gives the value back with the history that it had when it was taken.
     pub fn give_back(&self, pass: &mut Pass<S>, held: Held<S>)
         requires lock { IsOf self.now pass.old }
-        requires held { CameFrom pass.old held.number (S.history held.start.value) }
+        requires held { WasLent pass.old held.number (S.history held.start.value) }
         requires base { S.base held.value ≡ self.now.base }
         requires same { S.history held.value ≡ S.history held.start.value }
         ensures { pass.new ≡ record pass.old { seen = S.history held.value; turn = None } }

@@ -1,5 +1,5 @@
 use Rattle.std.proofs.Common.{◌∙◌, ◌+◌, ◌<◌, [], ◌∷◌, ◌++◌, length, ap, subst, sym, arith}
-use Rattle.moos_play.proofs.Mets.{is_taken}
+use Rattle.turn_lock.proofs.Mets.{is_taken}
 use Rattle.moos_play.proofs.Rounds.{ArePartedTo, is_with, parted_all, parted_more, parted_skip}
 use Rattle.moos_play.proofs.round.part_busy.Goals as goal
 use Rattle.moos_play.proofs.round.part_busy.Goals.{then-has_lines+in_ok-push, else-has_lines}

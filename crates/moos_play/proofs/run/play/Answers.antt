@@ -2,7 +2,7 @@ use Rattle.std.proofs.Common.{◌≡◌, ◌∙◌, ap, length, nat_lt, subst, s
 use Rattle.std.specs.Prelude.{IsTrue}
 use Rattle.std.specs.List.{list_all}
 use Rattle.moos_post.specs.declared.entry.Entry.{Entry}
-use Rattle.moos_play.specs.Lawful.{do_stamps_rise}
+use Rattle.moos_play.specs.Lawful.{no_stamp_goes_back}
 use Rattle.moos_play.specs.Rounds.{HasSeen}
 use Rattle.moos_play.proofs.Runs.{lawful, lawful_none, lines_clients, lines_rise, no_lines}
 use Rattle.moos_play.proofs.run.play.Goals as goal
@@ -22,7 +22,7 @@ play_rounds-requires-clause-clients g c κs lives =
 
 pub play_rounds-requires-clause-stamps : goal.play_rounds-requires-clause-stamps
 play_rounds-requires-clause-stamps g c κs lives =
-    subst (λ lines. IsTrue (do_stamps_rise 0 lines)) (sym c.all-lines.ensures)
+    subst (λ lines. IsTrue (no_stamp_goes_back 0 lines)) (sym c.all-lines.ensures)
     (lines_rise (length c.args.script.now.names) 0 c.args.script.now.stop c.args.script.now.lines c.requires.lines)
 
 pub returns-clause-lawful : goal.returns-clause-lawful

@@ -1,6 +1,5 @@
-use Rattle.std.proofs.Common.{◌≡◌, ℕ, List, Some, sym, ap, ◌∙◌, subst}
+use Rattle.std.proofs.Common.{sym, ap, ◌∙◌, subst}
 use Rattle.turn_lock.specs.Passes.{Begins, own}
-use Rattle.turn_lock.specs.Rule.{known_in}
 use Rattle.turn_lock.proofs.Closing.{ends, held_in}
 use Rattle.turn_lock.proofs.board.closed_with.Goals as goal
 
