@@ -1,10 +1,14 @@
 -- Reports worked by hand.
-use Rattle.std.proofs.Common.{◌≡◌, ℕ, List, [], ◌∷◌, refl}
-use Rattle.std.specs.Prelude.{codes, pos, negsuc}
+use Rattle.std.proofs.Common.{◌≡◌, ℕ, zero, suc, ◌<◌, List, [], ◌∷◌, refl, arith}
+use Rattle.std.specs.Prelude.{codes, pos, negsuc, IsTrue, slice_index_or}
+use Rattle.std.specs.List.{All}
+use Rattle.std.proofs.lemmas.List.Elements.{All-cons, All-nil}
 use Rattle.std.specs.Fmt.{digits}
 use Rattle.moos_post.specs.declared.entry.Call.TheVariants.{Register, Unregister, Post as Posts, Fetch}
 use Rattle.moos_post.specs.declared.entry.Entry.{Entry}
 use Rattle.moos_post.specs.declared.value.Value.TheVariants.{Num, Text}
+use Rattle.moos_post.specs.Words.{is_name}
+use Rattle.moos_report.specs.Community.{HaveOwnNames, IsCommunity, IsEntry, IsPair, IsReg}
 use Rattle.moos_report.specs.Report.{report_text}
 
 abbrev first_lines : List Entry
@@ -35,3 +39,31 @@ second_report : report_text (codes "b" ∷ codes "a" ∷ []) second_lines
     ≡ codes "%% moosdb play 1\n%% client 0 b\n%% client 1 a\n%% entry 0 0 b register\n%% reg T* a 0.5\n%% entry 1 1.5 a post 0 2\n1.5 T a \"say \\\"\\\\\\\"\"\n1.5 U a -1.05\n%% entry 2 2 b unregister\n%% reg T* a\n%% entry 3 2.25 b fetch\n%% mail 0 1.5 T a \"say \\\"\\\\\\\"\"\n%% end 4 2\n"
 unfolding digits
 second_report = refl
+
+abbrev Named : List ℕ → Type 0
+Named name = IsTrue (is_name name)
+
+-- a history is one that a report is printed of where its parts are what their types let them be
+first_community : IsCommunity (codes "pA" ∷ []) first_lines
+first_community = record {
+  named = All-cons Named (codes "pA") [] refl (All-nil Named);
+  entries = each (record { stamp = omega arith; call = All-cons IsReg (record { var = codes "X"; source = codes "*"; interval = 0 }) [] (record { var = refl; source = refl; interval = omega arith }) (All-nil IsReg) })
+      (record { stamp = omega arith; call = (omega arith, All-cons IsPair (record { var = codes "X"; value = Num (pos 5000) }) [] (record { var = refl; value = (grind arith, grind arith) }) (All-nil IsPair)) })
+      (record { stamp = omega arith; call = tt }) (record { stamp = omega arith; call = tt });
+  clients = own;
+}
+  where
+    own : (k : ℕ) (d : Entry) → k < 4 → (slice_index_or first_lines k d).client < 1
+    own zero d within = omega arith
+    own (suc zero) d within = omega arith
+    own (suc (suc zero)) d within = omega arith
+    own (suc (suc (suc zero))) d within = omega arith
+    own (suc (suc (suc (suc k)))) d within = absurd (omega (arith, within))
+
+    each : {a b c d : Entry} → IsEntry a → IsEntry b → IsEntry c → IsEntry d → All IsEntry (a ∷ b ∷ c ∷ d ∷ [])
+    each {a = a} {b = b} {c = c} {d = d} p q r s =
+        All-cons IsEntry a (b ∷ c ∷ d ∷ []) p (All-cons IsEntry b (c ∷ d ∷ []) q (All-cons IsEntry c (d ∷ []) r (All-cons IsEntry d [] s (All-nil IsEntry))))
+
+-- two clients of one name are not told apart
+same_names : HaveOwnNames (codes "pA" ∷ codes "pA" ∷ []) → ⊥
+same_names own = absurd (omega (arith, own 0 1 (omega arith) (omega arith) refl))

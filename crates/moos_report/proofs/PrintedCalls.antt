@@ -1,5 +1,5 @@
 -- Calls of which one text is printed are the same, and what stands behind them is.
-use Rattle.std.proofs.Common.{◌≡◌, ◌≢◌, ℕ, ◌+◌, ◌<◌, ◌^◌, ◌&&◌, Bool, true, false, List, [], ◌∷◌, ◌++◌, map, flat_map, length, drop, get_or, refl, ap, sym, ◌∙◌, subst, arith, append_assoc}
+use Rattle.std.proofs.Common.{◌≡◌, ℕ, ◌&&◌, Bool, true, false, List, [], ◌∷◌, ◌++◌, flat_map, length, drop, get_or, refl, ap, sym, ◌∙◌, arith, append_assoc}
 use Rattle.std.specs.Prelude.{codes, decimal, IsTrue}
 use Rattle.std.specs.List.{All, concat, list_all}
 use Rattle.std.proofs.lemmas.Bool.{false≢true}
@@ -8,15 +8,14 @@ use Rattle.std.proofs.lemmas.List.{append_cancel_left}
 use Rattle.std.proofs.lemmas.List.Elements.{All-head, All-tail}
 use Rattle.moos_post.specs.declared.entry.Call.{Call}
 use Rattle.moos_post.specs.declared.entry.Call.TheVariants.{Register, Unregister, Post as Posts, Fetch}
-use Rattle.moos_post.specs.declared.entry.Entry.{Entry}
 use Rattle.moos_post.specs.declared.registration.Reg.{Reg}
 use Rattle.moos_post.specs.declared.value.Pair.{Pair}
 use Rattle.moos_post.specs.Delivery.{mail_after}
-use Rattle.moos_post.specs.History.{History, name_of, post_of, posts_of}
+use Rattle.moos_post.specs.History.{History, name_of, posts_of}
 use Rattle.moos_post.specs.Words.{begins_name, is_name, is_name_byte, is_pattern, is_pattern_byte}
 use Rattle.moos_text.specs.Numbers.{unsigned_text}
 use Rattle.moos_report.specs.Community.{IsCall, IsPair, IsReg}
-use Rattle.moos_report.specs.Report.{call_text, letters_text, post_text, reg_text, said_text, value_text}
+use Rattle.moos_report.specs.Report.{call_text, letters_text, reg_text, said_text, value_text}
 use Rattle.moos_report.proofs.Cuts.{cut_at, Lacks, lacks_all}
 use Rattle.moos_report.proofs.PrintedValues.{decimal_lacks, unsigned_lacks, unsigned_same, value_lacks, value_same}
 use Rattle.moos_report.proofs.Reporting.{batch_is}

@@ -30,9 +30,11 @@ abbrev pub said_text : ℕ → List ℕ → List ℕ → Value → List ℕ
 said_text stamp source var value =
     concat (unsigned_text stamp ∷ codes " " ∷ var ∷ codes " " ∷ source ∷ codes " " ∷ []) ++ (value_text value ++ codes "\n")
 
+-- the line of a post, which names its client
 abbrev pub post_text : List (List ℕ) → Post → List ℕ
 post_text names post = said_text post.stamp (name_of names post.source) post.var post.value
 
+-- the line of a registration: both patterns, and the interval in seconds
 abbrev pub reg_text : Reg → List ℕ
 reg_text reg = concat (codes "%% reg " ∷ reg.var ∷ codes " " ∷ reg.source ∷ codes " " ∷ unsigned_text reg.interval ∷ codes "\n" ∷ [])
 
@@ -41,6 +43,7 @@ abbrev pub letter_text : List (List ℕ) → ℕ → Option Post → List ℕ
 letter_text names number None = []
 letter_text names number (Some post) = concat (codes "%% mail " ∷ decimal number ∷ codes " " ∷ []) ++ post_text names post
 
+-- the letters of a mail, in its order
 abbrev pub letters_text : List (List ℕ) → List Post → List ℕ → List ℕ
 letters_text names posts mail = flat_map (λ number. letter_text names number (slice_get posts number)) mail
 
@@ -65,6 +68,7 @@ abbrev pub entries_text : List (List ℕ) → History → History → List ℕ
 entries_text names past [] = []
 entries_text names past (entry ∷ later) = entry_text names past entry ++ entries_text names (past ++ entry ∷ []) later
 
+-- the line of a client: its number and its name
 abbrev pub client_text : ℕ → List ℕ → List ℕ
 client_text number name = concat (codes "%% client " ∷ decimal number ∷ codes " " ∷ name ∷ codes "\n" ∷ [])
 
@@ -73,6 +77,7 @@ abbrev pub clients_text : ℕ → List (List ℕ) → List ℕ
 clients_text number [] = []
 clients_text number (name ∷ names) = client_text number name ++ clients_text (suc number) names
 
+-- the line at the end: how many entries and how many posts there were
 abbrev pub end_text : History → List ℕ
 end_text history = concat (codes "%% end " ∷ decimal (length history) ∷ codes " " ∷ decimal (length (posts_of history)) ∷ codes "\n" ∷ [])
 

@@ -1,4 +1,3 @@
-use Rattle.moos_report.specs.Community.{IsCommunity}
 use Rattle.moos_report.proofs.PrintedReports.{report_same}
 use Rattle.moos_report.proofs.law.report_law.Goals as goal
 
