@@ -11,7 +11,7 @@ use Rattle.moos_post.specs.declared.entry.Call.TheVariants.{Register, Unregister
 use Rattle.moos_post.specs.declared.value.Post.{Post}
 use Rattle.moos_post.specs.Delivery.{is_latest}
 use Rattle.moos_post.specs.History.{name_of}
-use Rattle.moos_db.specs.Kept.{Kept, KeptLive, is_due_held, is_new_held, with_stamp, passed, with_mailed, with_due, kept_post, catch_post, catch_found, catch_number, catches_kept, with_caught, kept_catching, kept_own, IsFresh}
+use Rattle.moos_db.specs.Kept.{Kept, KeptLive, is_due_held, is_new_held, with_stamp, passed, with_mailed, with_due, catch_post, catch_found, catch_number, catches_kept, with_caught, kept_catching, kept_own, IsFresh}
 use Rattle.moos_db.specs.Tables.{latest_from}
 use Rattle.moos_mail.proofs.Lists.{found-below, length-push, list_any-push}
 use Rattle.moos_db.proofs.Standing.{slice_get-seam}
@@ -116,13 +116,6 @@ fresh-push posts number mailed below fresh n from =
     list_any-push (λ one. one == n) mailed number
     ∙ ap (λ b. b || (number == n)) (fresh n from)
     ∙ unlike number n (omega arith)
-
-pub fresh-post : (stamp : ℕ) (source : List ℕ) (kept : Kept) (var : List ℕ) → IsFresh kept → IsFresh (kept_post stamp source kept var)
-fresh-post stamp source kept var fresh = through (list_any (is_due_held stamp var source) kept.lives)
-  where
-    through : (due : Bool) (n : ℕ) → suc kept.posts ≤ n → list_any (λ one. one == n) (if due then with_mailed kept.posts kept else kept).mailed ≡ false
-    through true n from = fresh-push (suc kept.posts) kept.posts kept.mailed (omega arith) (λ m later. fresh m (omega arith)) n from
-    through false n from = fresh n (omega arith)
 
 fresh-catching : (names : List (List ℕ)) (number : ℕ) (kept : Kept) (posts : List Post) → number + length posts ≤ kept.posts → IsFresh kept → IsFresh (kept_catching names number kept posts)
 fresh-catching names number kept [] within fresh = fresh

@@ -1,5 +1,5 @@
 -- The database as a whole: what is kept of all clients and entries, when an inbox is put and when an entry is added.
-use Rattle.std.proofs.Common.{◌≡◌, ℕ, zero, suc, ◌<◌, false, List, [], ◌∷◌, ◌++◌, length, set, get_or, take, slice_get, Some, None, inl, inr, ap, sym, ◌∙◌, arith, subst, length-set, length-append, replicate, refl, ◌^◌}
+use Rattle.std.proofs.Common.{◌≡◌, ℕ, zero, suc, ◌<◌, false, List, [], ◌∷◌, ◌++◌, length, set, get_or, take, slice_get, Some, None, inl, inr, ap, sym, ◌∙◌, arith, subst, length-append, replicate, refl, ◌^◌}
 use Rattle.std.proofs.lemmas.Bool.{cases_lt, cond-false}
 use Rattle.std.proofs.lemmas.List.{take-append-le, get_or_append_left, length-replicate}
 use Rattle.std.proofs.lemmas.Option.{slice_get-get_or}
@@ -49,18 +49,10 @@ pub IsDb-inboxes : (names : List (List ℕ)) (journal : Journal) (table : Latest
 IsDb-inboxes names journal table inboxes other each all db =
     record { few = db.few; each = each ∙ db.each; lettered = db.lettered; latest = db.latest; kept = all; given = db.given }
 
-pub IsDb-set : (names : List (List ℕ)) (journal : Journal) (table : Latest) (inboxes : List Kept) (client : ℕ) (kept : Kept) → IsInbox names journal.entries client kept →
-    IsDb names journal table inboxes → IsDb names journal table (set inboxes client kept)
-IsDb-set names journal table inboxes client kept inbox db =
-    IsDb-inboxes names journal table inboxes (set inboxes client kept) (length-set inboxes client kept) (AreInboxes-set names journal.entries inboxes client kept inbox db.kept) db
-
 pub IsDb-table : (names : List (List ℕ)) (journal : Journal) (table other : Latest) (inboxes : List Kept) → IsLatest (posts_of journal.entries) other →
     IsDb names journal table inboxes → IsDb names journal other inboxes
 IsDb-table names journal table other inboxes latest db =
     record { few = db.few; each = db.each; lettered = db.lettered; latest = latest; kept = db.kept; given = db.given }
-
-pub IsDb-empty : (names : List (List ℕ)) (journal : Journal) (table : Latest) (inboxes : List Kept) (client : ℕ) → IsDb names journal table inboxes → IsDb names journal table (set inboxes client empty_kept)
-IsDb-empty names journal table inboxes client db = IsDb-set names journal table inboxes client empty_kept (IsInbox-empty names journal.entries client) db
 
 pub mail_at-stays : (names : List (List ℕ)) (history : History) (entry : Entry) (k : ℕ) → k < length history → mail_at names (history ++ entry ∷ []) k ≡ mail_at names history k
 mail_at-stays names history entry k below =

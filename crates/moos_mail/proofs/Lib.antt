@@ -1,3 +1,4 @@
+pub mod Appending
 pub mod Catching
 pub mod Coming
 pub mod Examples
@@ -5,7 +6,6 @@ pub mod Inboxes
 pub mod Lists
 pub mod Living
 pub mod Mailed
-pub mod Mailing
 pub mod Orderly
 pub mod Rising
 pub mod Sending

@@ -53,9 +53,6 @@ module _ (names : List (List ℕ)) (client : ℕ) (history : History) (k : ℕ) 
   count-here : length here.posts ≡ posts_before history k
   count-here = front-posts names client history k entry there
 
-  past-here : All (λ one. (one.entry < k) × (one.number < posts_before history k)) here.mailed
-  past-here = mailed-past names client history k (let h : k < length history = within names client history k entry there in omega (arith, h))
-
   none-here : (n : ℕ) → is_mailed_at n k here.mailed ≡ false
   none-here n = none-before names client history n k (let h : k < length history = within names client history k entry there in omega (arith, h))
 

@@ -58,7 +58,7 @@ impl Mailbox {
     }
 
     /// Mails the post with this number, which was never mailed. It takes no memory, and at most one place of the room.
-    #[tactic(auto, using(crate::proofs::Mailing::goes_last))]
+    #[tactic(auto, using(crate::proofs::Appending::goes_last))]
     pub fn append(&mut self, number: u64)
         requires room { 1 ≤ self.old.spare }
         requires new { is_one_of number self.old.mailed ≡ false }

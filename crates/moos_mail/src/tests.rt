@@ -27,10 +27,10 @@ fn numbers_wait_until_taken(rt: HostRuntime) -> Result<(), Fail> {
 fn numbers_are_a_list(rt: HostRuntime) -> Result<(), Fail> {
     let mut numbers = Numbers::new(rt.alloc());
     numbers.push(9).ok().ok_or("no memory")?;
-    numbers.push(4).ok().ok_or("no memory")?;
+    numbers.push(0).ok().ok_or("no memory")?;
     assert_eq!(rt; numbers.len(), 2);
-    assert_eq!(rt; numbers.get(1), 4);
-    assert_eq!(rt; numbers.all(), [9, 4].as_slice());
+    assert_eq!(rt; numbers.get(1), 0);
+    assert_eq!(rt; numbers.all(), [9, 0].as_slice());
     Ok(())
 }
 
