@@ -1,8 +1,8 @@
 -- What every call keeps that is read: the limits of a line, and what it adds to the counts.
-use Rattle.std.proofs.Common.{◌≡◌, ℕ, ◌<◌, ◌≤◌, Bool, true, false, ◌&&◌, cond, not, nat_le, List, [], ◌∷◌, ◌++◌, length, codes, bytes_eq, Some, None, refl, sym, ap, ◌∙◌, arith, length-append}
+use Rattle.std.proofs.Common.{◌≡◌, ℕ, ◌<◌, ◌≤◌, Bool, true, false, ◌&&◌, cond, not, nat_le, nat_lt, List, [], ◌∷◌, ◌++◌, length, codes, bytes_eq, Some, None, refl, sym, ap, ◌∙◌, arith, length-append}
 use Rattle.std.specs.Prelude.{Option, option_and_then, Result, Ok, Err, IfOk, IfSome, ℤ, pos, negsuc}
 use Rattle.std.specs.List.{list_any}
-use Rattle.std.proofs.lemmas.Bool.{le-leb, leb-false}
+use Rattle.std.proofs.lemmas.Bool.{and_from, le-leb, leb-false, lt-ltb}
 use Rattle.std.proofs.lemmas.List.Sums.{fold-append}
 use Rattle.moos_post.specs.declared.entry.Call.{Call}
 use Rattle.moos_post.specs.declared.entry.Call.TheVariants.{Register, Post as Posts, Fetch}
@@ -14,11 +14,12 @@ use Rattle.moos_text.specs.declared.cause.Limit.TheVariants.{Registrations, Vari
 use Rattle.moos_text.specs.Lines.{first_word, behind_word}
 use Rattle.moos_text.specs.Numbers.{milli_of}
 use Rattle.moos_text.specs.Pairs.{pair_of, parts_of}
-use Rattle.script_reader.specs.Script.{and_then, ended, milliseconds_of, time_of, pattern_of, interval_of, source_of, reg_of, one_more, register_of, withdrawal_of, unregister_of, with_cause, with_variable, Posting, posting, with_known, with_pair, with_part, with_parts, post_of_text, is_register, call_of}
+use Rattle.moos_text.specs.Refusals.{and_then}
+use Rattle.script_reader.specs.Script.{ended, milliseconds_of, time_of, pattern_of, interval_of, source_of, reg_of, one_more, register_of, withdrawal_of, unregister_of, with_cause, with_variable, Posting, posting, with_known, with_pair, with_part, with_parts, post_of_text, is_register, call_of}
 use Rattle.script_reader.specs.Validity.{keeps_limits}
 use Rattle.script_reader.specs.Counts.{with_pairs, with_call_variables}
+use Rattle.moos_text.proofs.Parts.{onto_part, parts_begin}
 use Rattle.script_reader.proofs.Judging.{cond_good, and_then_good, ended_good}
-use Rattle.script_reader.proofs.Conjunctions.{both_true}
 
 -- what every call keeps: a registration has room for one more, the limits of a line, and those of variables
 pub record IsFine (made : ℕ) (known : List (List ℕ)) (call : Call) : Type 0 where
@@ -72,7 +73,7 @@ register_fine made known text =
     more : (one : Reg) → IsEarly one.interval → IfOk (one_more made one) (IsFine made known)
     more one early =
         cond_good (IsFine made known) (nat_le 256 made) (Err (S8 Registrations)) (Ok (Register (one ∷ []))) (λ _. tt)
-        (λ room. record { room = λ _. leb-false 256 made room; limits = both_true (nat_le one.interval 1000000000) true early refl; variables = λ few. few })
+        (λ room. record { room = λ _. leb-false 256 made room; limits = early; variables = λ few. few })
 
 withdrawal_fine : (made : ℕ) (known : List (List ℕ)) (var source : Option (List ℕ)) → IfOk (withdrawal_of var source) (IsFine made known)
 withdrawal_fine made known None source = tt
@@ -89,6 +90,10 @@ unregister_fine made known text =
 -- the variables up to here are those before the post and those of its pairs
 abbrev pub IsFrom : List (List ℕ) → Posting → Type 0
 IsFrom known post = post.variables ≡ with_pairs known post.pairs
+
+-- there is a pair up to here
+abbrev HasPair : Posting → Type 0
+HasPair post = 0 < length post.pairs
 
 -- the limits of a post are kept up to here
 record IsShort (known : List (List ℕ)) (post : Posting) : Type 0 where
@@ -145,6 +150,31 @@ parts_keep P more post (part ∷ parts) here =
     any (Ok pair) = tt
     any (Err cause) = tt
 
+-- one pair more is at least one
+pair_some : (post : Posting) (pair : Pair) → IfOk (with_pair post pair) HasPair
+pair_some post pair =
+    cond_good HasPair (nat_le 64 (length post.pairs)) (Err (S8 InBatch)) (and_then add (with_known post.variables pair.var)) (λ _. tt)
+    (λ _. and_then_good (λ more. more ≡ with_variable post.variables pair.var) HasPair add (with_known post.variables pair.var) (known_is post.variables pair.var)
+    (λ more is. omega (arith, length-append post.pairs (pair ∷ []))))
+  where
+    add : List (List ℕ) → Result Posting Cause
+    add variables = Ok (posting variables (post.pairs ++ pair ∷ []))
+
+-- and a text has at least one part
+parts_some : (text : List ℕ) (post : Posting) → IfOk (with_parts post (parts_of text)) HasPair
+parts_some text post = by (parts_of text) (parts_begin text)
+  where
+    any : (r : Result Pair Cause) → IfOk r (λ _. Unit {0})
+    any (Ok pair) = tt
+    any (Err cause) = tt
+
+    by : (parts : List (List ℕ)) → parts ≡ onto_part [] parts → IfOk (with_parts post parts) HasPair
+    by [] e = absurd (cc)
+    by (part ∷ parts) e =
+        and_then_good HasPair HasPair (λ next. with_parts next parts) (with_part post part)
+        (and_then_good (λ _. Unit {0}) HasPair (with_pair post) (with_cause (pair_of part)) (any (with_cause (pair_of part))) (λ pair _. pair_some post pair))
+        (λ next there. parts_keep HasPair (λ more pair _. pair_some more pair) next parts there)
+
 pub parts_from : (known : List (List ℕ)) (parts : List (List ℕ)) → IfOk (with_parts (posting known []) parts) (IsFrom known)
 parts_from known parts = parts_keep (IsFrom known) (λ post pair from. pair_from known post pair from) (posting known []) parts refl
 
@@ -157,9 +187,20 @@ both_good P Q (Err fault) h g = tt
 
 post_fine : (made : ℕ) (known : List (List ℕ)) (text : List ℕ) → IfOk (post_of_text known text) (IsFine made known)
 post_fine made known text =
-    and_then_good (λ post. IsFrom known post × IsShort known post) (IsFine made known) (λ post. Ok (Posts post.pairs)) (with_parts (posting known []) (parts_of text))
-    (both_good (IsFrom known) (IsShort known) (with_parts (posting known []) (parts_of text)) (parts_from known (parts_of text)) (parts_short known (parts_of text)))
-    (λ post holds. record { room = λ h. absurd cc; limits = le-leb (length post.pairs) 64 holds.1.pairs; variables = λ few. let all = holds.1.variables few in omega (arith, ap length holds.0) })
+    and_then_good Holds (IsFine made known) (λ post. Ok (Posts post.pairs)) read
+    (both_good (λ post. IsFrom known post × IsShort known post) HasPair read
+    (both_good (IsFrom known) (IsShort known) read (parts_from known (parts_of text)) (parts_short known (parts_of text))) (parts_some text (posting known [])))
+    (λ post holds. record {
+      room = λ h. absurd cc;
+      limits = and_from (nat_lt 0 (length post.pairs)) (nat_le (length post.pairs) 64) (lt-ltb 0 (length post.pairs) holds.1) (le-leb (length post.pairs) 64 holds.0.1.pairs);
+      variables = λ few. let all = holds.0.1.variables few in omega (arith, ap length holds.0.0);
+    })
+  where
+    read : Result Posting Cause
+    read = with_parts (posting known []) (parts_of text)
+
+    Holds : Posting → Type 0
+    Holds post = (IsFrom known post × IsShort known post) × HasPair post
 
 pub call_fine : (made : ℕ) (known : List (List ℕ)) (text : List ℕ) → IfOk (call_of made known text) (IsFine made known)
 call_fine made known text =

@@ -1,7 +1,8 @@
 -- What holds of every value that is judged good.
 use Rattle.std.proofs.Common.{◌≡◌, ℕ, Bool, true, false, cond, List, [], ◌∷◌, refl, subst}
 use Rattle.std.specs.Prelude.{Result, Ok, Err, IfOk}
-use Rattle.script_reader.specs.Script.{and_then, ended}
+use Rattle.moos_text.specs.Refusals.{and_then}
+use Rattle.script_reader.specs.Script.{ended}
 
 -- one of two, by a test
 pub cond_good : {A E : Type 0} (P : A → Type 0) (b : Bool) (one other : Result A E) → (b ≡ true → IfOk one P) → (b ≡ false → IfOk other P) → IfOk (cond b one other) P

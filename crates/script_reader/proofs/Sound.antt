@@ -4,7 +4,7 @@ use Rattle.std.specs.Prelude.{Option, ok_or, Result, Ok, Err, IfOk, IfSome}
 use Rattle.std.specs.List.{list_any}
 use Rattle.std.proofs.Math.Numerals.{one-add}
 use Rattle.std.proofs.Math.ListN.{drop_of_length-le}
-use Rattle.std.proofs.lemmas.Bool.{le-leb, leb-true, leb-false, lt-ltb, ltb-true, ltb-false, eqb-true}
+use Rattle.std.proofs.lemmas.Bool.{and_from, and_parts, le-leb, leb-true, leb-false, lt-ltb, ltb-true, ltb-false, eqb-true}
 use Rattle.std.proofs.lemmas.List.Folds.{list_any-append}
 use Rattle.std.proofs.lemmas.Slice.Eq.{bytes_eq-Decides}
 use Rattle.moos_post.specs.declared.entry.Call.{Call}
@@ -15,23 +15,24 @@ use Rattle.moos_text.specs.declared.cause.Cause.TheVariants.{S1, S2, S4, S5, S8,
 use Rattle.moos_text.specs.declared.cause.Limit.TheVariants.{Clients, Lines as NonBlank}
 use Rattle.moos_text.specs.Lines.{raw_lines, content_of, is_unclosed, first_word, behind_word}
 use Rattle.script_reader.specs.declared.script.Script.{Script}
-use Rattle.script_reader.specs.Script.{and_then, ended, time_of, is_register, registrations_of, variables_of, call_of, number_of, with_client, client_of, with_call, after_client, after_stamp, not_before, after_words, Progress, progress, after_filled, after_line, go_on, read_from, nothing_read}
+use Rattle.moos_text.specs.Refusals.{and_then}
+use Rattle.script_reader.specs.Script.{ended, time_of, is_register, registrations_of, variables_of, call_of, number_of, with_client, client_of, with_call, after_client, after_stamp, not_before, after_words, Progress, progress, after_filled, after_line, go_on, read_from, nothing_read}
 use Rattle.script_reader.specs.Validity.{are_clients, are_lines, keeps_limits, IsValid}
 use Rattle.script_reader.proofs.Calls.{IsFine, IsEarly, time_early, call_fine}
 use Rattle.script_reader.proofs.Counting.{client_length, registrations_more, variables_more}
 use Rattle.script_reader.proofs.Judging.{cond_good, and_then_good, ended_good, at_good}
-use Rattle.script_reader.proofs.Places.{position_or_len-le-length}
-use Rattle.script_reader.proofs.Conjunctions.{left_true, right_true, both_true}
+use Rattle.moos_text.proofs.WordLemmas.{position_or_len-le-length}
 
 -- the four tests of a line, of which the last one is that of the lines behind it
 line_tests : (a b c d : Bool) → (a && b && c && d) ≡ true → (a ≡ true) × (b ≡ true) × (c ≡ true) × (d ≡ true)
 line_tests a b c d h =
-    let three = left_true (a && b && c) d h in
-    let two = left_true (a && b) c three in
-    (left_true a b two, right_true a b two, right_true (a && b) c three, right_true (a && b && c) d h)
+    let three = and_parts (a && b && c) d h in
+    let two = and_parts (a && b) c three.0 in
+    let one = and_parts a b two.0 in
+    (one.0, one.1, two.1, three.1)
 
 four_true : (a b c d : Bool) → a ≡ true → b ≡ true → c ≡ true → d ≡ true → (a && b && c && d) ≡ true
-four_true a b c d ha hb hc hd = both_true (a && b && c) d (both_true (a && b) c (both_true a b ha hb) hc) hd
+four_true a b c d ha hb hc hd = and_from (a && b && c) d (and_from (a && b) c (and_from a b ha hb) hc) hd
 
 -- one line more, of a client that there is, with a stamp that doesn't go back
 lines_more : (clients last stop : ℕ) (lines : List Entry) (line : Entry) → are_lines clients last stop lines ≡ true → line.client < clients → stop ≤ line.stamp → keeps_limits line.call ≡ true
@@ -68,17 +69,17 @@ first_place false name client names is = ap (λ b. cond (not b) (1 + number_of n
 
 -- a client that no name is may join
 clients_more : (names : List (List ℕ)) (client : List ℕ) → are_clients names ≡ true → not (bytes_eq client (codes "pHelmIvP")) ≡ true → length names ≤ number_of names client → are_clients (names ++ client ∷ []) ≡ true
-clients_more [] client good own new = both_true (not (bytes_eq client (codes "pHelmIvP")) && true) true (both_true (not (bytes_eq client (codes "pHelmIvP"))) true own refl) refl
+clients_more [] client good own new = and_from (not (bytes_eq client (codes "pHelmIvP")) && true) true (and_from (not (bytes_eq client (codes "pHelmIvP"))) true own refl) refl
 clients_more (name ∷ names) client good own new = at (bytes_eq name client) refl (clients_more names client)
   where
     helm : Bool
     helm = not (bytes_eq name (codes "pHelmIvP"))
 
     here : (not (bytes_eq name (codes "pHelmIvP")) && not (list_any (λ other. bytes_eq other name) names)) ≡ true
-    here = left_true (not (bytes_eq name (codes "pHelmIvP")) && not (list_any (λ other. bytes_eq other name) names)) (are_clients names) good
+    here = (and_parts (not (bytes_eq name (codes "pHelmIvP")) && not (list_any (λ other. bytes_eq other name) names)) (are_clients names) good).0
 
     later : are_clients names ≡ true
-    later = right_true (not (bytes_eq name (codes "pHelmIvP")) && not (list_any (λ other. bytes_eq other name) names)) (are_clients names) good
+    later = (and_parts (not (bytes_eq name (codes "pHelmIvP")) && not (list_any (λ other. bytes_eq other name) names)) (are_clients names) good).1
 
     joined : (a b : Bool) → not a ≡ true → b ≡ false → not (a || (b || false)) ≡ true
     joined true b h g = h
@@ -90,12 +91,12 @@ clients_more (name ∷ names) client good own new = at (bytes_eq name client) re
         → are_clients (name ∷ names ++ client ∷ []) ≡ true
     at true is rest = absurd (omega (arith, first_place true name client names is))
     at false is rest =
-        both_true (not (bytes_eq name (codes "pHelmIvP")) && not (list_any (λ other. bytes_eq other name) (names ++ client ∷ []))) (are_clients (names ++ client ∷ []))
-        (both_true (not (bytes_eq name (codes "pHelmIvP"))) (not (list_any (λ other. bytes_eq other name) (names ++ client ∷ [])))
-        (left_true (not (bytes_eq name (codes "pHelmIvP"))) (not (list_any (λ other. bytes_eq other name) names)) here)
+        and_from (not (bytes_eq name (codes "pHelmIvP")) && not (list_any (λ other. bytes_eq other name) (names ++ client ∷ []))) (are_clients (names ++ client ∷ []))
+        (and_from (not (bytes_eq name (codes "pHelmIvP"))) (not (list_any (λ other. bytes_eq other name) (names ++ client ∷ [])))
+        (and_parts (not (bytes_eq name (codes "pHelmIvP"))) (not (list_any (λ other. bytes_eq other name) names)) here).0
         (ap not (list_any-append (λ other. bytes_eq other name) names (client ∷ []))
         ∙ joined (list_any (λ other. bytes_eq other name) names) (bytes_eq client name)
-        (right_true (not (bytes_eq name (codes "pHelmIvP"))) (not (list_any (λ other. bytes_eq other name) names)) here) (other_bytes name client is)))
+        (and_parts (not (bytes_eq name (codes "pHelmIvP"))) (not (list_any (λ other. bytes_eq other name) names)) here).1 (other_bytes name client is)))
         (rest later own (omega (arith, first_place false name client names is)))
 
 -- what a script so far keeps

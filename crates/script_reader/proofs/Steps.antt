@@ -6,9 +6,9 @@ use Rattle.moos_text.specs.declared.cause.Cause.{Cause}
 use Rattle.moos_text.specs.declared.cause.LineFault.{LineFault}
 use Rattle.moos_text.specs.declared.cause.LineFault.TheVariants.{Refused, NoMemory}
 use Rattle.moos_text.specs.Lines.{first_word, behind_word}
-use Rattle.moos_text.specs.Refusals.{IsLineFault}
+use Rattle.moos_text.specs.Refusals.{and_then, IsLineFault}
 use Rattle.script_reader.specs.declared.script.Script.{Script}
-use Rattle.script_reader.specs.Script.{and_then, ended, is_register, registrations_of, variables_of, call_of, number_of, client_of, after_client, after_stamp}
+use Rattle.script_reader.specs.Script.{ended, is_register, registrations_of, variables_of, call_of, number_of, client_of, after_client, after_stamp}
 use Rattle.script_reader.specs.Counts.{AreCounts}
 use Rattle.script_reader.proofs.Calls.{IsFine, call_fine}
 use Rattle.script_reader.proofs.Judging.{at_good}

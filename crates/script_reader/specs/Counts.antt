@@ -13,6 +13,7 @@ pairs_in (Unregister var source) = []
 pairs_in (Posts batch) = batch
 pairs_in Fetch = []
 
+-- the variables that are posted, with those of pairs
 abbrev pub with_pairs : List (List ℕ) → List Pair → List (List ℕ)
 with_pairs known pairs = fold (λ vars pair. with_variable vars pair.var) known pairs
 

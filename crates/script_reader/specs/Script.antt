@@ -19,12 +19,8 @@ use Rattle.moos_text.specs.declared.pair.PairFault.TheVariants.{NoEquals, BadNam
 use Rattle.moos_text.specs.Lines.{raw_lines, content_of, is_unclosed, first_word, behind_word}
 use Rattle.moos_text.specs.Numbers.{milli_of}
 use Rattle.moos_text.specs.Pairs.{pair_of, parts_of}
+use Rattle.moos_text.specs.Refusals.{and_then}
 use Rattle.script_reader.specs.declared.script.Script.{Script}
-
--- what comes of a good value, or the refusal
-abbrev pub and_then : {A B E : Type 0} → (A → Result B E) → Result A E → Result B E
-and_then next (Ok value) = next value
-and_then next (Err fault) = Err fault
 
 -- what stands in front of this word, which must be missing
 abbrev pub ended : {A : Type 0} → A → List ℕ → Result A Cause
@@ -36,9 +32,11 @@ abbrev pub milliseconds_of : ℤ → Option ℕ
 milliseconds_of (pos n) = if nat_le n 1000000000 then Some n else None
 milliseconds_of (negsuc n) = None
 
+-- a stamp or an interval, where the word is such a number
 abbrev pub time_of : List ℕ → Option ℕ
 time_of word = option_and_then milliseconds_of (milli_of word)
 
+-- the pattern that the word is, or none
 abbrev pub pattern_of : List ℕ → Option (List ℕ)
 pattern_of word = if is_pattern word then Some word else None
 
@@ -52,6 +50,7 @@ abbrev pub source_of : List ℕ → Option (List ℕ)
 source_of [] = Some (codes "*")
 source_of (byte ∷ bytes) = pattern_of (byte ∷ bytes)
 
+-- a registration of these three, or the cause of the first of them that is missing
 abbrev pub reg_of : Option (List ℕ) → Option ℕ → Option (List ℕ) → Result Reg Cause
 reg_of None interval source = Err S6
 reg_of (Some var) None source = Err S7
@@ -70,6 +69,7 @@ register_of made text =
     let reg = reg_of (pattern_of (first_word text)) (interval_of (first_word second)) (source_of (first_word third)) in
     and_then (λ call. ended call (first_word (behind_word third))) (and_then (one_more made) reg)
 
+-- a withdrawal of these two, or the cause of the first of them that is missing
 abbrev pub withdrawal_of : Option (List ℕ) → Option (List ℕ) → Result Call Cause
 withdrawal_of None source = Err S6
 withdrawal_of (Some var) None = Err S6
@@ -90,6 +90,7 @@ cause_of BadValue = S5
 cause_of TooLong = S8 OfText
 cause_of NoMemory = S5
 
+-- a pair, or why its line is refused
 abbrev pub with_cause : Result Pair PairFault → Result Pair Cause
 with_cause (Ok pair) = Ok pair
 with_cause (Err fault) = Err (cause_of fault)
@@ -107,6 +108,7 @@ pub record Posting : Type 0 where
   pub variables : List (List ℕ)
   pub pairs : List Pair
 
+-- so many variables and pairs
 abbrev pub posting : List (List ℕ) → List Pair → Posting
 posting variables pairs = record { variables = variables; pairs = pairs }
 
@@ -121,9 +123,11 @@ with_pair post pair =
     if nat_le 64 (length post.pairs) then Err (S8 InBatch)
     else and_then (λ variables. Ok (posting variables (post.pairs ++ pair ∷ []))) (with_known post.variables pair.var)
 
+-- what stands between two `#`, or an end of the text, is a pair
 abbrev pub with_part : Posting → List ℕ → Result Posting Cause
 with_part post part = and_then (with_pair post) (with_cause (pair_of part))
 
+-- the parts of a post, from left to right
 abbrev pub with_parts : Posting → List (List ℕ) → Result Posting Cause
 with_parts post [] = Ok post
 with_parts post (part ∷ parts) = and_then (λ more. with_parts more parts) (with_part post part)
@@ -132,6 +136,7 @@ with_parts post (part ∷ parts) = and_then (λ more. with_parts more parts) (wi
 abbrev pub post_of_text : List (List ℕ) → List ℕ → Result Call Cause
 post_of_text known text = and_then (λ post. Ok (Posts post.pairs)) (with_parts (posting known []) (parts_of text))
 
+-- the call is a registration
 abbrev pub is_register : Call → Bool
 is_register (Register regs) = true
 is_register (Unregister var source) = false
@@ -157,6 +162,7 @@ call_of made known text =
 abbrev pub number_of : List (List ℕ) → List ℕ → ℕ
 number_of names client = position_or_len (λ name. bytes_eq name client) names
 
+-- the names with a client, which joins where it is new
 abbrev pub with_client : List (List ℕ) → List ℕ → List (List ℕ)
 with_client names client = if nat_lt (number_of names client) (length names) then names else names ++ client ∷ []
 
@@ -203,6 +209,7 @@ pub record Progress : Type 0 where
   pub script : Script
   pub filled : ℕ
 
+-- this script, of so many lines that weren't blank
 abbrev pub progress : Script → ℕ → Progress
 progress script filled = record { script = script; filled = filled }
 
@@ -218,6 +225,7 @@ abbrev pub after_line : Progress → List ℕ → List ℕ → Result Progress C
 after_line read content [] = Ok read
 after_line read content (byte ∷ bytes) = after_filled read content
 
+-- what stands behind a good line, or the refusal of this line
 abbrev pub go_on : ℕ → (Progress → Result Progress ReadFault) → Result Progress Cause → Result Progress ReadFault
 go_on number rest (Err cause) = Err (At number cause)
 go_on number rest (Ok read) = rest read

@@ -1,6 +1,6 @@
 -- What every script keeps that was read.
-use Rattle.std.specs.Prelude.{ℕ, ◌≤◌, Bool, true, ◌&&◌, not, nat_lt, nat_le, List, [], ◌∷◌, length, codes, bytes_eq, IsTrue}
-use Rattle.std.specs.List.{list_all, list_any}
+use Rattle.std.specs.Prelude.{ℕ, ◌≤◌, Bool, true, false, ◌&&◌, not, nat_lt, nat_le, List, [], ◌∷◌, length, codes, bytes_eq, IsTrue}
+use Rattle.std.specs.List.{list_any}
 use Rattle.moos_post.specs.declared.entry.Call.{Call}
 use Rattle.moos_post.specs.declared.entry.Call.TheVariants.{Register, Unregister, Post as Posts, Fetch}
 use Rattle.moos_post.specs.declared.entry.Entry.{Entry}
@@ -13,11 +13,13 @@ are_clients [] = true
 are_clients (name ∷ names) =
     not (bytes_eq name (codes "pHelmIvP")) && not (list_any (λ other. bytes_eq other name) names) && are_clients names
 
--- an interval is at most 1,000,000 seconds, and a post has at most 64 pairs
+-- a registration is a single one, whose interval is at most 1,000,000 seconds, and a post has 1 to 64 pairs
 abbrev pub keeps_limits : Call → Bool
-keeps_limits (Register regs) = list_all (λ reg. nat_le reg.interval 1000000000) regs
+keeps_limits (Register []) = false
+keeps_limits (Register (reg ∷ [])) = nat_le reg.interval 1000000000
+keeps_limits (Register (reg ∷ more ∷ rest)) = false
 keeps_limits (Unregister var source) = true
-keeps_limits (Posts batch) = nat_le (length batch) 64
+keeps_limits (Posts batch) = nat_lt 0 (length batch) && nat_le (length batch) 64
 keeps_limits Fetch = true
 
 -- Each line's client is one of this many, no stamp is below the one before, the first of which is `last`, and none is
@@ -29,7 +31,7 @@ are_lines clients last stop (line ∷ lines) =
 
 -- Its clients have names of their own, none the helm's. Each line is one of theirs, and stamps don't go back. Every limit
 -- is kept: stamps and intervals of 1,000,000 seconds, 64 clients, 100,000 lines, 256 registrations of a client, 64 pairs
--- of a post, 4,096 variables.
+-- of a post, which has one at least, 4,096 variables.
 pub record IsValid (script : Script) : Type 0 where
   pub clients : IsTrue (are_clients script.names)
   pub few_clients : length script.names ≤ 64

@@ -238,7 +238,7 @@ fn join(names: &mut Names, number: usize, name: Name) -> Result<(), NoMemory>
 }
 
 // A client's number is its place among the names, or the next place where it is new.
-#[tactic(auto, using(crate::proofs::Places::position_or_len_of))]
+#[tactic(auto, using(moos_text::proofs::WordLemmas::position_or_len_of))]
 fn number_of(names: &Names, client: &[u8]) -> usize
     ensures { result ≡ number_of names.now client.now }
 {

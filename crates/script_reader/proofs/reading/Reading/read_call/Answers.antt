@@ -3,8 +3,8 @@ use Rattle.std.specs.Prelude.{Ok, Result, slice_index}
 use Rattle.std.proofs.lemmas.Result.{err_from_is_err_and}
 use Rattle.moos_post.specs.declared.entry.Call.{Call}
 use Rattle.moos_text.specs.declared.cause.Cause.{Cause}
-use Rattle.moos_text.specs.Refusals.{IsLineFault}
-use Rattle.script_reader.specs.Script.{and_then, number_of, with_call}
+use Rattle.moos_text.specs.Refusals.{and_then, IsLineFault}
+use Rattle.script_reader.specs.Script.{number_of, with_call}
 use Rattle.script_reader.proofs.Counting.{counts_more}
 use Rattle.script_reader.proofs.Steps.{fault_then, call_step, call_room}
 use Rattle.script_reader.proofs.reading.Reading.read_call.Goals as goal

@@ -1,5 +1,5 @@
 use Rattle.std.proofs.Common.{◌≡◌, sym, subst}
-use Rattle.std.specs.Prelude.{bytes_eq, List, ℕ, Option, Some, None, IfSome, option_copied}
+use Rattle.std.specs.Prelude.{List, ℕ, Option, Some, None, IfSome, option_copied}
 use Rattle.std.specs.Borrow.{Bor}
 use Rattle.std.proofs.lemmas.Map.Made.{IfSome-find_same}
 use Rattle.std.proofs.lemmas.Slice.Eq.{bytes_eq-Decides}
