@@ -1,5 +1,5 @@
 -- Certificates and decisions worked by hand.
-use Rattle.std.proofs.Common.{◌≡◌, ℕ, Some, List, [], ◌∷◌, ◌++◌, refl}
+use Rattle.std.proofs.Common.{◌≡◌, ℕ, true, false, Some, List, [], ◌∷◌, ◌++◌, refl}
 use Rattle.std.specs.Prelude.{codes, Ok, Err, pos}
 use Rattle.ivp_domain.specs.Boxes.{point_of}
 use Rattle.ivp_problem.specs.Keys.{key_of}
@@ -9,10 +9,12 @@ use Rattle.ivp_problem.specs.Trees.{root_of}
 use Rattle.moos_text.specs.declared.cause.Cause.TheVariants.{P1, P9, P10}
 use Rattle.moos_text.specs.declared.cause.ReadFault.TheVariants.{At}
 use Rattle.ivp_cert.specs.declared.cert.Line.{Line}
+use Rattle.ivp_cert.specs.declared.claim.Claim.{Claim}
 use Rattle.ivp_cert.specs.declared.claim.Decision.{Decision}
-use Rattle.ivp_cert.specs.Certificates.{certificate_of}
+use Rattle.ivp_cert.specs.Certificates.{Accepts, begins, certificate_of, is_before, Rise}
 use Rattle.ivp_cert.specs.Decisions.{decision_of}
 use Rattle.ivp_cert.specs.Walks.{behind_node}
+use Rattle.ivp_cert.proofs.Accepting.{walked_accepts}
 use Rattle.ivp_cert.proofs.Examples.{on_three, term, three_axes}
 
 -- the problem of three axes and two functions
@@ -37,6 +39,41 @@ certificate_is = refl
 is_covered : behind_node three (key_of 75 2) three.terms [] (root_of three) lines ≡ Some []
 is_covered = refl
 
+-- paths compared number by number
+beginning_first : is_before (0 ∷ []) (0 ∷ 0 ∷ []) ≡ true
+beginning_first = refl
+
+less_first : is_before (0 ∷ 1 ∷ []) (0 ∷ 2 ∷ []) ≡ true
+less_first = refl
+
+greater_last : is_before (1 ∷ []) (0 ∷ 5 ∷ []) ≡ false
+greater_last = refl
+
+not_itself : is_before (0 ∷ []) (0 ∷ []) ≡ false
+not_itself = refl
+
+root_begins : begins [] (0 ∷ 1 ∷ []) ≡ true
+root_begins = refl
+
+longer_begins_not : begins (0 ∷ 1 ∷ []) (0 ∷ []) ≡ false
+longer_begins_not = refl
+
+lines_rise : Rise lines
+lines_rise = (refl, (refl, tt))
+
+-- the certificate is accepted, and not with its lines the other way round
+abbrev claim : Claim
+claim = record { point = point_of 0 1 0 0; sum = 75 }
+
+lines_accepted : Accepts three claim lines
+lines_accepted = walked_accepts three claim lines refl refl
+
+abbrev other_way : List Line
+other_way = record { path = 0 ∷ 1 ∷ []; sum = 55; index = 10 } ∷ record { path = 0 ∷ 0 ∷ []; sum = 75; index = 2 } ∷ []
+
+other_way_refused : Accepts three claim other_way → ⊥
+other_way_refused is = let first : false ≡ true = is.rise.0 in cc
+
 abbrev problem_bytes : List ℕ
 problem_bytes = codes "ivp 1\ndomain a:0:2:3\ndomain b:0:1:2\ndomain d:0:1:2\nfunction 2\npiece 0 2 0 1 0 1 0 10 0 0\nfunction 3\npiece 0 0 0 1 0 1 20 0 5 0\npiece 1 2 0 1 0 1 0 0 5 0\nend\n"
 
@@ -60,3 +97,15 @@ no_place = refl
 
 form_before_point : decision_of (problem_bytes ++ codes "decision 9 9 9 9 x\n") ≡ Err (At 11 P1)
 form_before_point = refl
+
+line_before_the_claim : decision_of (problem_bytes ++ codes "cut : 75 2\n") ≡ Err (At 11 P1)
+line_before_the_claim = refl
+
+second_claim : decision_of (problem_bytes ++ codes "decision 0 1 0 75\ndecision 0 1 0 75\n") ≡ Err (At 12 P1)
+second_claim = refl
+
+word_behind_done : decision_of (problem_bytes ++ codes "decision 0 1 0 75\ndone 0\n") ≡ Err (At 12 P1)
+word_behind_done = refl
+
+line_behind_done : decision_of (problem_bytes ++ codes "decision 0 1 0 75\ndone\n\nx\n") ≡ Err (At 14 P1)
+line_behind_done = refl

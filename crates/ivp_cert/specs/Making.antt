@@ -5,6 +5,7 @@ use Rattle.moos_text.specs.declared.cause.LineFault.TheVariants.{Refused, NoMemo
 use Rattle.ivp_func.specs.declared.func.FuncFault.{FuncFault}
 use Rattle.ivp_func.specs.declared.func.FuncFault.TheVariants.{TooMany, NotPartition, ValueOut, NoMemory}
 
+-- pieces that overlap or leave out a point, a value out of range, a piece too many, or want of memory
 abbrev pub line_fault : FuncFault → LineFault
 line_fault TooMany = Refused P7
 line_fault (NotPartition point count) = Refused P4

@@ -11,6 +11,7 @@ pub record Range : Type 0 where
   pub high : ℕ
   pub rest : List (List ℕ)
 
+-- the range of these two places, where both are good
 abbrev pub range_with : Option ℕ → Option ℕ → List (List ℕ) → Option Range
 range_with (Some low) (Some high) rest = Some (record { low = low; high = high; rest = rest })
 range_with None high rest = None
