@@ -28,13 +28,15 @@ use Rattle.script_reader.specs.Script.{script_of}
 abbrev pub order_in : List Row → Order
 order_in found = if is_set (codes "race") found then Race else Stamp
 
--- the job of what `play` found, what `solve` found and what `check` found; a name that no text can hold names no file
+-- the job of what `play` found; a name that no text can hold names no file
 abbrev pub play_of : List Row → Option Job
 play_of found = option_map (λ script. Play script (order_in found)) (file_in (codes "script") found)
 
+-- the job of what `solve` found, likewise
 abbrev pub solve_of : List Row → Option Job
 solve_of found = option_map (λ problem. Solve problem (workers_in found)) (file_in (codes "problem") found)
 
+-- the job of what `check` found, likewise
 abbrev pub check_of : List Row → Option Job
 check_of found = option_map Check (file_in (codes "decision") found)
 

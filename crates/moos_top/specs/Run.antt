@@ -24,6 +24,7 @@ pub record Surroundings : Type 0 where
   pub put_faults_before : ℕ
   pub put_faults_after : ℕ
 
+-- the surroundings with these parts, in their order
 abbrev pub surroundings :
     List (List ℕ) → Option (List ℕ → Option (List ℕ)) → List (List ℕ) → ℕ → ℕ → Option (List ℕ) → Option (List ℕ) → ℕ → ℕ → Surroundings
 surroundings words told sure load_faults_before load_faults_after taken_before taken_after put_faults_before put_faults_after =

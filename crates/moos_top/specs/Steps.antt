@@ -32,6 +32,7 @@ pub record Sinking : Type 0 where
   pub faults_before : ℕ
   pub faults_after : ℕ
 
+-- the sink with these parts, in their order
 abbrev pub sinking : Option (List ℕ) → Option (List ℕ) → ℕ → ℕ → Sinking
 sinking taken_before taken_after faults_before faults_after =
     record { taken_before = taken_before; taken_after = taken_after; faults_before = faults_before; faults_after = faults_after }

@@ -41,6 +41,9 @@ pub fn run<R: Threads + Wait + Sync, F: Folder, K: Sink, G: Gate>(
         (F.faults folder.old) (F.faults folder.new) (K.taken out.old) (K.taken out.new) (K.faults out.old) (K.faults out.new)) result }
     ensures refuses { Refuses (surroundings words.now (F.told folder.old) (F.sure folder.old)
         (F.faults folder.old) (F.faults folder.new) (K.taken out.old) (K.taken out.new) (K.faults out.old) (K.faults out.new)) result }
+
+    // The folder tells the same as before, and is sure of the same names.
+    ensures same { (F.told folder.new ≡ F.told folder.old) × (F.sure folder.new ≡ F.sure folder.old) }
 {
     run_job(rt, alloc, words, folder, out, gate)
 }
@@ -53,8 +56,9 @@ fn run_job<R: Threads + Wait + Sync, F: Folder, K: Sink, G: Gate>(
     out: &mut K,
     gate: &G,
 ) -> Status
-    ensures { Ran (surroundings words.now (F.told folder.old) (F.sure folder.old)
+    ensures ran { Ran (surroundings words.now (F.told folder.old) (F.sure folder.old)
         (F.faults folder.old) (F.faults folder.new) (K.taken out.old) (K.taken out.new) (K.faults out.old) (K.faults out.new)) result }
+    ensures same { (F.told folder.new ≡ F.told folder.old) × (F.sure folder.new ≡ F.sure folder.old) }
 {
     let job = match job_named(alloc, words) {
         Ok(Some(job)) => job,
@@ -74,6 +78,7 @@ fn load<F: Folder>(alloc: Global, name: &[u8], folder: &mut F) -> Result<Vec<u8>
     ensures content { IfOk result (λ bytes. HasBytes (F.told folder.old) name.now bytes.items) }
     ensures short { IfOk result (λ bytes. length bytes.items < 2 ^ 32) }
     ensures fault { IfErr result (CannotLoad (F.sure folder.old) (F.faults folder.old) (F.faults folder.new) name.now) }
+    ensures same { (F.told folder.new ≡ F.told folder.old) × (F.sure folder.new ≡ F.sure folder.old) }
 {
     let mut bytes = Vec::new(alloc);
     match folder.load(name, &mut bytes) {
