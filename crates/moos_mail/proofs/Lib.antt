@@ -7,6 +7,7 @@ pub mod Lists
 pub mod Living
 pub mod Mailed
 pub mod Orderly
+pub mod Places
 pub mod Rising
 pub mod Sending
 pub mod Standing

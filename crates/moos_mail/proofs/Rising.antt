@@ -1,6 +1,6 @@
 -- The mailings stand in the order of their entries, and those of one entry in the order of their numbers.
 use Rattle.std.proofs.Common.{◌≡◌, ℕ, suc, ◌<◌, ◌≤◌, inl, inr, Bool, true, false, ◌==◌, List, [], ◌∷◌, ◌++◌, append_assoc, append-nil, length, fold, All, AllPairs, refl, sym, ◌∙◌, arith, subst, if◌then◌else◌}
-use Rattle.std.proofs.lemmas.List.Elements.{All-cons, All-append, All-head, All-tail, All-weaker}
+use Rattle.std.proofs.lemmas.List.Elements.{All-append, All-cons, All-head, All-nil, All-tail, All-weaker}
 use Rattle.std.proofs.lemmas.List.Kept.{AllPairs-cons}
 use Rattle.std.specs.List.{list_any}
 use Rattle.moos_post.specs.declared.entry.Call.{Call}
@@ -13,9 +13,6 @@ use Rattle.moos_mail.specs.Sentences.{IsBefore}
 use Rattle.moos_mail.proofs.Inboxes.{ended}
 use Rattle.moos_mail.proofs.Lists.{length-push}
 use Rattle.moos_mail.proofs.Orderly.{IsSettled, settled-entry, settled-empty}
-
-no-all : (P : Mailing → Type 0) → All P []
-no-all P k d within = absurd (omega (arith, within))
 
 no-pairs : (R : Mailing → Mailing → Type 0) → AllPairs R []
 no-pairs R i j d below within = absurd (omega (arith, within))
@@ -40,7 +37,7 @@ record HasRisen (entry number : ℕ) (before after : List Mailing) : Type 0 wher
   rising : AllPairs IsBefore more
 
 none-risen : (entry number : ℕ) (mailed : List Mailing) → HasRisen entry number mailed mailed
-none-risen entry number mailed = record { more = []; is = sym (append-nil mailed); here = no-all (IsFrom entry number); rising = no-pairs IsBefore }
+none-risen entry number mailed = record { more = []; is = sym (append-nil mailed); here = All-nil (IsFrom entry number); rising = no-pairs IsBefore }
 
 from-next : (entry number : ℕ) (more : List Mailing) → All (IsFrom entry (suc number)) more → All (IsFrom entry number) more
 from-next entry number more here = All-weaker (IsFrom entry (suc number)) (IsFrom entry number) (λ one is. record { at = is.at; from = (let h : suc number ≤ one.number = is.from in omega arith) }) more here

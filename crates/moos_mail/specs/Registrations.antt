@@ -1,6 +1,6 @@
 -- Registrations in sentences about the places of a history: which are live, which posts came through them, and so which
 -- posts are mailed where.
-use Rattle.std.specs.Prelude.{ℕ, zero, suc, Bool, false, ◌&&◌, ◌==◌, not, nat_lt, if◌then◌else◌, List, [], ◌∷◌, ◌++◌, map, filter, take, drop, Option, Some, None, bytes_eq, slice_get}
+use Rattle.std.specs.Prelude.{◌≡◌, ℕ, zero, suc, Bool, false, ◌&&◌, ◌==◌, not, nat_lt, if◌then◌else◌, List, [], ◌∷◌, ◌++◌, map, filter, take, drop, Option, Some, None, bytes_eq, slice_get}
 use Rattle.std.specs.List.{list_any}
 use Rattle.moos_post.specs.declared.entry.Call.{Call}
 use Rattle.moos_post.specs.declared.entry.Call.TheVariants.{Register, Unregister, Post as Posts, Fetch}
@@ -61,6 +61,16 @@ live_from client number (entry ∷ later) =
 -- the client's registrations that are live before entry k
 abbrev pub live_before : ℕ → History → ℕ → List Made
 live_before client history k = live_from client 0 (take k history)
+
+-- The registration stands at a place of the list of an entry before k, and no later place of that list and no entry
+-- between that one and k registers or unregisters the same patterns.
+pub record IsLive (client : ℕ) (history : History) (k : ℕ) (made : Made) : Type 0 where
+  pub entry : Entry
+  pub at : slice_get (take k history) made.entry ≡ Some entry
+  pub place : ℕ
+  pub there : slice_get (regs_of client entry) place ≡ Some made.reg
+  pub last : list_any (is_alike made.reg) (drop (suc place) (regs_of client entry)) ≡ false
+  pub stays : list_any (ends client made.reg) (drop (suc made.entry) (take k history)) ≡ false
 
 -- post n was mailed at entry e
 abbrev pub is_mailed_at : ℕ → ℕ → List Mailing → Bool

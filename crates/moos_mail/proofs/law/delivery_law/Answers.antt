@@ -1,5 +1,6 @@
 use Rattle.moos_mail.proofs.Living.{lives-are}
 use Rattle.moos_mail.proofs.Mailed.{given, once-each}
+use Rattle.moos_mail.proofs.Places.{live-places, places-live}
 use Rattle.moos_mail.proofs.Sending.{sent}
 use Rattle.moos_mail.proofs.law.delivery_law.Goals as goal
 
@@ -14,3 +15,6 @@ returns-clause-mailed c = sent
 
 pub returns-clause-live : goal.returns-clause-live
 returns-clause-live c = lives-are
+
+pub returns-clause-places : goal.returns-clause-places
+returns-clause-places c = λ client history k made. (live-places client history k made, places-live client history k made)
