@@ -11,11 +11,11 @@ use Rattle.moos_post.specs.declared.value.Pair.{Pair}
 use Rattle.moos_text.specs.declared.cause.Cause.{Cause}
 use Rattle.moos_text.specs.declared.cause.Cause.TheVariants.{S3, S8}
 use Rattle.moos_text.specs.declared.cause.Limit.TheVariants.{Registrations, Variables, Batch as InBatch}
-use Rattle.moos_text.specs.Lines.{first_word, behind_word}
+use Rattle.moos_text.specs.Lines.{first_word, behind_word, words_of}
 use Rattle.moos_text.specs.Numbers.{milli_of}
 use Rattle.moos_text.specs.Pairs.{pair_of, parts_of}
 use Rattle.moos_text.specs.Refusals.{and_then}
-use Rattle.script_reader.specs.Script.{ended, milliseconds_of, time_of, pattern_of, interval_of, source_of, reg_of, one_more, register_of, withdrawal_of, unregister_of, with_cause, with_variable, Posting, posting, with_known, with_pair, with_part, with_parts, post_of_text, is_register, call_of}
+use Rattle.script_reader.specs.Script.{ended, milliseconds_of, time_of, pattern_of, interval_of, source_of, reg_of, one_more, register_of, word_at, withdrawal_of, unregister_of, with_cause, with_variable, Posting, posting, with_known, with_pair, with_part, with_parts, post_of_text, is_register, call_of}
 use Rattle.script_reader.specs.Validity.{keeps_limits}
 use Rattle.script_reader.specs.Counts.{with_pairs, with_call_variables}
 use Rattle.moos_text.proofs.Parts.{onto_part, parts_begin}
@@ -55,20 +55,14 @@ reg_early (Some var) None source early = tt
 reg_early (Some var) (Some interval) None early = tt
 reg_early (Some var) (Some interval) (Some source) early = early
 
-register_fine : (made : ℕ) (known : List (List ℕ)) (text : List ℕ) → IfOk (register_of made text) (IsFine made known)
-register_fine made known text =
-    and_then_good (IsFine made known) (IsFine made known) (λ call. ended call (first_word (behind_word third))) (and_then (one_more made) reg)
-    (and_then_good (λ one. IsEarly one.interval) (IsFine made known) (one_more made) reg (reg_early (pattern_of (first_word text)) (interval_of (first_word second)) (source_of (first_word third)) (interval_early (first_word second))) more)
-    (λ call fine. ended_good (IsFine made known) call (first_word (behind_word third)) fine)
+register_fine : (made : ℕ) (known words : List (List ℕ)) → IfOk (register_of made words) (IsFine made known)
+register_fine made known words =
+    and_then_good (IsFine made known) (IsFine made known) (λ call. ended call (word_at 3 words)) (and_then (one_more made) reg)
+    (and_then_good (λ one. IsEarly one.interval) (IsFine made known) (one_more made) reg (reg_early (pattern_of (word_at 0 words)) (interval_of (word_at 1 words)) (source_of (word_at 2 words)) (interval_early (word_at 1 words))) more)
+    (λ call fine. ended_good (IsFine made known) call (word_at 3 words) fine)
   where
-    second : List ℕ
-    second = behind_word text
-
-    third : List ℕ
-    third = behind_word (behind_word text)
-
     reg : Result Reg Cause
-    reg = reg_of (pattern_of (first_word text)) (interval_of (first_word (behind_word text))) (source_of (first_word (behind_word (behind_word text))))
+    reg = reg_of (pattern_of (word_at 0 words)) (interval_of (word_at 1 words)) (source_of (word_at 2 words))
 
     more : (one : Reg) → IsEarly one.interval → IfOk (one_more made one) (IsFine made known)
     more one early =
@@ -80,12 +74,11 @@ withdrawal_fine made known None source = tt
 withdrawal_fine made known (Some var) None = tt
 withdrawal_fine made known (Some var) (Some source) = record { room = λ h. absurd cc; limits = refl; variables = λ few. few }
 
-unregister_fine : (made : ℕ) (known : List (List ℕ)) (text : List ℕ) → IfOk (unregister_of text) (IsFine made known)
-unregister_fine made known text =
-    and_then_good (IsFine made known) (IsFine made known) (λ call. ended call (first_word (behind_word (behind_word text))))
-    (withdrawal_of (pattern_of (first_word text)) (source_of (first_word (behind_word text))))
-    (withdrawal_fine made known (pattern_of (first_word text)) (source_of (first_word (behind_word text))))
-    (λ call fine. ended_good (IsFine made known) call (first_word (behind_word (behind_word text))) fine)
+unregister_fine : (made : ℕ) (known words : List (List ℕ)) → IfOk (unregister_of words) (IsFine made known)
+unregister_fine made known words =
+    and_then_good (IsFine made known) (IsFine made known) (λ call. ended call (word_at 2 words)) (withdrawal_of (pattern_of (word_at 0 words)) (source_of (word_at 1 words)))
+    (withdrawal_fine made known (pattern_of (word_at 0 words)) (source_of (word_at 1 words)))
+    (λ call fine. ended_good (IsFine made known) call (word_at 2 words) fine)
 
 -- the variables up to here are those before the post and those of its pairs
 abbrev pub IsFrom : List (List ℕ) → Posting → Type 0
@@ -204,8 +197,8 @@ post_fine made known text =
 
 pub call_fine : (made : ℕ) (known : List (List ℕ)) (text : List ℕ) → IfOk (call_of made known text) (IsFine made known)
 call_fine made known text =
-    cond_good (IsFine made known) (bytes_eq verb (codes "register")) (register_of made rest) unregisters (λ _. register_fine made known rest)
-    (λ _. cond_good (IsFine made known) (bytes_eq verb (codes "unregister")) (unregister_of rest) posts (λ _. unregister_fine made known rest)
+    cond_good (IsFine made known) (bytes_eq verb (codes "register")) (register_of made (words_of rest)) unregisters (λ _. register_fine made known (words_of rest))
+    (λ _. cond_good (IsFine made known) (bytes_eq verb (codes "unregister")) (unregister_of (words_of rest)) posts (λ _. unregister_fine made known (words_of rest))
     (λ _. cond_good (IsFine made known) (bytes_eq verb (codes "post")) (post_of_text known rest) fetches (λ _. post_fine made known rest)
     (λ _. cond_good (IsFine made known) (bytes_eq verb (codes "fetch")) (ended Fetch (first_word rest)) (Err S3)
     (λ _. ended_good (IsFine made known) Fetch (first_word rest) (record { room = λ h. absurd cc; limits = refl; variables = λ few. few })) (λ _. tt))))
@@ -223,4 +216,4 @@ call_fine made known text =
     posts = cond (bytes_eq (first_word text) (codes "post")) (post_of_text known (behind_word text)) fetches
 
     unregisters : Result Call Cause
-    unregisters = cond (bytes_eq (first_word text) (codes "unregister")) (unregister_of (behind_word text)) posts
+    unregisters = cond (bytes_eq (first_word text) (codes "unregister")) (unregister_of (words_of (behind_word text))) posts

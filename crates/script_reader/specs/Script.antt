@@ -1,6 +1,6 @@
 -- What the bytes of a script stand for: the script, or its first refusal with its line and cause. At a line the causes
 -- are judged from left to right.
-use Rattle.std.specs.Prelude.{ℕ, suc, ℤ, pos, negsuc, Bool, true, false, ◌&&◌, ◌==◌, not, nat_le, nat_lt, if◌then◌else◌, List, [], ◌∷◌, ◌++◌, length, fold, count_by, codes, bytes_eq, Option, Some, None, ok_or, option_and_then, Result, Ok, Err}
+use Rattle.std.specs.Prelude.{ℕ, suc, ℤ, pos, negsuc, Bool, true, false, ◌&&◌, ◌==◌, not, nat_le, nat_lt, if◌then◌else◌, List, [], ◌∷◌, ◌++◌, length, fold, count_by, codes, bytes_eq, slice_index_or, Option, Some, None, ok_or, option_and_then, Result, Ok, Err}
 use Rattle.std.specs.List.{list_any, position_or_len}
 use Rattle.moos_post.specs.declared.entry.Call.{Call}
 use Rattle.moos_post.specs.declared.entry.Call.TheVariants.{Register, Unregister, Post as Posts, Fetch}
@@ -16,7 +16,7 @@ use Rattle.moos_text.specs.declared.cause.ReadFault.{ReadFault}
 use Rattle.moos_text.specs.declared.cause.ReadFault.TheVariants.{At}
 use Rattle.moos_text.specs.declared.pair.PairFault.{PairFault}
 use Rattle.moos_text.specs.declared.pair.PairFault.TheVariants.{NoEquals, BadName, BadValue, TooLong, NoMemory}
-use Rattle.moos_text.specs.Lines.{raw_lines, content_of, is_unclosed, first_word, behind_word}
+use Rattle.moos_text.specs.Lines.{raw_lines, content_of, is_unclosed, first_word, behind_word, words_of}
 use Rattle.moos_text.specs.Numbers.{milli_of}
 use Rattle.moos_text.specs.Pairs.{pair_of, parts_of}
 use Rattle.moos_text.specs.Refusals.{and_then}
@@ -61,13 +61,15 @@ reg_of (Some var) (Some interval) (Some source) = Ok (record { var = var; source
 abbrev pub one_more : ℕ → Reg → Result Call Cause
 one_more made reg = if nat_le 256 made then Err (S8 Registrations) else Ok (Register (reg ∷ []))
 
--- VARPATTERN [INTERVAL [SOURCEPATTERN]]
-abbrev pub register_of : ℕ → List ℕ → Result Call Cause
-register_of made text =
-    let second = behind_word text in
-    let third = behind_word second in
-    let reg = reg_of (pattern_of (first_word text)) (interval_of (first_word second)) (source_of (first_word third)) in
-    and_then (λ call. ended call (first_word (behind_word third))) (and_then (one_more made) reg)
+-- the word at this place, counted from 0, empty where there is none
+abbrev pub word_at : ℕ → List (List ℕ) → List ℕ
+word_at place words = slice_index_or words place []
+
+-- the words VARPATTERN [INTERVAL [SOURCEPATTERN]], and none behind them
+abbrev pub register_of : ℕ → List (List ℕ) → Result Call Cause
+register_of made words =
+    let reg = reg_of (pattern_of (word_at 0 words)) (interval_of (word_at 1 words)) (source_of (word_at 2 words)) in
+    and_then (λ call. ended call (word_at 3 words)) (and_then (one_more made) reg)
 
 -- a withdrawal of these two, or the cause of the first of them that is missing
 abbrev pub withdrawal_of : Option (List ℕ) → Option (List ℕ) → Result Call Cause
@@ -75,12 +77,9 @@ withdrawal_of None source = Err S6
 withdrawal_of (Some var) None = Err S6
 withdrawal_of (Some var) (Some source) = Ok (Unregister var source)
 
--- VARPATTERN [SOURCEPATTERN]
-abbrev pub unregister_of : List ℕ → Result Call Cause
-unregister_of text =
-    let second = behind_word text in
-    let call = withdrawal_of (pattern_of (first_word text)) (source_of (first_word second)) in
-    and_then (λ call. ended call (first_word (behind_word second))) call
+-- the words VARPATTERN [SOURCEPATTERN], and none behind them
+abbrev pub unregister_of : List (List ℕ) → Result Call Cause
+unregister_of words = and_then (λ call. ended call (word_at 2 words)) (withdrawal_of (pattern_of (word_at 0 words)) (source_of (word_at 1 words)))
 
 -- why a pair is refused; want of memory is no fault of a text
 abbrev pub cause_of : PairFault → Cause
@@ -152,8 +151,8 @@ abbrev pub call_of : ℕ → List (List ℕ) → List ℕ → Result Call Cause
 call_of made known text =
     let verb = first_word text in
     let rest = behind_word text in
-    if bytes_eq verb (codes "register") then register_of made rest
-    else if bytes_eq verb (codes "unregister") then unregister_of rest
+    if bytes_eq verb (codes "register") then register_of made (words_of rest)
+    else if bytes_eq verb (codes "unregister") then unregister_of (words_of rest)
     else if bytes_eq verb (codes "post") then post_of_text known rest
     else if bytes_eq verb (codes "fetch") then ended Fetch (first_word rest)
     else Err S3

@@ -1,5 +1,6 @@
 // What the words after the client ask for.
 ghost use Rattle.std.specs.Prelude.{◌≡◌, [], Ok, IfOk, IfErr};
+ghost use Rattle.moos_text.specs.Lines.{words_of};
 ghost use Rattle.moos_text.specs.Refusals.{IsLineFault};
 ghost use Rattle.script_reader.specs.Script.{reg_of, one_more, register_of, withdrawal_of, unregister_of, post_of_text, call_of};
 ghost use Rattle.script_reader.specs.Counts.{with_call_variables, pairs_in};
@@ -43,9 +44,10 @@ pub fn call_of(
 }
 
 // VARPATTERN [INTERVAL [SOURCEPATTERN]]
+#[tactic(auto, using(crate::proofs::WordsAt::first_at, crate::proofs::WordsAt::second_at, crate::proofs::WordsAt::third_at, crate::proofs::WordsAt::fourth_at))]
 fn register_of(alloc: Global, made: u32, text: &[u8]) -> Result<Call, LineFault>
-    ensures call { IfOk result (λ call. register_of made text.now ≡ Ok call) }
-    ensures refused { IfErr result (λ fault. IsLineFault fault (register_of made text.now)) }
+    ensures call { IfOk result (λ call. register_of made (words_of text.now) ≡ Ok call) }
+    ensures refused { IfErr result (λ fault. IsLineFault fault (register_of made (words_of text.now))) }
     ensures variables { IfOk result (λ call. pairs_in call ≡ []) }
 {
     let (var, rest) = split_word(text);
@@ -92,9 +94,10 @@ fn one_more(alloc: Global, made: u32, reg: Reg) -> Result<Call, LineFault>
 }
 
 // VARPATTERN [SOURCEPATTERN]
+#[tactic(auto, using(crate::proofs::WordsAt::first_at, crate::proofs::WordsAt::second_at, crate::proofs::WordsAt::third_at))]
 fn unregister_of(alloc: Global, text: &[u8]) -> Result<Call, LineFault>
-    ensures call { IfOk result (λ call. unregister_of text.now ≡ Ok call) }
-    ensures refused { IfErr result (λ fault. IsLineFault fault (unregister_of text.now)) }
+    ensures call { IfOk result (λ call. unregister_of (words_of text.now) ≡ Ok call) }
+    ensures refused { IfErr result (λ fault. IsLineFault fault (unregister_of (words_of text.now))) }
     ensures variables { IfOk result (λ call. pairs_in call ≡ []) }
 {
     let (var, rest) = split_word(text);
