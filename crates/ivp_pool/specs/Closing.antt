@@ -12,7 +12,7 @@ abbrev pub Pushed : List Node → List Node → Node → Option Node → Type 0
 Pushed took took' node None = took' ≡ took ++ node ∷ []
 Pushed took took' node (Some back) = (back ≡ node) × (took' ≡ took)
 
--- a node was closed: what the scout knows, what the tray took before and took since, and how many nodes were closed
+-- a node was closed while this key was known: it has a part, the tray took the handed nodes of that, in order, and so many nodes were closed as the part has others
 pub record Closed (problem : WeightedSum) (low : ℕ) (took took' : List Node) (node : Node) (count : ℕ) : Type 0 where
   pub part : Part
   pub is : IsPart problem low node part

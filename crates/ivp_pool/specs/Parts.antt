@@ -5,19 +5,19 @@ use Rattle.ivp_problem.specs.Problems.{WeightedSum}
 use Rattle.ivp_problem.specs.Trees.{bound_of, children_of}
 
 mutual
-  -- of a node: dropped with all below it, handed to others, or split into its children
+  -- what became of a node: it was dropped with all below it, handed to others, or split into its children
   pub data Part : Type 0 where
     Pruned : Part
     Handed : Part
     Split : Parts → Part
 
-  -- of some nodes, one after the other
+  -- what became of each of some nodes, one after the other
   pub data Parts : Type 0 where
     Done : Parts
     Then : Part → Parts → Parts
 
 abbrev mutual
-  -- the part is one of this node: a pruned node's bound is at most `low`, and a split one has a part for each of its children
+  -- the part is one of this node: a pruned node's bound is at most this key, and a split one isn't at full depth and has a part for each of its children
   pub IsPart : WeightedSum → ℕ → Node → Part → Type 0
   IsPart problem low node Pruned = bound_of problem node ≤ low
   IsPart problem low node Handed = Unit {0}
@@ -37,7 +37,7 @@ abbrev mutual
   size_of Handed = 1
   size_of (Split parts) = 1 + size_in parts
 
-  -- and several parts
+  -- how many nodes several parts have together
   pub size_in : Parts → ℕ
   size_in Done = 0
   size_in (Then part parts) = size_of part + size_in parts
@@ -49,7 +49,7 @@ abbrev mutual
   handed_of problem node Handed = node ∷ []
   handed_of problem node (Split parts) = handed_in problem (children_of problem node) parts
 
-  -- and of several parts
+  -- the nodes of several parts that were handed to others, part after part
   pub handed_in : WeightedSum → List Node → Parts → List Node
   handed_in problem nodes Done = []
   handed_in problem [] (Then part parts) = []

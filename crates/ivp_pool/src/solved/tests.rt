@@ -4,7 +4,7 @@ ghost use Rattle.std.specs.Prelude.{◌≡◌, ◌+◌, ◌<◌, ◌≤◌};
 use crate::solved::solve;
 use crate::tests::{axis, key_at, term, two};
 use crate::work::{Work, Works};
-use ivp_domain::{Axis, BoxN, Domain};
+use ivp_domain::{BoxN, Domain};
 use ivp_func::Piece;
 use ivp_problem::{Key, Problem, index_of_key, key_of, sum_of};
 use moos_io::{Gate, NoGate};
