@@ -62,6 +62,7 @@ pub fn close_one<T: Tray>(
     requires node { IsNode problem.now node }
     ensures closed { Closed problem.now scout.new.me.0.low (T.took tray.old) (T.took tray.new) node result }
     ensures covered { AreCovered problem.now scout.new.me.0.low (T.took tray.old) (T.took tray.new) (has_point node.area) }
+    ensures dropped { bound_of problem.now node ≤ scout.old.me.0.low → (result ≡ 1) × (T.took tray.new ≡ T.took tray.old) }
     ensures known { IsKnown problem.now scout.new.me.0.low }
     ensures later { scout.old.me.0.low ≤ scout.new.me.0.low }
     ensures scout { (scout.new.table_id ≡ scout.old.table_id) × (scout.new.me ≡ (record scout.old.me.0 { low = scout.new.me.0.low }, scout.old.me.1)) }
