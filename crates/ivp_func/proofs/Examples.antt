@@ -2,11 +2,12 @@
 use Rattle.std.proofs.Common.{◌≡◌, ℕ, true, false, Err, ℤ, pos, negsuc, List, [], ◌∷◌, refl, arith}
 use Rattle.std.specs.Prelude.{codes}
 use Rattle.ivp_domain.specs.declared.axis.Axis.{Axis}
+use Rattle.ivp_domain.specs.declared.boxes.BoxN.{BoxN}
 use Rattle.ivp_domain.specs.Boxes.{point_of}
 use Rattle.ivp_domain.specs.Domains.{whole}
 use Rattle.ivp_func.specs.declared.func.FuncFault.TheVariants.{NotPartition}
 use Rattle.ivp_func.specs.declared.piece.Piece.{Piece}
-use Rattle.ivp_func.specs.Covering.{covered_in, shared_with}
+use Rattle.ivp_func.specs.Covering.{covered_in, CutOn, SameOn, shared_with}
 use Rattle.ivp_func.specs.Functions.{has_values, is_partition}
 use Rattle.ivp_func.specs.Making.{Made}
 use Rattle.ivp_func.specs.Pieces.{are_pieces_of, count_at, is_base, is_piece_of, value_at}
@@ -53,3 +54,10 @@ high = piece 0 2 (pos 99999) (pos 1) (pos 0) ∷ []
 
 values_out : (has_values three high ≡ false) × (has_values three (piece 0 2 (pos 1) (negsuc 0) (pos 0) ∷ []) ≡ false)
 values_out = (refl, refl)
+
+-- a box of three places in two: the first two, and the last
+abbrev span : ℕ → ℕ → BoxN
+span low high = record { low = low ∷ 0 ∷ 0 ∷ 0 ∷ []; high = high ∷ 0 ∷ 0 ∷ 0 ∷ [] }
+
+cut : CutOn 0 (span 0 2) (span 0 1) (span 2 2) × SameOn 1 (span 0 2) (span 0 1) (span 2 2)
+cut = (record { left_low = refl; right_high = refl; next = refl; some = omega arith; rest = omega arith }, record { left_low = refl; left_high = refl; right_low = refl; right_high = refl })

@@ -1,6 +1,6 @@
 -- Boxes axis by axis, and what a piece that fits a domain keeps.
-use Rattle.std.proofs.Common.{◌≡◌, ℕ, zero, suc, ◌+◌, ◌<◌, ◌≤◌, Bool, true, false, ◌&&◌, nat_le, nat_lt, Option, Some, None, pos, length, get_or, take, subst, inl, inr, List, [], ◌∷◌, refl, ap, sym, ◌∙◌, leb-true, ltb-true, ◌-◌, arith}
-use Rattle.std.specs.Prelude.{slice_get, slice_index, IfNone}
+use Rattle.std.proofs.Common.{◌≡◌, ℕ, zero, suc, ◌+◌, ◌<◌, ◌≤◌, Bool, true, false, ◌&&◌, nat_le, nat_lt, Some, pos, length, get_or, take, subst, inl, inr, List, [], ◌∷◌, refl, ap, sym, ◌∙◌, leb-true, ltb-true, ◌-◌, arith}
+use Rattle.std.specs.Prelude.{slice_get, slice_index}
 use Rattle.std.specs.List.{list_all}
 use Rattle.std.proofs.Math.Nat.{one-le-mul}
 use Rattle.std.proofs.lemmas.Bool.{and_from, and_parts, cases_eq}

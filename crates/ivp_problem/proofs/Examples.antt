@@ -1,5 +1,5 @@
 -- The definitions on worked examples.
-use Rattle.std.proofs.Common.{◌≡◌, ℕ, zero, suc, Some, None, Ok, Err, ℤ, pos, List, [], ◌∷◌, replicate, refl, arith}
+use Rattle.std.proofs.Common.{◌≡◌, ℕ, zero, suc, true, false, inr, Some, None, Ok, Err, ℤ, pos, List, [], ◌∷◌, replicate, refl, arith}
 use Rattle.std.specs.Prelude.{codes}
 use Rattle.ivp_domain.specs.declared.axis.Axis.{Axis}
 use Rattle.ivp_domain.specs.Boxes.{point_of}
@@ -7,11 +7,12 @@ use Rattle.ivp_func.specs.declared.piece.Piece.{Piece}
 use Rattle.ivp_problem.specs.declared.term.Term.{Term}
 use Rattle.ivp_problem.specs.declared.term.ProblemFault.TheVariants.{NoFunction, TooMany, BadWeight, OtherDomain}
 use Rattle.ivp_problem.specs.declared.node.Node.{Node}
+use Rattle.ivp_problem.specs.Corners.{Beats}
 use Rattle.ivp_problem.specs.Keys.{index_of_key, key_of, sum_of}
 use Rattle.ivp_problem.specs.Problems.{problem_of, WeightedSum}
 use Rattle.ivp_problem.specs.Sums.{best_of, key_at, sum_at}
 use Rattle.ivp_problem.specs.Nodes.{nodes_of, tree_size}
-use Rattle.ivp_problem.specs.Trees.{AreTops, bound_of, child_of, children_of, node_of, own_top, root_of}
+use Rattle.ivp_problem.specs.Trees.{AreTops, bound_of, child_of, children_of, chosen_at, has_in, node_of, own_top, root_of}
 
 abbrev axis : List ℕ → ℕ → ℕ → Axis
 axis name high points = record { name = name; low = pos 0; high = pos high; points = points }
@@ -77,6 +78,14 @@ right = record { depth = 2; area = record { low = 1 ∷ 0 ∷ 0 ∷ 0 ∷ []; hi
 
 leaves : (children_of two first ≡ left ∷ right ∷ []) × (node_of two (0 ∷ 1 ∷ []) ≡ Some right) × (children_of two right ≡ [])
 leaves = (refl, refl, refl)
+
+-- the pieces of the second leaf add 20 and 15 at this point, which the leaf has
+second_leaf : (chosen_at right (point_of 1 1 0 0) ≡ pos 35) × (has_in (left ∷ right ∷ []) (point_of 1 1 0 0) ≡ true) × (has_in (left ∷ []) (point_of 1 1 0 0) ≡ false)
+second_leaf = (refl, refl, refl)
+
+-- along no slope the lesser place beats the greater
+level_places : Beats (pos 0) 2 5
+level_places = inr (refl, omega arith)
 
 -- all nodes, depth first
 nodes_of_two : (nodes_of two ≡ root_of two ∷ first ∷ left ∷ right ∷ []) × (tree_size two ≡ 4)
