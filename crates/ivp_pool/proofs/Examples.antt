@@ -1,5 +1,5 @@
 -- Worked examples of parts.
-use Rattle.std.proofs.Common.{◌≡◌, ℕ, ℤ, pos, List, [], ◌∷◌, refl, arith}
+use Rattle.std.proofs.Common.{◌≡◌, ℕ, Some, None, ℤ, pos, List, [], ◌∷◌, refl, arith}
 use Rattle.std.specs.Prelude.{codes}
 use Rattle.ivp_domain.specs.declared.axis.Axis.{Axis}
 use Rattle.ivp_func.specs.declared.piece.Piece.{Piece}
@@ -8,7 +8,8 @@ use Rattle.ivp_problem.specs.declared.term.Term.{Term}
 use Rattle.ivp_problem.specs.Keys.{key_of}
 use Rattle.ivp_problem.specs.Problems.{WeightedSum}
 use Rattle.ivp_problem.specs.Trees.{root_of}
-use Rattle.ivp_pool.specs.Solving.{IsSearched, share_of}
+use Rattle.ivp_pool.specs.Closing.{Closed, Pushed}
+use Rattle.ivp_pool.specs.Solving.{IsSearched, share_of, total_of}
 use Rattle.ivp_pool.specs.Tallies.{AreLinked, IsTally, IsWhole, Tally}
 use Rattle.ivp_pool.specs.Parts.{Done, Handed, handed_of, IsPart, Part, Pruned, size_of, Split, Then}
 
@@ -92,3 +93,15 @@ four_closed = record { part = all_here; is = all_here_is_one; none = refl; size 
 -- of three nodes the first of two workers gets the first and the last
 shares : (share_of 2 0 (left ∷ root_of two ∷ left ∷ []) ≡ left ∷ left ∷ []) × (share_of 2 1 (left ∷ root_of two ∷ left ∷ []) ≡ root_of two ∷ [])
 shares = (refl, refl)
+
+-- a node that a tray took, and one that came back
+pushes : Pushed [] (left ∷ []) left None × Pushed [] [] left (Some left)
+pushes = (refl, (refl, refl))
+
+-- the first call: three nodes were closed, and the first leaf was taken
+closed_three : Closed two (key_of 55 10) [] (left ∷ []) (root_of two) 3
+closed_three = record { part = one_handed; is = one_handed_is_one; here = λ same. absurd (cc); taken = refl; counted = refl }
+
+-- two workers closed two nodes and three
+closed_five : total_of (record { closed = 2 } ∷ record { closed = 3 } ∷ []) ≡ 5
+closed_five = refl
