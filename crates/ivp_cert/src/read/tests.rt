@@ -1,5 +1,5 @@
 use crate::read_problem;
-use ivp_domain::{Axis, AxisName, BoxN, Domain};
+use ivp_domain::{Axis, BoxN};
 use ivp_func::{Func, Piece};
 use ivp_problem::Problem;
 use moos_text::{Cause, ReadFault};
