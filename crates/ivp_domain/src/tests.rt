@@ -1,6 +1,6 @@
 ghost use Rattle.std.specs.Prelude.{◌≡◌, ◌<◌};
 
-use crate::{Axis, AxisName, BoxN, Domain, DomainFault, Point, Steps, meet, volume};
+use crate::{Axis, AxisName, BoxN, Domain, DomainFault, Point, Steps, is_proper, meet, volume};
 use std::marker::Brand;
 use std::sync::ledger::{Blank, Ledger};
 use std::test::Fail;
@@ -80,6 +80,13 @@ fn indices(rt: HostRuntime) -> Result<(), Fail> {
     assert!(rt; domain.axes() == 3);
     assert_eq!(rt; domain.axis(2).points, 4);
     assert!(rt; domain.all() == axes.as_slice());
+    assert_eq!(rt;
+        domain.whole(),
+        BoxN {
+            low: [0; 4],
+            high: [2, 1, 3, 0]
+        }
+    );
     let numbers = [-10, -7, -4, 0];
     for (place, number) in numbers.iter().enumerate() {
         assert_eq!(rt; number_of(&domain, 2, place as u32), Some(*number));
@@ -114,6 +121,12 @@ fn boxes(rt: HostRuntime) {
         low: [3, 0, 0, 0],
         high: [5, 9, 0, 0],
     };
+    let empty = BoxN {
+        low: [0, 5, 0, 0],
+        high: [2, 4, 0, 0],
+    };
+    assert!(rt; is_proper(&touching));
+    assert!(rt; !is_proper(&empty));
     assert_eq!(rt; meet(&a, &b), Some(touching));
     assert_eq!(rt; meet(&a, &apart), None);
     assert_eq!(rt; volume(&a), 15);
