@@ -1,12 +1,19 @@
 -- A lock of two passes worked by hand. Its events are numbers of two digits, the first of which is the pass's.
-use Rattle.std.proofs.Common.{◌≡◌, ℕ, ◌/◌, ◌==◌, inr, Bool, true, false, cond, List, [], ◌∷◌, Some, None, refl, arith}
+use Rattle.std.proofs.Common.{◌≡◌, ℕ, ◌/◌, ◌%◌, ◌^◌, ◌==◌, inl, inr, Bool, true, false, cond, List, [], ◌∷◌, length, Option, Some, None, refl, ap, subst, arith}
+use Rattle.std.specs.Prelude.{MatchBool}
 use Rattle.atomic_table.specs.Seated.{TableId}
+use Rattle.atomic_table.specs.Table.{Me, Step}
+use Rattle.std.specs.Borrow.{Lends, MutBor, u64}
+use Rattle.turn_lock.specs.contracts.held.Held.{the_row}
+use Rattle.turn_lock.specs.declared.held.Held.{Held}
 use Rattle.turn_lock.specs.declared.view.Known.{Known}
 use Rattle.turn_lock.specs.declared.view.Met.{Met}
-use Rattle.turn_lock.specs.declared.view.Turn.TheVariants.{Waits, Holds}
+use Rattle.turn_lock.specs.declared.view.Turn.{Turn}
+use Rattle.turn_lock.specs.declared.view.Turn.TheVariants.{Idle, Waits, Holds}
+use Rattle.turn_lock.specs.Lending.{LendsValue}
 use Rattle.turn_lock.specs.Passes.{Begins, beside, events_in, first_of, HasAll, IsFree, IsOf, IsWhole, known_of, LockState, longer, met_with, own, PassState, WasLent, without}
 use Rattle.turn_lock.specs.Rule.{begun, has_ticket, has_turn, known_in, newcomer, shown, tickets, times, weight}
-use Rattle.turn_lock.specs.Steps.{Adds, advanced, closed, dealt, hand_of, joined, new_of, part_of, parted}
+use Rattle.turn_lock.specs.Steps.{Adds, advanced, Advances, closed, dealt, Draws, hand_of, in_hand, IsAtRest, IsLent, joined, new_of, part_of, parted, Polls, Returns, Settles, Takes}
 
 -- the pass of an event
 abbrev pass_of : ℕ → ℕ
@@ -18,6 +25,9 @@ own_events = refl
 goes_on : Begins {E = ℕ} (10 ∷ 20 ∷ []) (10 ∷ [])
 goes_on = (20 ∷ [], refl)
 
+other_front : Begins {E = ℕ} (10 ∷ 20 ∷ []) (20 ∷ []) → ⊥
+other_front (rest, same) = cc
+
 longer_one : (longer {E = ℕ} (10 ∷ []) (10 ∷ 20 ∷ []) ≡ 10 ∷ 20 ∷ []) × (longer {E = ℕ} (10 ∷ 20 ∷ []) [] ≡ 10 ∷ 20 ∷ [])
 longer_one = (refl, refl)
 
@@ -27,6 +37,13 @@ both = record { number = 1; events = 10 ∷ [] } ∷ record { number = 2; events
 
 events : (events_in both 2 ≡ 20 ∷ 21 ∷ []) × (events_in both 3 ≡ []) × (events_in (without 2 both) 2 ≡ [])
 events = (refl, refl, refl)
+
+-- the events of each number in the history 0, 10 are those that the passes 0 and 1 made
+both_own : (a b : Bool) → (a ≡ true → b ≡ true → ⊥) → cond {A = List ℕ} a (0 ∷ cond b (10 ∷ []) []) (cond b (10 ∷ []) []) ≡ cond {A = List ℕ} a (0 ∷ []) (cond b (10 ∷ []) [])
+both_own true true apart = absurd (apart refl refl)
+both_own true false apart = refl
+both_own false true apart = refl
+both_own false false apart = refl
 
 module _ (table : TableId) where
   abbrev community : LockState (Unit {0})
@@ -38,6 +55,13 @@ module _ (table : TableId) where
 
   first_is : IsOf community first × IsFree first × HasAll first
   first_is = (record { same = refl; live = refl; base = refl }, refl, record { first = refl; all = refl })
+
+  -- a pass of a lock that was closed is none of its passes, and one that holds a turn isn't free
+  closed_is_none : IsOf community (record first { live = false }) → ⊥
+  closed_is_none one = let live : false ≡ true = one.live in cc
+
+  holder_is_busy : IsFree (record first { turn = Some [] }) → ⊥
+  holder_is_busy free = cc
 
   lent_here : WasLent (record first { turn = Some (10 ∷ []) }) 0 (10 ∷ [])
   lent_here = record { number_is = refl; turn_is = refl }
@@ -54,13 +78,14 @@ module _ (table : TableId) where
 
   -- so it knows the whole history
   taken_whole : IsWhole pass_of taken (0 ∷ 10 ∷ [])
-  taken_whole n = by (0 == n) (1 == n) (λ a b. grind arith)
-    where
-      by : (a b : Bool) → (a ≡ true → b ≡ true → ⊥) → cond {A = List ℕ} a (0 ∷ cond b (10 ∷ []) []) (cond b (10 ∷ []) []) ≡ cond {A = List ℕ} a (0 ∷ []) (cond b (10 ∷ []) [])
-      by true true apart = absurd (apart refl refl)
-      by true false apart = refl
-      by false true apart = refl
-      by false false apart = refl
+  taken_whole n = both_own (0 == n) (1 == n) (λ a b. grind arith)
+
+  -- and it knew less before it had taken the other in: not all passes, and not the other's event
+  not_all_before : HasAll first_after → ⊥
+  not_all_before all = omega (arith, all.all)
+
+  not_whole_before : IsWhole pass_of first_after (0 ∷ 10 ∷ []) → ⊥
+  not_whole_before whole = omega (arith, ap length (whole 1))
 
   -- what a pass shows of what it knows
   shown_is : shown table (newcomer tt 2) ≡ first
@@ -97,3 +122,122 @@ hands = (refl, refl)
 
 turn_over : ((advanced holding (10 ∷ 1 ∷ [])).mine ≡ 1 ∷ []) × ((advanced holding (10 ∷ 1 ∷ [])).seen ≡ 10 ∷ 1 ∷ []) × Adds pass_of 0 (1 ∷ [])
 turn_over = (refl, refl, inr (1, refl, refl))
+
+-- between calls a pass holds its turn or has none, and doesn't wait
+at_rest : IsAtRest alone.turn × IsAtRest holding.turn × (IsAtRest waiting.turn → ⊥)
+at_rest = (tt, tt, λ rest. rest)
+
+-- the lock's value is its history alone
+abbrev base_of : List ℕ → Unit {0}
+base_of value = tt
+
+abbrev history_of : List ℕ → List ℕ
+history_of value = value
+
+-- the ticket of a turn, and 0 where there is none
+abbrev ticket_of : Turn ℕ → ℕ
+ticket_of Idle = 0
+ticket_of (Waits ticket) = ticket
+ticket_of (Holds ticket history) = ticket
+
+-- the first of two passes has made event 0 and seen it, has taken in the other with its event 10, and waits for turn 7
+abbrev gathered : Known ℕ (Unit {0})
+gathered = record waiting { left = 0; made = 1; seen = 0 ∷ []; mine = 0 ∷ []; met = record { number = 1; events = 10 ∷ [] } ∷ [] }
+
+abbrev idle : Known ℕ (Unit {0})
+idle = record gathered { turn = Idle }
+
+-- the history has the events of both
+abbrev whole : List ℕ
+whole = 0 ∷ 10 ∷ []
+
+abbrev lent : Known ℕ (Unit {0})
+lent = record gathered { turn = Holds 7 whole }
+
+-- the value with all that the first pass has seen and knows is lent to it
+is_lent : IsLent base_of history_of pass_of 7 gathered whole lent
+is_lent = record { holds = refl; seen = (10 ∷ [], refl); base = refl; whole = λ first all n. both_own (0 == n) (1 == n) (grind arith) }
+
+-- no value is lent to it that lacks what it has seen, nor one with an event of the other pass that it doesn't know
+lacks_seen : IsLent base_of history_of pass_of 7 gathered (10 ∷ []) (record gathered { turn = Holds 7 (10 ∷ []) }) → ⊥
+lacks_seen given = let (rest, same) = given.seen in cc
+
+has_unknown : IsLent base_of history_of pass_of 7 gathered (0 ∷ 10 ∷ 11 ∷ []) (record gathered { turn = Holds 7 (0 ∷ 10 ∷ 11 ∷ []) }) → ⊥
+has_unknown given = omega (arith, ap length (given.whole refl refl 1))
+
+-- to a pass that has not taken in all others, the same may be lent: it has seen its front
+unknown_to_some : IsLent base_of history_of pass_of 7 (record gathered { met = [] }) (0 ∷ 10 ∷ 11 ∷ []) (record gathered { met = []; turn = Holds 7 (0 ∷ 10 ∷ 11 ∷ []) })
+unknown_to_some = record { holds = refl; seen = (10 ∷ 11 ∷ [], refl); base = refl; whole = λ first all. absurd (omega arith) }
+
+-- a turn that ends gives the value back with one event of the pass more, or none, and with none of another pass
+one_more : Returns base_of history_of pass_of 7 (1 ∷ []) lent (0 ∷ 10 ∷ 1 ∷ [])
+one_more = record { turn = (whole, refl, refl); base = refl; adds = inr (1, refl, refl) }
+
+none_more : Returns base_of history_of pass_of 7 [] lent whole
+none_more = record { turn = (whole, refl, refl); base = refl; adds = inl refl }
+
+others_event : Returns base_of history_of pass_of 7 (11 ∷ []) lent (0 ∷ 10 ∷ 11 ∷ []) → ⊥
+others_event back = refused back.adds
+  where
+    refused : Adds pass_of 0 (11 ∷ []) → ⊥
+    refused (inl none) = omega (arith, ap length none)
+    refused (inr (event, same, number)) = cc
+
+two_events : Returns base_of history_of pass_of 7 (1 ∷ 2 ∷ []) lent (0 ∷ 10 ∷ 1 ∷ 2 ∷ []) → ⊥
+two_events back = refused back.adds
+  where
+    refused : Adds pass_of 0 (1 ∷ 2 ∷ []) → ⊥
+    refused (inl none) = omega (arith, ap length none)
+    refused (inr (event, same, number)) = omega (arith, ap length same)
+
+-- what a seat knows, and the values that it has in hand
+abbrev Seat : Type 0
+Seat = Me (Option (List ℕ)) (Known ℕ (Unit {0}))
+
+abbrev hand : List (ℕ × Option (List ℕ))
+hand = (0, Some whole) ∷ []
+
+hand_is : (in_hand history_of hand ≡ whole) × (in_hand history_of ((0, None) ∷ []) ≡ []) × (in_hand history_of [] ≡ [])
+hand_is = (refl, refl, refl)
+
+taken_in_turn : Takes base_of history_of pass_of 7 (gathered, []) (lent, hand)
+taken_in_turn = (whole, is_lent, refl)
+
+module _ (step : Step (Option (List ℕ))) where
+  -- the ticket is the number that was found, and after 2^64 of them the words begin again at 0
+  draws : Draws step (idle, []) 7 (gathered, []) × Draws step (idle, []) 0 (record idle { turn = Waits 18446744073709551616 }, [])
+  draws = ((7, refl, refl), (18446744073709551616, refl, refl))
+
+  other_ticket : Draws step (idle, []) 8 (gathered, []) → ⊥
+  other_ticket drawn = let same : 7 ≡ drawn.0 = ap (λ (me : Seat). ticket_of me.0.turn) drawn.2 in omega (arith, drawn.1)
+
+  -- where the word is the ticket's the value is taken, and else nothing changes
+  polls : Polls base_of history_of pass_of step (gathered, []) 7 (lent, hand)
+  polls ticket waits = subst (λ t. MatchBool (7 == t % 2 ^ 64) (Takes base_of history_of pass_of t (gathered, []) (lent, hand)) (◌≡◌ {A = Seat} (lent, hand) (gathered, []))) (ap ticket_of waits) taken_in_turn
+
+  polls_early : Polls base_of history_of pass_of step (gathered, []) 6 (gathered, [])
+  polls_early ticket waits = subst (λ t. MatchBool (6 == t % 2 ^ 64) (Takes base_of history_of pass_of t (gathered, []) (gathered, [])) (◌≡◌ {A = Seat} (gathered, []) (gathered, []))) (ap ticket_of waits) refl
+
+  taken_early : Polls base_of history_of pass_of step (gathered, []) 6 (lent, hand) → ⊥
+  taken_early told = let same : (lent, hand) ≡ (gathered, []) = told 7 refl in omega (arith, ap (λ (me : Seat). length me.1) same)
+
+  missed : Polls base_of history_of pass_of step (gathered, []) 7 (gathered, []) → ⊥
+  missed told = let (x, given, holds) = told 7 refl in omega (arith, ap length holds)
+
+  -- a pass that ends its turn has seen all, has what it added, and has nothing in hand
+  advances : Advances history_of step (lent, (0, Some (0 ∷ 10 ∷ 1 ∷ [])) ∷ []) 7 (record idle { seen = 0 ∷ 10 ∷ 1 ∷ []; mine = 0 ∷ 1 ∷ [] }, [])
+  advances = refl
+
+  kept_in_hand : Advances history_of step (lent, hand) 7 (record idle { seen = whole }, hand) → ⊥
+  kept_in_hand same = omega (arith, ap (λ (me : Seat). length me.1) same)
+
+  -- a pass sees what it was told by another that has seen more, where both saw fronts of one history
+  settles : Settles step (record idle { told = whole }, []) 7 (record idle { seen = whole; told = whole }, [])
+  settles = (refl, (10 ∷ [], refl), ([], refl))
+
+  other_history : Settles step (record idle { told = 10 ∷ 0 ∷ [] }, []) 7 (record idle { seen = 10 ∷ 0 ∷ []; told = 10 ∷ 0 ∷ [] }, []) → ⊥
+  other_history seen = let (rest, same) = seen.1 in cc
+
+-- of a value that was lent out in place, its new value is written back, and the number and the start stay
+lends : (held : MutBor (Held ℕ ℕ ℕ)) (value : MutBor ℕ) → LendsValue u64 u64 u64 held value ≡ Lends (the_row u64 u64 u64) u64 held value (λ now. record { value = now; number = held.now.number; start = held.now.start })
+lends held value = refl
