@@ -1,6 +1,8 @@
 -- The sentences of the delivery rule worked by hand.
-use Rattle.std.proofs.Common.{◌≡◌, ℕ, ◌*◌, List, [], ◌∷◌, map, refl, true, false}
-use Rattle.std.specs.Prelude.{pos, codes}
+use Rattle.std.proofs.Common.{◌≡◌, ℕ, zero, suc, ◌*◌, ◌≢◌, inl, inr, List, [], ◌∷◌, map, Some, None, Option, AllPairs, refl, ap, ◌∙◌, true, false, arith}
+use Rattle.std.specs.Prelude.{pos, codes, slice_get}
+use Rattle.std.proofs.lemmas.List.Elements.{All-cons, All-nil}
+use Rattle.std.proofs.lemmas.List.Kept.{AllPairs-cons}
 use Rattle.moos_post.specs.declared.entry.Call.{Call}
 use Rattle.moos_post.specs.declared.entry.Call.TheVariants.{Register, Unregister, Post as Posts, Fetch}
 use Rattle.moos_post.specs.declared.entry.Entry.{Entry}
@@ -8,10 +10,11 @@ use Rattle.moos_post.specs.declared.registration.Reg.{Reg}
 use Rattle.moos_post.specs.declared.value.Pair.{Pair}
 use Rattle.moos_post.specs.declared.value.Post.{Post}
 use Rattle.moos_post.specs.declared.value.Value.TheVariants.{Num}
-use Rattle.moos_post.specs.Delivery.{mailed_to}
+use Rattle.moos_post.specs.Delivery.{Mailing, mailed_to, mailing}
 use Rattle.moos_post.specs.History.{History}
-use Rattle.moos_mail.specs.Registrations.{Made, made_at, live_before, came_through, is_to_mail, is_mailed_at}
-use Rattle.moos_mail.specs.Sentences.{given_at, mailed_between, posts_before, since}
+use Rattle.moos_mail.specs.Mailboxes.{MailboxState, is_one_of}
+use Rattle.moos_mail.specs.Registrations.{Made, made_at, live_before, came_through, is_to_mail, is_mailed_at, IsLive, regs_of}
+use Rattle.moos_mail.specs.Sentences.{given_at, mailed_between, posts_before, since, AreOnceEach, IsBefore, IsMadeBy}
 
 abbrev at : ℕ → ℕ → Call → Entry
 at stamp client call = record { stamp = stamp; client = client; call = call }
@@ -66,6 +69,56 @@ no-fetch = refl
 all : mailed_between 0 8 (mailed_to names 0 history) ≡ 1 ∷ 2 ∷ 3 ∷ []
 all = refl
 
+-- three mailings of which each is as asked to those behind it
+three : (R : Mailing → Mailing → Type 0) (one two last : Mailing) → R one two → R one last → R two last → AllPairs R (one ∷ two ∷ last ∷ [])
+three R one two last near far next =
+    AllPairs-cons R one (two ∷ last ∷ []) (All-cons (R one) two (last ∷ []) near (All-cons (R one) last [] far (All-nil (R one))))
+    (AllPairs-cons R two (last ∷ []) (All-cons (R two) last [] next (All-nil (R two)))
+    (AllPairs-cons R last [] (All-nil (R last)) (λ i j d below within. absurd (omega (arith, within)))))
+
+abbrev in_order : List Mailing
+in_order = mailing 1 2 ∷ mailing 2 2 ∷ mailing 3 4 ∷ []
+
+-- What was mailed stands in order, each number once, and each at or behind the entry that made its post.
+once_each : AreOnceEach history in_order
+once_each = record {
+  once = three (λ one later. one.number ≢ later.number) (mailing 1 2) (mailing 2 2) (mailing 3 4) (omega arith) (omega arith) (omega arith);
+  made = All-cons (IsMadeBy history) (mailing 1 2) (mailing 2 2 ∷ mailing 3 4 ∷ []) (record { entry = omega arith; number = omega arith })
+      (All-cons (IsMadeBy history) (mailing 2 2) (mailing 3 4 ∷ []) (record { entry = omega arith; number = omega arith })
+      (All-cons (IsMadeBy history) (mailing 3 4) [] (record { entry = omega arith; number = omega arith }) (All-nil (IsMadeBy history))));
+  rising = three IsBefore (mailing 1 2) (mailing 2 2) (mailing 3 4) (inr (refl, omega arith)) (inl (omega arith)) (inl (omega arith));
+}
+
+all_mailed : mailed_to names 0 history ≡ in_order
+all_mailed = refl
+
+-- Post 3 is made at entry 4, so it can't be mailed at entry 3, nor at an entry that the history doesn't have.
+too_early : IsMadeBy history (mailing 3 3) → ⊥
+too_early made = omega (arith, made.number)
+
+no_entry : IsMadeBy history (mailing 3 8) → ⊥
+no_entry made = omega (arith, made.entry)
+
+-- A list with one number twice isn't such a list, nor one whose mailings of one entry or of two stand the other way round.
+twice : AreOnceEach history (mailing 1 2 ∷ mailing 1 4 ∷ []) → ⊥
+twice each = each.once 0 1 (mailing 0 0) (omega arith) (omega arith) refl
+
+other_numbers : AreOnceEach history (mailing 2 2 ∷ mailing 1 2 ∷ []) → ⊥
+other_numbers each = let before : IsBefore (mailing 2 2) (mailing 1 2) = each.rising 0 1 (mailing 0 0) (omega arith) (omega arith) in grind arith
+
+other_entries : AreOnceEach history (mailing 3 4 ∷ mailing 1 2 ∷ []) → ⊥
+other_entries each = let before : IsBefore (mailing 3 4) (mailing 1 2) = each.rising 0 1 (mailing 0 0) (omega arith) (omega arith) in grind arith
+
+-- Before the second fetch one number waits of the three that were mailed.
+abbrev box : MailboxState
+box = record { waiting = 3 ∷ []; mailed = 1 ∷ 2 ∷ 3 ∷ []; spare = 5 }
+
+box_is : (box.waiting ≡ given_at names history 5) × (box.mailed ≡ mailed_between 0 5 (mailed_to names 0 history))
+box_is = (refl, refl)
+
+in_box : map (λ n. is_one_of n box.mailed) (0 ∷ 1 ∷ 2 ∷ 3 ∷ 4 ∷ []) ≡ false ∷ true ∷ true ∷ true ∷ false ∷ []
+in_box = refl
+
 -- Live registrations: the second place of an entry ends the first, a later entry ends one of another, and a client's own
 -- entries alone end its registrations.
 abbrev reg : List ℕ → Reg
@@ -87,6 +140,40 @@ live-second = refl
 
 live-last : live_before 0 registering 5 ≡ made_at 0 (reg (codes "A")) ∷ made_at 2 (reg (codes "B")) ∷ []
 live-last = refl
+
+-- The registration for A is live by the third place of the first entry; that for C, and one with another interval, aren't.
+is_live : IsLive 0 registering 5 (made_at 0 (reg (codes "A")))
+is_live = record { entry = _; at = refl; place = 2; there = refl; last = refl; stays = refl }
+
+withdrawn : IsLive 0 registering 5 (made_at 2 (reg (codes "C"))) → ⊥
+withdrawn live = let stays : true ≡ false = live.stays in cc
+
+made_anew : IsLive 0 registering 5 (made_at 0 (reg (codes "B"))) → ⊥
+made_anew live = let stays : true ≡ false = live.stays in cc
+
+not_yet : IsLive 0 registering 2 (made_at 2 (reg (codes "C"))) → ⊥
+not_yet live = let at : None ≡ Some live.entry = live.at in cc
+
+-- What stands at a place of an entry's registrations, where there is such an entry.
+abbrev registered : ℕ → ℕ → Option Entry → Option Reg
+registered client place None = None
+registered client place (Some entry) = slice_get (regs_of client entry) place
+
+other_client : IsLive 1 registering 2 (made_at 0 (reg (codes "B"))) → ⊥
+other_client live = let none : None ≡ Some (reg (codes "B")) = ap (registered 1 live.place) live.at ∙ live.there in cc
+
+abbrev interval_of : Option Reg → ℕ
+interval_of None = 0
+interval_of (Some one) = one.interval
+
+other_interval : IsLive 0 registering 2 (made_at 0 (record (reg (codes "A")) { interval = 1 })) → ⊥
+other_interval live = nowhere live.place (ap (registered 0 live.place) live.at ∙ live.there)
+  where
+    nowhere : (place : ℕ) → slice_get (reg (codes "A") ∷ reg (codes "B") ∷ reg (codes "A") ∷ []) place ≡ Some (record (reg (codes "A")) { interval = 1 }) → ⊥
+    nowhere zero same = omega (arith, ap interval_of same)
+    nowhere (suc zero) same = omega (arith, ap interval_of same)
+    nowhere (suc (suc zero)) same = omega (arith, ap interval_of same)
+    nowhere (suc (suc (suc place))) same = omega (arith, ap interval_of same)
 
 -- What came through the registration of client 0 above: the latest of A and B at its own entry, then a post of A that is
 -- at least the interval later, and not the one that is made together with it.
