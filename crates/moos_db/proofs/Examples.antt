@@ -1,19 +1,20 @@
 -- Worked by hand: the tables tried on posts of the variables C, B, A and C again, the letters of these posts, and what is
 -- kept of a client.
-use Rattle.std.specs.Prelude.{◌≡◌, ℕ, List, [], ◌∷◌, None, Some, codes, fold, pos}
-use Rattle.std.proofs.Common.{refl}
+use Rattle.std.specs.Prelude.{◌≡◌, ℕ, zero, suc, ◌<◌, List, [], ◌∷◌, length, Option, None, Some, unwrap_or, codes, false, true, fold, pos, slice_get, take, slice_index_or}
+use Rattle.std.proofs.Common.{refl, ap, subst, arith}
 use Rattle.moos_post.specs.declared.entry.Call.{Call}
 use Rattle.moos_post.specs.declared.entry.Call.TheVariants.{Register, Unregister, Post as Posts, Fetch}
 use Rattle.moos_post.specs.declared.entry.Entry.{Entry}
 use Rattle.moos_post.specs.declared.registration.Reg.{Reg}
 use Rattle.moos_post.specs.declared.value.Post.{Post}
 use Rattle.moos_post.specs.declared.value.Value.TheVariants.{Num}
-use Rattle.moos_post.specs.Delivery.{inbox_of}
+use Rattle.moos_post.specs.Delivery.{inbox_of, mail_at}
 use Rattle.moos_post.specs.History.{History, posts_of}
-use Rattle.moos_db.specs.Database.{letter_at, letter_of, origin_of, pair_of}
-use Rattle.moos_db.specs.Kept.{Kept, empty_kept, kept_entry, kept_of}
-use Rattle.moos_db.specs.Places.{place_at, post_in}
-use Rattle.moos_db.specs.Tables.{Row, rows_of, number_of, latest_from, lasts_of}
+use Rattle.moos_db.specs.Database.{after_entry, AreLetters, AreMails, Database, letter_at, letter_of, origin_of, pair_of}
+use Rattle.moos_db.specs.declared.mail.Letter.{Letter}
+use Rattle.moos_db.specs.Kept.{catch_found, catch_number, catch_post, empty_kept, held_of_reg, IsFresh, IsInbox, Kept, kept_entry, kept_of}
+use Rattle.moos_db.specs.Places.{AreInboxes, IsDb, IsLog, Journal, place_at, post_in}
+use Rattle.moos_db.specs.Tables.{IsLatest, Latest, Row, rows_of, number_of, latest_from, lasts_of}
 
 abbrev post : List ℕ → ℕ → Post
 post var stamp = record { stamp = stamp; source = 0; var = var; value = Num (pos 0) }
@@ -29,6 +30,22 @@ latest_posts = refl
 
 table_of_latest_posts : rows_of posts ≡ row (codes "C") 3 ∷ row (codes "B") 1 ∷ row (codes "A") 2 ∷ []
 table_of_latest_posts = refl
+
+-- The table of all four posts, and one that has seen three. Post 0 is not the latest of C among four.
+abbrev table : ℕ → ℕ → Latest
+table seen latest_of_c = record { posts = seen; rows = row (codes "C") latest_of_c ∷ row (codes "B") 1 ∷ row (codes "A") 2 ∷ [] }
+
+is_latest_of_all : IsLatest posts (table 4 3)
+is_latest_of_all = record { within = omega arith; same = refl }
+
+is_latest_of_three : IsLatest posts (table 3 0)
+is_latest_of_three = record { within = omega arith; same = refl }
+
+first_of_c : IsLatest posts (table 4 0) → ⊥
+first_of_c latest = omega (arith, ap (λ rows. unwrap_or (number_of (codes "C") rows) 9) latest.same)
+
+no_fifth_post : IsLatest posts (table 5 3) → ⊥
+no_fifth_post latest = omega (arith, latest.within)
 
 last_stamp_of_c : number_of (codes "C") (lasts_of posts) ≡ Some 5
 last_stamp_of_c = refl
@@ -84,3 +101,145 @@ kept_after_a_withdrawal = refl
 -- Post 2 is the first of entry 3.
 placed : post_in history (place_at 3 0) ≡ Some (record { stamp = 110; source = 1; var = codes "A"; value = Num (pos 0) })
 placed = refl
+
+misplaced : post_in history (place_at 3 1) ≡ None
+misplaced = refl
+
+-- That is where client 0 stands after all four entries; after three it had one post less, and client 1 has no mail.
+is_inbox : IsInbox names history 0 kept
+is_inbox = record { within = omega arith; same = refl }
+
+earlier_inbox : IsInbox names history 0 (record kept { seen = 3 }) → ⊥
+earlier_inbox inbox = omega (arith, ap (λ (one : Kept). one.posts) inbox.same)
+
+others_inbox : IsInbox names history 1 kept → ⊥
+others_inbox inbox = omega (arith, ap (λ (one : Kept). length one.mailed) inbox.same)
+
+-- Numbers from 3 on, of posts to come, were not mailed; from 2 on one was.
+fresh : IsFresh kept
+fresh number above = grind arith
+
+not_fresh : IsFresh (record kept { posts = 2 }) → ⊥
+not_fresh fresh = let mailed : true ≡ false = fresh 2 (omega arith) in cc
+
+-- At entry 1, when the registration is made, post 0 catches up, and comes through it. There is no post 1, and a post that was
+-- mailed doesn't catch up again, nor one where no registration was made at this entry.
+abbrev registered : Kept
+registered = record { seen = 1; posts = 1; lives = held_of_reg 1 all ∷ []; mailed = []; waits = [] }
+
+abbrev caught : Kept
+caught = record { seen = 1; posts = 1; lives = record { reg = all; made = 1; lasts = row (codes "A") 10 ∷ [] } ∷ []; mailed = 0 ∷ []; waits = 0 ∷ [] }
+
+abbrev a_at : ℕ → Post
+a_at stamp = record { stamp = stamp; source = 1; var = codes "A"; value = Num (pos 0) }
+
+catches : catch_number names (a_at 10 ∷ []) registered 0 ≡ caught
+catches = refl
+
+catches_none : (catch_number names (a_at 10 ∷ []) registered 1 ≡ registered) × (catch_found names 1 registered None ≡ registered)
+catches_none = (refl, refl)
+
+catches_once : catch_post names 0 caught (a_at 10) ≡ caught
+catches_once = refl
+
+catches_later : catch_post names 0 (record registered { seen = 2 }) (a_at 10) ≡ record registered { seen = 2 }
+catches_later = refl
+
+-- What holds of each item of a list, by its place.
+each_of : {X : Type 0} (P : ℕ → X → Type 0) (x : X) (xs : List X) → P 0 x → ((k : ℕ) (y : X) → slice_get xs k ≡ Some y → P (suc k) y) → (k : ℕ) (y : X) → slice_get (x ∷ xs) k ≡ Some y → P k y
+each_of P x xs here later zero y same = let equal : x ≡ y = cc in subst (P zero) equal here
+each_of P x xs here later (suc k) y same = later k y same
+
+each_of_none : {X : Type 0} (P : ℕ → X → Type 0) (k : ℕ) (y : X) → slice_get [] k ≡ Some y → P k y
+each_of_none P k y same = absurd (let none : None ≡ Some y = same in cc)
+
+-- The database of this history with the fetch of client 0 behind it.
+abbrev database : Database
+database = after_entry (record { names = names; history = history }) (at 200 0 Fetch)
+
+abbrev fetched : History
+fetched = database.history
+
+abbrev mail : List Letter
+mail = letter_of 0 (a_at 10) ∷ letter_of 2 (a_at 110) ∷ []
+
+abbrev IsMail : ℕ → List Letter → Type 0
+IsMail k mail = AreLetters (posts_of (take k fetched)) (mail_at names fetched k) mail
+
+-- Its mails: the fetch, entry 4, has those of posts 0 and 2, in this order, and no other entry has any.
+are_mails : AreMails names fetched ([] ∷ [] ∷ [] ∷ [] ∷ mail ∷ [])
+are_mails = record {
+  each = refl;
+  mail = each_of IsMail [] ([] ∷ [] ∷ [] ∷ mail ∷ []) refl
+      (each_of (λ k. IsMail (suc k)) [] ([] ∷ [] ∷ mail ∷ []) refl
+      (each_of (λ k. IsMail (suc (suc k))) [] ([] ∷ mail ∷ []) refl
+      (each_of (λ k. IsMail (suc (suc (suc k)))) [] (mail ∷ []) refl
+      (each_of (λ k. IsMail (suc (suc (suc (suc k))))) mail [] refl
+      (each_of_none (λ k. IsMail (suc (suc (suc (suc (suc k)))))))))));
+}
+
+nothing_fetched : AreMails names fetched ([] ∷ [] ∷ [] ∷ [] ∷ [] ∷ []) → ⊥
+nothing_fetched mails = omega (arith, ap length (mails.mail 4 [] refl))
+
+-- the number of the first letter, and the stamp of the first post
+abbrev first_number : List (Option Letter) → ℕ
+first_number [] = 9
+first_number (None ∷ later) = 9
+first_number (Some one ∷ later) = one.number
+
+abbrev first_stamp : List (Option Post) → ℕ
+first_stamp [] = 9
+first_stamp (None ∷ later) = 9
+first_stamp (Some one ∷ later) = one.stamp
+
+other_order : AreMails names fetched ([] ∷ [] ∷ [] ∷ [] ∷ (letter_of 2 (a_at 110) ∷ letter_of 0 (a_at 10) ∷ []) ∷ []) → ⊥
+other_order mails = omega (arith, ap first_number (mails.mail 4 (letter_of 2 (a_at 110) ∷ letter_of 0 (a_at 10) ∷ []) refl))
+
+one_mail_less : AreMails names fetched ([] ∷ [] ∷ [] ∷ [] ∷ []) → ⊥
+one_mail_less mails = omega (arith, mails.each)
+
+-- What is kept of both clients after the first four entries, each in its place.
+abbrev kept_of_other : Kept
+kept_of_other = record { seen = 4; posts = 3; lives = []; mailed = []; waits = [] }
+
+are_inboxes : AreInboxes names fetched (kept ∷ kept_of_other ∷ [])
+are_inboxes = each_of (IsInbox names fetched) kept (kept_of_other ∷ []) (record { within = omega arith; same = refl })
+    (each_of (λ k. IsInbox names fetched (suc k)) kept_of_other [] (record { within = omega arith; same = refl })
+    (each_of_none (λ k. IsInbox names fetched (suc (suc k)))))
+
+swapped : AreInboxes names fetched (kept_of_other ∷ kept ∷ []) → ⊥
+swapped inboxes = omega (arith, ap (λ (one : Kept). length one.mailed) ((inboxes 0 kept_of_other refl).same))
+
+-- Where its posts stand, and what each entry gave.
+abbrev letters : List (List ℕ)
+letters = [] ∷ [] ∷ [] ∷ [] ∷ (0 ∷ 2 ∷ []) ∷ []
+
+is_log : IsLog fetched letters (place_at 0 0 ∷ place_at 2 0 ∷ place_at 3 0 ∷ [])
+is_log = record { each = refl; placed = refl }
+
+post_left_out : IsLog fetched letters (place_at 0 0 ∷ place_at 2 0 ∷ []) → ⊥
+post_left_out log = omega (arith, ap length log.placed)
+
+places_swapped : IsLog fetched letters (place_at 2 0 ∷ place_at 0 0 ∷ place_at 3 0 ∷ []) → ⊥
+places_swapped log = omega (arith, ap first_stamp log.placed)
+
+abbrev journal : Journal
+journal = record { entries = fetched; letters = letters }
+
+given : (k : ℕ) → k < 5 → slice_index_or letters k [] ≡ mail_at names fetched k
+given zero below = refl
+given (suc zero) below = refl
+given (suc (suc zero)) below = refl
+given (suc (suc (suc zero))) below = refl
+given (suc (suc (suc (suc zero)))) below = refl
+given (suc (suc (suc (suc (suc k))))) below = absurd (omega (arith, below))
+
+is_db : IsDb names journal (record { posts = 3; rows = row (codes "A") 2 ∷ [] }) (kept ∷ kept_of_other ∷ [])
+is_db = record { few = omega arith; each = refl; lettered = refl; latest = record { within = omega arith; same = refl }; kept = are_inboxes; given = given }
+
+-- It is no such database where the fetch's letters lack one, or a client has no inbox.
+letter_lost : IsDb names (record journal { letters = [] ∷ [] ∷ [] ∷ [] ∷ (2 ∷ []) ∷ [] }) (record { posts = 3; rows = row (codes "A") 2 ∷ [] }) (kept ∷ kept_of_other ∷ []) → ⊥
+letter_lost db = omega (arith, ap length (db.given 4 (omega arith)))
+
+inbox_lost : IsDb names journal (record { posts = 3; rows = row (codes "A") 2 ∷ [] }) (kept ∷ []) → ⊥
+inbox_lost db = omega (arith, db.each)
