@@ -1,10 +1,17 @@
--- Lines, words and numbers worked by hand.
-use Rattle.std.proofs.Common.{◌≡◌, [], ◌∷◌, refl}
-use Rattle.std.specs.Prelude.{pos, negsuc, codes, Some, None, Ok, Err, true}
+-- Lines, words, numbers and refusals worked by hand.
+use Rattle.std.proofs.Common.{◌≡◌, ℕ, zero, suc, [], ◌∷◌, length, refl, ap, arith}
+use Rattle.std.specs.Prelude.{pos, negsuc, codes, Some, None, Result, Ok, Err, true, false}
 use Rattle.std.specs.Fmt.{digits}
-use Rattle.moos_text.specs.Lines.{raw_lines, content_of, is_unclosed, trimmed, words_of}
+use Rattle.moos_text.specs.Lines.{raw_lines, behind_word, content_of, first_line, first_word, is_unclosed, trimmed, words_of}
 use Rattle.moos_text.specs.Numbers.{milli_of, milli_text}
 use Rattle.moos_text.specs.Pairs.{pair_of, parts_of}
+use Rattle.moos_text.specs.Reading.{IsFront, IsParted}
+use Rattle.moos_text.specs.Refusals.{and_then, fault_at, IsFirst, IsLineFault}
+use Rattle.moos_text.specs.declared.cause.Cause.{Cause}
+use Rattle.moos_text.specs.declared.cause.Cause.TheVariants.{S2, S3}
+use Rattle.moos_text.specs.declared.cause.LineFault.TheVariants.{Refused, NoMemory as OutOfMemory}
+use Rattle.moos_text.specs.declared.cause.ReadFault.{ReadFault}
+use Rattle.moos_text.specs.declared.cause.ReadFault.TheVariants.{At, NoMemory}
 use Rattle.moos_text.specs.declared.pair.PairFault.TheVariants.{BadName, BadValue}
 use Rattle.moos_post.specs.declared.value.Value.TheVariants.{Num, Text}
 
@@ -14,6 +21,16 @@ lines_end = refl
 last_line : raw_lines (codes "a\n\nb") ≡ codes "a" ∷ [] ∷ codes "b" ∷ []
 last_line = refl
 
+-- The first line ends at the first line feed, or with the file.
+first_of_two : first_line (codes "a b\nc\n") ≡ codes "a b"
+first_of_two = refl
+
+first_and_last : first_line (codes "ab") ≡ codes "ab"
+first_and_last = refl
+
+empty_first : first_line (codes "\nab") ≡ []
+empty_first = refl
+
 quoted_slashes : content_of (codes "a \"//\" b // c\r") ≡ codes "a \"//\" b "
 quoted_slashes = refl
 
@@ -22,6 +39,12 @@ open_quote = refl
 
 two_blanks : words_of (codes "  ab \tc ") ≡ codes "ab" ∷ codes "c" ∷ []
 two_blanks = refl
+
+word_and_rest : (first_word (codes "  ab \tc ") ≡ codes "ab") × (behind_word (codes "  ab \tc ") ≡ codes " \tc ")
+word_and_rest = (refl, refl)
+
+no_word : (first_word (codes " \t") ≡ []) × (behind_word (codes " \t") ≡ [])
+no_word = (refl, refl)
 
 both_ends : trimmed (codes " a b\t") ≡ codes "a b"
 both_ends = refl
@@ -82,3 +105,85 @@ apart_colon = refl
 
 three_parts : parts_of (codes "A=\"#\"#B=1#") ≡ codes "A=\"#\"" ∷ codes "B=1" ∷ [] ∷ []
 three_parts = refl
+
+-- The digits at the front of 12.5 are the first two: not one alone, and not the point too.
+front : IsFront 2 (codes "12.5")
+front = record { within = omega arith; digits = refl; ends = λ more. refl }
+
+digit_left : IsFront 1 (codes "12.5") → ⊥
+digit_left found = let ends : true ≡ false = found.ends (omega arith) in cc
+
+no_digit_more : IsFront 3 (codes "12.5") → ⊥
+no_digit_more found = let digits : false ≡ true = found.digits in cc
+
+all_digits : IsFront 2 (codes "12")
+all_digits = record { within = omega arith; digits = refl; ends = λ more. absurd (omega (arith, more)) }
+
+-- The decimals stand behind the first point, and there are none where there is no point.
+parted : IsParted (codes "12.5") 2 (codes "5")
+parted = record { whole = refl; rest = refl }
+
+first_point : IsParted (codes "1.2.5") 1 (codes "2.5")
+first_point = record { whole = refl; rest = refl }
+
+no_point : IsParted (codes "12") 2 []
+no_point = record { whole = refl; rest = refl }
+
+point_among_digits : IsParted (codes "12.5") 3 (codes "5") → ⊥
+point_among_digits found = omega (arith, ap length found.whole)
+
+point_among_decimals : IsParted (codes "12.5") 2 (codes ".5") → ⊥
+point_among_decimals found = omega (arith, ap length found.rest)
+
+-- A file that is refused at line 2 for its stamp: no other line and no other cause is its first refusal.
+abbrev refused : Result ℕ ReadFault
+refused = Err (At 2 S2)
+
+is_first : IsFirst (At 2 S2) refused
+is_first = refl
+
+other_line : IsFirst (At 3 S2) refused → ⊥
+other_line same = cc
+
+other_cause : IsFirst (At 2 S3) refused → ⊥
+other_cause same = cc
+
+-- A file that is read has no first refusal. Without memory a reader says nothing of the file.
+abbrev good : Result ℕ ReadFault
+good = Ok 5
+
+none_of_good : IsFirst (At 2 S2) good → ⊥
+none_of_good same = cc
+
+no_memory : IsFirst NoMemory refused × IsFirst NoMemory good
+no_memory = (tt, tt)
+
+-- The same of one line.
+abbrev refused_line : Result ℕ Cause
+refused_line = Err S2
+
+is_line_fault : IsLineFault (Refused S2) refused_line
+is_line_fault = refl
+
+other_fault : IsLineFault (Refused S3) refused_line → ⊥
+other_fault same = cc
+
+abbrev good_line : Result ℕ Cause
+good_line = Ok 5
+
+none_of_good_line : IsLineFault (Refused S2) good_line → ⊥
+none_of_good_line same = cc
+
+no_memory_for_line : IsLineFault OutOfMemory refused_line × IsLineFault OutOfMemory good_line
+no_memory_for_line = (tt, tt)
+
+numbered : (fault_at 7 (Refused S2) ≡ At 7 S2) × (fault_at 7 OutOfMemory ≡ NoMemory)
+numbered = (refl, refl)
+
+-- What follows a good value is done with it, and a refusal stays.
+abbrev one_less : ℕ → Result ℕ Cause
+one_less zero = Err S3
+one_less (suc n) = Ok n
+
+followed : (and_then one_less good_line ≡ Ok 4) × (and_then one_less (Ok 0) ≡ Err S3) × (and_then one_less refused_line ≡ Err S2)
+followed = (refl, refl, refl)
