@@ -1,13 +1,21 @@
 -- Scripts and refusals worked by hand.
-use Rattle.std.proofs.Common.{◌≡◌, ℕ, List, [], ◌∷◌, refl}
-use Rattle.std.specs.Prelude.{codes, Ok, Err, pos}
+use Rattle.std.proofs.Common.{◌≡◌, ℕ, zero, suc, ◌<◌, ◌==◌, ◌&&◌, true, false, List, [], ◌∷◌, length, map, replicate, refl, sym, ap, ◌∙◌, arith}
+use Rattle.std.specs.Prelude.{codes, Ok, Err, pos, slice_index, slice_index_or}
+use Rattle.std.proofs.lemmas.Bool.{false≢true}
+use Rattle.std.proofs.lemmas.Bool.Decides.{nat_tests}
+use Rattle.std.proofs.lemmas.List.{get_or-replicate}
+use Rattle.std.proofs.lemmas.List.Sums.{count_by-le-length}
 use Rattle.moos_post.specs.declared.entry.Call.TheVariants.{Register, Unregister, Post as Posts, Fetch}
 use Rattle.moos_post.specs.declared.entry.Entry.{Entry}
+use Rattle.moos_post.specs.declared.registration.Reg.{Reg}
 use Rattle.moos_post.specs.declared.value.Pair.{Pair}
 use Rattle.moos_post.specs.declared.value.Value.TheVariants.{Num, Text}
 use Rattle.moos_text.specs.declared.cause.Cause.TheVariants.{S1, S2, S3, S4, S5, S6, S7, S9}
 use Rattle.moos_text.specs.declared.cause.ReadFault.TheVariants.{At}
-use Rattle.script_reader.specs.Script.{script_of}
+use Rattle.script_reader.specs.declared.script.Script.{Script}
+use Rattle.script_reader.specs.Counts.{AreCounts, pairs_in, with_call_variables, with_made, with_pairs}
+use Rattle.script_reader.specs.Script.{is_register, registrations_of, script_of}
+use Rattle.script_reader.specs.Validity.{are_clients, are_lines, IsValid, keeps_limits}
 
 abbrev registers : ℕ → ℕ → List ℕ → ℕ → List ℕ → Entry
 registers stamp client var interval source =
@@ -111,3 +119,101 @@ word_too_many = refl
 
 late_stamp : script_of (codes "1000000.001 a fetch") ≡ Err (At 1 S1)
 late_stamp = refl
+
+-- A script of two clients and two lines, with a last stamp of its own: what it keeps, and what is counted beside it.
+abbrev two : Script
+two = record {
+  names = codes "a" ∷ codes "b" ∷ [];
+  lines = registers 0 0 (codes "X") 500 (codes "*") ∷ posts 499 1 (says (codes "X") 2000 ∷ says (codes "Y") 1000 ∷ []) ∷ [];
+  stop = 2000;
+}
+
+two_is_read : script_of (codes "0 a register X 0.5\n0.499 b post X=2 # Y=1\n2 until") ≡ Ok two
+two_is_read = refl
+
+is_valid : IsValid two
+is_valid = record {
+  clients = refl;
+  few_clients = omega arith;
+  lines = refl;
+  early = omega arith;
+  few_lines = omega arith;
+  few_registrations = λ client. omega (arith, count_by-le-length (λ line. line.client == client && is_register line.call) two.lines);
+  few_variables = omega arith;
+}
+
+-- It keeps that no more where the second client has no name, where the last stamp is late, or is below that of a line.
+no_name : IsValid (record two { names = codes "a" ∷ [] }) → ⊥
+no_name valid = false≢true valid.lines
+
+late_stop : IsValid (record two { stop = 1000000001 }) → ⊥
+late_stop valid = omega (arith, valid.early)
+
+early_stop : IsValid (record two { stop = 498 }) → ⊥
+early_stop valid = false≢true valid.lines
+
+-- Clients have names of their own, none of which is the helm's.
+clients : map are_clients ([] ∷ two.names ∷ (codes "a" ∷ codes "b" ∷ codes "a" ∷ []) ∷ (codes "a" ∷ codes "pHelmIvP" ∷ []) ∷ []) ≡ true ∷ true ∷ false ∷ false ∷ []
+clients = refl
+
+-- Lines are by those clients, and their stamps don't go back.
+lines_of_two : are_lines 2 0 499 two.lines ≡ true
+lines_of_two = refl
+
+first_too_early : are_lines 2 1 499 two.lines ≡ false
+first_too_early = refl
+
+stamps_go_back : are_lines 2 0 2000 (fetches 1000 0 ∷ fetches 999 1 ∷ []) ≡ false
+stamps_go_back = refl
+
+no_such_client : are_lines 2 0 2000 (fetches 1000 2 ∷ []) ≡ false
+no_such_client = refl
+
+-- A registration line is one registration, and a post has 1 to 64 pairs.
+abbrev reg : ℕ → Reg
+reg interval = record { var = codes "X"; source = codes "*"; interval = interval }
+
+registrations : map keeps_limits (Register [] ∷ Register (reg 1000000000 ∷ []) ∷ Register (reg 1000000001 ∷ []) ∷ Register (reg 0 ∷ reg 0 ∷ []) ∷ []) ≡ false ∷ true ∷ false ∷ false ∷ []
+registrations = refl
+
+batches : map keeps_limits (Posts [] ∷ Posts (replicate 64 (says (codes "X") 0)) ∷ Posts (replicate 65 (says (codes "X") 0)) ∷ []) ≡ false ∷ true ∷ false ∷ []
+batches = refl
+
+others_keep : map keeps_limits (Unregister (codes "X") (codes "*") ∷ Fetch ∷ []) ≡ true ∷ true ∷ []
+others_keep = refl
+
+-- One registration, by the first client, and two variables, in the order of their first posts.
+abbrev made : List ℕ
+made = 1 ∷ replicate 63 0
+
+other_registers : (client : ℕ) → registrations_of (suc client) two.lines ≡ 0
+other_registers client = grind (arith, nat_tests)
+
+are_counts : AreCounts two made (codes "X" ∷ codes "Y" ∷ [])
+are_counts = record { few = omega arith; each = refl; registrations = counted; posted = refl }
+  where
+    counted : (client : ℕ) → client < 64 → slice_index made client ≡ registrations_of client two.lines
+    counted zero below = refl
+    counted (suc client) below = get_or-replicate 63 client 0 0 (omega (arith, below)) ∙ sym (other_registers client)
+
+none_counted : AreCounts two (replicate 64 0) (codes "X" ∷ codes "Y" ∷ []) → ⊥
+none_counted counts = omega (arith, counts.registrations 0 (omega arith))
+
+other_variables : AreCounts two made (codes "Y" ∷ codes "X" ∷ []) → ⊥
+other_variables counts = omega (arith, ap (λ vars. slice_index (slice_index_or vars 0 []) 0) counts.posted)
+
+variable_twice : AreCounts two made (codes "X" ∷ codes "Y" ∷ codes "X" ∷ []) → ⊥
+variable_twice counts = omega (arith, ap length counts.posted)
+
+-- What a call adds to both.
+counts_on : (with_made (1 ∷ 0 ∷ []) 1 (Register (reg 0 ∷ [])) ≡ 1 ∷ 1 ∷ []) × (with_made (1 ∷ 0 ∷ []) 1 Fetch ≡ 1 ∷ 0 ∷ [])
+counts_on = (refl, refl)
+
+pairs_of_calls : (pairs_in (Posts (says (codes "X") 1 ∷ [])) ≡ says (codes "X") 1 ∷ []) × (pairs_in (Register (reg 0 ∷ [])) ≡ []) × (pairs_in Fetch ≡ [])
+pairs_of_calls = (refl, refl, refl)
+
+known_once : with_pairs (codes "X" ∷ []) (says (codes "Y") 1 ∷ says (codes "X") 2 ∷ says (codes "Y") 3 ∷ []) ≡ codes "X" ∷ codes "Y" ∷ []
+known_once = refl
+
+known_by_calls : (with_call_variables (codes "X" ∷ []) (Posts (says (codes "Y") 1 ∷ [])) ≡ codes "X" ∷ codes "Y" ∷ []) × (with_call_variables (codes "X" ∷ []) (Unregister (codes "Y") (codes "*")) ≡ codes "X" ∷ [])
+known_by_calls = (refl, refl)
