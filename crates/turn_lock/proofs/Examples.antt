@@ -1,8 +1,11 @@
 -- A lock of two passes worked by hand. Its events are numbers of two digits, the first of which is the pass's.
-use Rattle.std.proofs.Common.{◌≡◌, ℕ, ◌/◌, ◌%◌, ◌^◌, ◌==◌, inl, inr, Bool, true, false, cond, List, [], ◌∷◌, length, Option, Some, None, refl, ap, subst, arith}
-use Rattle.std.specs.Prelude.{MatchBool}
+use Rattle.std.proofs.Common.{◌≡◌, ℕ, ◌/◌, ◌%◌, ◌^◌, ◌<◌, ◌==◌, zero, suc, inl, inr, Bool, true, false, cond, List, [], ◌∷◌, length, Option, Some, None, refl, ap, subst, arith}
+use Rattle.std.specs.Prelude.{MatchBool, slice_index}
+use Rattle.std.proofs.lemmas.Bool.Decides.{nat_tests}
+use mathlib.Core.Option.{some, none}
+use lib.ListN.{get_elem?}
 use Rattle.atomic_table.specs.Seated.{TableId}
-use Rattle.atomic_table.specs.Table.{Me, Step}
+use Rattle.atomic_table.specs.Table.{Me, State, Step}
 use Rattle.std.specs.Borrow.{Lends, MutBor, u64}
 use Rattle.turn_lock.specs.contracts.held.Held.{the_row}
 use Rattle.turn_lock.specs.declared.held.Held.{Held}
@@ -12,8 +15,8 @@ use Rattle.turn_lock.specs.declared.view.Turn.{Turn}
 use Rattle.turn_lock.specs.declared.view.Turn.TheVariants.{Idle, Waits, Holds}
 use Rattle.turn_lock.specs.Lending.{LendsValue}
 use Rattle.turn_lock.specs.Passes.{Begins, beside, events_in, first_of, HasAll, IsFree, IsOf, IsWhole, known_of, LockState, longer, met_with, own, PassState, WasLent, without}
-use Rattle.turn_lock.specs.Rule.{begun, has_ticket, has_turn, known_in, newcomer, shown, tickets, times, weight}
-use Rattle.turn_lock.specs.Steps.{Adds, advanced, Advances, closed, dealt, Draws, hand_of, in_hand, IsAtRest, IsLent, joined, new_of, part_of, parted, Polls, Returns, Settles, Takes}
+use Rattle.turn_lock.specs.Rule.{begun, Book, Fits, IsHeldAt, IsHome, IsKnown, IsOut, IsPlaced, Kept, Stands, has_ticket, has_turn, known_in, newcomer, shown, tickets, times, weight}
+use Rattle.turn_lock.specs.Steps.{Adds, advanced, Advances, closed, dealt, Draws, hand_of, in_hand, IsAtRest, IsLent, joined, new_of, part_of, parted, Polls, Returns, Settles, spent, Takes}
 
 -- the pass of an event
 abbrev pass_of : ℕ → ℕ
@@ -180,14 +183,14 @@ others_event : Returns base_of history_of pass_of 7 (11 ∷ []) lent (0 ∷ 10 �
 others_event back = refused back.adds
   where
     refused : Adds pass_of 0 (11 ∷ []) → ⊥
-    refused (inl none) = omega (arith, ap length none)
+    refused (inl empty) = omega (arith, ap length empty)
     refused (inr (event, same, number)) = cc
 
 two_events : Returns base_of history_of pass_of 7 (1 ∷ 2 ∷ []) lent (0 ∷ 10 ∷ 1 ∷ 2 ∷ []) → ⊥
 two_events back = refused back.adds
   where
     refused : Adds pass_of 0 (1 ∷ 2 ∷ []) → ⊥
-    refused (inl none) = omega (arith, ap length none)
+    refused (inl empty) = omega (arith, ap length empty)
     refused (inr (event, same, number)) = omega (arith, ap length same)
 
 -- what a seat knows, and the values that it has in hand
@@ -241,3 +244,109 @@ module _ (step : Step (Option (List ℕ))) where
 -- of a value that was lent out in place, its new value is written back, and the number and the start stay
 lends : (held : MutBor (Held ℕ ℕ ℕ)) (value : MutBor ℕ) → LendsValue u64 u64 u64 held value ≡ Lends (the_row u64 u64 u64) u64 held value (λ now. record { value = now; number = held.now.number; start = held.now.start })
 lends held value = refl
+
+-- The rule of the lock, where the first pass has seen its own event alone and waits for turn 7, and the other, at seat 1,
+-- holds turn 6. The words are the next ticket, and the ticket whose turn it is.
+abbrev first_waits : Known ℕ (Unit {0})
+first_waits = record gathered { met = [] }
+
+abbrev other_holds : Known ℕ (Unit {0})
+other_holds = record first_waits { number = 1; seen = whole; mine = 10 ∷ []; made = 0; turn = Holds 6 whole }
+
+abbrev Passes : Type 0
+Passes = State (Option (List ℕ)) (Known ℕ (Unit {0}))
+
+abbrev book : Book ℕ
+book = record { log = whole; owner = λ n. n; total = 2; start = 6; queue = 1 ∷ 0 ∷ [] }
+
+abbrev out : Passes
+out = record { words = 8 ∷ 6 ∷ []; homes = none ∷ []; views = first_waits ∷ other_holds ∷ [] }
+
+-- what holds of the pass at each of two seats
+two_seats : (P : ℕ → Known ℕ (Unit {0}) → Type 0) (one other : Known ℕ (Unit {0})) → P 0 one → P 1 other → (seat : ℕ) (v : Known ℕ (Unit {0})) → get_elem? (one ∷ other ∷ []) seat ≡ some v → P seat v
+two_seats P one other here there zero v at = let equal : one ≡ v = cc in subst (P 0) equal here
+two_seats P one other here there (suc zero) v at = let equal : other ≡ v = cc in subst (P 1) equal there
+two_seats P one other here there (suc (suc seat)) v at = absurd (let nobody : none ≡ some v = at in cc)
+
+first_fits : Fits pass_of tt whole (λ n. n) 2 0 first_waits
+first_fits = record {
+  same = refl;
+  seen = (10 ∷ [], refl);
+  told = (whole, refl);
+  each = λ n some. subst (IsKnown pass_of whole (λ k. k) 2 0 first_waits) (let equal : 0 ≡ n = grind (arith, nat_tests) in equal) (record { events = refl; given = omega arith; here = refl });
+  once = λ n. grind (arith, nat_tests);
+  first = λ number. (refl, omega arith);
+  other = λ more. refl;
+}
+
+other_fits : Fits pass_of tt whole (λ n. n) 2 1 other_holds
+other_fits = record {
+  same = refl;
+  seen = ([], refl);
+  told = (whole, refl);
+  each = λ n some. subst (IsKnown pass_of whole (λ k. k) 2 1 other_holds) (let equal : 1 ≡ n = grind (arith, nat_tests) in equal) (record { events = refl; given = omega arith; here = refl });
+  once = λ n. grind (arith, nat_tests);
+  first = λ number. absurd (omega arith);
+  other = λ more. refl;
+}
+
+-- a pass fits no history that lacks an event of its own, nor one whose front it has not seen
+event_lost : Fits pass_of tt (0 ∷ []) (λ n. n) 2 1 (record other_holds { seen = 0 ∷ [] }) → ⊥
+event_lost fits = omega (arith, ap length ((fits.each 1 (omega arith)).events))
+
+other_seen : Fits pass_of tt whole (λ n. n) 2 0 (record first_waits { seen = 10 ∷ [] }) → ⊥
+other_seen fits = let (rest, same) = fits.seen in cc
+
+-- the words, the passes and the history stand together, and the value is out with the pass at seat 1
+abbrev AtSeat : Book ℕ → ℕ → Known ℕ (Unit {0}) → Type 0
+AtSeat now seat v = v.live ≡ true → Fits pass_of tt now.log now.owner now.total seat v × IsPlaced now seat v.turn
+
+covered : (n : ℕ) → n < 2 → IsHeldAt (first_waits ∷ other_holds ∷ []) n n
+covered zero below = (first_waits, refl, refl, omega arith)
+covered (suc zero) below = (other_holds, refl, refl, omega arith)
+covered (suc (suc n)) below = absurd (omega (arith, below))
+
+stands : Stands pass_of tt book (8 ∷ 6 ∷ []) (first_waits ∷ other_holds ∷ [])
+stands = record {
+  words_are = refl;
+  each = two_seats (AtSeat book) first_waits other_holds (λ live. (first_fits, (1, refl, refl))) (λ live. (other_fits, (refl, refl, refl)));
+  whole = refl;
+  lined = refl;
+  few = omega arith;
+  covered = covered;
+  others = λ n more. grind (arith, nat_tests);
+}
+
+is_out : IsOut book out
+is_out = (refl, (1, other_holds, refl, refl, refl, refl))
+
+kept : Kept base_of history_of pass_of tt out
+kept = (book, stands, inl is_out)
+
+other_words : Stands pass_of tt book (9 ∷ 6 ∷ []) (first_waits ∷ other_holds ∷ []) → ⊥
+other_words stands = omega (arith, ap (λ words. slice_index words 0) stands.words_are)
+
+-- nobody else holds the turn, and the next ticket's pass isn't the first in the queue
+holds_later : IsPlaced book 0 (Holds 7 whole) → ⊥
+holds_later placed = omega (arith, placed.0)
+
+-- the other's turn ends without an event more: the value is home, and the first pass is next
+abbrev back : Passes
+back = record { words = 8 ∷ 7 ∷ []; homes = some (Some whole) ∷ []; views = first_waits ∷ record other_holds { turn = Idle } ∷ [] }
+
+abbrev IsWithoutTurn : ℕ → Known ℕ (Unit {0}) → Type 0
+IsWithoutTurn seat v = v.live ≡ true → has_turn v.turn ≡ false
+
+is_home : IsHome base_of history_of tt (record book { start = 7; queue = 0 ∷ [] }) back
+is_home = (whole, refl, refl, refl, two_seats IsWithoutTurn first_waits (record other_holds { turn = Idle }) (λ live. refl) (λ live. refl))
+
+-- it isn't home while a pass holds a turn, nor with another history
+home_and_held : IsHome base_of history_of tt book (record back { views = out.views }) → ⊥
+home_and_held (value, home, history, base, idle) = let held : true ≡ false = idle 1 other_holds refl refl in cc
+
+other_home : IsHome base_of history_of tt book (record back { homes = some (Some (0 ∷ [])) ∷ [] }) → ⊥
+other_home (value, home, history, base, idle) = let equal : 0 ∷ [] ≡ value = cc in omega (arith, ap length equal, ap length history)
+
+-- what is left of a pass that was taken in counts no more
+none_left : (weight {E = ℕ} {B = Unit {0}} spent ≡ 0) × (tickets {E = ℕ} {B = Unit {0}} spent ≡ 0)
+none_left = (refl, refl)
