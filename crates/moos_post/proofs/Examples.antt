@@ -1,6 +1,6 @@
 -- The delivery rule worked by hand: what each fetch of some small histories gives.
-use Rattle.std.proofs.Common.{◌≡◌, ℕ, ◌*◌, List, [], ◌∷◌, map, replicate, Some, refl}
-use Rattle.std.specs.Prelude.{pos, codes, true, false}
+use Rattle.std.proofs.Common.{◌≡◌, ℕ, ◌*◌, List, [], ◌∷◌, map, replicate, Some, refl, arith}
+use Rattle.std.specs.Prelude.{pos, negsuc, codes, true, false}
 use Rattle.moos_post.specs.declared.entry.Call.{Call}
 use Rattle.moos_post.specs.declared.entry.Call.TheVariants.{Register, Unregister, Post as Posts, Fetch}
 use Rattle.moos_post.specs.declared.entry.Entry.{Entry}
@@ -10,7 +10,7 @@ use Rattle.moos_post.specs.declared.value.Value.TheVariants.{Num}
 use Rattle.moos_post.specs.Delivery.{mail_at}
 use Rattle.moos_post.specs.History.{History, name_of, posts_of}
 use Rattle.moos_post.specs.Patterns.{matches}
-use Rattle.moos_post.specs.Words.{bad_place, is_name, is_pattern, is_text}
+use Rattle.moos_post.specs.Words.{bad_place, is_name, is_pattern, is_text, IsMilli}
 
 abbrev at : ℕ → ℕ → Call → Entry
 at stamp client call = record { stamp = stamp; client = client; call = call }
@@ -97,3 +97,16 @@ bad_first = refl
 
 text : map is_text ([] ∷ (9 ∷ 32 ∷ 255 ∷ []) ∷ (127 ∷ []) ∷ (31 ∷ []) ∷ []) ≡ true ∷ true ∷ false ∷ false ∷ []
 text = refl
+
+-- A value is at most a thousand million either way, in thousandths.
+greatest : IsMilli (pos 1000000000000)
+greatest = (grind arith, grind arith)
+
+least : IsMilli (negsuc 999999999999)
+least = (grind arith, grind arith)
+
+too_great : IsMilli (pos 1000000000001) → ⊥
+too_great milli = grind (arith, milli.1)
+
+too_small : IsMilli (negsuc 1000000000000) → ⊥
+too_small milli = grind (arith, milli.0)
