@@ -1,9 +1,11 @@
 -- Worked examples of the definitions.
-use Rattle.std.proofs.Common.{◌≡◌, ℕ, Option, Some, None, Ok, Err, inl, true, false, [], ◌∷◌, length, length-append, length-take, refl, ap, codes, List, arith}
+use Rattle.std.proofs.Common.{◌≡◌, ℕ, Option, Some, None, Ok, Err, inl, inr, true, false, [], ◌∷◌, length, length-append, length-take, refl, ap, codes, List, arith}
+use Rattle.std.specs.Prelude.{slice_index}
 use Rattle.moos_io.specs.Files.{CameFrom, File, Loaded, content_of, is_among, names_of}
 use Rattle.moos_io.specs.Faults.{Rose, one_more}
 use Rattle.moos_io.specs.FolderState.{FolderState}
 use Rattle.moos_io.specs.Loads.{after_load}
+use Rattle.moos_io.specs.Pieces.{Took, TookFront}
 use Rattle.moos_io.specs.SinkState.{SinkState}
 use Rattle.moos_io.specs.Puts.{put_answer, after_put}
 use Rattle.moos_io.specs.Writing.{Stopped, Way, Went, Wrote, way}
@@ -85,8 +87,36 @@ room_holds = refl
 full_sink_fails : put_answer (record sink { room = 0 }) (codes "e") ≡ Err (record {})
 full_sink_fails = refl
 
+rising : Rose 3 4 × Rose 18446744073709551615 18446744073709551615
+rising = (inl (omega arith), inr refl)
+
+not_rising : Rose 3 3 → ⊥
+not_rising rose = grind arith
+
 count_stops : one_more 18446744073709551615 ≡ 18446744073709551615
 count_stops = refl
+
+-- the bytes that the sink took, where it tells them, and how many
+abbrev told : Option (List ℕ) → List ℕ
+told None = []
+told (Some bytes) = bytes
+
+abbrev size : Option (List ℕ) → ℕ
+size taken = length (told taken)
+
+-- a sink that tells what it took shows each piece behind what it had; a sink that tells nothing shows nothing
+took : Took (Some (codes "ab")) (Some (codes "abc")) (codes "c") × Took None None (codes "c")
+took = (refl, refl)
+
+took_before : Took (Some (codes "ab")) (Some (codes "cab")) (codes "c") → ⊥
+took_before same = omega (arith, ap (λ taken. slice_index (told taken) 0) same)
+
+-- of a piece of one byte only the empty front is none of the whole
+front : TookFront (Some (codes "ab")) (Some (codes "ab")) (codes "c")
+front = (0, omega arith, refl)
+
+front_of_nothing : TookFront (Some (codes "ab")) (Some (codes "ab")) [] → ⊥
+front_of_nothing (n, few, same) = omega (arith, few)
 
 -- the sink took `ab`, and the buffer holds `cd`; behind it goes `ef`
 abbrev before : Way
@@ -103,11 +133,6 @@ went = record { piece = codes "c"; took = refl; rest = refl; later = omega arith
 stopped : Stopped before (way (Some (codes "abcde")) [] 4) text
 stopped = record { front = (3, omega arith, refl); later = omega arith; rose = inl (omega arith) }
 
--- how many bytes the sink took, where it tells them
-abbrev size : Option (List ℕ) → ℕ
-size None = 0
-size (Some bytes) = length bytes
-
 -- it went on where all bytes are there in order, and not where one is lost
 one_lost : Went before (way (Some (codes "abc")) (codes "ef") 3) text → ⊥
 one_lost gone = omega (arith, ap size gone.took, ap length gone.rest, length-append gone.piece (codes "ef"))
@@ -117,7 +142,7 @@ whole_taken : Stopped before (way (Some (codes "abcdef")) [] 4) text → ⊥
 whole_taken failed = let (n, few, took) = failed.front in omega (arith, ap size took, length-take {A = ℕ})
 
 no_fault : Stopped before (way (Some (codes "abcde")) [] 3) text → ⊥
-no_fault failed = let rose : Rose 3 3 = failed.rose in grind arith
+no_fault failed = not_rising failed.rose
 
 -- a write that answers Ok has gone on, and one that answers Err was stopped
 wrote : Wrote before (way (Some (codes "abc")) (codes "def") 3) (Ok tt) text × Wrote before (way (Some (codes "abcde")) [] 4) (Err (record {})) text
