@@ -1,13 +1,14 @@
 -- The definitions on worked examples.
-use Rattle.std.proofs.Common.{◌≡◌, ℕ, true, false, Some, None, Ok, Err, pos, neg_ℤ, List, [], ◌∷◌, length, refl}
+use Rattle.std.proofs.Common.{◌≡◌, ℕ, true, false, Some, None, Ok, Err, pos, neg_ℤ, List, [], ◌∷◌, ◌++◌, length, refl, ap, arith}
 use Rattle.std.specs.Prelude.{codes}
 use Rattle.ivp_domain.specs.declared.axis.Axis.{Axis}
 use Rattle.ivp_domain.specs.declared.boxes.BoxN.{BoxN}
 use Rattle.ivp_domain.specs.declared.domain.DomainFault.TheVariants.{BadAxis, TooLarge, SameName}
 use Rattle.ivp_domain.specs.AxisNames.{is_axis_name}
-use Rattle.ivp_domain.specs.Axes.{value_on}
+use Rattle.ivp_domain.specs.Axes.{is_good_axis, no_axis, value_on}
 use Rattle.ivp_domain.specs.Boxes.{meet_of, point_of, points_in, volume_of}
-use Rattle.ivp_domain.specs.Domains.{domain_of, index_of, points_of}
+use Rattle.ivp_domain.specs.Domains.{domain_of, index_of, is_domain, points_of, size_of, size_on}
+use Rattle.ivp_domain.specs.Filled.{IsFilled}
 
 abbrev axis : List ℕ → ℕ → ℕ → ℕ → Axis
 axis name low high points = record { name = name; low = pos low; high = pos high; points = points }
@@ -57,3 +58,33 @@ counted = (refl, refl)
 
 names : (is_axis_name (codes "x_1") ≡ true) × (is_axis_name (codes "1x") ≡ false) × (is_axis_name [] ≡ false) × (is_axis_name (codes "abcdefghijklmnopq") ≡ false) × (is_axis_name (codes "a-b") ≡ false)
 names = (refl, refl, refl, refl, refl)
+
+-- one to four good axes of different names, with at most 2^22 points, are a domain, and nothing else is
+domains : (is_domain six ≡ true) × (is_domain [] ≡ false) × (is_domain (axis (codes "a") 0 1 2 ∷ axis (codes "b") 0 1 1 ∷ []) ≡ false)
+domains = (refl, refl, refl)
+
+sizes : (is_domain (axis (codes "a") 0 1 2097152 ∷ axis (codes "b") 0 1 2 ∷ []) ≡ true) × (is_domain (axis (codes "a") 0 1 2097153 ∷ axis (codes "b") 0 1 2 ∷ []) ≡ false)
+sizes = (refl, refl)
+
+repeated : is_domain (axis (codes "a") 0 1 2 ∷ axis (codes "b") 0 1 2 ∷ axis (codes "a") 0 1 2 ∷ []) ≡ false
+repeated = refl
+
+four_at_most : (is_domain (six ++ axis (codes "c") 0 1 2 ∷ axis (codes "d") 0 1 2 ∷ []) ≡ true) × (is_domain (six ++ axis (codes "c") 0 1 2 ∷ axis (codes "d") 0 1 2 ∷ axis (codes "e") 0 1 2 ∷ []) ≡ false)
+four_at_most = (refl, refl)
+
+-- what stands past the last axis has one point, as many as a domain has there, and so is no good axis
+past_the_last : (no_axis.points ≡ size_on 2 six) × (is_good_axis no_axis ≡ false)
+past_the_last = (refl, refl)
+
+-- an array of four places that holds these two axes, and not one alone; what stands behind the list counts too, and no list is longer than its array
+filled : IsFilled 4 no_axis 2 (six ++ no_axis ∷ no_axis ∷ [])
+filled = (refl, refl)
+
+one_too_few : IsFilled 4 no_axis 1 (six ++ no_axis ∷ no_axis ∷ []) → ⊥
+one_too_few is = absurd (omega (arith, ap size_of is.1))
+
+left_behind : IsFilled {A = ℕ} 4 0 2 (7 ∷ 8 ∷ 0 ∷ 9 ∷ []) → ⊥
+left_behind is = let rest = is.1 in absurd (cc)
+
+counted_past_the_end : IsFilled {A = ℕ} 4 0 5 (7 ∷ 8 ∷ 9 ∷ 6 ∷ []) → ⊥
+counted_past_the_end is = let count = is.0 in absurd (cc)
