@@ -76,7 +76,7 @@ four_at_most = (refl, refl)
 past_the_last : (no_axis.points ≡ size_on 2 six) × (is_good_axis no_axis ≡ false)
 past_the_last = (refl, refl)
 
--- an array of four places that holds these two axes, and not one alone; what stands behind the list counts too, and no list is longer than its array
+-- an array of four places that holds these two axes, and not one alone; what stands behind the list counts too, and no count is past the array's end
 filled : IsFilled 4 no_axis 2 (six ++ no_axis ∷ no_axis ∷ [])
 filled = (refl, refl)
 

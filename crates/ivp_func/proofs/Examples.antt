@@ -1,16 +1,21 @@
 -- The definitions on worked examples.
-use Rattle.std.proofs.Common.{◌≡◌, ℕ, true, false, Err, ℤ, pos, negsuc, List, [], ◌∷◌, refl, arith}
+use Rattle.std.proofs.Common.{◌≡◌, ℕ, true, false, Err, ℤ, pos, negsuc, ◌≤ℤ◌, List, [], ◌∷◌, refl, ap, sym, ◌∙◌, arith}
 use Rattle.std.specs.Prelude.{codes}
+use Rattle.std.proofs.lemmas.Bool.{and_parts}
+use Rattle.std.proofs.lemmas.Bool.Decides.{nat_tests}
+use Rattle.std.proofs.lemmas.Int.{ints}
 use Rattle.ivp_domain.specs.declared.axis.Axis.{Axis}
 use Rattle.ivp_domain.specs.declared.boxes.BoxN.{BoxN}
-use Rattle.ivp_domain.specs.Boxes.{point_of}
+use Rattle.ivp_domain.specs.Boxes.{has_point, point_of}
 use Rattle.ivp_domain.specs.Domains.{whole}
+use Rattle.ivp_domain.proofs.BoxLemmas.{has_point-common}
 use Rattle.ivp_func.specs.declared.func.FuncFault.TheVariants.{NotPartition}
 use Rattle.ivp_func.specs.declared.piece.Piece.{Piece}
-use Rattle.ivp_func.specs.Covering.{covered_in, CutOn, SameOn, shared_with}
-use Rattle.ivp_func.specs.Functions.{has_values, is_partition}
+use Rattle.ivp_func.specs.Covering.{covered_in, CutOn, SameOn, shared_with, Shorter}
+use Rattle.ivp_func.specs.Functions.{Function, has_values, is_partition, IsFunction, IsTop}
 use Rattle.ivp_func.specs.Making.{Made}
-use Rattle.ivp_func.specs.Pieces.{are_pieces_of, count_at, is_base, is_piece_of, value_at}
+use Rattle.ivp_func.specs.Pieces.{are_pieces_of, count_at, is_base, is_piece_of, is_value, value_at}
+use Rattle.ivp_func.proofs.PointTests.{passes_partition, passes_values}
 
 -- domain a:0:2:3
 abbrev three : List Axis
@@ -61,3 +66,57 @@ span low high = record { low = low ∷ 0 ∷ 0 ∷ 0 ∷ []; high = high ∷ 0 �
 
 cut : CutOn 0 (span 0 2) (span 0 1) (span 2 2) × SameOn 1 (span 0 2) (span 0 1) (span 2 2)
 cut = (record { left_low = refl; right_high = refl; next = refl; some = omega arith; rest = omega arith }, record { left_low = refl; left_high = refl; right_low = refl; right_high = refl })
+
+-- one piece leaves the last place out: so the upper part of the box is covered short too; the lower part isn't, a place outside the box is no part of it, and the whole is no smaller part
+abbrev short : List Piece
+short = piece 0 1 (pos 0) (pos 0) (pos 0) ∷ []
+
+upper_part : Shorter short (span 0 2) (span 2 2)
+upper_part =
+    record {
+      proper = refl;
+      smaller = omega arith;
+      short = omega arith;
+      inside = λ p here. (and_parts (has_point (span 0 2) p) (has_point (span 2 2) p) (sym (has_point-common (span 0 2) (span 2 2) p) ∙ here)).0;
+    }
+
+not_the_lower : Shorter short (span 0 2) (span 0 1) → ⊥
+not_the_lower is = omega (arith, is.short)
+
+not_outside : Shorter short (span 0 2) (span 3 3) → ⊥
+not_outside is = let outside : false ≡ true = is.inside (point_of 3 0 0 0) refl in absurd (cc)
+
+not_the_whole : Shorter short (span 0 2) (span 0 2) → ⊥
+not_the_whole is = omega (arith, is.smaller)
+
+-- these pieces are a function; those that share a point aren't, nor those with a value out of range, without an axis, or with a slope along no axis
+abbrev on_three : List Piece → Function
+on_three pieces = record { axes = three; pieces = pieces }
+
+good_function : IsFunction (on_three good)
+good_function = record { domain = refl; few = omega arith; pieces = refl; partition = passes_partition three good refl; values = passes_values three good refl }
+
+bad_function : IsFunction (on_three bad) → ⊥
+bad_function is = omega (arith, is.partition (point_of 1 0 0 0) refl)
+
+high_function : IsFunction (on_three high) → ⊥
+high_function is = let value : false ≡ true = is.values (point_of 2 0 0 0) refl in absurd (cc)
+
+no_domain : IsFunction (record { axes = []; pieces = good }) → ⊥
+no_domain is = let domain : false ≡ true = is.domain in absurd (cc)
+
+sloped_past_the_axes : IsFunction (on_three (piece 0 2 (pos 0) (pos 0) (pos 1) ∷ [])) → ⊥
+sloped_past_the_axes is = let pieces : false ≡ true = is.pieces in absurd (cc)
+
+-- the greatest value is the last point's: not the middle one's, which is less, and not one more, which no point has
+at_most : (value : ℤ) → is_value value ≡ true → value ≤ℤ pos 100000
+at_most value is = grind (arith, nat_tests, ints)
+
+top_of_good : IsTop three good (pos 100000)
+top_of_good = record { attained = (point_of 2 0 0 0, refl, refl); greatest = λ p inside. at_most (value_at good p) (passes_values three good refl p inside) }
+
+lesser_top : IsTop three good (pos 10) → ⊥
+lesser_top is = absurd (omega (arith, ints, is.greatest (point_of 2 0 0 0) refl))
+
+greater_top : IsTop three good (pos 100001) → ⊥
+greater_top is = let at = is.attained in let value : false ≡ true = sym (ap is_value at.2) ∙ passes_values three good refl at.0 at.1 in absurd (cc)
