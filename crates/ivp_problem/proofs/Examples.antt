@@ -1,18 +1,20 @@
 -- The definitions on worked examples.
-use Rattle.std.proofs.Common.{◌≡◌, ℕ, zero, suc, true, false, inr, Some, None, Ok, Err, ℤ, pos, List, [], ◌∷◌, replicate, refl, arith}
-use Rattle.std.specs.Prelude.{codes}
+use Rattle.std.proofs.Common.{◌≡◌, ℕ, zero, suc, true, false, inr, Some, None, Ok, Err, ℤ, pos, neg_ℤ, ◌≤ℤ◌, ◌<◌, ◌+◌, ◌^◌, List, [], ◌∷◌, length, replicate, refl, ap, subst, arith}
+use Rattle.std.specs.Prelude.{codes, slice_get}
+use Rattle.std.proofs.lemmas.Int.{ints}
 use Rattle.ivp_domain.specs.declared.axis.Axis.{Axis}
 use Rattle.ivp_domain.specs.Boxes.{point_of}
 use Rattle.ivp_func.specs.declared.piece.Piece.{Piece}
+use Rattle.ivp_func.proofs.PointTests.{passes_partition, passes_values}
 use Rattle.ivp_problem.specs.declared.term.Term.{Term}
 use Rattle.ivp_problem.specs.declared.term.ProblemFault.TheVariants.{NoFunction, TooMany, BadWeight, OtherDomain}
 use Rattle.ivp_problem.specs.declared.node.Node.{Node}
-use Rattle.ivp_problem.specs.Corners.{Beats}
+use Rattle.ivp_problem.specs.Corners.{Beats, IsSmall}
 use Rattle.ivp_problem.specs.Keys.{index_of_key, key_of, sum_of}
-use Rattle.ivp_problem.specs.Problems.{problem_of, WeightedSum}
+use Rattle.ivp_problem.specs.Problems.{IsProblem, IsTermOf, problem_of, WeightedSum}
 use Rattle.ivp_problem.specs.Sums.{best_of, key_at, sum_at}
 use Rattle.ivp_problem.specs.Nodes.{nodes_of, tree_size}
-use Rattle.ivp_problem.specs.Trees.{AreTops, bound_of, child_of, children_of, chosen_at, has_in, node_of, own_top, root_of}
+use Rattle.ivp_problem.specs.Trees.{AreTops, bound_of, child_of, children_of, chosen_at, has_in, node_of, own_top, root_of, slope_at}
 
 abbrev axis : List ℕ → ℕ → ℕ → Axis
 axis name high points = record { name = name; low = pos 0; high = pos high; points = points }
@@ -135,3 +137,86 @@ heavy = refl
 
 other : problem_of twelve (rising ∷ most ∷ []) ≡ Err (OtherDomain 1)
 other = refl
+
+-- both terms keep what each term does, so the two are a problem
+rising_is_a_term : IsTermOf twelve rising
+rising_is_a_term =
+    record {
+      weight = refl;
+      domain = refl;
+      func =
+          record {
+            domain = refl;
+            few = omega arith;
+            pieces = refl;
+            partition = passes_partition twelve rising.func.pieces refl;
+            values = passes_values twelve rising.func.pieces refl;
+          };
+    }
+
+split_is_a_term : IsTermOf twelve split
+split_is_a_term =
+    record {
+      weight = refl;
+      domain = refl;
+      func =
+          record {
+            domain = refl;
+            few = omega arith;
+            pieces = refl;
+            partition = passes_partition twelve split.func.pieces refl;
+            values = passes_values twelve split.func.pieces refl;
+          };
+    }
+
+two_is_lawful : IsProblem two
+two_is_lawful = record { domain = refl; some = omega arith; few = omega arith; terms = each }
+  where
+    each : (place : ℕ) (one : Term) → slice_get two.terms place ≡ Some one → IsTermOf twelve one
+    each zero one here = let same : rising ≡ one = cc in subst (IsTermOf twelve) same rising_is_a_term
+    each (suc zero) one here = let same : split ≡ one = cc in subst (IsTermOf twelve) same split_is_a_term
+    each (suc (suc place)) one here = cc
+
+-- no term has the weight 0, is over a domain with other axes, or has pieces that leave out a point
+weightless : IsTermOf twelve (term twelve 0 rising.func.pieces) → ⊥
+weightless is = let weight : false ≡ true = is.weight in absurd (cc)
+
+elsewhere : IsTermOf twelve most → ⊥
+elsewhere is = absurd (omega (arith, ap length is.domain))
+
+left_out : IsTermOf twelve (term twelve 3 (piece 0 0 0 1 0 1 (pos 20) (pos 0) (pos 5) (pos 0) ∷ [])) → ⊥
+left_out is = omega (arith, is.func.partition (point_of 1 0 0 0) refl)
+
+-- so these are no problems: without a function, of 65, and of one whose weight is too great
+without_terms : IsProblem (record { axes = twelve; terms = [] }) → ⊥
+without_terms is = omega (arith, is.some)
+
+many_terms : IsProblem (record { axes = course; terms = replicate 65 most }) → ⊥
+many_terms is = omega (arith, is.few)
+
+heavy_term : IsProblem (record { axes = twelve; terms = rising ∷ term twelve 10001 rising.func.pieces ∷ [] }) → ⊥
+heavy_term is = let second = is.terms 1 (term twelve 10001 rising.func.pieces) refl in let weight : false ≡ true = second.weight in absurd (cc)
+
+-- a node by its base and its slope on the last axis: one piece of weight 10,000 may add 10^16 and 10^9, and no more
+abbrev added : ℤ → ℤ → Node
+added base slope = record { depth = 1; area = record { low = 0 ∷ 0 ∷ 0 ∷ 0 ∷ []; high = 0 ∷ 0 ∷ 0 ∷ 0 ∷ [] }; base = base; slope = pos 0 ∷ pos 0 ∷ pos 0 ∷ slope ∷ [] }
+
+small : IsSmall 1 (added (neg_ℤ (pos (10 ^ 16))) (pos (10 ^ 9)))
+small = record { base = (omega (arith, ints), omega (arith, ints)); slope = each }
+  where
+    each : (axis : ℕ) → axis < 4 → (neg_ℤ (pos (10 ^ 9)) ≤ℤ slope_at (added (neg_ℤ (pos (10 ^ 16))) (pos (10 ^ 9))) axis) × (slope_at (added (neg_ℤ (pos (10 ^ 16))) (pos (10 ^ 9))) axis ≤ℤ pos (10 ^ 9))
+    each zero within = (omega (arith, ints), omega (arith, ints))
+    each (suc zero) within = (omega (arith, ints), omega (arith, ints))
+    each (suc (suc zero)) within = (omega (arith, ints), omega (arith, ints))
+    each (suc (suc (suc zero))) within = (omega (arith, ints), omega (arith, ints))
+    each (suc (suc (suc (suc axis)))) within = absurd (omega arith)
+
+great_base : IsSmall 1 (added (pos (10 ^ 16 + 1)) (pos 0)) → ⊥
+great_base is = absurd (omega (arith, ints, is.base.1))
+
+great_slope : IsSmall 1 (added (pos 0) (neg_ℤ (pos (10 ^ 9 + 1)))) → ⊥
+great_slope is = absurd (omega (arith, ints, (is.slope 3 (omega arith)).0))
+
+-- and where no piece is chosen, nothing is added
+none_chosen : IsSmall 0 left → ⊥
+none_chosen is = absurd (omega (arith, ints, is.base.1))
