@@ -1,17 +1,32 @@
 -- Worked examples of parts.
-use Rattle.std.proofs.Common.{◌≡◌, ℕ, Some, None, ℤ, pos, List, [], ◌∷◌, refl, arith}
-use Rattle.std.specs.Prelude.{codes}
+use Rattle.std.proofs.Common.{◌≡◌, ℕ, zero, suc, ◌+◌, ◌<◌, ◌≤◌, inl, inr, true, false, Some, None, ℤ, pos, List, [], ◌∷◌, length, refl, sym, ap, subst, arith}
+use Rattle.std.specs.Prelude.{codes, IsTrue, slice_get}
+use Rattle.std.specs.List.{sum_by}
+use Rattle.std.proofs.lemmas.List.Sums.{sum_by-cons}
+use Rattle.std.proofs.lemmas.Int.{ints}
+use Rattle.atomic_table.specs.Seated.{TableId}
+use Rattle.atomic_table.specs.Table.{Me}
+use Rattle.best_word.specs.declared.best.View.{View}
 use Rattle.ivp_domain.specs.declared.axis.Axis.{Axis}
+use Rattle.ivp_domain.specs.Boxes.{has_point, point_of}
+use Rattle.ivp_domain.specs.Domains.{is_point}
 use Rattle.ivp_func.specs.declared.piece.Piece.{Piece}
+use Rattle.ivp_func.specs.Functions.{has_values, is_partition}
+use Rattle.ivp_func.specs.Pieces.{are_pieces_of}
+use Rattle.ivp_func.proofs.PointTests.{passes_partition, passes_values}
 use Rattle.ivp_problem.specs.declared.node.Node.{Node}
 use Rattle.ivp_problem.specs.declared.term.Term.{Term}
 use Rattle.ivp_problem.specs.Keys.{key_of}
-use Rattle.ivp_problem.specs.Problems.{WeightedSum}
-use Rattle.ivp_problem.specs.Trees.{root_of}
-use Rattle.ivp_pool.specs.Closing.{Closed, Pushed}
-use Rattle.ivp_pool.specs.Solving.{IsSearched, share_of, total_of}
+use Rattle.ivp_problem.specs.Problems.{is_weight, IsProblem, IsTermOf, WeightedSum}
+use Rattle.ivp_problem.specs.Trees.{IsNode, has_in, root_of}
+use Rattle.ivp_problem.proofs.KeyOrder.{best_most}
+use Rattle.ivp_pool.specs.declared.team.Worker.{Worker}
+use Rattle.ivp_pool.specs.Closing.{AreCovered, Closed, Passed, Pushed}
+use Rattle.ivp_pool.specs.Solving.{AreClosed, IsNew, IsSearched, IsWorker, low_of, share_of, total_of, WentOn}
+use Rattle.ivp_pool.proofs.Growing.{closed_covers}
+use Rattle.ivp_pool.proofs.Teams.{closed_one, searched}
 use Rattle.ivp_pool.specs.Tallies.{AreLinked, IsTally, IsWhole, Tally}
-use Rattle.ivp_pool.specs.Parts.{Done, Handed, handed_of, IsPart, Part, Pruned, size_of, Split, Then}
+use Rattle.ivp_pool.specs.Parts.{Done, Handed, handed_in, handed_of, IsPart, Part, Pruned, size_of, Split, Then}
 
 abbrev axis : List ℕ → ℕ → ℕ → Axis
 axis name high points = record { name = name; low = pos 0; high = pos high; points = points }
@@ -43,6 +58,13 @@ two =
 -- the first leaf of the tree: the root, its one child, and this child's first
 abbrev left : Node
 left = record { depth = 2; area = record { low = 0 ∷ 0 ∷ 0 ∷ 0 ∷ []; high = 0 ∷ 1 ∷ 1 ∷ 0 ∷ [] }; base = pos 60; slope = pos 20 ∷ pos 15 ∷ pos 0 ∷ pos 0 ∷ [] }
+
+-- that child, and the second leaf
+abbrev first : Node
+first = record { depth = 1; area = record { low = 0 ∷ 0 ∷ 0 ∷ 0 ∷ []; high = 2 ∷ 1 ∷ 1 ∷ 0 ∷ [] }; base = pos 0; slope = pos 20 ∷ pos 0 ∷ pos 0 ∷ pos 0 ∷ [] }
+
+abbrev right : Node
+right = record { depth = 2; area = record { low = 1 ∷ 0 ∷ 0 ∷ 0 ∷ []; high = 2 ∷ 1 ∷ 1 ∷ 0 ∷ [] }; base = pos 0; slope = pos 20 ∷ pos 15 ∷ pos 0 ∷ pos 0 ∷ [] }
 
 -- the root and its child are split, and both leaves are pruned: the first has the best point, of sum 75 at index 2
 abbrev all_here : Part
@@ -82,6 +104,13 @@ calls_are_linked = λ weigh. omega arith
 first_call : IsTally two (key_of 75 2) (record { node = root_of two; part = one_handed })
 first_call = record { node = record { path = []; reached = refl }; is = (omega arith, ((omega arith, (tt, (omega arith, tt))), tt)); here = λ same. absurd (cc) }
 
+-- a node that nobody took up is not linked, and who hands its own node on makes no part of it
+taken_up_by_nobody : AreLinked two (root_of two ∷ []) (record { node = root_of two; part = one_handed } ∷ []) → ⊥
+taken_up_by_nobody are = omega (arith, are (λ node. 1))
+
+handed_itself : IsTally two (key_of 75 2) (record { node = left; part = Handed }) → ⊥
+handed_itself is = is.here refl
+
 -- so the part that they make together has the four nodes of the tree
 calls_have_four : IsWhole two (key_of 75 2) calls → (whole : Part) × (size_of whole ≡ 4)
 calls_have_four whole = let size = whole.size in (whole.part, omega arith)
@@ -89,6 +118,29 @@ calls_have_four whole = let size = whole.size in (whole.part, omega arith)
 -- a search of the whole tree closes four nodes
 four_closed : IsSearched two (key_of 75 2) 4
 four_closed = record { part = all_here; is = all_here_is_one; none = refl; size = refl }
+
+-- and with the best key known every search of it closes just four: the root and its child can't be dropped
+child_has_three : (part : Part) → IsPart two (key_of 75 2) first part → handed_in two (first ∷ []) (Then part Done) ≡ [] → size_of part ≡ 3
+child_has_three Pruned is none = absurd (omega (arith, is))
+child_has_three Handed is none = absurd (cc)
+child_has_three (Split Done) is none = absurd is.1
+child_has_three (Split (Then Handed parts)) is none = absurd (cc)
+child_has_three (Split (Then (Split below) parts)) is none = absurd (omega (arith, is.1.0.0))
+child_has_three (Split (Then Pruned Done)) is none = absurd is.1.1
+child_has_three (Split (Then Pruned (Then Handed parts))) is none = absurd (cc)
+child_has_three (Split (Then Pruned (Then (Split below) parts))) is none = absurd (omega (arith, is.1.1.0.0))
+child_has_three (Split (Then Pruned (Then Pruned Done))) is none = refl
+child_has_three (Split (Then Pruned (Then Pruned (Then part parts)))) is none = absurd is.1.1.1
+
+root_has_four : (part : Part) → IsPart two (key_of 75 2) (root_of two) part → handed_of two (root_of two) part ≡ [] → size_of part ≡ 4
+root_has_four Pruned is none = absurd (omega (arith, is))
+root_has_four Handed is none = absurd (cc)
+root_has_four (Split Done) is none = absurd is.1
+root_has_four (Split (Then part Done)) is none = omega (arith, child_has_three part is.1.0 none)
+root_has_four (Split (Then part (Then other parts))) is none = absurd is.1.1
+
+always_four : (count : ℕ) → IsSearched two (key_of 75 2) count → count ≡ 4
+always_four count is = omega (arith, is.size, root_has_four is.part is.is is.none)
 
 -- of three nodes the first of two workers gets the first and the last
 shares : (share_of 2 0 (left ∷ root_of two ∷ left ∷ []) ≡ left ∷ left ∷ []) × (share_of 2 1 (left ∷ root_of two ∷ left ∷ []) ≡ root_of two ∷ [])
@@ -98,6 +150,13 @@ shares = (refl, refl)
 pushes : Pushed [] (left ∷ []) left None × Pushed [] [] left (Some left)
 pushes = (refl, (refl, refl))
 
+-- but none is lost, and no other comes back
+push_lost : Pushed [] [] left None → ⊥
+push_lost is = cc
+
+other_back : Pushed [] [] left (Some (root_of two)) → ⊥
+other_back is = omega (arith, ap (λ (node : Node). node.depth) is.0)
+
 -- the first call: three nodes were closed, and the first leaf was taken
 closed_three : Closed two (key_of 55 10) [] (left ∷ []) (root_of two) 3
 closed_three = record { part = one_handed; is = one_handed_is_one; here = λ same. absurd (cc); taken = refl; counted = refl }
@@ -105,3 +164,160 @@ closed_three = record { part = one_handed; is = one_handed_is_one; here = λ sam
 -- two workers closed two nodes and three
 closed_five : total_of (record { closed = 2 } ∷ record { closed = 3 } ∷ []) ≡ 5
 closed_five = refl
+
+-- the root's child has a child by each of two pieces: that goes to the tray or comes back, and by a third piece there is none
+passed_on : Passed two [] (left ∷ []) first 0 None × Passed two [] [] first 0 (Some left) × Passed two (left ∷ []) (left ∷ []) first 2 None
+passed_on = (inr (left, refl, refl), (refl, refl), inl (refl, refl))
+
+-- but no child is dropped, or taken where it comes back, or in the place of another
+child_dropped : Passed two [] [] first 0 None → ⊥
+child_dropped (inl dropped) = let is : Some left ≡ None = dropped.0 in cc
+child_dropped (inr taken) = let is = taken.2 in absurd (cc)
+
+child_doubled : Passed two [] (left ∷ []) first 0 (Some left) → ⊥
+child_doubled is = let taken = is.1 in absurd (cc)
+
+other_child : Passed two [] (left ∷ []) first 1 None → ⊥
+other_child (inl dropped) = let taken = dropped.1 in absurd (cc)
+other_child (inr taken) =
+    let same : left ≡ taken.0 = cc in
+    let other : right ≡ taken.0 = cc in
+    absurd (omega (arith, ints, ap (λ (node : Node). node.base) same, ap (λ (node : Node). node.base) other))
+
+-- the problem is a lawful one
+lawful_term : (weight : ℕ) (pieces : List Piece) → is_weight weight ≡ true → length pieces ≤ 4096 → are_pieces_of twelve pieces ≡ true → is_partition twelve pieces ≡ true → has_values twelve pieces ≡ true → IsTermOf twelve (term weight pieces)
+lawful_term weight pieces good few each once within =
+    record {
+      weight = good;
+      domain = refl;
+      func = record { domain = refl; few = few; pieces = each; partition = passes_partition twelve pieces once; values = passes_values twelve pieces within };
+    }
+
+two_is_lawful : IsProblem two
+two_is_lawful = record { domain = refl; some = omega arith; few = omega arith; terms = each }
+  where
+    each : (place : ℕ) (one : Term) → slice_get two.terms place ≡ Some one → IsTermOf twelve one
+    each zero one here = subst (IsTermOf twelve) (cc here) (lawful_term 2 (piece 0 2 (pos 0) (pos 10) (pos 0) ∷ []) refl (omega arith) refl refl refl)
+    each (suc zero) one here =
+        subst (IsTermOf twelve) (cc here) (lawful_term 3 (piece 0 0 (pos 20) (pos 0) (pos 5) ∷ piece 1 2 (pos 0) (pos 0) (pos 5) ∷ []) refl (omega arith) refl refl refl)
+    each (suc (suc place)) one here = cc
+
+-- where the best key is known every point is covered, and the points of a node that was handed on are whatever is known
+all_covered : AreCovered two (key_of 75 2) [] [] (is_point twelve)
+all_covered = ([], refl, λ p inside. inl (best_most two p inside))
+
+left_covered : AreCovered two 0 [] (left ∷ []) (has_point left.area)
+left_covered = (left ∷ [], refl, λ p here. inr (rw here refl))
+
+-- but not where less than the best key is known, and nothing was handed on
+less_known : (low : ℕ) → low < key_of 75 2 → AreCovered two low [] [] (is_point twelve) → ⊥
+less_known low less is =
+    elim (is.2 (point_of 0 1 0 0) refl) [
+      | inl known ↦ omega arith
+      | inr handed ↦ let taken : is.0 ≡ [] = sym is.1 in let none : false ≡ true = subst (λ nodes. IsTrue (has_in nodes (point_of 0 1 0 0))) taken handed in cc
+    ]
+
+-- so no call closes the root with all below it so early, and no search does
+root_is_a_node : IsNode two (root_of two)
+root_is_a_node = record { path = []; reached = refl }
+
+closed_early : Closed two (key_of 75 3) [] [] (root_of two) 4 → ⊥
+closed_early is = less_known (key_of 75 3) (omega arith) (closed_covers two (key_of 75 3) [] [] (root_of two) 4 two_is_lawful root_is_a_node is)
+
+searched_early : IsSearched two (key_of 75 3) 4 → ⊥
+searched_early is = less_known (key_of 75 3) (omega arith) (closed_covers two (key_of 75 3) [] [] (root_of two) 4 two_is_lawful root_is_a_node closed)
+  where
+    closed : Closed two (key_of 75 3) [] [] (root_of two) 4
+    closed =
+        record {
+          part = is.part;
+          is = is.is;
+          here = λ handed. let none : handed_of two (root_of two) Handed ≡ [] = subst (λ part. handed_of two (root_of two) part ≡ []) handed is.none in absurd (cc);
+          taken = sym is.none;
+          counted = omega (arith, ap length is.none, is.size);
+        }
+
+-- one call, which hands the first leaf on, and so closed three nodes
+called_once : AreClosed two (key_of 55 10) (root_of two ∷ []) (left ∷ []) 3
+unfolding closed_three
+called_once = closed_one two (key_of 55 10) [] (left ∷ []) (root_of two) 3 root_is_a_node closed_three
+
+-- where nobody was called, no node was closed, and none was handed on
+idle : AreClosed two 0 [] [] 0
+idle = record { tallies = []; each = λ place tally here. absurd (cc); called = λ weigh. refl; passed = λ weigh. refl; size = refl }
+
+closed_by_nobody : (key : ℕ) (nodes : List Node) → AreClosed two key [] nodes 1 → ⊥
+closed_by_nobody key nodes is = at_least is.tallies (is.called (λ node. 1)) is.size
+  where
+    at_least : (tallies : List Tally) → sum_by (λ (tally : Tally). 1) tallies ≡ 0 → 1 + length nodes ≡ sum_by (λ (tally : Tally). size_of tally.part) tallies → ⊥
+    at_least [] none size = omega arith
+    at_least (tally ∷ tallies) none size = omega (arith, sum_by-cons (λ (tally : Tally). 1) tally tallies)
+
+-- a call closes its own node, if no other
+closed_nothing : (key : ℕ) → AreClosed two key (root_of two ∷ []) [] 0 → ⊥
+closed_nothing key is = at_least is.tallies (is.called (λ node. 1)) is.size
+  where
+    own : (part : Part) → 1 ≤ size_of part
+    own Pruned = omega arith
+    own Handed = omega arith
+    own (Split parts) = omega arith
+
+    at_least : (tallies : List Tally) → sum_by (λ (tally : Tally). 1) tallies ≡ 1 → 0 ≡ sum_by (λ (tally : Tally). size_of tally.part) tallies → ⊥
+    at_least [] one size = omega arith
+    at_least (tally ∷ tallies) one size = omega (arith, sum_by-cons (λ (tally : Tally). size_of tally.part) tally tallies, own tally.part)
+
+-- and no calls close the whole tree so early
+all_closed_early : AreClosed two (key_of 75 3) (root_of two ∷ []) [] 4 → ⊥
+all_closed_early is =
+    let searched = searched two two_is_lawful (key_of 75 3) (root_of two ∷ []) [] 4 (λ weigh. omega arith) is in
+    omega (arith, searched.most (point_of 0 1 0 0) refl)
+
+-- a worker at this word by what it knows, its calls, and the nodes that they closed
+abbrev word : TableId
+word = record { words = 1; slots = 0; views_name = 0; atom = 0; block = 0; offset = 0; slot_names = [] }
+
+abbrev worker : ℕ → ℕ → ℕ → Worker
+worker low called closed =
+    record {
+      scout = record { marker = record {}; table_id = word; id = 0; me = (record { about = Some two; low = low }, []) };
+      calls = called;
+      work = record { closed = closed };
+    }
+
+knows_seven : low_of (worker 7 1 3) ≡ 7
+knows_seven = refl
+
+-- a new one has made no call and knows nothing
+new_worker : IsNew two word (worker 0 0 0)
+new_worker = record { at_word = refl; scout = refl; calls = refl; closed = refl }
+
+knows_already : IsNew two word (worker 7 0 0) → ⊥
+knows_already is = omega (arith, ap (λ (me : Me (Unit {0}) View). me.0.low) is.scout)
+
+called_already : IsNew two word (worker 0 1 0) → ⊥
+called_already is = omega (arith, is.calls)
+
+closed_already : IsNew two word (worker 0 0 3) → ⊥
+closed_already is = omega (arith, is.closed)
+
+-- later it is still one of the problem at its word, and at no other
+some_worker : IsWorker two word (worker 7 1 3)
+some_worker = record { at_word = refl; about = refl; empty = refl }
+
+other_word : IsWorker two (record word { atom = 1 }) (worker 7 1 3) → ⊥
+other_word is = omega (arith, ap (λ (table : TableId). table.atom) is.at_word)
+
+-- its first call closed three nodes; with that it didn't forget what it knew, the call is counted, and nothing more
+went_on : WentOn two (root_of two ∷ []) (left ∷ []) (worker 0 0 0) (worker (key_of 55 10) 1 3)
+went_on = record { at_word = refl; scout = refl; later = omega arith; calls = refl; count = 3; counted = refl; closed = called_once }
+
+forgot : WentOn two [] [] (worker 7 0 0) (worker 6 0 0) → ⊥
+forgot is = omega (arith, is.later)
+
+uncounted_call : WentOn two (root_of two ∷ []) (left ∷ []) (worker 0 0 0) (worker (key_of 55 10) 0 3) → ⊥
+uncounted_call is = omega (arith, is.calls)
+
+counted_without_a_call : WentOn two [] [] (worker 0 0 0) (worker 0 0 1) → ⊥
+counted_without_a_call is =
+    let one : is.count ≡ 1 = omega (arith, is.counted) in
+    closed_by_nobody 0 [] (subst (λ count. AreClosed two 0 [] [] count) one is.closed)
