@@ -1,5 +1,5 @@
 -- Certificates and decisions worked by hand.
-use Rattle.std.proofs.Common.{◌≡◌, ℕ, true, false, Some, List, [], ◌∷◌, ◌++◌, refl}
+use Rattle.std.proofs.Common.{◌≡◌, ℕ, true, false, Some, None, List, [], ◌∷◌, ◌++◌, refl, arith}
 use Rattle.std.specs.Prelude.{codes, Ok, Err, pos}
 use Rattle.ivp_domain.specs.Boxes.{point_of}
 use Rattle.ivp_problem.specs.Keys.{key_of}
@@ -18,7 +18,7 @@ use Rattle.ivp_cert.proofs.Accepting.{walked_accepts}
 use Rattle.ivp_cert.proofs.Examples.{on_three, term, three_axes}
 
 -- the problem of three axes and two functions
-abbrev three : WeightedSum
+abbrev pub three : WeightedSum
 three =
     record {
       axes = three_axes;
@@ -30,7 +30,7 @@ three =
 best_is : best_of three ≡ point_of 0 1 0 0
 best_is = refl
 
-abbrev lines : List Line
+abbrev pub lines : List Line
 lines = record { path = 0 ∷ 0 ∷ []; sum = 75; index = 2 } ∷ record { path = 0 ∷ 1 ∷ []; sum = 55; index = 10 } ∷ []
 
 certificate_is : certificate_of three ≡ lines
@@ -38,6 +38,22 @@ certificate_is = refl
 
 is_covered : behind_node three (key_of 75 2) three.terms [] (root_of three) lines ≡ Some []
 is_covered = refl
+
+-- what stands behind the lines that cover the tree is left; nothing covers it with a line missing, in another order, with another sum, or while one key less is known
+line_behind : behind_node three (key_of 75 2) three.terms [] (root_of three) (lines ++ record { path = []; sum = 115; index = 0 } ∷ []) ≡ Some (record { path = []; sum = 115; index = 0 } ∷ [])
+line_behind = refl
+
+line_missing : behind_node three (key_of 75 2) three.terms [] (root_of three) (record { path = 0 ∷ 0 ∷ []; sum = 75; index = 2 } ∷ []) ≡ None
+line_missing = refl
+
+lines_swapped : behind_node three (key_of 75 2) three.terms [] (root_of three) (record { path = 0 ∷ 1 ∷ []; sum = 55; index = 10 } ∷ record { path = 0 ∷ 0 ∷ []; sum = 75; index = 2 } ∷ []) ≡ None
+lines_swapped = refl
+
+other_sum : behind_node three (key_of 75 2) three.terms [] (root_of three) (record { path = 0 ∷ 0 ∷ []; sum = 75; index = 2 } ∷ record { path = 0 ∷ 1 ∷ []; sum = 54; index = 10 } ∷ []) ≡ None
+other_sum = refl
+
+less_known : behind_node three (key_of 75 3) three.terms [] (root_of three) lines ≡ None
+less_known = refl
 
 -- paths compared number by number
 beginning_first : is_before (0 ∷ []) (0 ∷ 0 ∷ []) ≡ true
@@ -74,10 +90,20 @@ other_way = record { path = 0 ∷ 1 ∷ []; sum = 55; index = 10 } ∷ record { 
 other_way_refused : Accepts three claim other_way → ⊥
 other_way_refused is = let first : false ≡ true = is.rise.0 in cc
 
-abbrev problem_bytes : List ℕ
+-- nor with the second leaf left out, for another sum, or for a point of a lesser one
+left_out_refused : Accepts three claim (record { path = 0 ∷ 0 ∷ []; sum = 75; index = 2 } ∷ []) → ⊥
+left_out_refused is = omega (arith, is.once (0 ∷ 1 ∷ []) (record { depth = 2; area = record { low = 1 ∷ 0 ∷ 0 ∷ 0 ∷ []; high = 2 ∷ 1 ∷ 1 ∷ 0 ∷ [] }; base = pos 0; slope = pos 20 ∷ pos 15 ∷ pos 0 ∷ pos 0 ∷ [] }) refl (omega arith))
+
+other_sum_refused : Accepts three (record { point = point_of 0 1 0 0; sum = 74 }) lines → ⊥
+other_sum_refused is = omega (arith, is.sum)
+
+lesser_point_refused : Accepts three (record { point = point_of 2 1 0 0; sum = 55 }) lines → ⊥
+lesser_point_refused is = let first = is.lines 0 (record { path = 0 ∷ 0 ∷ []; sum = 75; index = 2 }) refl in omega (arith, first.sum, first.most)
+
+abbrev pub problem_bytes : List ℕ
 problem_bytes = codes "ivp 1\ndomain a:0:2:3\ndomain b:0:1:2\ndomain d:0:1:2\nfunction 2\npiece 0 2 0 1 0 1 0 10 0 0\nfunction 3\npiece 0 0 0 1 0 1 20 0 5 0\npiece 1 2 0 1 0 1 0 0 5 0\nend\n"
 
-abbrev decision : Decision
+abbrev pub decision : Decision
 decision = record { problem = three; claim = record { point = point_of 0 1 0 0; sum = 75 }; cert = lines }
 
 decision_is : decision_of (problem_bytes ++ codes "decision 0 1 0 75\ncut 0 0 : 75 2\ncut 0 1 : 55 10\ndone\n") ≡ Ok decision
