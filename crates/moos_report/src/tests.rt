@@ -1,24 +1,45 @@
+ghost use Rattle.std.specs.Prelude.{◌≡◌, ◌<◌, length};
+
 use super::*;
 use moos_io::MemSink;
-use moos_post::{Batch, Milli, Name, Names, Reg, Regs, Txt, Value};
+use moos_post::{Batch, Milli, Name, Names, NoMemory, Reg, Regs, Txt, Value};
 use std::alloc::Global;
 use std::process::Abort;
 use std::test::Fail;
 
-fn database(rt: &impl Abort, alloc: Global, names: &[&str]) -> Result<Db, Fail> {
+// What a pair says.
+#[derive(Clone, Copy)]
+enum Said<'a> {
+    Number(i64),
+    Text(&'a str),
+}
+
+// What a client does.
+#[derive(Clone, Copy)]
+enum Step<'a> {
+    Register(&'a str, &'a str, u64),
+    Unregister(&'a str, &'a str),
+    Post(&'a [(&'a str, Said<'a>)]),
+    Fetch,
+}
+
+fn names_of(alloc: Global, names: &[&str]) -> Result<Names, Fail> {
     let mut list = Names::new(alloc);
     for name in names {
         list.push(Name::new(alloc, name.as_bytes())?)?;
     }
+    Ok(list)
+}
+
+fn database(rt: &impl Abort, alloc: Global, names: &[&str]) -> Result<Db, Fail> {
+    let list = names_of(alloc, names)?;
     assert!(rt; list.len() < 100);
     Ok(Db::make(alloc, list)?)
 }
 
-fn regs(alloc: Global, var: &str, source: &str, interval: u64) -> Result<Regs, Fail> {
-    let (var, source) = (
-        Pattern::read(alloc, var.as_bytes())?,
-        Pattern::read(alloc, source.as_bytes())?,
-    );
+fn regs_of(alloc: Global, var: &str, source: &str, interval: u64) -> Result<Regs, Fail> {
+    let var = Pattern::read(alloc, var.as_bytes())?;
+    let source = Pattern::read(alloc, source.as_bytes())?;
     let mut regs = Regs::new(alloc);
     regs.push(Reg {
         var,
@@ -28,33 +49,84 @@ fn regs(alloc: Global, var: &str, source: &str, interval: u64) -> Result<Regs, F
     Ok(regs)
 }
 
-fn number(alloc: Global, var: &str, value: i64) -> Result<Pair, Fail> {
-    let var = Name::new(alloc, var.as_bytes())?;
-    Ok(Pair {
-        var,
-        value: Value::Num(Milli::new(value).ok_or("a number")?),
-    })
+fn value_of(alloc: Global, said: Said) -> Result<Value, Fail> {
+    match said {
+        Said::Number(number) => Ok(Value::Num(Milli::new(number).ok_or("a number")?)),
+        Said::Text(text) => Ok(Value::Text(Txt::new(alloc, text.as_bytes())?)),
+    }
 }
 
-fn text(alloc: Global, var: &str, value: &str) -> Result<Pair, Fail> {
+fn pair_of(alloc: Global, var: &str, said: Said) -> Result<Pair, Fail> {
     let var = Name::new(alloc, var.as_bytes())?;
-    Ok(Pair {
-        var,
-        value: Value::Text(Txt::new(alloc, value.as_bytes())?),
-    })
+    let value = value_of(alloc, said)?;
+    Ok(Pair { var, value })
+}
+
+fn batch_of(alloc: Global, pairs: &[(&str, Said)]) -> Result<Batch, Fail> {
+    let mut batch = Batch::new(alloc);
+    for (var, said) in pairs {
+        batch.push(pair_of(alloc, var, *said)?)?;
+    }
+    Ok(batch)
+}
+
+fn unregister(
+    alloc: Global,
+    db: &mut Db,
+    client: u32,
+    stamp: u64,
+    var: &str,
+    source: &str,
+) -> Result<(), Fail>
+    requires { client < length db.old.names }
+{
+    let var = Pattern::read(alloc, var.as_bytes())?;
+    let source = Pattern::read(alloc, source.as_bytes())?;
+    db.unregister(alloc, client, stamp, var, source)?;
+    Ok(())
+}
+
+fn perform(alloc: Global, db: &mut Db, stamp: u64, client: u32, step: Step) -> Result<(), Fail>
+    requires { client < length db.old.names }
+{
+    match step {
+        Step::Register(var, source, interval) => {
+            let regs = regs_of(alloc, var, source, interval)?;
+            Ok(db.register(alloc, client, stamp, regs)?)
+        }
+        Step::Unregister(var, source) => unregister(alloc, db, client, stamp, var, source),
+        Step::Post(pairs) => Ok(db.post(alloc, client, stamp, batch_of(alloc, pairs)?)?),
+        Step::Fetch => {
+            let _ = db.fetch(alloc, client, stamp)?;
+            Ok(())
+        }
+    }
+}
+
+// The database after what its clients did, each at its stamp.
+fn play(
+    rt: &impl Abort,
+    alloc: Global,
+    names: &[&str],
+    steps: &[(u64, u32, Step)],
+) -> Result<Db, Fail> {
+    let mut db = database(rt, alloc, names)?;
+    for (stamp, client, step) in steps {
+        assert!(rt; *client < db.clients());
+        perform(alloc, &mut db, *stamp, *client, *step)?;
+    }
+    Ok(db)
 }
 
 // A client that hears itself.
 fn first(rt: &impl Abort, alloc: Global) -> Result<Db, Fail> {
-    let mut db = database(rt, alloc, &["pA"])?;
-    assert!(rt; db.clients() == 1);
-    db.register(alloc, 0, 0, regs(alloc, "X", "*", 0)?)?;
-    let mut batch = Batch::new(alloc);
-    batch.push(number(alloc, "X", 5000)?)?;
-    db.post(alloc, 0, 1000, batch)?;
-    let _ = db.fetch(alloc, 0, 2000)?;
-    let _ = db.fetch(alloc, 0, 3000)?;
-    Ok(db)
+    let steps = [
+        (0, 0, Step::Register("X", "*", 0)),
+        (1000, 0, Step::Post(&[("X", Said::Number(5000))])),
+        (2000, 0, Step::Fetch),
+        (3000, 0, Step::Fetch),
+    ];
+    play(rt, alloc, &["pA"], &steps)
 }
 
 const FIRST: &str = "%% moosdb play 1
@@ -71,21 +143,22 @@ const FIRST: &str = "%% moosdb play 1
 
 // Each kind of call and of value, and the latest stamp.
 fn all_kinds(rt: &impl Abort, alloc: Global) -> Result<Db, Fail> {
-    let mut db = database(rt, alloc, &["pA", "pB"])?;
-    assert!(rt; db.clients() == 2);
-    db.register(alloc, 0, 0, regs(alloc, "X*", "*", 500)?)?;
-    let mut batch = Batch::new(alloc);
-    batch.push(number(alloc, "X", -1250)?)?;
-    batch.push(text(alloc, "Y", "say \"hi\" \\ now")?)?;
-    db.post(alloc, 1, 1500, batch)?;
-    db.register(alloc, 0, 2000, regs(alloc, "Y", "pB", 0)?)?;
-    let _ = db.fetch(alloc, 0, 2500)?;
-    let (var, source) = (Pattern::read(alloc, b"X*")?, Pattern::read(alloc, b"*")?);
-    db.unregister(alloc, 0, 3000, var, source)?;
-    let mut batch = Batch::new(alloc);
-    batch.push(text(alloc, "X", "")?)?;
-    db.post(alloc, 1, u64::MAX, batch)?;
-    Ok(db)
+    let steps = [
+        (0, 0, Step::Register("X*", "*", 500)),
+        (
+            1500,
+            1,
+            Step::Post(&[
+                ("X", Said::Number(-1250)),
+                ("Y", Said::Text("say \"hi\" \\ now")),
+            ]),
+        ),
+        (2000, 0, Step::Register("Y", "pB", 0)),
+        (2500, 0, Step::Fetch),
+        (3000, 0, Step::Unregister("X*", "*")),
+        (u64::MAX, 1, Step::Post(&[("X", Said::Text(""))])),
+    ];
+    play(rt, alloc, &["pA", "pB"], &steps)
 }
 
 const ALL_KINDS: &str = "%% moosdb play 1
@@ -108,16 +181,18 @@ const ALL_KINDS: &str = "%% moosdb play 1
 %% end 6 3
 ";
 
+fn is_reported_in_one_put(rt: &impl Abort, alloc: Global, db: &Db, text: &str) -> Result<(), Fail> {
+    let mut sink = MemSink::make(alloc, 2000, 4096)?;
+    sink.fail_at(1)?;
+    assert_eq!(rt; report(db, &mut sink), Ok(()));
+    assert_eq!(rt; sink.bytes(), text.as_bytes());
+    Ok(())
+}
+
 #[test]
 fn reports_in_one_put(rt: HostRuntime) -> Result<(), Fail> {
-    let (first, all_kinds) = (first(&rt, rt.alloc())?, all_kinds(&rt, rt.alloc())?);
-    for (db, text) in [(&first, FIRST), (&all_kinds, ALL_KINDS)] {
-        let mut sink = MemSink::make(rt.alloc(), 2000, 4096)?;
-        sink.fail_at(1)?;
-        assert_eq!(rt; report(db, &mut sink), Ok(()));
-        assert_eq!(rt; sink.bytes(), text.as_bytes());
-    }
-    Ok(())
+    is_reported_in_one_put(&rt, rt.alloc(), &first(&rt, rt.alloc())?, FIRST)?;
+    is_reported_in_one_put(&rt, rt.alloc(), &all_kinds(&rt, rt.alloc())?, ALL_KINDS)
 }
 
 #[test]
@@ -131,5 +206,24 @@ fn full_sink_has_a_front(rt: HostRuntime) -> Result<(), Fail> {
             ALL_KINDS.as_bytes().get(..room).unwrap_or(b"")
         );
     }
+    Ok(())
+}
+
+// The law of a database whose one client posts.
+fn tells(alloc: Global, names: Names, batch: Batch) -> Result<(), NoMemory>
+    requires { length names ≡ 1 }
+{
+    let mut db = Db::make(alloc, names)?;
+    db.post(alloc, 0, 1000, batch)?;
+    report_law(&db);
+    Ok(())
+}
+
+#[test]
+fn a_report_tells_its_history(rt: HostRuntime) -> Result<(), Fail> {
+    let batch = batch_of(rt.alloc(), &[("X", Said::Number(5000))])?;
+    let names = names_of(rt.alloc(), &["pA"])?;
+    assert!(rt; names.len() == 1);
+    tells(rt.alloc(), names, batch)?;
     Ok(())
 }
