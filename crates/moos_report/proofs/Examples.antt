@@ -1,6 +1,6 @@
 -- Reports worked by hand.
-use Rattle.std.proofs.Common.{◌≡◌, ℕ, zero, suc, ◌<◌, List, [], ◌∷◌, refl, arith}
-use Rattle.std.specs.Prelude.{codes, pos, negsuc, IsTrue, slice_index_or}
+use Rattle.std.proofs.Common.{◌≡◌, ℕ, zero, suc, ◌<◌, List, [], ◌∷◌, refl, ap, arith}
+use Rattle.std.specs.Prelude.{codes, pos, negsuc, IsTrue, slice_index, slice_index_or}
 use Rattle.std.specs.List.{All}
 use Rattle.std.proofs.lemmas.List.Elements.{All-cons, All-nil}
 use Rattle.std.specs.Fmt.{digits}
@@ -8,7 +8,8 @@ use Rattle.moos_post.specs.declared.entry.Call.TheVariants.{Register, Unregister
 use Rattle.moos_post.specs.declared.entry.Entry.{Entry}
 use Rattle.moos_post.specs.declared.value.Value.TheVariants.{Num, Text}
 use Rattle.moos_post.specs.Words.{is_name}
-use Rattle.moos_report.specs.Community.{HaveOwnNames, IsCommunity, IsEntry, IsPair, IsReg}
+use Rattle.std.proofs.lemmas.Bool.{false≢true}
+use Rattle.moos_report.specs.Community.{HaveOwnNames, IsCall, IsCommunity, IsEntry, IsPair, IsReg, IsValue}
 use Rattle.moos_report.specs.Report.{report_text}
 
 abbrev first_lines : List Entry
@@ -64,6 +65,47 @@ first_community = record {
     each {a = a} {b = b} {c = c} {d = d} p q r s =
         All-cons IsEntry a (b ∷ c ∷ d ∷ []) p (All-cons IsEntry b (c ∷ d ∷ []) q (All-cons IsEntry c (d ∷ []) r (All-cons IsEntry d [] s (All-nil IsEntry))))
 
+-- nor is one by a client that isn't there, or with a name that is none
+other_client : IsCommunity [] first_lines → ⊥
+other_client community = omega (arith, community.clients 0 (record { stamp = 0; client = 0; call = Fetch }) (omega arith))
+
+no_name : IsCommunity (codes "1A" ∷ []) first_lines → ⊥
+no_name community = false≢true (community.named 0 [] (omega arith))
+
+-- values, registrations and calls that their types don't let be
+great_number : IsValue (Num (pos 1000000000001)) → ⊥
+great_number value = grind (arith, value.1)
+
+text_of_two_lines : IsValue (Text (codes "a\nb")) → ⊥
+text_of_two_lines value = false≢true value
+
+empty_pattern : IsReg (record { var = []; source = codes "*"; interval = 0 }) → ⊥
+empty_pattern reg = false≢true reg.var
+
+long_interval : IsReg (record { var = codes "X"; source = codes "*"; interval = 18446744073709551616 }) → ⊥
+long_interval reg = omega (arith, reg.interval)
+
+pattern_as_name : IsPair (record { var = codes "X*"; value = Num (pos 0) }) → ⊥
+pattern_as_name pair = false≢true pair.var
+
+withdrawal : IsCall (Unregister (codes "X*") (codes "?"))
+withdrawal = (refl, refl)
+
+two_words : IsCall (Unregister (codes "X Y") (codes "?")) → ⊥
+two_words call = false≢true call.0
+
+late_entry : IsEntry (record { stamp = 18446744073709551616; client = 0; call = Fetch }) → ⊥
+late_entry entry = omega (arith, entry.stamp)
+
 -- two clients of one name are not told apart
 same_names : HaveOwnNames (codes "pA" ∷ codes "pA" ∷ []) → ⊥
 same_names own = absurd (omega (arith, own 0 1 (omega arith) (omega arith) refl))
+
+own_names : HaveOwnNames (codes "pA" ∷ codes "pB" ∷ [])
+own_names zero zero one other same = refl
+own_names zero (suc zero) one other same = omega (arith, ap (λ name. slice_index name 1) same)
+own_names (suc zero) zero one other same = omega (arith, ap (λ name. slice_index name 1) same)
+own_names (suc zero) (suc zero) one other same = refl
+own_names zero (suc (suc n)) one other same = absurd (omega (arith, other))
+own_names (suc zero) (suc (suc n)) one other same = absurd (omega (arith, other))
+own_names (suc (suc n)) m one other same = absurd (omega (arith, one))
