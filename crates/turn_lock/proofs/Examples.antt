@@ -1,5 +1,5 @@
 -- A lock of two passes worked by hand. Its events are numbers of two digits, the first of which is the pass's.
-use Rattle.std.proofs.Common.{◌≡◌, ℕ, ◌/◌, ◌%◌, ◌^◌, ◌<◌, ◌==◌, zero, suc, inl, inr, Bool, true, false, cond, List, [], ◌∷◌, length, Option, Some, None, refl, ap, subst, arith}
+use Rattle.std.proofs.Common.{◌≡◌, ℕ, ◌/◌, ◌%◌, ◌^◌, ◌<◌, ◌==◌, zero, suc, inl, inr, Bool, true, false, cond, List, [], ◌∷◌, length, Option, Some, None, refl, sym, ap, subst, arith}
 use Rattle.std.specs.Prelude.{MatchBool, slice_index}
 use Rattle.std.proofs.lemmas.Bool.Decides.{nat_tests}
 use mathlib.Core.Option.{some, none}
@@ -68,6 +68,9 @@ module _ (table : TableId) where
 
   lent_here : WasLent (record first { turn = Some (10 ∷ []) }) 0 (10 ∷ [])
   lent_here = record { number_is = refl; turn_is = refl }
+
+  others_turn : WasLent (record first { turn = Some (10 ∷ []) }) 1 (10 ∷ []) → ⊥
+  others_turn lent = omega (arith, lent.number_is)
 
   -- it has split off the other and made an event, the other has made the next one, and it has taken that in
   abbrev first_after : PassState ℕ (Unit {0})
@@ -206,6 +209,9 @@ hand_is = (refl, refl, refl)
 taken_in_turn : Takes base_of history_of pass_of 7 (gathered, []) (lent, hand)
 taken_in_turn = (whole, is_lent, refl)
 
+left_in_place : Takes base_of history_of pass_of 7 (gathered, []) (lent, []) → ⊥
+left_in_place (value, given, holds) = omega (arith, ap length holds)
+
 module _ (step : Step (Option (List ℕ))) where
   -- the ticket is the number that was found, and after 2^64 of them the words begin again at 0
   draws : Draws step (idle, []) 7 (gathered, []) × Draws step (idle, []) 0 (record idle { turn = Waits 18446744073709551616 }, [])
@@ -323,6 +329,9 @@ is_out = (refl, (1, other_holds, refl, refl, refl, refl))
 kept : Kept base_of history_of pass_of tt out
 kept = (book, stands, inl is_out)
 
+other_number : IsHeldAt (first_waits ∷ other_holds ∷ []) 0 1 → ⊥
+other_number (v, at, live, knows) = let same : first_waits ≡ v = cc in omega (arith, subst (λ u. 0 < times u 1) (sym same) knows)
+
 other_words : Stands pass_of tt book (9 ∷ 6 ∷ []) (first_waits ∷ other_holds ∷ []) → ⊥
 other_words stands = omega (arith, ap (λ words. slice_index words 0) stands.words_are)
 
@@ -346,6 +355,17 @@ home_and_held (value, home, history, base, idle) = let held : true ≡ false = i
 
 other_home : IsHome base_of history_of tt book (record back { homes = some (Some (0 ∷ [])) ∷ [] }) → ⊥
 other_home (value, home, history, base, idle) = let equal : 0 ∷ [] ≡ value = cc in omega (arith, ap length equal, ap length history)
+
+-- a value doesn't lie in the slot while a pass holds a turn, and isn't missing while none does
+held_twice : Kept base_of history_of pass_of tt (record out { homes = some (Some whole) ∷ [] }) → ⊥
+held_twice (now, all, inl (gone, held)) = cc
+held_twice (now, all, inr (value, home, history, base, idle)) = let held : true ≡ false = idle 1 other_holds refl refl in cc
+
+lost : Kept base_of history_of pass_of tt (record back { homes = none ∷ [] }) → ⊥
+lost (now, all, inl (gone, (seat, v, queued, at, live, holds))) =
+    let waits : has_turn v.turn ≡ false = two_seats IsWithoutTurn first_waits (record other_holds { turn = Idle }) (λ one. refl) (λ one. refl) seat v at live in
+    cc
+lost (now, all, inr (value, home, history, base, idle)) = cc
 
 -- what is left of a pass that was taken in counts no more
 none_left : (weight {E = ℕ} {B = Unit {0}} spent ≡ 0) × (tickets {E = ℕ} {B = Unit {0}} spent ≡ 0)
