@@ -10,7 +10,7 @@ use Rattle.moos_post.specs.History.{History}
 use Rattle.moos_client.specs.Calls.{MayCall, SeatState}
 use Rattle.moos_play.specs.Lawful.{IsLawful, KeepsOrder, no_stamp_goes_back}
 use Rattle.moos_play.specs.declared.player.Player.{Player}
-use Rattle.moos_play.specs.Rounds.{AreParted, CommunityLock, EndsRound, GoesOn, has_line, HasEnded, HasPlayed, HasSeen, HasSeenAll, HasTaken, IsApart, IsGathered, KnowsNothing, met_of, times_met}
+use Rattle.moos_play.specs.Rounds.{AreParted, CommunityLock, EndsRound, GoesOn, has_line, HasEnded, HasPlayed, HasSeen, HasSeenAll, HasTaken, IsApart, IsGathered, IsOneRound, KnowsNothing, met_of, times_met}
 use Rattle.script_reader.specs.declared.script.Order.TheVariants.{Stamp, Race}
 use Rattle.script_reader.specs.declared.script.Script.{Script}
 use Rattle.turn_lock.specs.Passes.{beside, events_in, first_of}
@@ -68,6 +68,15 @@ race_is_open = tt
 first_round : EndsRound Stamp lines 0 2
 first_round = record { more = omega arith; within = omega arith; one = (0, refl) }
 
+two_stamps : IsOneRound Stamp lines → ⊥
+two_stamps (stamp, same) = grind (arith, nat_tests)
+
+empty_round : EndsRound Stamp lines 2 2 → ⊥
+empty_round round = omega (arith, round.more)
+
+behind_the_end : EndsRound Race lines 0 4 → ⊥
+behind_the_end round = omega (arith, round.within)
+
 whole_race : EndsRound Race lines 0 3
 whole_race = record { more = omega arith; within = omega arith; one = tt }
 
@@ -83,8 +92,14 @@ before_all lock = record { seen = refl; known = λ n. nothing (0 == n) }
     nothing true = refl
     nothing false = refl
 
+knows_calls : (lock : CommunityLock) → KnowsNothing (record (first_of lock 1) { mine = fetch_at 0 0 ∷ [] }) → ⊥
+knows_calls lock nothing = omega (arith, ap length (nothing.known 0))
+
 after_all : (lock : CommunityLock) → HasPlayed lines (first_of lock 2) (record (first_of lock 2) { seen = other_turn; mine = fetch_at 0 0 ∷ fetch_at 1000 0 ∷ [] })
 after_all lock = record { later = (other_turn, refl); same = refl }
+
+seen_forgotten : (lock : CommunityLock) → HasPlayed [] (record (first_of lock 2) { seen = other_turn }) (first_of lock 2) → ⊥
+seen_forgotten lock played = let (rest, same) = played.later in omega (arith, ap length same)
 
 counted : (times_met 1 (record { number = 2; events = [] } ∷ record { number = 1; events = lines } ∷ []) ≡ 1) × (times_met 0 [] ≡ 0)
 counted = (refl, refl)
