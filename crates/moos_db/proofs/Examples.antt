@@ -122,8 +122,8 @@ fresh number above = grind arith
 not_fresh : IsFresh (record kept { posts = 2 }) → ⊥
 not_fresh fresh = let mailed : true ≡ false = fresh 2 (omega arith) in cc
 
--- At entry 1, when the registration is made, post 0 catches up, and comes through it. There is no post 1, and a post that was
--- mailed doesn't catch up again, nor one where no registration was made at this entry.
+-- At entry 1, when the registration is made, post 0 catches up, and comes through it. There is no post 1, and a post that
+-- was mailed doesn't catch up again, nor one where no registration was made at this entry.
 abbrev registered : Kept
 registered = record { seen = 1; posts = 1; lives = held_of_reg 1 all ∷ []; mailed = []; waits = [] }
 
