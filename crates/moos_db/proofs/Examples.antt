@@ -237,6 +237,15 @@ given (suc (suc (suc (suc (suc k))))) below = absurd (omega (arith, below))
 is_db : IsDb names journal (record { posts = 3; rows = row (codes "A") 2 ∷ [] }) (kept ∷ kept_of_other ∷ [])
 is_db = record { few = omega arith; each = refl; lettered = refl; latest = record { within = omega arith; same = refl }; kept = are_inboxes; given = given }
 
+-- The table and the inboxes may stand behind the history: here they have seen nothing of it yet.
+behind : IsDb names journal (record { posts = 0; rows = [] }) (empty_kept ∷ empty_kept ∷ [])
+behind = record { few = omega arith; each = refl; lettered = refl; latest = record { within = omega arith; same = refl }; kept = nothing_seen; given = given }
+  where
+    nothing_seen : AreInboxes names fetched (empty_kept ∷ empty_kept ∷ [])
+    nothing_seen = each_of (IsInbox names fetched) empty_kept (empty_kept ∷ []) (record { within = omega arith; same = refl })
+        (each_of (λ k. IsInbox names fetched (suc k)) empty_kept [] (record { within = omega arith; same = refl })
+        (each_of_none (λ k. IsInbox names fetched (suc (suc k)))))
+
 -- It is no such database where the fetch's letters lack one, or a client has no inbox.
 letter_lost : IsDb names (record journal { letters = [] ∷ [] ∷ [] ∷ [] ∷ (2 ∷ []) ∷ [] }) (record { posts = 3; rows = row (codes "A") 2 ∷ [] }) (kept ∷ kept_of_other ∷ []) → ⊥
 letter_lost db = omega (arith, ap length (db.given 4 (omega arith)))
