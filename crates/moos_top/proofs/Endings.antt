@@ -74,12 +74,17 @@ output_ends (Checking decision) WriteFault text output = absurd output
 output_ends (Checking decision) (Refused refusal) text output = absurd output
 output_ends (Checking decision) NoMemory text output = absurd output
 
-written_ends : (run : Surroundings) (job : Job) (bytes text : List ℕ) (task : Task) (status : Status) → IsServed run job bytes → task_of job bytes ≡ Ok task
-    → IsWritten run.words run.told status text → HasEnded task status
-written_ends run job bytes text task status served good written =
+-- what was written is what the task may write
+pub written_output : (run : Surroundings) (job : Job) (bytes text : List ℕ) (task : Task) (status : Status) → IsServed run job bytes → task_of job bytes ≡ Ok task
+    → IsWritten run.words run.told status text → IsOutput task status text
+written_output run job bytes text task status served good written =
     let both : Ok written.task ≡ Ok task = sym written.read ∙ the_task run job written.job bytes written.bytes served written.file ∙ good in
     let same : written.task ≡ task = cc in
-    subst (λ (one : Task). HasEnded one status) same (output_ends written.task status text written.output)
+    subst (λ (one : Task). IsOutput one status text) same written.output
+
+written_ends : (run : Surroundings) (job : Job) (bytes text : List ℕ) (task : Task) (status : Status) → IsServed run job bytes → task_of job bytes ≡ Ok task
+    → IsWritten run.words run.told status text → HasEnded task status
+written_ends run job bytes text task status served good written = output_ends task status text (written_output run job bytes text task status served good written)
 
 pub completes : (run : Surroundings) (status : Status) → Ran run status → Completes run status
 completes run Done ran job bytes task served good = inl (written_ends run job bytes ran.text task Done served good ran.written)

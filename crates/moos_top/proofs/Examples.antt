@@ -9,7 +9,7 @@ use Rattle.script_reader.specs.declared.script.Order.TheVariants.{Stamp, Race}
 use Rattle.moos_top.specs.declared.job.Job.TheVariants.{Play, Solve, Check}
 use Rattle.moos_top.specs.Jobs.{job_named, task_of}
 
-plays : job_named (codes "play" ∷ codes "survey.txt" ∷ []) ≡ Some (Play (codes "survey.txt") Stamp)
+pub plays : job_named (codes "play" ∷ codes "survey.txt" ∷ []) ≡ Some (Play (codes "survey.txt") Stamp)
 unfolding walked walk_passes
 plays = refl
 
@@ -33,7 +33,7 @@ one_script_is_named : job_named (codes "play" ∷ codes "a" ∷ codes "b" ∷ []
 unfolding walked walk_passes
 one_script_is_named = refl
 
-solves_by_one : job_named (codes "solve" ∷ codes "p" ∷ []) ≡ Some (Solve (codes "p") 1)
+pub solves_by_one : job_named (codes "solve" ∷ codes "p" ∷ []) ≡ Some (Solve (codes "p") 1)
 unfolding walked walk_passes
 solves_by_one = refl
 
@@ -53,7 +53,7 @@ workers_are_counted : job_named (codes "solve" ∷ codes "p" ∷ codes "--worker
 unfolding walked walk_passes
 workers_are_counted = refl
 
-checks : job_named (codes "check" ∷ codes "d" ∷ []) ≡ Some (Check (codes "d"))
+pub checks : job_named (codes "check" ∷ codes "d" ∷ []) ≡ Some (Check (codes "d"))
 unfolding walked walk_passes
 checks = refl
 

@@ -1,0 +1,224 @@
+-- Jobs and their steps worked by hand: what is to be done, what may be written of it, and how it ends.
+use Rattle.std.proofs.Common.{◌≡◌, ℕ, inl, inr, true, false, List, [], ◌∷◌, ◌++◌, length, take, refl, ap, subst, arith}
+use Rattle.std.specs.Prelude.{codes, Some, Ok, Err, pos}
+use Rattle.std.specs.Fmt.{digits}
+use Rattle.clap.specs.Simple.{new_app, new_shape, with_rule, with_subcommand}
+use Rattle.ivp_cert.specs.declared.claim.Decision.{Decision}
+use Rattle.ivp_cert.specs.Texts.{decision_lines}
+use Rattle.ivp_cert.proofs.Accepting.{walked_accepts}
+use Rattle.ivp_problem.specs.Problems.{WeightedSum}
+use Rattle.moos_post.specs.declared.entry.Call.TheVariants.{Fetch}
+use Rattle.moos_post.specs.declared.entry.Entry.{Entry}
+use Rattle.script_reader.specs.declared.script.Order.TheVariants.{Stamp, Race}
+use Rattle.script_reader.specs.declared.script.Script.{Script}
+use Rattle.moos_text.specs.declared.cause.Cause.TheVariants.{P1, P9}
+use Rattle.moos_text.specs.declared.cause.ReadFault.TheVariants.{At, NoMemory as Unread}
+use Rattle.moos_top.specs.declared.job.Job.TheVariants.{Play, Solve, Check}
+use Rattle.moos_top.specs.declared.status.FileKind.TheVariants.{Script as ScriptFile, Problem as ProblemFile, Decision as DecisionFile}
+use Rattle.moos_top.specs.declared.status.Status.TheVariants.{Done, CheckNo, Usage, LoadFault, WriteFault, Refused, NoMemory}
+use Rattle.moos_top.specs.Commands.{check_command, few, IsPlain, play_command, race_rule, solve_command, workers_rule}
+use Rattle.moos_top.specs.Exit.{code_of}
+use Rattle.moos_top.specs.Jobs.Task.{Checking, Playing, Solving}
+use Rattle.moos_top.specs.Jobs.{decision_on, file_of, HasEnded, HasFewWorkers, IsAccepted, IsOutput, kind_of, task_of}
+use Rattle.moos_top.specs.Steps.{CannotLoad, Ended, sinking, status_of}
+
+-- one function over two points, of value 5 and 6
+abbrev pub problem : WeightedSum
+problem =
+    record {
+      axes = record { name = codes "a"; low = pos 0; high = pos 1000; points = 2 } ∷ [];
+      terms =
+          record {
+            weight = 1;
+            func =
+                record {
+                  axes = record { name = codes "a"; low = pos 0; high = pos 1000; points = 2 } ∷ [];
+                  pieces =
+                      record {
+                        area = record { low = 0 ∷ 0 ∷ 0 ∷ 0 ∷ []; high = 1 ∷ 0 ∷ 0 ∷ 0 ∷ [] };
+                        base = pos 5;
+                        slope = pos 1 ∷ pos 0 ∷ pos 0 ∷ pos 0 ∷ [];
+                      }
+                      ∷ [];
+                };
+          }
+          ∷ [];
+    }
+
+abbrev pub problem_bytes : List ℕ
+problem_bytes = codes "ivp 1\ndomain a:0:1:2\nfunction 1\npiece 0 1 5 1\nend\n"
+
+-- the decision on it is the last point, and the one line of its certificate is that of the child by the only piece
+abbrev pub decision : Decision
+decision = record { problem = problem; claim = record { point = record { at = 1 ∷ 0 ∷ 0 ∷ 0 ∷ [] }; sum = 6 }; cert = record { path = 0 ∷ []; sum = 6; index = 1 } ∷ [] }
+
+decided : decision_on problem ≡ decision
+decided = refl
+
+abbrev pub decision_bytes : List ℕ
+decision_bytes = problem_bytes ++ codes "decision 1 6\ncut 0 : 6 1\ndone\n"
+
+pub printed : decision_lines [] (decision_on problem) ≡ decision_bytes
+unfolding digits
+printed = refl
+
+-- the name of a job's file, and what it is
+files : (file_of (Play (codes "s") Stamp) ≡ codes "s") × (file_of (Solve (codes "p") 16) ≡ codes "p") × (file_of (Check (codes "d")) ≡ codes "d")
+files = (refl, refl, refl)
+
+kinds : (kind_of (Play (codes "s") Race) ≡ ScriptFile) × (kind_of (Solve (codes "p") 1) ≡ ProblemFile) × (kind_of (Check (codes "d")) ≡ DecisionFile)
+kinds = (refl, refl, refl)
+
+-- a job has from 1 to 16 workers
+workers : HasFewWorkers (Solve (codes "p") 1) × HasFewWorkers (Solve (codes "p") 16) × HasFewWorkers (Check (codes "d"))
+workers = ((omega arith, omega arith), (omega arith, omega arith), tt)
+
+no_workers : HasFewWorkers (Solve (codes "p") 0) → ⊥
+no_workers has = omega (arith, has.0)
+
+seventeen_workers : HasFewWorkers (Solve (codes "p") 17) → ⊥
+seventeen_workers has = omega (arith, has.1)
+
+-- a number past these counts as 1
+few_workers : (few 0 ≡ 1) × (few 16 ≡ 16) × (few 17 ≡ 1)
+few_workers = (refl, refl, refl)
+
+-- each status has a number of its own
+codes_of : (code_of Done ≡ 0) × (code_of CheckNo ≡ 1) × (code_of Usage ≡ 2) × (code_of LoadFault ≡ 3) × (code_of WriteFault ≡ 4) × (code_of (Refused (record { file = ProblemFile; line = 1; cause = P9 })) ≡ 5) × (code_of NoMemory ≡ 6)
+codes_of = (refl, refl, refl, refl, refl, refl, refl)
+
+-- of these commands the command-line crate says exactly what they take; not of one with a rule on another argument, a subcommand, or a default that its own parser refuses
+plain_commands : IsPlain play_command × IsPlain solve_command × IsPlain check_command
+plain_commands = (record { free = refl; alone = refl; defaults = refl }, record { free = refl; alone = refl; defaults = refl }, record { free = refl; alone = refl; defaults = refl })
+
+bound_argument : IsPlain (with_rule (new_app (codes "play")) (record race_rule { is_free = false })) → ⊥
+bound_argument is = let free : false ≡ true = is.free in cc
+
+subcommand : IsPlain (with_subcommand check_command (new_shape (codes "all"))) → ⊥
+subcommand is = omega (arith, ap length is.alone)
+
+great_default : IsPlain (with_rule (new_app (codes "solve")) (record workers_rule { defaults = codes "17" ∷ [] })) → ⊥
+great_default is = let passes : false ≡ true = is.defaults in cc
+
+-- what is to be done with the bytes of a file: that they stand for a decision, and not the point that another one claims
+checked : task_of (Check (codes "d")) decision_bytes ≡ Ok (Checking decision)
+checked = refl
+
+abbrev pub poor : Decision
+poor = record decision { claim = record { point = record { at = 0 ∷ 0 ∷ 0 ∷ 0 ∷ [] }; sum = 5 } }
+
+abbrev pub poor_bytes : List ℕ
+poor_bytes = problem_bytes ++ codes "decision 0 5\ncut 0 : 6 1\ndone\n"
+
+poor_checked : task_of (Check (codes "d")) poor_bytes ≡ Ok (Checking poor)
+poor_checked = refl
+
+-- the decision is accepted, and one that claims the lesser point isn't, nor one without a line
+pub accepted : IsAccepted decision
+accepted = walked_accepts problem decision.claim decision.cert refl refl
+
+pub not_accepted : IsAccepted poor → ⊥
+not_accepted is = let line = is.lines 0 (record { path = 0 ∷ []; sum = 6; index = 1 }) refl in omega (arith, line.sum, line.most)
+
+no_line : IsAccepted (record decision { cert = [] }) → ⊥
+no_line is = omega (arith, is.once (0 ∷ []) (record { depth = 1; area = record { low = 0 ∷ 0 ∷ 0 ∷ 0 ∷ []; high = 1 ∷ 0 ∷ 0 ∷ 0 ∷ [] }; base = pos 5; slope = pos 1 ∷ pos 0 ∷ pos 0 ∷ pos 0 ∷ [] }) refl (omega arith))
+
+-- so a check of it ends with Done, and a check of the other one with CheckNo
+ended : HasEnded (Solving problem) Done × HasEnded (Checking decision) Done × HasEnded (Checking poor) CheckNo
+ended = (refl, inl (refl, accepted), inr (refl, not_accepted))
+
+ended_no : HasEnded (Checking decision) CheckNo → ⊥
+ended_no (inl done) = let is : CheckNo ≡ Done = done.0 in cc
+ended_no (inr refused) = refused.1 accepted
+
+ended_yes : HasEnded (Checking poor) Done → ⊥
+ended_yes (inl done) = not_accepted done.1
+ended_yes (inr refused) = let is : Done ≡ CheckNo = refused.0 in cc
+
+solved_no : HasEnded (Solving problem) CheckNo → ⊥
+solved_no is = cc
+
+-- and these are the texts that they may write, and the statuses
+outputs : IsOutput (Checking decision) Done (codes "accepted\n") × IsOutput (Checking poor) CheckNo (codes "not accepted\n")
+outputs = ((accepted, refl), (not_accepted, refl))
+
+accepts_the_poor : IsOutput (Checking poor) Done (codes "accepted\n") → ⊥
+accepts_the_poor is = not_accepted is.0
+
+says_too_little : IsOutput (Checking decision) Done (codes "accepted") → ⊥
+says_too_little is = omega (arith, ap length is.1)
+
+-- a script of one fetch, and the report of what it leaves; nothing at all is no report
+abbrev pub fetches : List Entry
+fetches = record { stamp = 0; client = 0; call = Fetch } ∷ []
+
+abbrev pub script : Script
+script = record { names = codes "a" ∷ []; lines = fetches; stop = 0 }
+
+played : task_of (Play (codes "s") Stamp) (codes "0 a fetch\n") ≡ Ok (Playing Stamp script)
+played = refl
+
+reported : IsOutput (Playing Stamp script) Done (codes "%% moosdb play 1\n%% client 0 a\n%% entry 0 0 a fetch\n%% end 1 0\n")
+unfolding digits
+reported = record { history = fetches; lawful = record { own = λ client. refl; stamps = refl }; printed = refl }
+
+nothing_reported : IsOutput (Playing Stamp script) Done [] → ⊥
+nothing_reported is = let printed = is.printed in cc
+
+-- a file can't be loaded where the folder failed, and isn't sure of it, or where no memory is left
+not_loaded : CannotLoad [] 0 1 (codes "p") LoadFault × CannotLoad (codes "p" ∷ []) 0 0 (codes "p") NoMemory
+not_loaded = ((inl (omega arith), refl), tt)
+
+sure_of_it : CannotLoad (codes "q" ∷ codes "p" ∷ []) 0 1 (codes "p") LoadFault → ⊥
+sure_of_it is = let unsure : true ≡ false = is.1 in cc
+
+no_fault : CannotLoad [] 1 1 (codes "p") LoadFault → ⊥
+no_fault (inl rose, unsure) = omega arith
+no_fault (inr most, unsure) = omega arith
+
+loaded_badly : CannotLoad [] 0 1 (codes "p") (Refused (record { file = ProblemFile; line = 1; cause = P9 })) → ⊥
+loaded_badly is = is
+
+-- a reader's refusal is the run's, with the kind of file, and its want of memory is the run's
+statuses : (status_of DecisionFile (At 3 P1) ≡ Refused (record { file = DecisionFile; line = 3; cause = P1 })) × (status_of DecisionFile Unread ≡ NoMemory)
+statuses = (refl, refl)
+
+-- how the problem's job ends: all is written, or a front of it where the sink failed
+all_written : Ended ProblemFile (Ok (Solving problem)) (sinking (Some (codes "x")) (Some (codes "x" ++ decision_bytes)) 0 0) Done
+unfolding digits
+all_written = record { task = Solving problem; good = refl; text = decision_bytes; output = refl; took = refl }
+
+front_written : Ended ProblemFile (Ok (Solving problem)) (sinking (Some []) (Some (take 20 decision_bytes)) 0 1) WriteFault
+unfolding digits
+front_written = record { task = Solving problem; good = refl; status = Done; text = decision_bytes; output = refl; took = (20, omega arith, refl); rose = inl (omega arith) }
+
+-- it can't end as if its file were bad, or with nothing said of it; a bad file's refusal is the one that it has, with nothing written
+ended_usage : Ended ProblemFile (Ok (Solving problem)) (sinking (Some []) (Some []) 0 0) Usage → ⊥
+ended_usage is = is
+
+good_refused : Ended ProblemFile (Ok (Solving problem)) (sinking (Some []) (Some []) 0 0) (Refused (record { file = ProblemFile; line = 1; cause = P9 })) → ⊥
+good_refused is = let read = is.1 in cc
+
+bad_refused : Ended ProblemFile (Err (At 1 P9)) (sinking (Some []) (Some []) 0 0) (Refused (record { file = ProblemFile; line = 1; cause = P9 }))
+bad_refused = (refl, refl, record { taken = refl; faults = refl })
+
+other_line : Ended ProblemFile (Err (At 1 P9)) (sinking (Some []) (Some []) 0 0) (Refused (record { file = ProblemFile; line = 2; cause = P9 })) → ⊥
+other_line is = let read = is.1 in cc
+
+other_kind : Ended ProblemFile (Err (At 1 P9)) (sinking (Some []) (Some []) 0 0) (Refused (record { file = DecisionFile; line = 1; cause = P9 })) → ⊥
+other_kind is = let kind = is.0 in cc
+
+refused_and_written : Ended ProblemFile (Err (At 1 P9)) (sinking (Some []) (Some (codes "no\n")) 0 0) (Refused (record { file = ProblemFile; line = 1; cause = P9 })) → ⊥
+refused_and_written is = let taken : Some (codes "no\n") ≡ Some [] = is.2.taken in cc
+
+done_with_the_bad : Ended ProblemFile (Err (At 1 P9)) (sinking (Some []) (Some []) 0 0) Done → ⊥
+done_with_the_bad is = let good = is.good in cc
+
+half_done : Ended ProblemFile (Ok (Solving problem)) (sinking (Some []) (Some (take 20 decision_bytes)) 0 0) Done → ⊥
+half_done is =
+    let good : Ok (Solving problem) ≡ Ok is.task = is.good in
+    let task : is.task ≡ Solving problem = cc in
+    let output : is.text ≡ decision_lines [] (decision_on problem) = subst (λ task. IsOutput task Done is.text) task is.output in
+    let took : Some (take 20 decision_bytes) ≡ Some is.text = is.took in
+    let same : take 20 decision_bytes ≡ is.text = cc in
+    omega (arith, ap length same, ap length output, ap length printed)

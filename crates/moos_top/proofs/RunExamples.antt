@@ -1,0 +1,272 @@
+-- Runs worked by hand: what each status says, and what it doesn't say of a run that did something else.
+use Rattle.std.proofs.Common.{◌≡◌, ℕ, inl, inr, true, false, List, [], ◌∷◌, ◌++◌, length, take, refl, ap, sym, ◌∙◌, subst, arith}
+use Rattle.std.specs.Prelude.{codes, Option, Some, None}
+use Rattle.std.specs.Fmt.{digits}
+use Rattle.std.proofs.lemmas.List.{length-take}
+use Rattle.ivp_cert.specs.Texts.{decision_lines}
+use Rattle.moos_io.specs.Faults.{Rose}
+use Rattle.moos_io.specs.Files.{content_of, is_among}
+use Rattle.moos_text.specs.declared.cause.Cause.TheVariants.{P1}
+use Rattle.script_reader.specs.declared.script.Order.TheVariants.{Stamp}
+use Rattle.moos_top.specs.declared.job.Job.TheVariants.{Play, Solve, Check}
+use Rattle.moos_top.specs.declared.status.FileKind.{FileKind}
+use Rattle.moos_top.specs.declared.status.FileKind.TheVariants.{Problem as ProblemFile}
+use Rattle.moos_top.specs.declared.status.Status.{Status}
+use Rattle.moos_top.specs.declared.status.Status.TheVariants.{Done, CheckNo, Usage, LoadFault, WriteFault, Refused, NoMemory}
+use Rattle.moos_top.specs.Jobs.Task.{Checking, Playing, Solving}
+use Rattle.moos_top.specs.Jobs.{decision_on, file_of, IsOutput}
+use Rattle.moos_top.specs.Run.{Completes, HasBytes, IsServed, IsWritten, Ran, Refuses, Surroundings, surroundings}
+use Rattle.moos_top.proofs.Endings.{completes, refuses, written_output}
+use Rattle.moos_top.proofs.Examples.{checks, plays, solves_by_one}
+use Rattle.moos_top.proofs.JobExamples.{accepted, decision, decision_bytes, not_accepted, poor, poor_bytes, printed, problem, problem_bytes, script}
+
+-- a run that solves the problem in its file, which the folder tells and is sure of: what the sink has taken, and how often it failed
+abbrev folder : List ℕ → List ℕ → List ℕ → Option (List ℕ)
+folder name bytes = content_of (record { name = name; bytes = bytes } ∷ [])
+
+abbrev solving : List ℕ → List ℕ → ℕ → Surroundings
+solving bytes taken put_faults =
+    surroundings (codes "solve" ∷ codes "p" ∷ []) (Some (folder (codes "p") bytes)) (codes "p" ∷ []) 0 0 (Some []) (Some taken) 0 put_faults
+
+none_rose : Rose 0 0 → ⊥
+none_rose (inl rose) = omega arith
+none_rose (inr most) = omega arith
+
+served : (bytes taken : List ℕ) → IsServed (solving bytes taken 0) (Solve (codes "p") 1) bytes
+served bytes taken = record { files = folder (codes "p") bytes; told = refl; named = solves_by_one; content = refl; loads = none_rose; puts = none_rose }
+
+-- a folder that tells what it holds has no other bytes under the name, nor the same under another one; what one holds that doesn't tell is left open
+has_bytes : HasBytes (Some (folder (codes "p") problem_bytes)) (codes "p") problem_bytes × HasBytes None (codes "p") problem_bytes
+has_bytes = (refl, tt)
+
+other_bytes : HasBytes (Some (folder (codes "p") problem_bytes)) (codes "p") [] → ⊥
+other_bytes has = let bytes : Some problem_bytes ≡ Some [] = has in cc
+
+other_name : HasBytes (Some (folder (codes "p") problem_bytes)) (codes "q") problem_bytes → ⊥
+other_name has = let bytes : None ≡ Some problem_bytes = has in cc
+
+-- Done: it wrote the decision on the problem, and not half of it, twice as much or nothing
+written : IsWritten (codes "solve" ∷ codes "p" ∷ []) (Some (folder (codes "p") problem_bytes)) Done decision_bytes
+unfolding digits
+written = record { job = Solve (codes "p") 1; bytes = problem_bytes; file = record { named = solves_by_one; content = refl }; task = Solving problem; read = refl; output = refl }
+
+solved : Ran (solving problem_bytes decision_bytes 0) Done
+solved = record { text = decision_bytes; written = written; took = refl }
+
+all_written : (taken : List ℕ) → Ran (solving problem_bytes taken 0) Done → taken ≡ decision_bytes
+all_written taken is =
+    let output : is.text ≡ decision_lines [] (decision_on problem) = written_output (solving problem_bytes taken 0) (Solve (codes "p") 1) problem_bytes is.text (Solving problem) Done (served problem_bytes taken) refl is.written in
+    let took : Some taken ≡ Some is.text = is.took in
+    let same : taken ≡ is.text = cc in
+    same ∙ output ∙ printed
+
+half_written : Ran (solving problem_bytes (take 20 decision_bytes) 0) Done → ⊥
+half_written is = omega (arith, ap length (all_written (take 20 decision_bytes) is))
+
+twice_written : Ran (solving problem_bytes (decision_bytes ++ decision_bytes) 0) Done → ⊥
+twice_written is = omega (arith, ap length (all_written (decision_bytes ++ decision_bytes) is))
+
+nothing_written : Ran (solving problem_bytes [] 0) Done → ⊥
+nothing_written is = omega (arith, ap length (all_written [] is))
+
+-- nor is a solved problem one whose decision isn't accepted
+says_no : Ran (solving problem_bytes decision_bytes 0) CheckNo → ⊥
+says_no is = written_output (solving problem_bytes decision_bytes 0) (Solve (codes "p") 1) problem_bytes is.text (Solving problem) CheckNo (served problem_bytes decision_bytes) refl is.written
+
+-- WriteFault: the sink failed, and took the first half; it didn't take the whole, nor fail without that it tells
+write_failed : Ran (solving problem_bytes (take 20 decision_bytes) 1) WriteFault
+write_failed = record { rose = inl (omega arith); status = Done; text = decision_bytes; written = written; took = (20, omega arith, refl) }
+
+told_no_fault : Ran (solving problem_bytes (take 20 decision_bytes) 0) WriteFault → ⊥
+told_no_fault is = none_rose is.rose
+
+took_the_whole : Ran (solving problem_bytes decision_bytes 1) WriteFault → ⊥
+took_the_whole is = omega (arith, is.took.1, ap length whole, ap length same, length-take is.took.0 is.text)
+  where
+    only : (status : Status) (text : List ℕ) → IsOutput (Solving problem) status text → text ≡ decision_lines [] (decision_on problem)
+    only Done text output = output
+    only CheckNo text output = absurd output
+    only Usage text output = absurd output
+    only LoadFault text output = absurd output
+    only WriteFault text output = absurd output
+    only (Refused refusal) text output = absurd output
+    only NoMemory text output = absurd output
+
+    -- the folder of a run whose sink failed tells the same
+    output : IsOutput (Solving problem) is.status is.text
+    output = written_output (solving problem_bytes decision_bytes 0) (Solve (codes "p") 1) problem_bytes is.text (Solving problem) is.status (served problem_bytes decision_bytes) refl is.written
+
+    whole : is.text ≡ decision_bytes
+    whole = only is.status is.text output ∙ printed
+
+    same : decision_bytes ≡ take is.took.0 is.text
+    same = let took : Some decision_bytes ≡ Some (take is.took.0 is.text) = is.took.2 in cc
+
+-- NoMemory: nothing was written, and no sink failed
+no_memory : Ran (solving problem_bytes [] 0) NoMemory
+no_memory = record { taken = refl; put_faults = refl }
+
+wrote_without_memory : Ran (solving problem_bytes (take 20 decision_bytes) 0) NoMemory → ⊥
+wrote_without_memory is = let taken : Some (take 20 decision_bytes) ≡ Some [] = is.taken in cc
+
+-- Usage: the words name no job; here a word names one that there isn't, and nothing was written
+sails : (faults : ℕ) (taken : List ℕ) → Surroundings
+sails faults taken = surroundings (codes "sail" ∷ codes "p" ∷ []) None [] 0 faults (Some []) (Some taken) 0 0
+
+usage : Ran (sails 0 []) Usage
+unfolding sails
+usage = record { unnamed = refl; load_faults = refl; silent = record { taken = refl; put_faults = refl } }
+
+wrote_its_usage : Ran (sails 0 (codes "usage\n")) Usage → ⊥
+unfolding sails
+wrote_its_usage is = let taken : Some (codes "usage\n") ≡ Some [] = is.silent.taken in cc
+
+loaded_nothing : Ran (sails 1 []) Usage → ⊥
+unfolding sails
+loaded_nothing is = omega (arith, is.load_faults)
+
+named_a_job : Ran (solving problem_bytes [] 0) Usage → ⊥
+named_a_job is = let both : None ≡ Some (Solve (codes "p") 1) = sym is.unnamed ∙ solves_by_one in cc
+
+-- LoadFault: the folder failed, and isn't sure of the file; one that is sure of it doesn't fail, nor one that tells no fault
+abbrev loading : List (List ℕ) → ℕ → List ℕ → Surroundings
+loading sure load_faults taken =
+    surroundings (codes "solve" ∷ codes "p" ∷ []) (Some (folder (codes "p") problem_bytes)) sure 0 load_faults (Some []) (Some taken) 0 0
+
+not_loaded : Ran (loading [] 1 []) LoadFault
+not_loaded = record { rose = inl (omega arith); job = Solve (codes "p") 1; named = solves_by_one; unsure = refl; silent = record { taken = refl; put_faults = refl } }
+
+sure_of_it : Ran (loading (codes "p" ∷ []) 1 []) LoadFault → ⊥
+sure_of_it is =
+    let both : Some is.job ≡ Some (Solve (codes "p") 1) = sym is.named ∙ solves_by_one in
+    let same : is.job ≡ Solve (codes "p") 1 = cc in
+    let unsure : true ≡ false = subst (λ job. is_among (codes "p" ∷ []) (file_of job) ≡ false) same is.unsure in
+    cc
+
+no_load_fault : Ran (loading [] 0 []) LoadFault → ⊥
+no_load_fault is = none_rose is.rose
+
+wrote_unloaded : Ran (loading [] 1 decision_bytes) LoadFault → ⊥
+wrote_unloaded is = let taken : Some decision_bytes ≡ Some [] = is.silent.taken in cc
+
+-- Refused: the file has this first refusal, and nothing was written
+abbrev refusal : FileKind → ℕ → Status
+refusal file line = Refused (record { file = file; line = line; cause = P1 })
+
+refused : Ran (solving (codes "ivp 2\n") [] 0) (refusal ProblemFile 1)
+refused =
+    record {
+      refused = record { job = Solve (codes "p") 1; bytes = codes "ivp 2\n"; file = record { named = solves_by_one; content = refl }; kind = refl; refused = refl };
+      silent = record { taken = refl; put_faults = refl };
+    }
+
+refused_and_written : Ran (solving (codes "ivp 2\n") (codes "ivp 2\n") 0) (refusal ProblemFile 1) → ⊥
+refused_and_written is = let taken : Some (codes "ivp 2\n") ≡ Some [] = is.silent.taken in cc
+
+-- a good file isn't refused, and of a bad one no other line, nor is it another kind of file, or done
+line_in : Status → ℕ
+line_in (Refused refusal) = refusal.line
+line_in status = 0
+
+refused_the_good : Ran (solving problem_bytes [] 0) (refusal ProblemFile 1) → ⊥
+refused_the_good is =
+    elim (completes (solving problem_bytes [] 0) (refusal ProblemFile 1) is (Solve (codes "p") 1) problem_bytes (Solving problem) (served problem_bytes []) refl) [
+      | inl done ↦ let other : refusal ProblemFile 1 ≡ Done = done in cc
+      | inr memory ↦ cc
+    ]
+
+refused_elsewhere : Ran (solving (codes "ivp 2\n") [] 0) (refusal ProblemFile 2) → ⊥
+unfolding line_in
+refused_elsewhere is =
+    elim (refuses (solving (codes "ivp 2\n") [] 0) (refusal ProblemFile 2) is (Solve (codes "p") 1) (codes "ivp 2\n") 1 P1 (served (codes "ivp 2\n") []) refl) [
+      | inl same ↦ omega (arith, ap line_in same)
+      | inr memory ↦ cc
+    ]
+
+did_the_bad : Ran (solving (codes "ivp 2\n") decision_bytes 0) Done → ⊥
+did_the_bad is =
+    elim (refuses (solving (codes "ivp 2\n") decision_bytes 0) Done is (Solve (codes "p") 1) (codes "ivp 2\n") 1 P1 (served (codes "ivp 2\n") decision_bytes) refl) [
+      | inl same ↦ cc
+      | inr memory ↦ cc
+    ]
+
+-- a run that checks a decision: accepted with Done, not accepted with CheckNo, and never the other way round
+abbrev checking : List ℕ → List ℕ → Surroundings
+checking bytes taken = surroundings (codes "check" ∷ codes "d" ∷ []) (Some (folder (codes "d") bytes)) [] 0 0 (Some []) (Some taken) 0 0
+
+asked : (bytes taken : List ℕ) → IsServed (checking bytes taken) (Check (codes "d")) bytes
+asked bytes taken = record { files = folder (codes "d") bytes; told = refl; named = checks; content = refl; loads = none_rose; puts = none_rose }
+
+checked : Ran (checking decision_bytes (codes "accepted\n")) Done
+checked =
+    record {
+      text = codes "accepted\n";
+      written = record { job = Check (codes "d"); bytes = decision_bytes; file = record { named = checks; content = refl }; task = Checking decision; read = refl; output = (accepted, refl) };
+      took = refl;
+    }
+
+checked_poor : Ran (checking poor_bytes (codes "not accepted\n")) CheckNo
+checked_poor =
+    record {
+      text = codes "not accepted\n";
+      written = record { job = Check (codes "d"); bytes = poor_bytes; file = record { named = checks; content = refl }; task = Checking poor; read = refl; output = (not_accepted, refl) };
+      took = refl;
+    }
+
+accepted_the_poor : Ran (checking poor_bytes (codes "accepted\n")) Done → ⊥
+accepted_the_poor is = not_accepted (written_output (checking poor_bytes (codes "accepted\n")) (Check (codes "d")) poor_bytes is.text (Checking poor) Done (asked poor_bytes (codes "accepted\n")) refl is.written).0
+
+refused_the_best : Ran (checking decision_bytes (codes "not accepted\n")) CheckNo → ⊥
+refused_the_best is =
+    (written_output (checking decision_bytes (codes "not accepted\n")) (Check (codes "d")) decision_bytes is.text (Checking decision) CheckNo (asked decision_bytes (codes "not accepted\n")) refl is.written).0 accepted
+
+-- a played script leaves a report, and never nothing
+abbrev playing : List ℕ → Surroundings
+playing taken = surroundings (codes "play" ∷ codes "survey.txt" ∷ []) (Some (folder (codes "survey.txt") (codes "0 a fetch\n"))) [] 0 0 (Some []) (Some taken) 0 0
+
+played : Ran (playing (codes "%% moosdb play 1\n%% client 0 a\n%% entry 0 0 a fetch\n%% end 1 0\n")) Done
+unfolding digits
+played =
+    record {
+      text = codes "%% moosdb play 1\n%% client 0 a\n%% entry 0 0 a fetch\n%% end 1 0\n";
+      written =
+          record {
+            job = Play (codes "survey.txt") Stamp;
+            bytes = codes "0 a fetch\n";
+            file = record { named = plays; content = refl };
+            task = Playing Stamp script;
+            read = refl;
+            output = record { history = script.lines; lawful = record { own = λ client. refl; stamps = refl }; printed = refl };
+          };
+      took = refl;
+    }
+
+played_silently : Ran (playing []) Done → ⊥
+played_silently is =
+    let served : IsServed (playing []) (Play (codes "survey.txt") Stamp) (codes "0 a fetch\n") = record { files = folder (codes "survey.txt") (codes "0 a fetch\n"); told = refl; named = plays; content = refl; loads = none_rose; puts = none_rose } in
+    let report = written_output (playing []) (Play (codes "survey.txt") Stamp) (codes "0 a fetch\n") is.text (Playing Stamp script) Done served refl is.written in
+    let printed = report.printed in
+    let took : Some [] ≡ Some is.text = is.took in
+    cc
+
+-- where nothing failed, a good file's job is done, and a bad file is refused; only for want of memory not
+completed : Completes (solving problem_bytes decision_bytes 0) Done × Completes (solving problem_bytes [] 0) NoMemory
+completed = (completes (solving problem_bytes decision_bytes 0) Done solved, completes (solving problem_bytes [] 0) NoMemory no_memory)
+
+gave_up : Completes (solving problem_bytes [] 0) WriteFault → ⊥
+gave_up does =
+    elim (does (Solve (codes "p") 1) problem_bytes (Solving problem) (served problem_bytes []) refl) [
+      | inl done ↦ let other : WriteFault ≡ Done = done in cc
+      | inr memory ↦ cc
+    ]
+
+-- of a run whose sink failed it says nothing
+failed_completes : Completes (solving problem_bytes (take 20 decision_bytes) 1) WriteFault
+failed_completes = completes (solving problem_bytes (take 20 decision_bytes) 1) WriteFault write_failed
+
+gave_up_on_the_bad : Refuses (solving (codes "ivp 2\n") [] 0) LoadFault → ⊥
+gave_up_on_the_bad does =
+    elim (does (Solve (codes "p") 1) (codes "ivp 2\n") 1 P1 (served (codes "ivp 2\n") []) refl) [
+      | inl same ↦ cc
+      | inr memory ↦ cc
+    ]
