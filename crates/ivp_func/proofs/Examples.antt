@@ -1,5 +1,5 @@
 -- The definitions on worked examples.
-use Rattle.std.proofs.Common.{◌≡◌, ℕ, true, false, Err, ℤ, pos, negsuc, ◌≤ℤ◌, List, [], ◌∷◌, refl, ap, sym, ◌∙◌, arith}
+use Rattle.std.proofs.Common.{◌≡◌, ℕ, true, false, Ok, Err, ℤ, pos, negsuc, ◌≤ℤ◌, List, [], ◌∷◌, refl, ap, sym, ◌∙◌, arith}
 use Rattle.std.specs.Prelude.{codes}
 use Rattle.std.proofs.lemmas.Bool.{and_parts}
 use Rattle.std.proofs.lemmas.Bool.Decides.{nat_tests}
@@ -9,7 +9,7 @@ use Rattle.ivp_domain.specs.declared.boxes.BoxN.{BoxN}
 use Rattle.ivp_domain.specs.Boxes.{has_point, point_of}
 use Rattle.ivp_domain.specs.Domains.{whole}
 use Rattle.ivp_domain.proofs.BoxLemmas.{has_point-common}
-use Rattle.ivp_func.specs.declared.func.FuncFault.TheVariants.{NotPartition}
+use Rattle.ivp_func.specs.declared.func.FuncFault.TheVariants.{NotPartition, ValueOut}
 use Rattle.ivp_func.specs.declared.piece.Piece.{Piece}
 use Rattle.ivp_func.specs.Covering.{covered_in, CutOn, SameOn, shared_with, Shorter}
 use Rattle.ivp_func.specs.Functions.{Function, has_values, is_partition, IsFunction, IsTop}
@@ -67,6 +67,16 @@ span low high = record { low = low ∷ 0 ∷ 0 ∷ 0 ∷ []; high = high ∷ 0 �
 cut : CutOn 0 (span 0 2) (span 0 1) (span 2 2) × SameOn 1 (span 0 2) (span 0 1) (span 2 2)
 cut = (record { left_low = refl; right_high = refl; next = refl; some = omega arith; rest = omega arith }, record { left_low = refl; left_high = refl; right_low = refl; right_high = refl })
 
+-- but not with a place in neither of them, or in both, nor is the box cut where it is the same
+gap_between : CutOn 0 (span 0 2) (span 0 0) (span 2 2) → ⊥
+gap_between is = omega (arith, is.next)
+
+cut_in_both : CutOn 0 (span 0 2) (span 0 1) (span 1 2) → ⊥
+cut_in_both is = omega (arith, is.next)
+
+cut_where_same : SameOn 0 (span 0 2) (span 0 1) (span 2 2) → ⊥
+cut_where_same is = omega (arith, is.left_high)
+
 -- one piece leaves the last place out: so the upper part of the box is covered short too; the lower part isn't, a place outside the box is no part of it, and the whole is no smaller part
 abbrev short : List Piece
 short = piece 0 1 (pos 0) (pos 0) (pos 0) ∷ []
@@ -120,3 +130,19 @@ lesser_top is = absurd (omega (arith, ints, is.greatest (point_of 2 0 0 0) refl)
 
 greater_top : IsTop three good (pos 100001) → ⊥
 greater_top is = let at = is.attained in let value : false ≡ true = sym (ap is_value at.2) ∙ passes_values three good refl at.0 at.1 in absurd (cc)
+
+-- making a function answers with it, or why there is none: these pieces are refused for no other count and for no point that one piece holds, and not made; the good ones are made, and not refused for a value in range
+made : Made three good (Ok (on_three good))
+made = (omega arith, passes_partition three good refl, passes_values three good refl, refl)
+
+other_count : Made three bad (Err (NotPartition (point_of 2 0 0 0) 2)) → ⊥
+other_count is = omega (arith, is.2)
+
+held_once : Made three bad (Err (NotPartition (point_of 0 0 0 0) 1)) → ⊥
+held_once is = is.3 refl
+
+made_of_bad : Made three bad (Ok (on_three bad)) → ⊥
+made_of_bad is = omega (arith, is.1 (point_of 1 0 0 0) refl)
+
+value_in_range : Made three good (Err (ValueOut (point_of 2 0 0 0) (pos 100000))) → ⊥
+value_in_range is = let out : true ≡ false = is.4 in cc

@@ -1,5 +1,5 @@
 -- The definitions on worked examples.
-use Rattle.std.proofs.Common.{◌≡◌, ℕ, zero, suc, true, false, inr, Some, None, Ok, Err, ℤ, pos, neg_ℤ, ◌≤ℤ◌, ◌<◌, ◌+◌, ◌^◌, List, [], ◌∷◌, length, replicate, refl, ap, subst, arith}
+use Rattle.std.proofs.Common.{◌≡◌, ℕ, zero, suc, true, false, inl, inr, Some, None, Ok, Err, ℤ, pos, negsuc, neg_ℤ, ◌≤ℤ◌, ◌<◌, ◌+◌, ◌^◌, List, [], ◌∷◌, length, replicate, refl, ap, subst, arith}
 use Rattle.std.specs.Prelude.{codes, slice_get}
 use Rattle.std.proofs.lemmas.Int.{ints}
 use Rattle.ivp_domain.specs.declared.axis.Axis.{Axis}
@@ -14,7 +14,7 @@ use Rattle.ivp_problem.specs.Keys.{index_of_key, key_of, sum_of}
 use Rattle.ivp_problem.specs.Problems.{IsProblem, IsTermOf, problem_of, WeightedSum}
 use Rattle.ivp_problem.specs.Sums.{best_of, key_at, sum_at}
 use Rattle.ivp_problem.specs.Nodes.{nodes_of, tree_size}
-use Rattle.ivp_problem.specs.Trees.{AreTops, bound_of, child_of, children_of, chosen_at, has_in, node_of, own_top, root_of, slope_at}
+use Rattle.ivp_problem.specs.Trees.{AreTops, bound_of, child_of, children_of, chosen_at, has_in, IsNode, node_of, own_top, root_of, slope_at}
 
 abbrev axis : List ℕ → ℕ → ℕ → Axis
 axis name high points = record { name = name; low = pos 0; high = pos high; points = points }
@@ -65,6 +65,13 @@ tops_of_two = (refl, refl, each)
     each (suc (suc zero)) within = refl
     each (suc (suc (suc from))) within = absurd (omega arith)
 
+-- not with the top of the first function left out, or of the second
+first_left_out : AreTops (rising ∷ split ∷ []) (75 ∷ 75 ∷ 0 ∷ []) → ⊥
+first_left_out are = omega (arith, are 0 (omega arith))
+
+second_left_out : AreTops (rising ∷ split ∷ []) (115 ∷ 0 ∷ 0 ∷ []) → ⊥
+second_left_out are = omega (arith, are 1 (omega arith))
+
 -- the one child of the root, and its two children
 abbrev first : Node
 first = record { depth = 1; area = record { low = 0 ∷ 0 ∷ 0 ∷ 0 ∷ []; high = 2 ∷ 1 ∷ 1 ∷ 0 ∷ [] }; base = pos 0; slope = pos 20 ∷ pos 0 ∷ pos 0 ∷ pos 0 ∷ [] }
@@ -88,6 +95,22 @@ second_leaf = (refl, refl, refl)
 -- along no slope the lesser place beats the greater
 level_places : Beats (pos 0) 2 5
 level_places = inr (refl, omega arith)
+
+-- a rising slope adds more at the greater place, and a falling one at the lesser
+places : Beats (pos 3) 5 2 × Beats (negsuc 2) 2 5
+places = (inl (omega (arith, ints)), inl (omega (arith, ints)))
+
+no_lesser_place : Beats (pos 3) 2 5 → ⊥
+no_lesser_place (inl more) = absurd (omega (arith, ints))
+no_lesser_place (inr level) = absurd (omega (arith, ints, level.0))
+
+no_greater_place : Beats (pos 0) 5 2 → ⊥
+no_greater_place (inl more) = absurd (omega (arith, ints))
+no_greater_place (inr level) = omega (arith, level.1)
+
+-- the leaf is the node of its path
+left_is_a_node : IsNode two left
+left_is_a_node = record { path = 0 ∷ 0 ∷ []; reached = refl }
 
 -- all nodes, depth first
 nodes_of_two : (nodes_of two ≡ root_of two ∷ first ∷ left ∷ right ∷ []) × (tree_size two ≡ 4)
