@@ -121,16 +121,19 @@ all_digits = record { within = omega arith; digits = refl; ends = λ more. absur
 
 -- The decimals stand behind the first point, and there are none where there is no point.
 parted : IsParted (codes "12.5") 2 (codes "5")
-parted = record { whole = refl; rest = refl }
+parted = record { point = refl; rest = refl }
 
 first_point : IsParted (codes "1.2.5") 1 (codes "2.5")
-first_point = record { whole = refl; rest = refl }
+first_point = record { point = refl; rest = refl }
 
 no_point : IsParted (codes "12") 2 []
-no_point = record { whole = refl; rest = refl }
+no_point = record { point = refl; rest = refl }
 
 point_among_digits : IsParted (codes "12.5") 3 (codes "5") → ⊥
-point_among_digits found = omega (arith, ap length found.whole)
+point_among_digits found = omega (arith, found.point)
+
+past_the_end : IsParted (codes "12") 3 [] → ⊥
+past_the_end found = omega (arith, found.point)
 
 point_among_decimals : IsParted (codes "12.5") 2 (codes ".5") → ⊥
 point_among_decimals found = omega (arith, ap length found.rest)

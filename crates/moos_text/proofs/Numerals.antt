@@ -36,9 +36,7 @@ no_digits (suc count) (byte ∷ text) within digits other none =
 
 -- the parts on both sides of the point
 pub parted : (count : ℕ) (text decimals : List ℕ) → IsFront count text → (count < length text → get_or text count 0 ≡ 46) → drop (suc count) text ≡ decimals → IsParted text count decimals
-parted count text decimals front point rest =
-    let at : point_of text ≡ count = point_behind count text front.within front.digits point in
-    record { whole = ap (λ i. take i text) at; rest = ap (λ i. drop (suc i) text) at ∙ rest }
+parted count text decimals front point rest = record { point = point_behind count text front.within front.digits point; rest = rest }
 
 -- another byte than a point behind the digits makes no number
 pub unparted : (count : ℕ) (text : List ℕ) → IsFront count text → count < length text → get_or text count 0 ≢ 46 → unsigned_of text ≡ None

@@ -10,7 +10,7 @@ pub record IsFront (count : ℕ) (text : List ℕ) : Type 0 where
   pub digits : list_all is_digit (take count text) ≡ true
   pub ends : count < length text → is_digit (slice_index text count) ≡ false
 
--- the first so many bytes stand before the first point, and these after it
+-- so many bytes stand before the first point, or are all where there is none, and these stand behind it
 pub record IsParted (text : List ℕ) (count : ℕ) (decimals : List ℕ) : Type 0 where
-  pub whole : take (point_of text) text ≡ take count text
-  pub rest : drop (suc (point_of text)) text ≡ decimals
+  pub point : point_of text ≡ count
+  pub rest : drop (suc count) text ≡ decimals
