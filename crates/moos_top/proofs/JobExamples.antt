@@ -87,7 +87,7 @@ few_workers = (refl, refl, refl)
 codes_of : (code_of Done ≡ 0) × (code_of CheckNo ≡ 1) × (code_of Usage ≡ 2) × (code_of LoadFault ≡ 3) × (code_of WriteFault ≡ 4) × (code_of (Refused (record { file = ProblemFile; line = 1; cause = P9 })) ≡ 5) × (code_of NoMemory ≡ 6)
 codes_of = (refl, refl, refl, refl, refl, refl, refl)
 
--- of these commands the command-line crate says exactly what they take; not of one with a rule on another argument, a subcommand, or a default that its own parser refuses
+-- of these commands the command-line crate says exactly what they take; it doesn't of one with a rule on another argument, with a subcommand, or with a default that its own parser refuses
 plain_commands : IsPlain play_command × IsPlain solve_command × IsPlain check_command
 plain_commands = (record { free = refl; alone = refl; defaults = refl }, record { free = refl; alone = refl; defaults = refl }, record { free = refl; alone = refl; defaults = refl })
 
@@ -100,7 +100,7 @@ subcommand is = omega (arith, ap length is.alone)
 great_default : IsPlain (with_rule (new_app (codes "solve")) (record workers_rule { defaults = codes "17" ∷ [] })) → ⊥
 great_default is = let passes : false ≡ true = is.defaults in cc
 
--- what is to be done with the bytes of a file: that they stand for a decision, and not the point that another one claims
+-- the bytes of two decisions: one claims the best point, and the other one the lesser
 checked : task_of (Check (codes "d")) decision_bytes ≡ Ok (Checking decision)
 checked = refl
 
@@ -113,7 +113,7 @@ poor_bytes = problem_bytes ++ codes "decision 0 5\ncut 0 : 6 1\ndone\n"
 poor_checked : task_of (Check (codes "d")) poor_bytes ≡ Ok (Checking poor)
 poor_checked = refl
 
--- the decision is accepted, and one that claims the lesser point isn't, nor one without a line
+-- the first is accepted; the one that claims the lesser point isn't, nor one without a line
 pub accepted : IsAccepted decision
 accepted = walked_accepts problem decision.claim decision.cert refl refl
 
@@ -123,7 +123,7 @@ not_accepted is = let line = is.lines 0 (record { path = 0 ∷ []; sum = 6; inde
 no_line : IsAccepted (record decision { cert = [] }) → ⊥
 no_line is = omega (arith, is.once (0 ∷ []) (record { depth = 1; area = record { low = 0 ∷ 0 ∷ 0 ∷ 0 ∷ []; high = 1 ∷ 0 ∷ 0 ∷ 0 ∷ [] }; base = pos 5; slope = pos 1 ∷ pos 0 ∷ pos 0 ∷ pos 0 ∷ [] }) refl (omega arith))
 
--- so a check of it ends with Done, and a check of the other one with CheckNo
+-- so a check of the first ends with Done, and of the other one with CheckNo; a job that solves a problem ends with Done alone
 ended : HasEnded (Solving problem) Done × HasEnded (Checking decision) Done × HasEnded (Checking poor) CheckNo
 ended = (refl, inl (refl, accepted), inr (refl, not_accepted))
 
@@ -138,7 +138,7 @@ ended_yes (inr refused) = let is : Done ≡ CheckNo = refused.0 in cc
 solved_no : HasEnded (Solving problem) CheckNo → ⊥
 solved_no is = cc
 
--- and these are the texts that they may write, and the statuses
+-- and each check writes which of the two it is, to the last byte
 outputs : IsOutput (Checking decision) Done (codes "accepted\n") × IsOutput (Checking poor) CheckNo (codes "not accepted\n")
 outputs = ((accepted, refl), (not_accepted, refl))
 
@@ -192,7 +192,7 @@ front_written : Ended ProblemFile (Ok (Solving problem)) (sinking (Some []) (Som
 unfolding digits
 front_written = record { task = Solving problem; good = refl; status = Done; text = decision_bytes; output = refl; took = (20, omega arith, refl); rose = inl (omega arith) }
 
--- it can't end as if its file were bad, or with nothing said of it; a bad file's refusal is the one that it has, with nothing written
+-- a good file isn't refused or half done with; a bad one is refused for what is wrong with it, and nothing is written
 ended_usage : Ended ProblemFile (Ok (Solving problem)) (sinking (Some []) (Some []) 0 0) Usage → ⊥
 ended_usage is = is
 

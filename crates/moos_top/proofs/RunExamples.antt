@@ -20,7 +20,7 @@ use Rattle.moos_top.proofs.Endings.{completes, refuses, written_output}
 use Rattle.moos_top.proofs.Examples.{checks, plays, solves_by_one}
 use Rattle.moos_top.proofs.JobExamples.{accepted, decision, decision_bytes, not_accepted, poor, poor_bytes, printed, problem, problem_bytes, script}
 
--- a run that solves the problem in its file, which the folder tells and is sure of: what the sink has taken, and how often it failed
+-- a run that solves the problem in its file, by what the file holds, what the sink has taken, and how often it failed; the folder tells its files and is sure of this one
 abbrev folder : List ℕ → List ℕ → List ℕ → Option (List ℕ)
 folder name bytes = content_of (record { name = name; bytes = bytes } ∷ [])
 
@@ -35,7 +35,7 @@ none_rose (inr most) = omega arith
 served : (bytes taken : List ℕ) → IsServed (solving bytes taken 0) (Solve (codes "p") 1) bytes
 served bytes taken = record { files = folder (codes "p") bytes; told = refl; named = solves_by_one; content = refl; loads = none_rose; puts = none_rose }
 
--- a folder that tells what it holds has no other bytes under the name, nor the same under another one; what one holds that doesn't tell is left open
+-- a folder that tells its files has these bytes under this name, and no others; of one that doesn't tell them, a file may have any bytes
 has_bytes : HasBytes (Some (folder (codes "p") problem_bytes)) (codes "p") problem_bytes × HasBytes None (codes "p") problem_bytes
 has_bytes = (refl, tt)
 
@@ -45,7 +45,7 @@ other_bytes has = let bytes : Some problem_bytes ≡ Some [] = has in cc
 other_name : HasBytes (Some (folder (codes "p") problem_bytes)) (codes "q") problem_bytes → ⊥
 other_name has = let bytes : None ≡ Some problem_bytes = has in cc
 
--- Done: it wrote the decision on the problem, and not half of it, twice as much or nothing
+-- Done: the whole decision was written, and not half of it, nor twice, nor nothing
 written : IsWritten (codes "solve" ∷ codes "p" ∷ []) (Some (folder (codes "p") problem_bytes)) Done decision_bytes
 unfolding digits
 written = record { job = Solve (codes "p") 1; bytes = problem_bytes; file = record { named = solves_by_one; content = refl }; task = Solving problem; read = refl; output = refl }
@@ -69,11 +69,11 @@ twice_written is = omega (arith, ap length (all_written (decision_bytes ++ decis
 nothing_written : Ran (solving problem_bytes [] 0) Done → ⊥
 nothing_written is = omega (arith, ap length (all_written [] is))
 
--- nor is a solved problem one whose decision isn't accepted
+-- CheckNo is no end of a job that solves a problem
 says_no : Ran (solving problem_bytes decision_bytes 0) CheckNo → ⊥
 says_no is = written_output (solving problem_bytes decision_bytes 0) (Solve (codes "p") 1) problem_bytes is.text (Solving problem) CheckNo (served problem_bytes decision_bytes) refl is.written
 
--- WriteFault: the sink failed, and took the first half; it didn't take the whole, nor fail without that it tells
+-- WriteFault: the sink took a part and not the whole, and its fault was counted
 write_failed : Ran (solving problem_bytes (take 20 decision_bytes) 1) WriteFault
 write_failed = record { rose = inl (omega arith); status = Done; text = decision_bytes; written = written; took = (20, omega arith, refl) }
 
@@ -109,7 +109,7 @@ no_memory = record { taken = refl; put_faults = refl }
 wrote_without_memory : Ran (solving problem_bytes (take 20 decision_bytes) 0) NoMemory → ⊥
 wrote_without_memory is = let taken : Some (take 20 decision_bytes) ≡ Some [] = is.taken in cc
 
--- Usage: the words name no job; here a word names one that there isn't, and nothing was written
+-- Usage: the words name no job, nothing was loaded, and nothing was written
 sails : (faults : ℕ) (taken : List ℕ) → Surroundings
 sails faults taken = surroundings (codes "sail" ∷ codes "p" ∷ []) None [] 0 faults (Some []) (Some taken) 0 0
 
@@ -128,7 +128,7 @@ loaded_nothing is = omega (arith, is.load_faults)
 named_a_job : Ran (solving problem_bytes [] 0) Usage → ⊥
 named_a_job is = let both : None ≡ Some (Solve (codes "p") 1) = sym is.unnamed ∙ solves_by_one in cc
 
--- LoadFault: the folder failed, and isn't sure of the file; one that is sure of it doesn't fail, nor one that tells no fault
+-- LoadFault: the folder failed at a file that it isn't sure of, its fault was counted, and nothing was written
 abbrev loading : List (List ℕ) → ℕ → List ℕ → Surroundings
 loading sure load_faults taken =
     surroundings (codes "solve" ∷ codes "p" ∷ []) (Some (folder (codes "p") problem_bytes)) sure 0 load_faults (Some []) (Some taken) 0 0
@@ -163,7 +163,7 @@ refused =
 refused_and_written : Ran (solving (codes "ivp 2\n") (codes "ivp 2\n") 0) (refusal ProblemFile 1) → ⊥
 refused_and_written is = let taken : Some (codes "ivp 2\n") ≡ Some [] = is.silent.taken in cc
 
--- a good file isn't refused, and of a bad one no other line, nor is it another kind of file, or done
+-- a good file isn't refused; a bad one isn't refused at another line, and its job isn't done
 line_in : Status → ℕ
 line_in (Refused refusal) = refusal.line
 line_in status = 0
@@ -220,7 +220,7 @@ refused_the_best : Ran (checking decision_bytes (codes "not accepted\n")) CheckN
 refused_the_best is =
     (written_output (checking decision_bytes (codes "not accepted\n")) (Check (codes "d")) decision_bytes is.text (Checking decision) CheckNo (asked decision_bytes (codes "not accepted\n")) refl is.written).0 accepted
 
--- a played script leaves a report, and never nothing
+-- a script was played where a report was written, and not where nothing was
 abbrev playing : List ℕ → Surroundings
 playing taken = surroundings (codes "play" ∷ codes "survey.txt" ∷ []) (Some (folder (codes "survey.txt") (codes "0 a fetch\n"))) [] 0 0 (Some []) (Some taken) 0 0
 
@@ -249,7 +249,7 @@ played_silently is =
     let took : Some [] ≡ Some is.text = is.took in
     cc
 
--- where nothing failed, a good file's job is done, and a bad file is refused; only for want of memory not
+-- where nothing failed, a good file's job is done and a bad file is refused, or no memory was left
 completed : Completes (solving problem_bytes decision_bytes 0) Done × Completes (solving problem_bytes [] 0) NoMemory
 completed = (completes (solving problem_bytes decision_bytes 0) Done solved, completes (solving problem_bytes [] 0) NoMemory no_memory)
 
@@ -260,7 +260,7 @@ gave_up does =
       | inr memory ↦ cc
     ]
 
--- of a run whose sink failed it says nothing
+-- where the sink failed, the job needn't be done
 failed_completes : Completes (solving problem_bytes (take 20 decision_bytes) 1) WriteFault
 failed_completes = completes (solving problem_bytes (take 20 decision_bytes) 1) WriteFault write_failed
 
