@@ -1,17 +1,18 @@
 -- Certificates and decisions worked by hand.
-use Rattle.std.proofs.Common.{◌≡◌, ℕ, true, false, Some, None, List, [], ◌∷◌, ◌++◌, refl, arith}
+use Rattle.std.proofs.Common.{◌≡◌, ℕ, true, false, Some, None, List, [], ◌∷◌, ◌++◌, refl, ap, sym, arith}
 use Rattle.std.specs.Prelude.{codes, Ok, Err, pos}
 use Rattle.ivp_domain.specs.Boxes.{point_of}
 use Rattle.ivp_problem.specs.Keys.{key_of}
 use Rattle.ivp_problem.specs.Problems.{WeightedSum}
 use Rattle.ivp_problem.specs.Sums.{best_of}
-use Rattle.ivp_problem.specs.Trees.{root_of}
+use Rattle.ivp_problem.specs.declared.node.Node.{Node}
+use Rattle.ivp_problem.specs.Trees.{bound_of, node_of, root_of}
 use Rattle.moos_text.specs.declared.cause.Cause.TheVariants.{P1, P9, P10}
 use Rattle.moos_text.specs.declared.cause.ReadFault.TheVariants.{At}
 use Rattle.ivp_cert.specs.declared.cert.Line.{Line}
 use Rattle.ivp_cert.specs.declared.claim.Claim.{Claim}
 use Rattle.ivp_cert.specs.declared.claim.Decision.{Decision}
-use Rattle.ivp_cert.specs.Certificates.{Accepts, begins, certificate_of, is_before, Rise}
+use Rattle.ivp_cert.specs.Certificates.{Accepts, begins, certificate_of, is_before, IsLine, Rise}
 use Rattle.ivp_cert.specs.Decisions.{decision_of}
 use Rattle.ivp_cert.specs.Walks.{behind_node}
 use Rattle.ivp_cert.proofs.Accepting.{walked_accepts}
@@ -76,6 +77,34 @@ longer_begins_not = refl
 
 lines_rise : Rise lines
 lines_rise = (refl, (refl, tt))
+
+swapped_fall : Rise (record { path = 0 ∷ 1 ∷ []; sum = 55; index = 10 } ∷ record { path = 0 ∷ 0 ∷ []; sum = 75; index = 2 } ∷ []) → ⊥
+swapped_fall are = let first : false ≡ true = are.0 in cc
+
+-- a line by its path, sum and index: that of the first leaf, and none of another sum or index, of no node, or of one whose bound is above the key
+abbrev line : List ℕ → ℕ → ℕ → Line
+line path sum index = record { path = path; sum = sum; index = index }
+
+abbrev leaf : Node
+leaf = record { depth = 2; area = record { low = 0 ∷ 0 ∷ 0 ∷ 0 ∷ []; high = 0 ∷ 1 ∷ 1 ∷ 0 ∷ [] }; base = pos 60; slope = pos 20 ∷ pos 15 ∷ pos 0 ∷ pos 0 ∷ [] }
+
+leaf_line : IsLine three (key_of 75 2) (line (0 ∷ 0 ∷ []) 75 2)
+leaf_line = record { node = leaf; reached = refl; sum = refl; index = refl; most = omega arith }
+
+bound_of_leaf : (node : Node) → node_of three (0 ∷ 0 ∷ []) ≡ Some node → bound_of three node ≡ key_of 75 2
+bound_of_leaf node reached = let same : leaf ≡ node = cc in sym (ap (bound_of three) same)
+
+other_sum_of_leaf : IsLine three (key_of 75 2) (line (0 ∷ 0 ∷ []) 74 2) → ⊥
+other_sum_of_leaf is = omega (arith, is.sum, bound_of_leaf is.node is.reached)
+
+other_index_of_leaf : IsLine three (key_of 75 2) (line (0 ∷ 0 ∷ []) 75 3) → ⊥
+other_index_of_leaf is = omega (arith, is.index, bound_of_leaf is.node is.reached)
+
+leaf_above_the_key : IsLine three (key_of 75 3) (line (0 ∷ 0 ∷ []) 75 2) → ⊥
+leaf_above_the_key is = omega (arith, is.most, bound_of_leaf is.node is.reached)
+
+no_third_leaf : IsLine three (key_of 75 2) (line (0 ∷ 2 ∷ []) 55 10) → ⊥
+no_third_leaf is = let reached = is.reached in absurd (cc)
 
 -- the certificate is accepted, and not with its lines the other way round
 abbrev claim : Claim

@@ -23,6 +23,7 @@ use Rattle.ivp_problem.proofs.KeyOrder.{best_most}
 use Rattle.ivp_pool.specs.declared.team.Worker.{Worker}
 use Rattle.ivp_pool.specs.Closing.{AreCovered, Closed, Passed, Pushed}
 use Rattle.ivp_pool.specs.Solving.{AreClosed, IsNew, IsSearched, IsWorker, low_of, share_of, total_of, WentOn}
+use Rattle.ivp_pool.proofs.Gluing.{whole}
 use Rattle.ivp_pool.proofs.Growing.{closed_covers}
 use Rattle.ivp_pool.proofs.Teams.{closed_one, searched}
 use Rattle.ivp_pool.specs.Tallies.{AreLinked, IsTally, IsWhole, Tally}
@@ -236,6 +237,16 @@ searched_early is = less_known (key_of 75 3) (omega arith) (closed_covers two (k
           taken = sym is.none;
           counted = omega (arith, ap length is.none, is.size);
         }
+
+-- the two calls are together the whole tree, and not while one key less is known
+second_call : IsTally two (key_of 75 2) (record { node = left; part = Pruned })
+second_call = record { node = record { path = 0 ∷ 0 ∷ []; reached = refl }; is = omega arith; here = λ same. absurd (cc) }
+
+calls_are_whole : IsWhole two (key_of 75 2) calls
+calls_are_whole = whole two two_is_lawful (key_of 75 2) calls (first_call, (second_call, tt)) calls_are_linked
+
+whole_early : IsWhole two (key_of 75 3) calls → ⊥
+whole_early is = omega (arith, is.most (point_of 0 1 0 0) refl)
 
 -- one call, which hands the first leaf on, and so closed three nodes
 called_once : AreClosed two (key_of 55 10) (root_of two ∷ []) (left ∷ []) 3

@@ -14,6 +14,7 @@ use Rattle.ivp_problem.specs.Keys.{index_of_key, key_of, sum_of}
 use Rattle.ivp_problem.specs.Problems.{IsProblem, IsTermOf, problem_of, WeightedSum}
 use Rattle.ivp_problem.specs.Sums.{best_of, key_at, sum_at}
 use Rattle.ivp_problem.specs.Nodes.{nodes_of, tree_size}
+use Rattle.ivp_problem.proofs.Nodes.{node_keeps}
 use Rattle.ivp_problem.specs.Trees.{AreTops, bound_of, child_of, children_of, chosen_at, has_in, IsNode, node_of, own_top, root_of, slope_at}
 
 abbrev axis : List ℕ → ℕ → ℕ → Axis
@@ -199,6 +200,13 @@ two_is_lawful = record { domain = refl; some = omega arith; few = omega arith; t
     each zero one here = let same : rising ≡ one = cc in subst (IsTermOf twelve) same rising_is_a_term
     each (suc zero) one here = let same : split ≡ one = cc in subst (IsTermOf twelve) same split_is_a_term
     each (suc (suc place)) one here = cc
+
+-- a node of it chooses no third piece, and adds what its pieces do
+third_piece : IsNode two (record left { depth = 3 }) → ⊥
+third_piece is = let keeps = node_keeps two (record left { depth = 3 }) two_is_lawful is in omega (arith, keeps.depth)
+
+other_base : IsNode two (record left { base = pos 61 }) → ⊥
+other_base is = let keeps = node_keeps two (record left { base = pos 61 }) two_is_lawful is in absurd (omega (arith, ints, keeps.sum (point_of 0 0 0 0) refl))
 
 -- no term has the weight 0, is over a domain with other axes, or has pieces that leave out a point
 weightless : IsTermOf twelve (term twelve 0 rising.func.pieces) → ⊥

@@ -192,6 +192,13 @@ front_written : Ended ProblemFile (Ok (Solving problem)) (sinking (Some []) (Som
 unfolding digits
 front_written = record { task = Solving problem; good = refl; status = Done; text = decision_bytes; output = refl; took = (20, omega arith, refl); rose = inl (omega arith) }
 
+failed_without_a_fault : Ended ProblemFile (Ok (Solving problem)) (sinking (Some []) (Some decision_bytes) 0 0) WriteFault → ⊥
+failed_without_a_fault is =
+    elim is.rose [
+      | inl rose ↦ omega arith
+      | inr most ↦ omega arith
+    ]
+
 -- a good file isn't refused or half done with; a bad one is refused for what is wrong with it, and nothing is written
 ended_usage : Ended ProblemFile (Ok (Solving problem)) (sinking (Some []) (Some []) 0 0) Usage → ⊥
 ended_usage is = is
