@@ -37,6 +37,7 @@ impl Mailbox {
     pub fn make(alloc: Global) -> Mailbox
         ensures waiting { result.waiting ≡ [] }
         ensures mailed { result.mailed ≡ [] }
+        ensures spare { result.spare ≡ 0 }
     {
         Mailbox {
             mailed: IndexSet::new(alloc),
