@@ -20,7 +20,7 @@ abbrev pub natural_of : ℕ → List ℕ → Option ℕ
 natural_of most word =
     if nat_lt 0 (length word) && list_all is_digit word && nat_le (digits_value word) most then Some (digits_value word) else None
 
--- a place on an axis
+-- a place on an axis, a number of a path, or an index
 abbrev pub place_of : List ℕ → Option ℕ
 place_of word = natural_of (2 ^ 32 - 1) word
 

@@ -73,6 +73,6 @@ judged axes None false same = Err TooLarge
 judged axes None true (Some place) = Err (SameName place)
 judged axes None true None = Ok axes
 
--- the domain that these axes make
+-- the domain that one to four axes make
 abbrev pub domain_of : List Axis → Result (List Axis) DomainFault
 domain_of axes = judged axes (bad_place axes) (nat_le (size_of axes) (2 ^ 22)) (repeated_place axes)

@@ -29,7 +29,7 @@ pub record CutOn (axis : ℕ) (whole left right : BoxN) : Type 0 where
   pub some : slice_index whole.low axis ≤ slice_index left.high axis
   pub rest : slice_index left.high axis < slice_index whole.high axis
 
--- a smaller part of a box that is covered short too
+-- a smaller part of a box, of which the pieces hold fewer points than it has
 pub record Shorter (pieces : List Piece) (whole part : BoxN) : Type 0 where
   pub proper : IsTrue (is_box part)
   pub smaller : volume_of part < volume_of whole

@@ -1,4 +1,5 @@
--- Keys: a sum and the index of a point in one number. The greater sum has the greater key, and of equal sums the lesser index.
+-- Keys: a sum and the index of a point, below 2^24, in one number. The greater sum has the greater key, and of equal sums
+-- the lesser index.
 use Rattle.std.specs.Prelude.{ℕ, ◌+◌, ◌-◌, ◌*◌, ◌/◌, ◌%◌, ◌^◌}
 
 -- the sum counts in units of 2^24, and below it what the index leaves of 2^24 - 1

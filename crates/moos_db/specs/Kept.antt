@@ -55,7 +55,7 @@ caught made stamp var source held = if is_new_held made var source held then wit
 abbrev pub has_patterns : List ℕ → List ℕ → KeptLive → Bool
 has_patterns var source held = bytes_eq held.reg.var var && bytes_eq held.reg.source source
 
--- the registrations without the one that has both these patterns
+-- the registrations without each that has both these patterns
 abbrev pub without_held : List ℕ → List ℕ → List KeptLive → List KeptLive
 without_held var source helds = filter (λ held. not (has_patterns var source held)) helds
 
@@ -129,7 +129,7 @@ kept_catching names number kept (post ∷ later) =
     (if catches_kept names kept number post later then with_caught names kept number post else kept)
     later
 
--- after the post with this number, the latest of its variable, caught up where it may
+-- after the post with this number, which is to be the latest of its variable, caught up where it may
 abbrev pub catch_post : List (List ℕ) → ℕ → Kept → Post → Kept
 catch_post names number kept post =
     if list_any (is_new_held kept.seen post.var (name_of names post.source)) kept.lives && not (list_any (λ one. one == number) kept.mailed)

@@ -21,7 +21,7 @@ post_in history place =
 abbrev pub place_at : ℕ → ℕ → Place
 place_at entry pair = record { entry = entry; pair = pair }
 
--- each post of the history, by number, stands at the place that is kept for it, and each entry has its letters
+-- each post of the history, by number, stands at the place that is kept for it, and there are letters for each entry
 pub record IsLog (entries : History) (letters : List (List ℕ)) (places : List Place) : Type 0 where
   pub each : length letters ≡ length entries
   pub placed : map (post_in entries) places ≡ map (λ post. Some post) (posts_of entries)

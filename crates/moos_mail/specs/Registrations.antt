@@ -16,6 +16,7 @@ pub record Made : Type 0 where
   pub reg : Reg
   pub entry : ℕ
 
+-- the registration, made at this entry
 abbrev pub made_at : ℕ → Reg → Made
 made_at entry reg = record { reg = reg; entry = entry }
 
@@ -88,6 +89,7 @@ comes_through names client history made n came post =
     then is_mailed_at n made.entry (mailed_to names client history) && selects names made.reg post
     else is_due names post (live_with made came)
 
+-- what came through the registration, with post n too where there is one and it comes through
 abbrev pub with_next : List (List ℕ) → ℕ → History → Made → ℕ → List Post → Option Post → List Post
 with_next names client history made n came None = came
 with_next names client history made n came (Some post) = if comes_through names client history made n came post then came ++ post ∷ [] else came

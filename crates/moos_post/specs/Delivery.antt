@@ -73,7 +73,7 @@ with_post names inbox post = record inbox {
   mailed = if list_any (is_due names post) inbox.lives then inbox.mailed ++ mailing (length inbox.posts) inbox.entries ∷ [] else inbox.mailed;
 }
 
--- the registrations without the one that has both these patterns
+-- the registrations without each that has both these patterns
 abbrev pub without : List ℕ → List ℕ → List Live → List Live
 without var source lives = filter (λ live. not (bytes_eq live.reg.var var && bytes_eq live.reg.source source)) lives
 

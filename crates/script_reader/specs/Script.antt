@@ -107,7 +107,7 @@ pub record Posting : Type 0 where
   pub variables : List (List ℕ)
   pub pairs : List Pair
 
--- so many variables and pairs
+-- these variables and these pairs
 abbrev pub posting : List (List ℕ) → List Pair → Posting
 posting variables pairs = record { variables = variables; pairs = pairs }
 

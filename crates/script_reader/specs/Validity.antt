@@ -22,8 +22,8 @@ keeps_limits (Unregister var source) = true
 keeps_limits (Posts batch) = nat_lt 0 (length batch) && nat_le (length batch) 64
 keeps_limits Fetch = true
 
--- Each line's client is one of this many, no stamp is below the one before, the first of which is `last`, and none is
--- above `stop`.
+-- Each line's client is one of this many and its call keeps the limits, no stamp is below the one before, which at first
+-- is `last`, and the last one is not above `stop`.
 abbrev pub are_lines : ℕ → ℕ → ℕ → List Entry → Bool
 are_lines clients last stop [] = nat_le last stop
 are_lines clients last stop (line ∷ lines) =

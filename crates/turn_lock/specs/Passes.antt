@@ -60,7 +60,7 @@ abbrev pub events_in : {E : Type 0} → List (Met E) → ℕ → List E
 events_in [] n = []
 events_in (one ∷ met) n = if has_number n one then one.events else events_in met n
 
--- those taken in without the one of this number
+-- those taken in without each of this number
 abbrev pub without : {E : Type 0} → ℕ → List (Met E) → List (Met E)
 without n met = filter (λ one. not (has_number n one)) met
 
