@@ -58,7 +58,15 @@ fn levels(alloc: Global, first: &str) -> Result<String, Fail> {
     Ok(text)
 }
 
-// Runs a command line beside the file `f.txt`, into a sink with room to spare.
+// A folder with the file `f.txt` alone.
+fn folder_of(rt: &impl Abort, alloc: Global, text: &str) -> Result<MemFolder, Fail> {
+    let mut folder = MemFolder::make(alloc);
+    assert!(rt; text.len() < 10_000);
+    folder.add(alloc, b"f.txt", text.as_bytes())?;
+    Ok(folder)
+}
+
+// Runs a command line beside that file, into a sink with room to spare.
 fn run_on<R: Threads + Wait + Sync + Abort>(
     rt: &R,
     alloc: Global,
@@ -77,12 +85,25 @@ fn run_under<R: Threads + Wait + Sync + Abort, G: Gate>(
     gate: &G,
 ) -> Result<(Status, MemSink), Fail> {
     let words = command_line(rt, alloc, line)?;
-    let mut folder = MemFolder::make(alloc);
-    assert!(rt; text.len() < 10_000);
-    folder.add(alloc, b"f.txt", text.as_bytes())?;
+    let mut folder = folder_of(rt, alloc, text)?;
     let mut out = MemSink::make(alloc, 10_000, 10_000)?;
     let status = run(rt, alloc, &words, &mut folder, &mut out, gate);
     Ok((status, out))
+}
+
+// Such a run ends so, and writes this.
+pub(super) fn ends_so<R: Threads + Wait + Sync + Abort>(
+    rt: &R,
+    alloc: Global,
+    line: &[&str],
+    text: &str,
+    status: Status,
+    written: &str,
+) -> Result<(), Fail> {
+    let (ended, out) = run_on(rt, alloc, line, text)?;
+    assert_eq!(rt; ended, status, "{line:?}: {text}");
+    assert_eq!(rt; out.bytes(), written.as_bytes(), "{line:?}: {text}");
+    Ok(())
 }
 
 #[test]
@@ -91,9 +112,23 @@ fn good_scripts_are_played(rt: HostRuntime) -> Result<(), Fail> {
         ("", "%% moosdb play 1\n%% end 0 0\n"),
         (FIRST_SCRIPT, FIRST_REPORT),
     ] {
-        let (status, out) = run_on(&rt, rt.alloc(), &["play", "f.txt"], text)?;
-        assert_eq!(rt; status, Status::Done, "{text}");
-        assert_eq!(rt; out.bytes(), written.as_bytes(), "{text}");
+        let line = ["play", "f.txt"];
+        ends_so(&rt, rt.alloc(), &line, text, Status::Done, written)?;
+    }
+    Ok(())
+}
+
+// The problem's decision is this, by any number of workers.
+fn is_solved<R: Threads + Wait + Sync + Abort>(
+    rt: &R,
+    alloc: Global,
+    text: &str,
+    decision: &str,
+) -> Result<(), Fail> {
+    let wanted = decided(alloc, text, decision)?;
+    for workers in ["1", "2", "16"] {
+        let line = ["solve", "f.txt", "--workers", workers];
+        ends_so(rt, alloc, &line, text, Status::Done, wanted.as_str())?;
     }
     Ok(())
 }
@@ -106,15 +141,22 @@ fn good_problems_are_solved_by_any_number_of_workers(rt: HostRuntime) -> Result<
         (SECOND_PROBLEM, SECOND_DECISION),
         (levels.as_str(), LEVELS_DECISION),
     ] {
-        let wanted = decided(rt.alloc(), text, decision)?;
-        for workers in ["1", "2", "16"] {
-            let line = ["solve", "f.txt", "--workers", workers];
-            let (status, out) = run_on(&rt, rt.alloc(), &line, text)?;
-            assert_eq!(rt; status, Status::Done, "{text}");
-            assert_eq!(rt; out.bytes(), wanted.as_bytes(), "{text}");
-        }
+        is_solved(&rt, rt.alloc(), text, decision)?;
     }
     Ok(())
+}
+
+// A check of the second problem with this decision ends so, and writes this.
+fn is_checked<R: Threads + Wait + Sync + Abort>(
+    rt: &R,
+    alloc: Global,
+    decision: &str,
+    status: Status,
+    written: &str,
+) -> Result<(), Fail> {
+    let text = decided(alloc, SECOND_PROBLEM, decision)?;
+    let line = ["check", "f.txt"];
+    ends_so(rt, alloc, &line, text.as_str(), status, written)
 }
 
 #[test]
@@ -151,10 +193,7 @@ fn decisions_are_checked(rt: HostRuntime) -> Result<(), Fail> {
             "",
         ),
     ] {
-        let text = decided(rt.alloc(), SECOND_PROBLEM, decision)?;
-        let (ended, out) = run_on(&rt, rt.alloc(), &["check", "f.txt"], text.as_str())?;
-        assert_eq!(rt; ended, status, "{decision}");
-        assert_eq!(rt; out.bytes(), written.as_bytes(), "{decision}");
+        is_checked(&rt, rt.alloc(), decision, status, written)?;
     }
     Ok(())
 }
@@ -196,13 +235,8 @@ fn bad_files_are_refused(rt: HostRuntime) -> Result<(), Fail> {
             Cause::P4,
         ),
     ] {
-        let (status, out) = run_on(&rt, rt.alloc(), &[job, "f.txt"], text)?;
-        assert_eq!(rt;
-            status,
-            Status::Refused(Refusal { file, line, cause }),
-            "{text}"
-        );
-        assert_eq!(rt; out.bytes(), b"".as_slice(), "{text}");
+        let status = Status::Refused(Refusal { file, line, cause });
+        ends_so(&rt, rt.alloc(), &[job, "f.txt"], text, status, "")?;
     }
     Ok(())
 }
@@ -249,9 +283,7 @@ fn words_that_are_taken(rt: HostRuntime) -> Result<(), Fail> {
             decided.as_str(),
         ),
     ] {
-        let (status, out) = run_on(&rt, rt.alloc(), line, text)?;
-        assert_eq!(rt; status, Status::Done, "{line:?}");
-        assert_eq!(rt; out.bytes(), written.as_bytes(), "{line:?}");
+        ends_so(&rt, rt.alloc(), line, text, Status::Done, written)?;
     }
     Ok(())
 }
@@ -308,25 +340,34 @@ fn an_absent_file_is_a_load_fault(rt: HostRuntime) -> Result<(), Fail> {
     Ok(())
 }
 
+// A sink of which each put takes 7 bytes, and the second one fails.
+fn failing_sink(alloc: Global) -> Result<MemSink, Fail> {
+    let mut out = MemSink::make(alloc, 10_000, 7)?;
+    out.fail_at(1)?;
+    Ok(out)
+}
+
+// Into such a sink a run of the job writes this front.
+fn leaves<R: Threads + Wait + Sync + Abort>(
+    rt: &R,
+    alloc: Global,
+    job: &str,
+    text: &str,
+    front: &str,
+) -> Result<(), Fail> {
+    let words = command_line(rt, alloc, &[job, "f.txt"])?;
+    let mut folder = folder_of(rt, alloc, text)?;
+    let mut out = failing_sink(alloc)?;
+    let status = run(rt, alloc, &words, &mut folder, &mut out, &NoGate);
+    assert_eq!(rt; status, Status::WriteFault);
+    assert_eq!(rt; out.bytes(), front.as_bytes());
+    Ok(())
+}
+
 #[test]
 fn a_failed_put_leaves_a_front(rt: HostRuntime) -> Result<(), Fail> {
-    let words = command_line(&rt, rt.alloc(), &["play", "s.txt"])?;
-    let mut folder = MemFolder::make(rt.alloc());
-    folder.add(rt.alloc(), b"s.txt", FIRST_SCRIPT.as_bytes())?;
-    let mut out = MemSink::make(rt.alloc(), 10_000, 7)?;
-    out.fail_at(1)?;
-    let status = run(&rt, rt.alloc(), &words, &mut folder, &mut out, &NoGate);
-    assert_eq!(rt; status, Status::WriteFault);
-    assert_eq!(rt; out.bytes(), b"%% moos".as_slice());
-
-    let words = command_line(&rt, rt.alloc(), &["solve", "p.txt"])?;
-    folder.add(rt.alloc(), b"p.txt", FIRST_PROBLEM.as_bytes())?;
-    let mut out = MemSink::make(rt.alloc(), 10_000, 7)?;
-    out.fail_at(1)?;
-    let status = run(&rt, rt.alloc(), &words, &mut folder, &mut out, &NoGate);
-    assert_eq!(rt; status, Status::WriteFault);
-    assert_eq!(rt; out.bytes(), b"ivp 1\nd".as_slice());
-    Ok(())
+    leaves(&rt, rt.alloc(), "play", FIRST_SCRIPT, "%% moos")?;
+    leaves(&rt, rt.alloc(), "solve", FIRST_PROBLEM, "ivp 1\nd")
 }
 
 #[test]

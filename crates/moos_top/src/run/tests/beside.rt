@@ -147,7 +147,15 @@ fn made_by(name: &str, order: &[&'static str]) -> usize {
     order.iter().filter(|&&other| other == name).count()
 }
 
-// Plays the script, and gives the order that its report tells. The whole report is the one of that order.
+// The order that a report tells, which has each client's three lines. The whole report is the one of that order.
+fn order_of(rt: &impl Abort, alloc: Global, report: &str) -> Result<Vec<&'static str>, AllocError> {
+    let order = order_in(alloc, report)?;
+    assert!(rt; made_by("a", &order) == 3 && made_by("b", &order) == 3);
+    assert_eq!(rt; report, report_of(alloc, &order)?.as_str());
+    Ok(order)
+}
+
+// Plays the script, and gives the order that its report tells.
 fn play<R: Threads + Wait + Sync + Abort>(
     rt: &R,
     alloc: Global,
@@ -155,11 +163,7 @@ fn play<R: Threads + Wait + Sync + Abort>(
 ) -> Result<Vec<&'static str>, Fail> {
     let (status, out) = run_on(rt, alloc, line, SCRIPT)?;
     assert_eq!(rt; status, Status::Done);
-    let report = str::from_utf8(out.bytes())?;
-    let order = order_in(alloc, report)?;
-    assert!(rt; made_by("a", &order) == 3 && made_by("b", &order) == 3);
-    assert_eq!(rt; report, report_of(alloc, &order)?.as_str());
-    Ok(order)
+    Ok(order_of(rt, alloc, str::from_utf8(out.bytes())?)?)
 }
 
 #[test]
