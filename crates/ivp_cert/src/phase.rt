@@ -1,12 +1,12 @@
-ghost use Rattle.std.specs.Prelude.{◌≡◌, Ok, IfOk, IfErr, IsTrue};
+ghost use Rattle.std.specs.Prelude.{◌≡◌, Ok, IfOk, IfErr, IfSome, IsTrue};
 ghost use Rattle.moos_text.specs.Lines.{trimmed, words_of};
 ghost use Rattle.ivp_domain.specs.Domains.{is_point};
 ghost use Rattle.moos_text.specs.Refusals.{IsFirst, IsLineFault};
-ghost use Rattle.ivp_cert.specs.Decisions.{claimed, spelled_with};
+ghost use Rattle.ivp_cert.specs.Decisions.{claimed, spelled_with, with_line};
 ghost use Rattle.ivp_cert.specs.Stages.{HasPoint, after_cuts, after_first, after_problem, after_stage, phase_after, whole_decision};
 ghost use Rattle.ivp_cert.specs.Words.{without_prefix};
 
-use crate::cert::Cert;
+use crate::cert::{Cert, Line};
 use crate::claim::{Claim, Decision, Spelled, are_on, point_at, spelled_in};
 use crate::line::line_of;
 use crate::stage::Stage;
@@ -146,6 +146,25 @@ fn claimed(alloc: Global, problem: Problem, of: &Spelled) -> Result<Decision, Ca
     })
 }
 
+// The decision with one line of its certificate more, if memory is left for it.
+fn with_line(decision: Decision, line: Line) -> Option<Decision>
+    ensures { IfSome result (λ more. more ≡ with_line decision line) }
+{
+    let Decision {
+        problem,
+        claim,
+        mut cert,
+    } = decision;
+    if cert.push(line).is_err() {
+        return None;
+    }
+    Some(Decision {
+        problem,
+        claim,
+        cert,
+    })
+}
+
 // In a certificate stands one line more, or its end.
 fn after_cuts(
     alloc: Global,
@@ -160,19 +179,10 @@ fn after_cuts(
 {
     if word == b"cut".as_slice() {
         let line = line_of(alloc, rest)?;
-        let Decision {
-            problem,
-            claim,
-            mut cert,
-        } = decision;
-        if cert.push(line).is_err() {
-            return Err(LineFault::NoMemory);
-        }
-        return Ok(Phase::OfCuts(Decision {
-            problem,
-            claim,
-            cert,
-        }));
+        return match with_line(decision, line) {
+            Some(more) => Ok(Phase::OfCuts(more)),
+            None => Err(LineFault::NoMemory),
+        };
     }
     if word != b"done".as_slice() || next_word(rest).is_some() {
         return Err(LineFault::Refused(Cause::P1));
