@@ -1,5 +1,5 @@
 -- Keys in order: by sum, then by least index; and the keys of points.
-use Rattle.std.proofs.Common.{◌≡◌, ℕ, zero, suc, ◌+◌, ◌-◌, ◌*◌, ◌^◌, ◌<◌, ◌≤◌, true, false, cond, Bool, ◌&&◌, nat_le, nat_lt, Some, List, [], ◌∷◌, length, refl, ap, sym, ◌∙◌, inl, inr, arith}
+use Rattle.std.proofs.Common.{◌≡◌, ℕ, zero, suc, ◌+◌, ◌-◌, ◌*◌, ◌^◌, ◌<◌, ◌≤◌, true, false, cond, Bool, ◌&&◌, nat_le, nat_lt, Some, List, [], ◌∷◌, length, refl, ap, sym, ◌∙◌, ◌⊎◌, inl, inr, arith}
 use Rattle.std.specs.Prelude.{slice_get, slice_index}
 use Rattle.std.specs.List.{fold}
 use Rattle.std.proofs.Math.Nat.{mul-le-mul_right}
@@ -36,6 +36,14 @@ key_apart s s' i i' p q e =
     elim (cases_lt s s') [
       | inl less ↦ absurd (omega arith)
       | inr more ↦ elim (cases_lt s' s) [ inl less ↦ absurd (omega arith) | inr same ↦ omega arith ]
+    ]
+
+-- a key that none exceeds has the greater sum, or the same and no greater index
+pub key_back : (s s' i i' : ℕ) → i < 2 ^ 22 → i' < 2 ^ 22 → key_of s i ≤ key_of s' i' → (s < s') ⊎ ((s ≡ s') × (i' ≤ i))
+key_back s s' i i' p q below =
+    elim (cases_lt s s') [
+      | inl less ↦ inl less
+      | inr more ↦ inr (omega arith, omega arith)
     ]
 
 -- an index is below the number of points

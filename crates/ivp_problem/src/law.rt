@@ -1,4 +1,4 @@
-ghost use Rattle.std.specs.Prelude.{◌≡◌, ◌<◌, ◌≤◌, ◌^◌, length, IsTrue, if◌then◌else◌, count_by, slice_get, Some};
+ghost use Rattle.std.specs.Prelude.{◌≡◌, ◌<◌, ◌≤◌, ◌^◌, ◌⊎◌, length, IsTrue, if◌then◌else◌, count_by, slice_get, Some};
 ghost use Rattle.ivp_domain.specs.Boxes.{has_point};
 ghost use Rattle.ivp_domain.specs.Domains.{index_of, is_point, points_of};
 ghost use Rattle.ivp_problem.specs.Keys.{index_of_key, sum_of};
@@ -41,9 +41,11 @@ pub fn bound_law(problem: &Problem, node: &Node)
     let _ = problem.len();
 }
 
-/// What holds of the best point: it stands among all points at its index, and its key gives its sum
-/// and its index. It does nothing.
+/// What holds of the best point: each other point has a lesser sum, or the same and no lesser index.
+/// It stands among all points at its index, and its key gives its sum and its index. It does nothing.
 pub fn best_law(problem: &Problem)
+    ensures greatest { (p : Point) → IsTrue (is_point problem.now.axes p) → (sum_at problem.now p < sum_at problem.now (best_of problem.now))
+        ⊎ ((sum_at problem.now p ≡ sum_at problem.now (best_of problem.now)) × (index_of problem.now.axes (best_of problem.now) ≤ index_of problem.now.axes p)) }
     ensures listed { slice_get (points_of problem.now.axes) (index_of problem.now.axes (best_of problem.now)) ≡ Some (best_of problem.now) }
     ensures sum { sum_of (key_at problem.now (best_of problem.now)) ≡ sum_at problem.now (best_of problem.now) }
     ensures index { index_of_key (key_at problem.now (best_of problem.now)) ≡ index_of problem.now.axes (best_of problem.now) }
