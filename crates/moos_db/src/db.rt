@@ -314,17 +314,19 @@ impl Db {
         self.log.origin(j as usize)
     }
 
-    /// The numbers of the posts that the entry gave: a fetch its mail, and every other entry nothing.
+    /// The numbers of the posts that the entry gave: a fetch its mail, and every other entry nothing. Nor is there any where
+    /// there is no such entry.
     pub fn letters(&self, k: u64) -> &[u64]
-        requires { k < length self.now.history }
         ensures { result.now ≡ mail_at self.now.names self.now.history k }
     {
+        if k >= self.entries() {
+            return &[];
+        }
         self.log.letters(k as usize)
     }
 
     /// Each number that an entry gave is that of a post before it. This changes nothing, and tells callers of `letters`.
     pub fn letters_law(&self, k: u64)
-        requires { k < length self.now.history }
         ensures { let before = take k self.now.history
             in All (λ number. number < length (posts_of before)) (mail_at self.now.names self.now.history k) }
     {}

@@ -48,7 +48,8 @@ job_of word line =
     else if bytes_eq word (codes "check") then option_and_then check_of (found_in check_command line)
     else None
 
--- the job that a command line asks for: its first word is that of a job, whose command takes the line
+-- the job that a command line asks for: its first word is that of a job, whose command takes the line, and the name of its
+-- file is one that a text can hold
 abbrev pub job_named : List Text → Option Job
 job_named [] = None
 job_named (word ∷ rest) = job_of word (word ∷ rest)
