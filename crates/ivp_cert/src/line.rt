@@ -1,4 +1,4 @@
-ghost use Rattle.std.specs.Prelude.{◌≡◌, [], Some, IfOk, IfErr, IfSome, MatchOption, None};
+ghost use Rattle.std.specs.Prelude.{◌≡◌, [], Some, IfOk, IfErr, None};
 ghost use Rattle.moos_text.specs.Lines.{words_of};
 ghost use Rattle.moos_text.specs.Refusals.{IsLineFault};
 ghost use Rattle.ivp_cert.specs.Decisions.{bound_with, in_form, line_from};

@@ -1,4 +1,4 @@
-ghost use Rattle.std.specs.Prelude.{◌≡◌, ◌≤◌, ◌^◌, ◌&&◌, IsTrue, IfSome, MatchOption, None, Some};
+ghost use Rattle.std.specs.Prelude.{◌≡◌, ◌&&◌, IsTrue, IfSome, MatchOption, None, Some};
 ghost use Rattle.moos_text.specs.Lines.{words_of};
 ghost use Rattle.ivp_func.specs.Pieces.{is_base};
 ghost use Rattle.ivp_cert.specs.Pieces.{are_slopes, is_slope_where, piece_of, range_of, slope_of, sloped, slopes_of};

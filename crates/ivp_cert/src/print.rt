@@ -1,10 +1,10 @@
 // The text of a decision.
-ghost use Rattle.std.specs.Prelude.{◌≡◌, ◌≤◌, ◌++◌, [], ◌∷◌, flat_map, map, take, length, codes, decimal, OnOk, OnErr};
+ghost use Rattle.std.specs.Prelude.{◌≤◌, [], ◌∷◌, flat_map, codes, decimal, OnOk, OnErr};
 ghost use Rattle.std.specs.List.{concat};
 ghost use Rattle.moos_io.specs.Faults.{Rose};
 ghost use Rattle.moos_io.specs.Pieces.{Took, TookFront};
 ghost use Rattle.moos_io.specs.Writing.{way, Wrote};
-ghost use Rattle.ivp_cert.specs.Texts.{claim_text, decision_lines, line_text, number_word, problem_text};
+ghost use Rattle.ivp_cert.specs.Texts.{claim_text, decision_lines, line_text};
 
 use crate::cert::{Cert, Line};
 use crate::claim::{Claim, Decision};

@@ -1,5 +1,5 @@
 // Bytes and numbers of a line, as they go through a buffer.
-ghost use Rattle.std.specs.Prelude.{◌≡◌, ◌<◌, ◌++◌, [], ◌∷◌, flat_map, map, take, codes, decimal};
+ghost use Rattle.std.specs.Prelude.{◌<◌, flat_map, map};
 ghost use Rattle.std.specs.List.{concat};
 ghost use Rattle.moos_io.specs.Writing.{way, Wrote};
 ghost use Rattle.ivp_cert.specs.Texts.{integer_word, number_word};

@@ -1,10 +1,10 @@
 // The lines of a problem.
-ghost use Rattle.std.specs.Prelude.{◌≡◌, ◌<◌, ◌≤◌, ◌*◌, ◌++◌, [], ◌∷◌, flat_map, map, take, length, codes, decimal, IsTrue};
+ghost use Rattle.std.specs.Prelude.{◌≡◌, ◌<◌, ◌≤◌, ◌*◌, [], ◌∷◌, flat_map, length, codes, decimal, IsTrue};
 ghost use Rattle.std.specs.List.{concat};
 ghost use Rattle.moos_io.specs.Writing.{way, Wrote};
 ghost use Rattle.moos_post.specs.Words.{IsMilli};
 ghost use Rattle.ivp_domain.specs.Axes.{is_good_axis};
-ghost use Rattle.ivp_cert.specs.Texts.{axis_text, ends_of, integer_word, number_word, piece_text, problem_text, term_text};
+ghost use Rattle.ivp_cert.specs.Texts.{axis_text, ends_of, piece_text, problem_text, term_text};
 
 use crate::put::{put, put_integer, put_integers, put_numbers};
 use ivp_domain::{Axis, BoxN, Domain};

@@ -1,8 +1,7 @@
 ghost use Rattle.std.specs.Prelude.{◌≡◌, ◌+◌, ◌<◌, ◌∷◌, ◌++◌, [], take, Ok, Err, Some, length, IfOk, IfErr};
 ghost use Rattle.moos_text.specs.Lines.{trimmed, words_of};
 ghost use Rattle.moos_text.specs.Refusals.{IsFirst, IsLineFault};
-ghost use Rattle.ivp_problem.specs.Problems.{is_weight};
-ghost use Rattle.ivp_cert.specs.Problems.{ended, ended_early, over, with_axis, with_domain, with_function, with_piece, with_weight};
+ghost use Rattle.ivp_cert.specs.Problems.{ended, ended_early, with_axis, with_domain, with_function, with_piece, with_weight};
 ghost use Rattle.ivp_cert.specs.Stages.{after_axes, after_begun, after_functions, after_word, after_words, begun, whole_problem};
 ghost use Rattle.ivp_cert.specs.Said.{at_line};
 ghost use Rattle.ivp_cert.specs.Pieces.{piece_of};

@@ -1,4 +1,4 @@
-ghost use Rattle.std.specs.Prelude.{◌≡◌, ℕ, ℤ, ◌-◌, ◌^◌, ◌<◌, ◌≤◌, ◌↔◌, List, ◌++◌, ◌*◌, ◌/◌, ◌-ℤ◌, nat_abs, length, take, replicate, IsTrue, IsSome, IfSome, nat_le, slice_index};
+ghost use Rattle.std.specs.Prelude.{◌≡◌, ℕ, ◌-◌, ◌^◌, ◌<◌, ◌≤◌, ◌↔◌, List, ◌++◌, ◌*◌, ◌/◌, ◌-ℤ◌, nat_abs, length, take, replicate, IsTrue, IsSome, IfSome};
 ghost use Rattle.std.specs.List.{list_all};
 ghost use Rattle.ivp_domain.specs.AxisNames.{is_axis_name, is_letter, is_word_byte};
 ghost use Rattle.ivp_domain.specs.Axes.{is_good_axis, no_axis, value_on};

@@ -1,4 +1,4 @@
-ghost use Rattle.std.specs.Prelude.{◌≡◌, ℕ, ◌+◌, ◌*◌, ◌^◌, ◌<◌, ◌≤◌, List, [], ◌∷◌, ◌++◌, length, take, replicate, Some, IsTrue, IfSome, min, nat_le, slice_get, slice_index_or, ◌-◌};
+ghost use Rattle.std.specs.Prelude.{◌≡◌, ◌+◌, ◌*◌, ◌^◌, ◌<◌, ◌≤◌, List, ◌++◌, length, take, replicate, Some, IsTrue, IfSome, min, nat_le, slice_get, ◌-◌};
 ghost use Rattle.std.specs.List.{list_any};
 ghost use Rattle.ivp_domain.specs.Axes.{is_good_axis, no_axis, value_on};
 ghost use Rattle.ivp_domain.specs.Boxes.{is_box, volume_of};

@@ -1,4 +1,4 @@
-ghost use Rattle.std.specs.Prelude.{◌≡◌, ◌<◌, ◌≤◌, ℕ, IsTrue};
+ghost use Rattle.std.specs.Prelude.{◌≡◌, ◌<◌, IsTrue};
 ghost use Rattle.ivp_domain.specs.Domains.{is_point};
 
 use crate::{Func, FuncFault, Piece, are_pieces_of, is_piece_of, tests_law};

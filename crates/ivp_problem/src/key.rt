@@ -1,4 +1,4 @@
-ghost use Rattle.std.specs.Prelude.{◌≡◌, ℕ, ◌^◌, ◌<◌, ◌≤◌};
+ghost use Rattle.std.specs.Prelude.{◌≡◌, ◌^◌, ◌<◌, ◌≤◌};
 ghost use Rattle.ivp_problem.specs.Keys.{index_of_key, key_of, sum_of};
 
 /// A weighted sum and the index of a point in one number: `sum * 2^24 + (2^24 - 1 - index)`. The

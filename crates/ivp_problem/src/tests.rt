@@ -1,6 +1,6 @@
-ghost use Rattle.std.specs.Prelude.{◌≡◌, ◌<◌, ◌≤◌, ℕ, IsTrue, IfSome, length, slice_get};
+ghost use Rattle.std.specs.Prelude.{◌≡◌, ◌<◌, IsTrue, IfSome};
 ghost use Rattle.ivp_domain.specs.Domains.{is_point};
-ghost use Rattle.ivp_problem.specs.Trees.{IsNode, next_of};
+ghost use Rattle.ivp_problem.specs.Trees.{IsNode};
 
 use crate::{
     Key, Node, Problem, ProblemFault, Term, best_law, bound_law, children_law, index_of_key,

@@ -1,5 +1,5 @@
 // Two clients of one database: each call once, and both on threads beside each other.
-ghost use Rattle.std.specs.Prelude.{◌≡◌, IfOk};
+ghost use Rattle.std.specs.Prelude.{IfOk};
 ghost use Rattle.moos_client.specs.Calls.{MayCall};
 
 use crate::{Lock, Seat, fetch, post, register, unregister};

@@ -1,4 +1,4 @@
-ghost use Rattle.std.specs.Prelude.{◌≡◌, ◌^◌, ◌<◌, [], ◌∷◌, ◌++◌, length, map, take, replicate, All, false, IfOk, OnOk, OnErr, Some, option_map, slice_get};
+ghost use Rattle.std.specs.Prelude.{◌≡◌, ◌^◌, ◌<◌, [], ◌∷◌, ◌++◌, length, take, replicate, All, false, IfOk, OnOk, OnErr, Some, option_map, slice_get};
 ghost use Rattle.moos_post.specs.Delivery.{mail_after, mail_at, is_fetch};
 ghost use Rattle.moos_post.specs.History.{posts_of};
 ghost use Rattle.moos_db.specs.Kept.{empty_kept};

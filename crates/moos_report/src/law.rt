@@ -1,5 +1,5 @@
 // What the types of a history's parts say of its values, gathered part by part, and so what its report tells.
-ghost use Rattle.std.specs.Prelude.{◌≡◌, ◌<◌, ◌^◌, List, ℕ, length, slice_get, Some, IsTrue};
+ghost use Rattle.std.specs.Prelude.{◌≡◌, List, ℕ, length, IsTrue};
 ghost use Rattle.std.specs.List.{All};
 ghost use Rattle.moos_post.specs.History.{History};
 ghost use Rattle.moos_post.specs.Words.{is_name};

@@ -7,14 +7,14 @@
 // says that a report tells its history.
 #![tactic(auto)]
 
-ghost use Rattle.std.specs.Prelude.{◌≡◌, ◌+◌, ◌<◌, ◌≤◌, ◌++◌, [], ◌∷◌, Some, OnOk, OnErr, length, take, flat_map, map, codes, decimal, slice_get};
+ghost use Rattle.std.specs.Prelude.{◌≡◌, ◌+◌, ◌<◌, ◌≤◌, ◌++◌, [], ◌∷◌, Some, OnOk, OnErr, length, take, flat_map, codes, decimal, slice_get};
 ghost use Rattle.std.specs.List.{concat};
 ghost use Rattle.moos_io.specs.Faults.{Rose};
 ghost use Rattle.moos_io.specs.Pieces.{Took, TookFront};
 ghost use Rattle.moos_io.specs.Writing.{Wrote, way};
-ghost use Rattle.moos_post.specs.History.{name_of, posts_of, posts_of_entry, posts_of_call, post_of};
+ghost use Rattle.moos_post.specs.History.{name_of, posts_of, posts_of_entry};
 ghost use Rattle.moos_text.specs.Numbers.{unsigned_text};
-ghost use Rattle.moos_report.specs.Report.{report_text, said_text, clients_text, entries_text, entry_text, call_text, reg_text, post_text, letter_text, letters_text, end_text};
+ghost use Rattle.moos_report.specs.Report.{report_text, said_text, clients_text, entries_text, entry_text, call_text, reg_text, letter_text, letters_text};
 
 mod law;
 mod lines;

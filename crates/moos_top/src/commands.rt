@@ -1,6 +1,5 @@
 // The commands of the program's jobs, and what they find in the words of a command line.
-ghost use Rattle.std.specs.Prelude.{◌≡◌, ◌≤◌, IfOk, Some, option_map, codes, bytes_eq, false};
-ghost use Rattle.std.specs.Option.{option_map_or};
+ghost use Rattle.std.specs.Prelude.{◌≡◌, ◌≤◌, IfOk, Some, option_map, false};
 ghost use Rattle.clap.specs.Words.{app_of, found_of, rows_of};
 ghost use Rattle.moos_top.specs.Commands.{IsPlain, check_command, file_in, found_in, few, is_set, play_command, solve_command, text_of, workers_in};
 

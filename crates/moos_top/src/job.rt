@@ -1,7 +1,7 @@
 // The job that a command line asks for.
 ghost use Rattle.std.specs.Prelude.{◌≡◌, IfOk, IfSome, option_and_then};
 ghost use Rattle.moos_top.specs.Commands.{check_command, found_in, play_command, solve_command};
-ghost use Rattle.moos_top.specs.Jobs.{HasFewWorkers, check_of, file_of, job_named, job_of, order_in, play_of, solve_of};
+ghost use Rattle.moos_top.specs.Jobs.{HasFewWorkers, check_of, file_of, job_named, order_in, play_of, solve_of};
 ghost use Rattle.clap.specs.Words.{found_of, rows_of};
 
 use crate::commands::{

@@ -2,7 +2,7 @@
 ghost use Rattle.std.specs.Prelude.{◌≡◌, ◌<◌, ◌≤◌, ◌^◌, length, IfOk, IfErr};
 ghost use Rattle.ivp_cert.specs.Decisions.{decision_of};
 ghost use Rattle.ivp_cert.specs.Problems.{problem_of};
-ghost use Rattle.moos_top.specs.Jobs.{HasFewWorkers, Task, kind_of, task_of, task_with};
+ghost use Rattle.moos_top.specs.Jobs.{HasFewWorkers, kind_of, task_of, task_with};
 ghost use Rattle.moos_top.specs.Jobs.Task.{Checking, Playing, Solving};
 ghost use Rattle.moos_top.specs.Run.{Ran, Completes, HasBytes, Refuses, surroundings};
 ghost use Rattle.script_reader.specs.Script.{script_of};

@@ -1,5 +1,5 @@
 // The pairs of a post line.
-ghost use Rattle.std.specs.Prelude.{◌≡◌, ◌≢◌, [], ◌≤◌, length, Ok, Err, IfOk, IfErr};
+ghost use Rattle.std.specs.Prelude.{◌≡◌, [], Ok, Err, IfOk, IfErr};
 ghost use Rattle.moos_text.specs.Pairs.{pair_of, parts_of};
 ghost use Rattle.moos_text.specs.Refusals.{IsLineFault};
 ghost use Rattle.moos_text.specs.declared.pair.PairFault.TheVariants.{NoMemory};

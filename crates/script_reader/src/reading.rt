@@ -1,5 +1,5 @@
 // A script line by line.
-ghost use Rattle.std.specs.Prelude.{◌≡◌, ◌<◌, ◌≤◌, ◌+◌, suc, [], ◌∷◌, ◌++◌, Ok, Err, IfOk, OnOk, IfErr, bytes_eq, length, replicate, IsTrue, slice_index};
+ghost use Rattle.std.specs.Prelude.{◌≡◌, ◌<◌, ◌+◌, [], Ok, Err, IfOk, OnOk, IfErr, bytes_eq, replicate, IsTrue, slice_index};
 ghost use Rattle.std.specs.List.{position};
 ghost use Rattle.moos_text.specs.Lines.{first_word, is_unclosed};
 ghost use Rattle.moos_text.specs.Refusals.{IsLineFault};

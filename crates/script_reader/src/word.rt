@@ -1,5 +1,5 @@
 // The words of a line that stand for themselves: times and patterns.
-ghost use Rattle.std.specs.Prelude.{◌≡◌, IfOk, OnOk, ◌<◌, ◌≤◌, IfSome};
+ghost use Rattle.std.specs.Prelude.{◌≡◌, IfOk, ◌<◌};
 ghost use Rattle.moos_text.specs.Lines.{first_word, behind_word};
 ghost use Rattle.script_reader.specs.Script.{milliseconds_of, time_of, pattern_of, interval_of, source_of, ended};
 

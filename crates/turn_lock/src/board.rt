@@ -1,8 +1,7 @@
 //! The table under a lock: what a pass's seat does on its words and its slot.
 ghost use Rattle.std.specs.List.{list_any};
-ghost use Rattle.std.specs.Prelude.{◌≡◌, ℕ, ◌<◌, ◌%◌, ◌^◌, ◌==◌, true, [], ◌∷◌, ◌++◌, Some, None, List, length, MatchBool};
-ghost use Rattle.atomic_table.specs.Seated.{TableId};
-ghost use Rattle.turn_lock.specs.declared.view.Turn.TheVariants.{Idle, Waits, Holds};
+ghost use Rattle.std.specs.Prelude.{◌≡◌, ℕ, ◌<◌, ◌%◌, ◌^◌, ◌==◌, true, [], ◌∷◌, Some, None, List, length, MatchBool};
+ghost use Rattle.turn_lock.specs.declared.view.Turn.TheVariants.{Idle, Waits};
 ghost use Rattle.turn_lock.specs.declared.view.Known.{Known};
 ghost use Rattle.turn_lock.specs.Passes.{Begins, has_number, longer, own};
 ghost use Rattle.turn_lock.specs.Rule.{known_in};

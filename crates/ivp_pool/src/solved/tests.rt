@@ -1,5 +1,5 @@
 // Whole searches: worked problems, a hundred generated ones, and workers beside each other.
-ghost use Rattle.std.specs.Prelude.{◌≡◌, ◌+◌, ◌<◌, ◌≤◌};
+ghost use Rattle.std.specs.Prelude.{◌+◌, ◌<◌, ◌≤◌};
 
 use crate::solved::solve;
 use crate::tests::{axis, key_at, term, two};
