@@ -36,15 +36,6 @@ piece_line prefix axes piece =
 pub function_line : (prefix : List ℕ) (weight : ℕ) → concat (prefix ∷ codes "function " ∷ decimal weight ∷ codes "\n" ∷ []) ≡ line_of prefix (codes "function") (decimal weight ∷ [])
 function_line prefix weight = ap (λ t. prefix ++ (codes "function " ++ (t ++ 10 ∷ []))) (sym (append-nil (decimal weight)))
 
-pub begin_line : (prefix : List ℕ) → concat (prefix ∷ codes "ivp 1\n" ∷ []) ≡ line_of prefix (codes "ivp") (codes "1" ∷ [])
-begin_line prefix = refl
-
-pub end_line : (prefix : List ℕ) → concat (prefix ∷ codes "end\n" ∷ []) ≡ line_of prefix (codes "end") []
-end_line prefix = refl
-
-pub done_line : (prefix : List ℕ) → concat (prefix ∷ codes "done\n" ∷ []) ≡ line_of prefix (codes "done") []
-done_line prefix = refl
-
 -- the words of what was decided, and of a line of the certificate
 abbrev pub claim_words : ℕ → Claim → List (List ℕ)
 claim_words axes claim = map decimal (take axes claim.point.at) ++ decimal claim.sum ∷ []

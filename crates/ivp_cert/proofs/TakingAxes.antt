@@ -23,10 +23,6 @@ abbrev pub stage_at : List Axis → Stage
 stage_at [] = Begun
 stage_at (axis ∷ axes) = Axes (axis ∷ axes)
 
-stage_more : (before : List Axis) (axis : Axis) → stage_at (before ++ axis ∷ []) ≡ Axes (before ++ axis ∷ [])
-stage_more [] axis = refl
-stage_more (first ∷ before) axis = refl
-
 axis_added : (before after : List Axis) (axis : Axis) → is_domain (before ++ axis ∷ after) ≡ true → IsPrintedAxis axis → with_domain before (axis_word axis ∷ []) ≡ Ok (before ++ axis ∷ [])
 axis_added before after axis domain is =
     let few : nat_lt (length before) 4 ≡ true = less (length before) (length (before ++ axis ∷ after)) (length-append before (axis ∷ after)) (four_axes (before ++ axis ∷ after) domain) in

@@ -19,10 +19,6 @@ use Rattle.ivp_search.specs.Incumbents.{IsBest}
 abbrev pub size_under : WeightedSum → ℕ → List Node → ℕ
 size_under problem levels nodes = length (flat_map (nodes_from problem levels) nodes)
 
--- nothing closed yet
-pub nothing : (problem : WeightedSum) (key : ℕ) → IsBest problem (has_in []) key key
-nothing problem key = record { kept = omega arith; above = λ p no. absurd (cc); found = inl refl }
-
 -- the best of two parts, one after the other
 pub both : (problem : WeightedSum) (f g h : Point → Bool) (low mid high : ℕ) → IsBest problem f low mid → IsBest problem g mid high → ((p : Point) → h p ≡ (f p || g p)) → IsBest problem h low high
 both problem f g h low mid high a b parts =

@@ -1,6 +1,6 @@
 -- What a call changes in what is kept of a client: the posts that catch up are found by the table of latest posts, and no
 -- number is mailed that was mailed before.
-use Rattle.std.proofs.Common.{◌≡◌, ℕ, zero, suc, ◌+◌, ◌<◌, ◌≤◌, Bool, true, false, ◌||◌, ◌&&◌, ◌==◌, not, List, [], ◌∷◌, ◌++◌, length, map, fold, take, drop, get_or, slice_get, Some, All, append_assoc, refl, ap, sym, ◌∙◌, arith, subst, if◌then◌else◌}
+use Rattle.std.proofs.Common.{◌≡◌, ℕ, suc, ◌+◌, ◌<◌, ◌≤◌, Bool, true, false, ◌||◌, ◌&&◌, ◌==◌, not, List, [], ◌∷◌, ◌++◌, length, map, fold, take, drop, get_or, slice_get, Some, All, append_assoc, refl, ap, sym, ◌∙◌, arith, subst, if◌then◌else◌}
 use Rattle.std.specs.List.{list_any, AllByRecursion}
 use Rattle.std.proofs.lemmas.List.{length-take, take-append-drop}
 use Rattle.std.proofs.lemmas.List.Elements.{All-from_recursion}
@@ -15,12 +15,6 @@ use Rattle.moos_db.specs.Kept.{Kept, KeptLive, is_due_held, is_new_held, with_st
 use Rattle.moos_db.specs.Tables.{latest_from}
 use Rattle.moos_mail.proofs.Lists.{found-below, length-push, list_any-push}
 use Rattle.moos_db.proofs.Standing.{slice_get-seam}
-
-slice_get-take : {X : Type 0} (xs : List X) (i n : ℕ) → i < n → slice_get (take n xs) i ≡ slice_get xs i
-slice_get-take [] i (suc n) below = refl
-slice_get-take (x ∷ xs) zero (suc n) below = refl
-slice_get-take (x ∷ xs) (suc i) (suc n) below = slice_get-take xs i n (omega arith)
-slice_get-take xs i zero below = absurd (omega arith)
 
 -- a post that is due nowhere changes no registration
 passed-none : (stamp : ℕ) (var source : List ℕ) (lives : List KeptLive) → list_any (is_due_held stamp var source) lives ≡ false → map (passed stamp var source) lives ≡ lives

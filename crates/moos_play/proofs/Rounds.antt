@@ -1,16 +1,16 @@
 -- The first seat and the players from one step of a round to the next.
-use Rattle.std.proofs.Common.{◌≡◌, ◌≢◌, ℕ, ◌+◌, ◌-◌, ◌<◌, ◌≤◌, ◌==◌, Bool, true, false, cond, ◌||◌, List, [], ◌∷◌, ◌++◌, map, length, length-append, refl, sym, ap, ◌∙◌, subst, arith, append-nil, eq-eqb, ne_eqb, nat_lt}
+use Rattle.std.proofs.Common.{◌≡◌, ◌≢◌, ℕ, ◌+◌, ◌-◌, ◌<◌, ◌≤◌, ◌==◌, Bool, true, false, cond, ◌||◌, List, [], ◌∷◌, ◌++◌, map, length, length-append, refl, sym, ap, ◌∙◌, subst, arith, eq-eqb, ne_eqb, nat_lt}
 use Rattle.std.specs.List.{All, list_all}
 use Rattle.std.proofs.lemmas.Bool.{false≢true}
 use Rattle.std.proofs.lemmas.Bool.Decides.{nat_tests}
 use Rattle.std.proofs.lemmas.List.{map-append}
-use Rattle.std.proofs.lemmas.List.Elements.{All-nil, All-push}
+use Rattle.std.proofs.lemmas.List.Elements.{All-push}
 use native.Mathlib.Decide.{ℕ_discrete}
 use Rattle.moos_client.specs.Calls.{MayCall, SeatState}
 use Rattle.moos_post.specs.declared.entry.Entry.{Entry}
 use Rattle.moos_play.specs.declared.player.Player.{Player}
 use Rattle.moos_play.specs.Lawful.{entries_of}
-use Rattle.moos_play.specs.Rounds.{AreParted, CommunityLock, has_line, IsApart, IsGathered, KnowsNothing, met_of, times_met}
+use Rattle.moos_play.specs.Rounds.{AreParted, CommunityLock, has_line, IsApart, IsGathered, met_of, times_met}
 use Rattle.moos_play.proofs.Histories.{and_left, and_right}
 use Rattle.moos_play.proofs.Mets.{moved_of, moves_each, moves_known}
 use Rattle.turn_lock.specs.declared.view.Met.{Met}
@@ -88,18 +88,6 @@ seated_more lock clients client first split new after so below split_is new_is a
     subst (AreSeated lock clients (client + 1)) (sym full)
     (seated_on lock clients client first.left first.made first.met (subst (AreSeated lock clients client) so.same so) below)
 
-pub seated_first : (lock : CommunityLock) (clients : ℕ) (first : SeatState) → 0 < clients → first ≡ first_of lock clients → AreSeated lock clients 1 first
-seated_first lock clients first some is = subst (AreSeated lock clients 1) (sym is) (record {
-  same = refl;
-  left = omega (arith, some);
-  made = omega arith;
-  all = refl;
-  each = λ n above below. absurd (omega (arith, above, below));
-  once = λ n. omega arith;
-  later = λ n past. refl;
-  known = λ n. refl;
-})
-
 pub seated_all : (lock : CommunityLock) (clients client : ℕ) (first : SeatState) → AreSeated lock clients client first → 0 < clients → clients ≤ client → clients ≡ length lock.base → IsGathered lock first
 seated_all lock clients client first so some past all = record {
   may = subst (MayCall lock) (sym so.same) (record { of_lock = record { same = refl; live = refl; base = refl }; free = refl; client = omega (arith, some, all) });
@@ -108,16 +96,6 @@ seated_all lock clients client first so some past all = record {
   each = λ n above below. so.each n above (omega (arith, below, past, all));
   once = so.once;
 }
-
-pub seated_nothing : (lock : CommunityLock) (clients client : ℕ) (first : SeatState) → AreSeated lock clients client first → KnowsNothing first
-seated_nothing lock clients client first so = record {
-  seen = ap (λ s. s.seen) so.same;
-  known = λ n. by n (first.number == n);
-}
-  where
-    by : (n : ℕ) (b : Bool) → cond b first.mine (events_in first.met n) ≡ []
-    by n true = ap (λ s. s.mine) so.same
-    by n false = so.known n
 
 -- the players that are parted so far, of the clients below this one
 pub record ArePartedTo (lock : CommunityLock) (lines : List Entry) (client : ℕ) (before first : SeatState) (players : List Player) : Type 0 where
@@ -146,17 +124,6 @@ none_past clients client (line ∷ lines) h past =
     let other : line.client ≢ client = λ e. grind (arith, nat_tests, here, e, past) in
     ap (λ b. cond b (line ∷ entries_of client lines) (entries_of client lines)) (ne_eqb line.client client other)
     ∙ none_past clients client lines (and_right (nat_lt line.client clients) (list_all (λ line. nat_lt line.client clients) lines) h) past
-
-pub parted_none : (lock : CommunityLock) (lines : List Entry) (first : SeatState) (players : List Player) → players ≡ [] → ArePartedTo lock lines 1 first first players
-parted_none lock lines first players none = subst (ArePartedTo lock lines 1 first first) (sym none) (record {
-  same = refl;
-  apart = All-nil (λ player. IsApart lock player.seat);
-  all = omega arith;
-  each = λ n. omega arith;
-  known = λ n. ap (λ met. events_in met n) (append-nil first.met);
-  busy = λ n above below absent. absurd (omega (arith, above, below));
-  fresh = λ n past. refl;
-})
 
 -- a client without lines stays
 pub parted_skip : (lock : CommunityLock) (lines : List Entry) (client : ℕ) (before first : SeatState) (players : List Player)

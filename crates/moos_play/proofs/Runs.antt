@@ -10,20 +10,12 @@ use Rattle.moos_client.specs.Calls.{SeatState}
 use Rattle.moos_post.specs.declared.entry.Entry.{Entry}
 use Rattle.moos_post.specs.History.{History}
 use Rattle.moos_play.specs.Lawful.{no_stamp_goes_back, entries_of, IsLawful, KeepsOrder}
-use Rattle.moos_play.specs.Rounds.{EndsRound, GoesOn, HasSeen, IsOneRound, KnowsNothing}
+use Rattle.moos_play.specs.Rounds.{EndsRound, GoesOn, HasSeen, IsOneRound}
 use Rattle.moos_play.proofs.Histories.{and_both, and_left, and_right, none_keeps, none_left, order_kept, own_rest, rise_front}
 use Rattle.script_reader.specs.declared.script.Order.{Order}
 use Rattle.script_reader.specs.declared.script.Script.{Script}
 use Rattle.script_reader.specs.Validity.{are_lines, keeps_limits}
 use Rattle.turn_lock.specs.Passes.{Begins, known_of}
-
--- nothing is played yet
-pub seen_none : (order : Order) (first : SeatState) (lines : List Entry) → KnowsNothing first → HasSeen order first (take 0 lines)
-seen_none order first lines nothing = record {
-  known = nothing.known;
-  whole = λ n. ap (entries_of n) nothing.seen;
-  stamps = subst (KeepsOrder order) (sym nothing.seen) (none_keeps order);
-}
 
 -- one round more
 seen_on : (order : Order) (first after : SeatState) (done lines : List Entry) → HasSeen order first done → GoesOn lines first after → IsTrue (no_stamp_goes_back 0 (done ++ lines)) → IsOneRound order lines

@@ -12,7 +12,7 @@ use Rattle.moos_play.specs.Lawful.{entries_of}
 use Rattle.moos_play.specs.Rounds.{AreParted, CommunityLock, GoesOn, HasEnded, HasPlayed, HasSeenAll, HasTaken, IsApart, IsGathered, met_of, times_met}
 use Rattle.moos_play.proofs.Mets.{known_after}
 use Rattle.moos_play.proofs.Playing.{may_on}
-use Rattle.turn_lock.specs.Passes.{Begins, events_in, IsFree, IsOf, known_of, met_with}
+use Rattle.turn_lock.specs.Passes.{Begins, events_in, known_of, met_with}
 use Rattle.turn_lock.proofs.Fronts.{begins_itself, begins_on}
 use Rattle.turn_lock.proofs.Mets.{count_more, count_one}
 
@@ -73,14 +73,6 @@ ended_apart lock lines (p ∷ ps) (q ∷ qs) zip apart =
     (ok_apart lock lines p.seat q.seat q.ended (All-head (λ player. IsApart lock player.seat) p ps apart) zip.0)
     (ended_apart lock lines ps qs zip.1 (All-tail (λ player. IsApart lock player.seat) p ps apart))
 
--- the first seat has taken in nobody yet
-pub taken_none : (first : SeatState) (players : List Player) → players ≡ [] → HasTaken first first players
-taken_none first players none = subst (HasTaken first first) (sym none) (record {
-  later = begins_itself first.seen;
-  same = ap (λ met. record first { met = met }) (sym (append-nil first.met));
-  ended = All-nil (λ player. player.ended ≡ Ok tt);
-})
-
 -- and one more
 pub taken_more : (before first after seat : SeatState) (players : List Player) (player : Player) → HasTaken before first players → seat ≡ player.seat → player.ended ≡ Ok tt → player.seat.met ≡ []
     → after ≡ met_with first seat → Begins after.seen first.seen → HasTaken before after (players ++ player ∷ [])
@@ -97,10 +89,6 @@ taken_more before first after seat players player so seat_is ended alone after_i
     shape : after ≡ record first { seen = after.seen; met = first.met ++ met_of player ∷ [] }
     shape = after_is ∙ ap {A = List Entry} (λ seen. record first { seen = seen; met = (met_with first seat).met }) (sym (ap (λ s. s.seen) after_is))
         ∙ ap (λ met. record first { seen = after.seen; met = met }) (sym (ap (λ s. s.met) after_is) ∙ met)
-
--- what the first seat takes in may be taken in
-pub taken_may : (lock : CommunityLock) (before first : SeatState) (players : List Player) → HasTaken before first players → IsOf lock before × IsFree before → IsOf lock first × IsFree first
-taken_may lock before first players so may = subst (λ s. IsOf lock s × IsFree s) (sym so.same) (record { same = may.0.same; live = may.0.live; base = may.0.base }, may.1)
 
 -- how often a number is among the players, and its events, after they have played
 ended_times : (lines : List Entry) (n : ℕ) (befores afters : List Player) → AllZip (HasEnded lines) befores afters → All (λ player. player.ended ≡ Ok tt) afters
