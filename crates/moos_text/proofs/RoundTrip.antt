@@ -1,29 +1,19 @@
 -- Reading a printed number gives it back.
-use Rattle.std.proofs.Common.{◌≡◌, ℕ, suc, ◌+◌, ◌-◌, ◌*◌, ◌/◌, ◌%◌, ◌^◌, ◌<◌, ◌≤◌, ◌⊎◌, inl, inr, Bool, true, false, ◌==◌, List, [], ◌∷◌, ◌++◌, length, take, drop, refl, ap, ◌∙◌, sym, arith, length-append, append-nil, add-one}
-use Rattle.std.specs.Prelude.{ℤ, pos, negsuc, decimal, fold, codes, nat_le, Option, Some, None, option_map, if◌then◌else◌}
+use Rattle.std.proofs.Common.{◌≡◌, ℕ, suc, ◌+◌, ◌-◌, ◌/◌, ◌%◌, ◌^◌, ◌<◌, ◌≤◌, inl, inr, true, false, ◌==◌, List, [], ◌∷◌, ◌++◌, length, take, drop, refl, ap, ◌∙◌, sym, arith, length-append, append-nil, add-one}
+use Rattle.std.specs.Prelude.{ℤ, pos, negsuc, decimal, nat_le, Option, Some, None, option_map, if◌then◌else◌}
 use Rattle.std.specs.List.{list_all}
-use Rattle.std.proofs.lemmas.Fmt.{decimal_nonempty, length-decimal-le, digits_decimal, digits_value-decimal}
+use Rattle.std.proofs.lemmas.Fmt.{decimal_nonempty, length-decimal-le}
 use Rattle.std.proofs.lemmas.Grind.{common_steps}
-use Rattle.std.proofs.lemmas.Str.Parse.{IsNumeralModel, IsDigitsTest, numerals_by_fold}
 use Rattle.std.proofs.Math.Seq.{take-append_seam, drop-append-add, take-length}
 use Rattle.std.proofs.Math.ListN.{drop_of_length-le}
 use Rattle.moos_post.specs.Words.{is_digit, IsMilli}
 use Rattle.moos_text.specs.Numbers.{digits_value, thousandths_of, is_numeral, point_of, unsigned_of, milli_of, decimals_text, unsigned_text, milli_text}
 use Rattle.moos_text.proofs.Numerals.{point_behind}
+use Rattle.moos_text.proofs.PrintedDigits.{decimal_digits, decimal_value, decimals_shape, Shape}
 
 -- the whole part of a number is short
 pub whole_short : (n : ℕ) → n < 2 ^ 64 → length (decimal (n / 1000)) ≤ 17
 whole_short n within = length-decimal-le 17 (n / 1000) (omega arith) (omega arith) (omega arith)
-
-digits_test : IsDigitsTest (λ text. list_all is_digit text ≡ true)
-digits_test = record {
-  empty = refl;
-  parts = λ byte text digits. (grind arith, grind arith);
-  more = λ byte text digit digits. grind arith;
-}
-
-own : IsNumeralModel (λ text. list_all is_digit text ≡ true) digits_value
-own = numerals_by_fold (λ text. list_all is_digit text ≡ true) digits_test (fold (λ value digit. value * 10 + (digit - 48))) (record { empty = λ n. refl; more = λ n byte text digit. refl })
 
 -- what the two parts of a number make
 made : List ℕ → List ℕ → Option ℕ
@@ -55,54 +45,26 @@ unsigned_parts whole decimals digits =
     let back : drop (suc (point_of text)) text ≡ decimals = rw at (ap (λ i. drop i text) (sym (add-one (length whole))) ∙ drop-append-add whole (46 ∷ decimals) 1) in
     ap (λ w. made w (drop (suc (point_of text)) text)) front ∙ ap (λ d. made whole d) back
 
--- the decimals of a number below 1,000: none where it is 0, and else digits behind a point that stand for it
-Shape : ℕ → Type 0
-Shape rest = ((decimals_text rest ≡ []) × (rest ≡ 0))
-    ⊎ ((decimals : List ℕ) × (decimals_text rest ≡ 46 ∷ decimals) × (list_all is_digit decimals ≡ true) × (digits_value (take 3 (decimals ++ codes "000")) ≡ rest))
-
-glyph : (digit : ℕ) → digit < 10 → is_digit (48 + digit) ≡ true
-glyph digit small = grind arith
-
-shape : (none tenths hundredths : Bool) (rest : ℕ) → (rest == 0) ≡ none → (rest % 100 == 0) ≡ tenths → (rest % 10 == 0) ≡ hundredths → rest < 1000 → Shape rest
-unfolding Shape
-shape true tenths hundredths rest e0 e1 e2 small = inl (rw e0 refl, grind arith)
-shape false true hundredths rest e0 e1 e2 small =
-    let a = glyph (rest / 100) (omega arith) in
-    let even : rest % 100 ≡ 0 = grind arith in
-    inr ((48 + rest / 100) ∷ [], rw e0 (rw e1 refl), rw a refl, omega (arith, even))
-shape false false true rest e0 e1 e2 small =
-    let a = glyph (rest / 100) (omega arith) in
-    let b = glyph (rest / 10 % 10) (omega arith) in
-    let even : rest % 10 ≡ 0 = grind arith in
-    inr ((48 + rest / 100) ∷ (48 + rest / 10 % 10) ∷ [], rw e0 (rw e1 (rw e2 refl)), rw a (rw b refl), omega (arith, even))
-shape false false false rest e0 e1 e2 small =
-    let a = glyph (rest / 100) (omega arith) in
-    let b = glyph (rest / 10 % 10) (omega arith) in
-    let d = glyph (rest % 10) (omega arith) in
-    inr ((48 + rest / 100) ∷ (48 + rest / 10 % 10) ∷ (48 + rest % 10) ∷ [], rw e0 (rw e1 (rw e2 refl)), rw a (rw b (rw d refl)), omega arith)
-
 -- a number without a sign, printed by its whole part and decimals of this shape
 shaped_back : (n : ℕ) → n ≤ 10 ^ 12 → Shape (n % 1000) → unsigned_of (unsigned_text n) ≡ Some n
-unfolding Shape
 shaped_back n within (inl h) =
     let whole : List ℕ = decimal (n / 1000) in
-    let digits = digits_decimal own (n / 1000) (omega arith) in
-    let spelt : digits_value whole ≡ n / 1000 = digits_value-decimal own (n / 1000) (omega arith) in
+    let digits = decimal_digits (n / 1000) (omega arith) in
+    let spelt : digits_value whole ≡ n / 1000 = decimal_value (n / 1000) (omega arith) in
     let value : thousandths_of whole [] ≡ n = omega (arith, spelt, h.1) in
     ap (λ d. unsigned_of (whole ++ d)) h.0 ∙ ap (λ t. unsigned_of t) (append-nil whole) ∙ unsigned_whole whole digits
     ∙ made_of whole [] digits refl (decimal_nonempty (n / 1000) (omega arith)) (omega (arith, value)) ∙ ap (λ v. Some v) value
 shaped_back n within (inr h) =
     let whole : List ℕ = decimal (n / 1000) in
-    let digits = digits_decimal own (n / 1000) (omega arith) in
-    let spelt : digits_value whole ≡ n / 1000 = digits_value-decimal own (n / 1000) (omega arith) in
+    let digits = decimal_digits (n / 1000) (omega arith) in
+    let spelt : digits_value whole ≡ n / 1000 = decimal_value (n / 1000) (omega arith) in
     let value : thousandths_of whole h.0 ≡ n = omega (arith, spelt, h.3) in
     ap (λ d. unsigned_of (whole ++ d)) h.1 ∙ unsigned_parts whole h.0 digits
     ∙ made_of whole h.0 digits h.2 (decimal_nonempty (n / 1000) (omega arith)) (omega (arith, value)) ∙ ap (λ v. Some v) value
 
 -- a printed number without a sign
 unsigned_back : (n : ℕ) → n ≤ 10 ^ 12 → unsigned_of (unsigned_text n) ≡ Some n
-unsigned_back n within =
-    shaped_back n within (shape (n % 1000 == 0) (n % 1000 % 100 == 0) (n % 1000 % 10 == 0) (n % 1000) refl refl refl (omega arith))
+unsigned_back n within = shaped_back n within (decimals_shape (n % 1000) (omega arith))
 
 -- a text that begins with a digit has no sign
 unsigned_front : (whole rest : List ℕ) → 0 < length whole → list_all is_digit whole ≡ true → milli_of (whole ++ rest) ≡ option_map pos (unsigned_of (whole ++ rest))
@@ -115,6 +77,6 @@ unsigned_front (first ∷ whole) rest some digits =
 pub milli_back : (value : ℤ) → IsMilli value → milli_of (milli_text value) ≡ Some value
 milli_back (pos n) within =
     let small : n ≤ 10 ^ 12 = grind (arith, within.1) in
-    unsigned_front (decimal (n / 1000)) (decimals_text (n % 1000)) (decimal_nonempty (n / 1000) (omega arith)) (digits_decimal own (n / 1000) (omega arith))
+    unsigned_front (decimal (n / 1000)) (decimals_text (n % 1000)) (decimal_nonempty (n / 1000) (omega arith)) (decimal_digits (n / 1000) (omega arith))
     ∙ ap (λ o. option_map pos o) (unsigned_back n small)
 milli_back (negsuc n) within = let small : n ≤ 10 ^ 12 - 1 = grind (arith, within.0) in rw (unsigned_back (suc n) (omega arith)) refl
