@@ -1,6 +1,6 @@
 -- How tallies come together: each handed node is another tally's, whose part takes its place.
 use Rattle.std.proofs.Common.{◌≡◌, ◌≢◌, ℕ, zero, suc, ◌+◌, ◌-◌, ◌*◌, ◌<◌, ◌≤◌, ◌⊎◌, inl, inr, Bool, true, false, List, [], ◌∷◌, ◌++◌, length, refl, sym, ap, ◌∙◌, subst, arith, append_assoc, length-append}
-use Rattle.std.specs.List.{sum_by}
+use Rattle.std.specs.List.{sum_by, AllByRecursion as Each}
 use Rattle.std.proofs.Math.Nat.{mul-add, mul-le-mul, mul-le-mul_left, suc-mul}
 use Rattle.std.proofs.lemmas.List.Sums.{sum_by-append, sum_by-cons}
 use Rattle.ivp_domain.specs.declared.boxes.Point.{Point}
@@ -13,7 +13,7 @@ use Rattle.ivp_pool.specs.Parts.{AreParts, Done, Handed, handed_in, handed_of, I
 use Rattle.ivp_pool.specs.Tallies.{AreLinked, handed_by, IsTally, IsWhole, Tally}
 use Rattle.ivp_pool.proofs.Growing.{covered}
 use Rattle.ivp_pool.proofs.SameNodes.{is_same, is_same-self, is_same-true}
-use Rattle.ivp_pool.proofs.Standing.{children_stand, Each, standing, Stands}
+use Rattle.ivp_pool.proofs.Standing.{children_stand, standing, Stands}
 use Rattle.ivp_pool.proofs.Weights.{children_weight, some_weight, weight_cons, weight_in, weight_of}
 
 both_empty : {X : Type 0} (xs ys : List X) → xs ++ ys ≡ [] → (xs ≡ []) × (ys ≡ [])

@@ -1,8 +1,10 @@
 -- How the part of a node grows child by child, and what it covers.
 use Rattle.std.proofs.Common.{◌≡◌, ◌≢◌, ℕ, zero, suc, ◌+◌, ◌*◌, ◌^◌, ◌<◌, ◌≤◌, ◌⊎◌, inl, inr, Bool, true, false, ◌||◌, Some, None, List, [], ◌∷◌, ◌++◌, length, refl, sym, ap, ◌∙◌, subst, arith, append_assoc, length-append}
+use Rattle.std.specs.List.{AllByRecursion as Each}
 use Rattle.std.specs.Option.{option_to_list}
 use Rattle.std.proofs.lemmas.List.{append-nil}
 use Rattle.std.proofs.lemmas.List.Folds.{list_any-append}
+use Rattle.moos_io.proofs.Lists.{each_append, each_weaker}
 use Rattle.ivp_domain.specs.declared.boxes.Point.{Point}
 use Rattle.ivp_domain.specs.Boxes.{has_point}
 use Rattle.ivp_problem.specs.declared.node.Node.{Node}
@@ -14,7 +16,7 @@ use Rattle.ivp_problem.proofs.Nodes.{node_keeps}
 use Rattle.ivp_problem.proofs.Pieces.{children_more, children_to, has_all, no_child}
 use Rattle.ivp_pool.specs.Closing.{AreCovered, Closed, Passed}
 use Rattle.ivp_pool.specs.Parts.{AreParts, Done, Handed, handed_in, handed_of, IsPart, Part, Parts, Pruned, size_in, size_of, Split, Then}
-use Rattle.ivp_pool.proofs.Standing.{children_stand, Each, each_append, each_weaker, first_stand, standing, Stands}
+use Rattle.ivp_pool.proofs.Standing.{children_stand, first_stand, standing, Stands}
 use Rattle.ivp_pool.proofs.Weights.{few_weight, first_weight, once_in, sizes_most}
 
 mutual

@@ -1,9 +1,9 @@
 -- Nodes of a tree by how deep they are, and how their children follow.
-use Rattle.std.proofs.Common.{◌≡◌, ℕ, zero, suc, ◌+◌, ◌≤◌, Option, Some, None, List, [], ◌∷◌, ◌++◌, length, refl, subst, arith}
-use Rattle.std.specs.Prelude.{slice_get}
-use Rattle.std.specs.List.{flat_map}
+use Rattle.std.proofs.Common.{◌≡◌, ℕ, suc, ◌+◌, ◌≤◌, Option, Some, None, List, [], ◌∷◌, length, refl, subst, arith}
+use Rattle.std.specs.List.{flat_map, AllByRecursion as Each}
 use Rattle.std.specs.Option.{option_to_list}
 use Rattle.std.proofs.lemmas.Option.{option_and_then_some}
+use Rattle.moos_io.proofs.Lists.{each_append}
 use Rattle.ivp_domain.specs.Boxes.{numbers_from}
 use Rattle.ivp_problem.specs.declared.node.Node.{Node}
 use Rattle.ivp_problem.specs.declared.term.Term.{Term}
@@ -11,28 +11,6 @@ use Rattle.ivp_problem.specs.Problems.{WeightedSum}
 use Rattle.ivp_problem.specs.Trees.{child_in, child_of, children_of, IsNode, next_of}
 use Rattle.ivp_problem.proofs.Nodes.{child_node}
 use Rattle.ivp_problem.proofs.Pieces.{child_depth, children_all, children_to}
-
--- each of a list
-abbrev pub Each : {X : Type 0} → (X → Type 0) → List X → Type 0
-Each P [] = Unit {0}
-Each P (x ∷ xs) = P x × Each P xs
-
-pub each_append : {X : Type 0} (P : X → Type 0) (xs ys : List X) → Each P xs → Each P ys → Each P (xs ++ ys)
-each_append P [] ys h k = k
-each_append P (x ∷ xs) ys h k = (h.0, each_append P xs ys h.1 k)
-
-pub each_weaker : {X : Type 0} (P Q : X → Type 0) → ((x : X) → P x → Q x) → (xs : List X) → Each P xs → Each Q xs
-each_weaker P Q weaker [] h = tt
-each_weaker P Q weaker (x ∷ xs) h = (weaker x h.0, each_weaker P Q weaker xs h.1)
-
-pub each_at : {X : Type 0} (P : X → Type 0) (xs : List X) (k : ℕ) (x : X) → Each P xs → slice_get xs k ≡ Some x → P x
-each_at P [] k x h e = absurd (cc)
-each_at P (y ∷ ys) zero x h e = let same : y ≡ x = cc in subst P same h.0
-each_at P (y ∷ ys) (suc k) x h e = each_at P ys k x h.1 e
-
-pub each_from : {X : Type 0} (P : X → Type 0) (xs : List X) → ((k : ℕ) (x : X) → slice_get xs k ≡ Some x → P x) → Each P xs
-each_from P [] h = tt
-each_from P (x ∷ xs) h = (h 0 x refl, each_from P xs (λ k. h (suc k)))
 
 -- a node of the tree, no less deep than this, with at most so many levels below it
 pub record Stands (problem : WeightedSum) (from levels : ℕ) (node : Node) : Type 0 where

@@ -1,9 +1,10 @@
 -- How the calls of a worker add up, and those of all workers.
 use Rattle.std.proofs.Common.{◌≡◌, ℕ, suc, ◌+◌, ◌*◌, ◌^◌, ◌<◌, ◌≤◌, Some, List, [], ◌∷◌, ◌++◌, length, map, refl, sym, ap, ◌∙◌, subst, arith, add-zero, length-append}
 use Rattle.std.specs.Prelude.{All, get_or, IsTrue, slice_get}
-use Rattle.std.specs.List.{sum_by}
+use Rattle.std.specs.List.{sum_by, AllByRecursion as Each}
 use Rattle.std.proofs.lemmas.List.Elements.{All-from_recursion, All-head, All-tail}
 use Rattle.std.proofs.lemmas.List.Sums.{sum_by-append, sum_by-cons}
+use Rattle.moos_io.proofs.Lists.{each_append, each_at, each_from, each_weaker}
 use Rattle.ivp_domain.specs.declared.boxes.Point.{Point}
 use Rattle.ivp_domain.specs.Domains.{is_point}
 use Rattle.ivp_problem.specs.declared.node.Node.{Node}
@@ -19,7 +20,7 @@ use Rattle.ivp_pool.specs.Tallies.{handed_by, IsTally, IsWhole, Tally}
 use Rattle.ivp_pool.proofs.Gluing.{whole}
 use Rattle.ivp_pool.proofs.Growing.{handed_deeper, IsBelow, raised}
 use Rattle.ivp_pool.proofs.Shares.{shares_from}
-use Rattle.ivp_pool.proofs.Standing.{Each, each_append, each_at, each_from, each_weaker, standing, Stands}
+use Rattle.ivp_pool.proofs.Standing.{standing, Stands}
 use Rattle.ivp_pool.proofs.Weights.{few_weight, size_most}
 
 -- no call

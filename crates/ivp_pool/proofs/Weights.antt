@@ -1,7 +1,7 @@
 -- How many nodes a part may have: nodes side by side share no point, and each has one of the domain.
 use Rattle.std.proofs.Common.{◌≡◌, ℕ, zero, suc, ◌+◌, ◌-◌, ◌*◌, ◌^◌, ◌<◌, ◌≤◌, Bool, cond, List, [], ◌∷◌, length, get_or, refl, ap, ◌∙◌, subst, arith}
 use Rattle.std.specs.Prelude.{count_by}
-use Rattle.std.specs.List.{sum_by}
+use Rattle.std.specs.List.{sum_by, AllByRecursion as Each}
 use Rattle.std.specs.Option.{option_to_list}
 use Rattle.std.proofs.Math.Nat.{mul-add, mul-le-mul_left, suc-mul}
 use Rattle.std.proofs.lemmas.List.Sums.{count_by-le-length, get_or-le-sum_by, sum_by-append, sum_by-cons, sum_by-le-sum_by}
@@ -21,7 +21,7 @@ use Rattle.ivp_problem.proofs.Nodes.{blank_term, inside_point, node_keeps}
 use Rattle.ivp_problem.proofs.Pieces.{children_more, children_to}
 use Rattle.ivp_problem.proofs.Terms.{at_places, listed_at}
 use Rattle.ivp_pool.specs.Parts.{AreParts, Done, Handed, IsPart, Part, Parts, Pruned, size_in, size_of, Split, Then}
-use Rattle.ivp_pool.proofs.Standing.{children_stand, Each, Stands}
+use Rattle.ivp_pool.proofs.Standing.{children_stand, Stands}
 
 abbrev has : Point → Node → Bool
 has point node = has_point node.area point

@@ -1,7 +1,8 @@
 use Rattle.std.proofs.Common.{suc, length, arith}
+use Rattle.moos_io.proofs.Lists.{each_at}
 use Rattle.ivp_pool.specs.Parts.{handed_of}
 use Rattle.ivp_pool.proofs.Growing.{covered, handed_deeper, IsBelow, raised}
-use Rattle.ivp_pool.proofs.Standing.{each_at, standing, Stands}
+use Rattle.ivp_pool.proofs.Standing.{standing, Stands}
 use Rattle.ivp_pool.proofs.Weights.{few_weight, size_most}
 use Rattle.ivp_pool.proofs.law.parts_law.Goals as goal
 

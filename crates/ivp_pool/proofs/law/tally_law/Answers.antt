@@ -1,6 +1,6 @@
+use Rattle.moos_io.proofs.Lists.{each_from}
 use Rattle.ivp_pool.specs.Tallies.{IsTally}
 use Rattle.ivp_pool.proofs.Gluing.{whole}
-use Rattle.ivp_pool.proofs.Standing.{each_from}
 use Rattle.ivp_pool.proofs.law.tally_law.Goals as goal
 
 pub returns : goal.returns
