@@ -1,83 +1,56 @@
 -- Numbers and values of which one text is printed are the same.
-use Rattle.std.proofs.Common.{◌≡◌, ◌≢◌, ℕ, suc, ◌+◌, ◌-◌, ◌*◌, ◌/◌, ◌%◌, ◌^◌, ◌<◌, ◌≤◌, ◌==◌, Bool, true, false, cond, ◌&&◌, not, Some, None, List, [], ◌∷◌, ◌++◌, length, drop, get_or, flat_map, refl, ap, sym, ◌∙◌, subst, arith, append_assoc}
-use Rattle.std.specs.Prelude.{ℤ, pos, negsuc, codes, decimal, fold, nat_le, nat_lt, IsTrue, is_none, if◌then◌else◌, unwrap_or}
-use Rattle.std.specs.List.{list_all, position_or_len}
-use Rattle.std.proofs.lemmas.Bool.{false≢true}
+use Rattle.std.proofs.Common.{◌≡◌, ◌≢◌, ℕ, ◌+◌, ◌/◌, ◌%◌, ◌^◌, ◌<◌, ◌≤◌, inl, inr, Bool, true, false, cond, not, Some, None, List, [], ◌∷◌, ◌++◌, length, take, drop, get_or, flat_map, refl, ap, sym, ◌∙◌, subst, arith, append_assoc}
+use Rattle.std.specs.Prelude.{ℤ, codes, decimal, nat_le, nat_lt, IsTrue, is_none, if◌then◌else◌, unwrap_or}
+use Rattle.std.specs.List.{position_or_len}
+use Rattle.std.proofs.lemmas.Bool.{and_parts, false≢true}
 use Rattle.std.proofs.lemmas.Bool.Decides.{nat_tests}
-use Rattle.std.proofs.lemmas.Fmt.{decimal_injective, digits_decimal}
+use Rattle.std.proofs.lemmas.Fmt.{decimal_injective}
 use Rattle.std.proofs.lemmas.List.{append_cancel_right}
-use Rattle.std.proofs.lemmas.Str.Parse.{IsNumeralModel, IsDigitsTest, numerals_by_fold}
+use Rattle.moos_io.proofs.Lists.{each_append}
 use Rattle.moos_post.specs.declared.value.Value.{Value}
 use Rattle.moos_post.specs.declared.value.Value.TheVariants.{Num, Text}
 use Rattle.moos_post.specs.Words.{bad_place, is_control, is_digit, is_text, IsMilli}
-use Rattle.moos_text.specs.Numbers.{decimals_text, digit_text, digits_value, milli_of, milli_text, unsigned_text}
+use Rattle.moos_text.specs.Numbers.{decimals_text, digits_value, milli_of, milli_text, unsigned_text}
+use Rattle.moos_text.proofs.PrintedDigits.{decimal_digits, decimals_shape, milli_bytes, Shape, unsigned_bytes}
 use Rattle.moos_text.proofs.RoundTrip.{milli_back}
 use Rattle.moos_report.specs.Community.{IsValue}
 use Rattle.moos_report.specs.Report.{escaped, is_sign, value_text}
-use Rattle.moos_report.proofs.Cuts.{cut_at, Lacks, lacks_all, lacks_append}
-
-digits_test : IsDigitsTest (λ text. list_all is_digit text ≡ true)
-digits_test = record {
-  empty = refl;
-  parts = λ byte text digits. (grind arith, grind arith);
-  more = λ byte text digit digits. grind arith;
-}
-
-own : IsNumeralModel (λ text. list_all is_digit text ≡ true) digits_value
-own = numerals_by_fold (λ text. list_all is_digit text ≡ true) digits_test (fold (λ value digit. value * 10 + (digit - 48))) (record { empty = λ n. refl; more = λ n byte text digit. refl })
+use Rattle.moos_report.proofs.Cuts.{cut_at, is_other, Lacks, lacks_all}
 
 -- a printed whole number is digits
 pub decimal_lacks : (byte n : ℕ) → n < 2 ^ 64 → is_digit byte ≡ false → Lacks byte (decimal n)
-decimal_lacks byte n small other = lacks_all is_digit byte (decimal n) other (digits_decimal own n small)
+decimal_lacks byte n small other = lacks_all is_digit byte (decimal n) other (decimal_digits n small)
 
--- the decimals are a point and digits, or nothing
-digit_lacks : (byte digit : ℕ) → digit < 10 → is_digit byte ≡ false → Lacks byte (digit_text digit)
-digit_lacks byte digit small other = (λ same. false≢true (sym other ∙ ap is_digit (sym same) ∙ grind (arith, nat_tests)), tt)
-
-decimals_by : (byte : ℕ) (none tenths hundredths : Bool) (rest : ℕ) → rest < 1000 → is_digit byte ≡ false → 46 ≢ byte
-    → Lacks byte (if none then [] else if tenths then codes "." ++ digit_text (rest / 100) else if hundredths then codes "." ++ digit_text (rest / 100) ++ digit_text (rest / 10 % 10) else codes "." ++ digit_text (rest / 100) ++ digit_text (rest / 10 % 10) ++ digit_text (rest % 10))
-decimals_by byte true tenths hundredths rest small other point = tt
-decimals_by byte false true hundredths rest small other point = (point, digit_lacks byte (rest / 100) (omega (arith, small)) other)
-decimals_by byte false false true rest small other point =
-    (point, lacks_append byte (digit_text (rest / 100)) (digit_text (rest / 10 % 10)) (digit_lacks byte (rest / 100) (omega (arith, small)) other) (digit_lacks byte (rest / 10 % 10) (omega arith) other))
-decimals_by byte false false false rest small other point = (
-  point,
-  lacks_append byte (digit_text (rest / 100)) (digit_text (rest / 10 % 10) ++ digit_text (rest % 10)) (digit_lacks byte (rest / 100) (omega (arith, small)) other)
-      (lacks_append byte (digit_text (rest / 10 % 10)) (digit_text (rest % 10)) (digit_lacks byte (rest / 10 % 10) (omega arith) other) (digit_lacks byte (rest % 10) (omega arith) other)),
-)
-
--- a number in thousandths is digits and a point
+-- a number in thousandths is digits and a point, behind a minus or none
 pub unsigned_lacks : (byte n : ℕ) → n < 2 ^ 64 → is_digit byte ≡ false → 46 ≢ byte → Lacks byte (unsigned_text n)
-unsigned_lacks byte n small other point =
-    lacks_append byte (decimal (n / 1000)) (decimals_text (n % 1000)) (decimal_lacks byte (n / 1000) (omega (arith, small)) other)
-    (decimals_by byte (n % 1000 == 0) (n % 1000 % 100 == 0) (n % 1000 % 10 == 0) (n % 1000) (omega arith) other point)
+unsigned_lacks byte n small other point = unsigned_bytes (λ it. it ≢ byte) (is_other is_digit byte other) point n small
+
+milli_lacks : (byte : ℕ) (number : ℤ) → IsMilli number → is_digit byte ≡ false → 46 ≢ byte → 45 ≢ byte → Lacks byte (milli_text number)
+milli_lacks byte number h other point minus = milli_bytes (λ it. it ≢ byte) (is_other is_digit byte other) point minus number h
 
 -- the decimals with a point behind them begin with a point
-pointed : (rest : ℕ) → (tail : List ℕ) × (decimals_text rest ++ codes "." ≡ 46 ∷ tail)
-pointed rest = by (rest == 0) (rest % 100 == 0) (rest % 10 == 0)
+pointed : (rest : ℕ) → rest < 1000 → (tail : List ℕ) × (decimals_text rest ++ codes "." ≡ 46 ∷ tail)
+pointed rest small = by (decimals_shape rest small)
   where
-    by : (none tenths hundredths : Bool) → (tail : List ℕ) × ((if none then [] else if tenths then codes "." ++ digit_text (rest / 100) else if hundredths then codes "." ++ digit_text (rest / 100) ++ digit_text (rest / 10 % 10) else codes "." ++ digit_text (rest / 100) ++ digit_text (rest / 10 % 10) ++ digit_text (rest % 10)) ++ codes "." ≡ 46 ∷ tail)
-    by true tenths hundredths = ([], refl)
-    by false true hundredths = (_, refl)
-    by false false true = (_, refl)
-    by false false false = (_, refl)
+    by : Shape rest → (tail : List ℕ) × (decimals_text rest ++ codes "." ≡ 46 ∷ tail)
+    by (inl none) = ([], ap (λ t. t ++ codes ".") none.0)
+    by (inr some) = (some.0 ++ codes ".", ap (λ t. t ++ codes ".") some.1)
 
 -- decimals of which one text is printed
 decimals_same : (n m : ℕ) → n < 1000 → m < 1000 → decimals_text n ≡ decimals_text m → n ≡ m
-decimals_same n m small small' same =
-    let in_range : (k : ℕ) → k < 1000 → IsMilli (pos k) = λ k less. (grind arith, grind (arith, less)) in
-    let none : (k : ℕ) → k < 1000 → k / 1000 ≡ 0 = λ k less. omega (arith, less) in
-    let all : (k : ℕ) → k < 1000 → k % 1000 ≡ k = λ k less. omega (arith, less) in
-    let whole : (k : ℕ) → k < 1000 → milli_text (pos k) ≡ decimal 0 ++ decimals_text k = λ k less. ap (λ q. decimal q ++ decimals_text (k % 1000)) (none k less) ∙ ap (λ r. decimal 0 ++ decimals_text r) (all k less) in
-    let texts : milli_text (pos n) ≡ milli_text (pos m) = whole n small ∙ ap (λ d. decimal 0 ++ d) same ∙ sym (whole m small') in
-    let values : Some (pos n) ≡ Some (pos m) = sym (milli_back (pos n) (in_range n small)) ∙ ap milli_of texts ∙ milli_back (pos m) (in_range m small') in
-    cc
+decimals_same n m small small' same = by (decimals_shape n small) (decimals_shape m small')
+  where
+    by : Shape n → Shape m → n ≡ m
+    by (inl none) (inl none') = none.1 ∙ sym none'.1
+    by (inl none) (inr some) = absurd (cc)
+    by (inr some) (inl none) = absurd (cc)
+    by (inr some) (inr some') = sym some.3 ∙ ap (λ t. digits_value (take 3 (drop 1 t ++ codes "000"))) (sym some.1 ∙ same ∙ some'.1) ∙ some'.3
 
 -- numbers in thousandths of which one text is printed
 pub unsigned_same : (n m : ℕ) → n < 2 ^ 64 → m < 2 ^ 64 → unsigned_text n ≡ unsigned_text m → n ≡ m
 unsigned_same n m small small' same =
-    let end = pointed (n % 1000) in
-    let end' = pointed (m % 1000) in
+    let end = pointed (n % 1000) (omega arith) in
+    let end' = pointed (m % 1000) (omega arith) in
     let lacks : (k : ℕ) → k < 2 ^ 64 → Lacks 46 (decimal (k / 1000)) = λ k less. decimal_lacks 46 (k / 1000) (omega (arith, less)) refl in
     let open_at : decimal (n / 1000) ++ 46 ∷ end.0 ≡ decimal (m / 1000) ++ 46 ∷ end'.0 =
     ap (λ t. decimal (n / 1000) ++ t) (sym end.1) ∙ sym (append_assoc (decimal (n / 1000)) (decimals_text (n % 1000)) (codes "."))
@@ -99,7 +72,7 @@ escaped_lacks byte other = by (is_sign byte)
 
 text_lacks : (text : List ℕ) → Lacks 10 text → Lacks 10 (flat_map escaped text)
 text_lacks [] h = tt
-text_lacks (byte ∷ text) h = lacks_append 10 (escaped byte) (flat_map escaped text) (escaped_lacks byte h.0) (text_lacks text h.1)
+text_lacks (byte ∷ text) h = each_append (λ it. it ≢ 10) (escaped byte) (flat_map escaped text) (escaped_lacks byte h.0) (text_lacks text h.1)
 
 -- no byte of a text is a line end
 clean_lacks : (text : List ℕ) → length text ≤ position_or_len is_control text → Lacks 10 text
@@ -111,21 +84,16 @@ clean_lacks (byte ∷ text) none = by (is_control byte) refl none (clean_lacks t
     by false e h later = (λ same. false≢true (sym e ∙ ap is_control same), later (omega (arith, h)))
 
 no_line_end : (text : List ℕ) → IsTrue (is_text text) → Lacks 10 text
-no_line_end text fine = clean_lacks text (past (nat_lt (position_or_len is_control text) (length text)) refl (second (nat_le (length text) 4096) (is_none (bad_place text)) fine))
+no_line_end text fine = clean_lacks text (past (nat_lt (position_or_len is_control text) (length text)) refl (and_parts (nat_le (length text) 4096) (is_none (bad_place text)) fine).1)
   where
-    second : (a b : Bool) → (a && b) ≡ true → b ≡ true
-    second true b h = h
-    second false b h = absurd (false≢true h)
-
     past : (b : Bool) → nat_lt (position_or_len is_control text) (length text) ≡ b → is_none (cond b (Some (position_or_len is_control text)) None) ≡ true → length text ≤ position_or_len is_control text
     past true e h = absurd (false≢true h)
     past false e h = grind (arith, nat_tests)
 
 pub value_lacks : (value : Value) → IsValue value → Lacks 10 (value_text value)
-value_lacks (Num (pos n)) h = unsigned_lacks 10 n (grind (arith, h.1)) refl (λ e. absurd (omega (arith, e)))
-value_lacks (Num (negsuc n)) h = (λ e. absurd (omega (arith, e)), unsigned_lacks 10 (suc n) (grind (arith, h.0)) refl (λ e. absurd (omega (arith, e))))
+value_lacks (Num number) h = milli_lacks 10 number h refl (λ e. absurd (omega (arith, e))) (λ e. absurd (omega (arith, e)))
 value_lacks (Text text) h =
-    (λ e. absurd (omega (arith, e)), lacks_append 10 (flat_map escaped text) (codes "\"") (text_lacks text (no_line_end text h)) (λ e. absurd (omega (arith, e)), tt))
+    (λ e. absurd (omega (arith, e)), each_append (λ it. it ≢ 10) (flat_map escaped text) (codes "\"") (text_lacks text (no_line_end text h)) (λ e. absurd (omega (arith, e)), tt))
 
 -- texts of which one escaped text is printed
 escaped_same : (one other : List ℕ) → flat_map escaped one ≡ flat_map escaped other → one ≡ other
@@ -157,12 +125,8 @@ escaped_same (x ∷ one) (y ∷ other) same = by (is_sign x) (is_sign y) refl re
     by false false s t e rest = glue (ap (λ l. get_or l 0 0) e) (rest (ap (drop 1) e))
 
 -- a printed number doesn't begin with a quote
-number_lacks : (number : ℤ) → IsMilli number → Lacks 34 (milli_text number)
-number_lacks (pos n) h = unsigned_lacks 34 n (grind (arith, h.1)) refl (λ e. absurd (omega (arith, e)))
-number_lacks (negsuc n) h = (λ e. absurd (omega (arith, e)), unsigned_lacks 34 (suc n) (grind (arith, h.0)) refl (λ e. absurd (omega (arith, e))))
-
 unquoted : (text : List ℕ) (number : ℤ) → IsMilli number → value_text (Text text) ≡ milli_text number → ⊥
-unquoted text number h e = (subst (Lacks 34) (sym e) (number_lacks number h)).0 refl
+unquoted text number h e = (subst (Lacks 34) (sym e) (milli_lacks 34 number h refl (λ e. absurd (omega (arith, e))) (λ e. absurd (omega (arith, e))))).0 refl
 
 -- values of which one text is printed
 pub value_same : (one other : Value) → IsValue one → IsValue other → value_text one ≡ value_text other → one ≡ other
