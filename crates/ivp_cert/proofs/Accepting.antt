@@ -1,14 +1,14 @@
 -- An accepted certificate is one that the walk goes through to its end, and its point is the best; the certificate of the
 -- problem is accepted for the best point.
-use Rattle.std.proofs.Common.{◌≡◌, ℕ, zero, suc, ◌<◌, ◌≤◌, Bool, true, false, ◌==◌, Some, List, [], ◌∷◌, ◌++◌, length, drop, refl, sym, ap, subst, ◌∙◌, arith, append-nil}
+use Rattle.std.proofs.Common.{◌≡◌, ℕ, suc, ◌<◌, ◌≤◌, Bool, true, false, ◌==◌, Some, List, [], ◌∷◌, ◌++◌, length, drop, refl, sym, ap, subst, ◌∙◌, arith, append-nil}
 use Rattle.std.specs.Prelude.{slice_get}
 use Rattle.std.proofs.lemmas.Bool.{and_parts}
 use Rattle.std.proofs.lemmas.Bool.Decides.{nat_tests}
+use Rattle.moos_io.proofs.Lists.{each_at, each_from}
 use Rattle.ivp_domain.specs.declared.axis.Axis.{Axis}
 use Rattle.ivp_domain.specs.declared.boxes.Point.{Point}
 use Rattle.ivp_domain.specs.Domains.{index_of, is_point, points_of}
 use Rattle.ivp_problem.specs.declared.node.Node.{Node}
-use Rattle.ivp_problem.specs.declared.term.Term.{Term}
 use Rattle.ivp_problem.specs.Keys.{key_of}
 use Rattle.ivp_problem.specs.Problems.{IsProblem, WeightedSum}
 use Rattle.ivp_problem.specs.Sums.{best_of, key_at, sum_at}
@@ -24,18 +24,8 @@ use Rattle.ivp_cert.specs.Certificates.{Accepts, begins, certificate_of, IsLine}
 use Rattle.ivp_cert.specs.Walks.{behind_node}
 use Rattle.ivp_cert.proofs.Covering.{Anyhow, Covers, Under}
 use Rattle.ivp_cert.proofs.Leaves.{below_depth, below_inside, below_length, below_append, has_leaf, Reached, reached_full, reached_node, root_reached}
-use Rattle.ivp_cert.proofs.Paths.{beginning, beginning_cons, Each}
+use Rattle.ivp_cert.proofs.Paths.{beginning, beginning_cons}
 use Rattle.ivp_cert.proofs.Walking.{covers_walk, topmost_covers, walk_covers}
-
--- each of a list, by place
-pub each_at : {X : Type 0} (P : X → Type 0) (xs : List X) (k : ℕ) (x : X) → Each P xs → slice_get xs k ≡ Some x → P x
-each_at P [] k x h e = absurd (cc)
-each_at P (y ∷ ys) zero x h e = let same : y ≡ x = cc in subst P same h.0
-each_at P (y ∷ ys) (suc k) x h e = each_at P ys k x h.1 e
-
-pub each_from : {X : Type 0} (P : X → Type 0) (xs : List X) → ((k : ℕ) (x : X) → slice_get xs k ≡ Some x → P x) → Each P xs
-each_from P [] h = tt
-each_from P (x ∷ xs) h = (h 0 x refl, each_from P xs (λ k. h (suc k)))
 
 -- from the root, lines cover as an accepted certificate does
 under_root : (problem : WeightedSum) (key : ℕ) (line : Line) → IsLine problem key line → Under Anyhow problem key problem.terms [] (root_of problem) line
@@ -63,11 +53,8 @@ covers_accepts problem claim cert sum covers =
       rise = covers.rise;
     }
   where
-    short : (terms : List Term) (path : List ℕ) (node below : Node) → node_below terms path node ≡ Some below → length path ≤ length terms
-    short terms path node below e = below_length terms path node below e
-
     deep : (path : List ℕ) (leaf : Node) → node_of problem path ≡ Some leaf → length problem.terms ≤ leaf.depth → length path ≡ length problem.terms
-    deep path leaf reached full = omega (arith, below_depth problem.terms path (root_of problem) leaf reached, short problem.terms path (root_of problem) leaf reached, full)
+    deep path leaf reached full = omega (arith, below_depth problem.terms path (root_of problem) leaf reached, below_length problem.terms path (root_of problem) leaf reached, full)
 
 -- what the walk says of the whole tree
 abbrev pub walked : WeightedSum → ℕ → List Line → Type 0

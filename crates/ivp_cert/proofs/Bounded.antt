@@ -1,9 +1,10 @@
 -- The sums of a decision that was read are within the format's bounds.
 use Rattle.std.proofs.Common.{◌≡◌, ℕ, suc, ◌+◌, ◌≤◌, Bool, true, false, cond, ◌&&◌, nat_lt, nat_le, Option, Some, None, Result, Ok, Err, List, [], ◌∷◌, ◌++◌, length, refl, ap, sym, subst, ◌∙◌, arith}
 use Rattle.std.specs.Prelude.{bytes_eq, codes, IfOk, max}
-use Rattle.std.specs.List.{list_all}
+use Rattle.std.specs.List.{list_all, AllByRecursion as Each}
 use Rattle.std.specs.Option.{option_and_then, option_map}
 use Rattle.std.proofs.lemmas.Bool.Decides.{nat_tests}
+use Rattle.moos_io.proofs.Lists.{each_append, each_at}
 use Rattle.moos_post.specs.Words.{is_digit}
 use Rattle.moos_text.specs.declared.cause.Cause.{Cause}
 use Rattle.moos_text.specs.declared.cause.Cause.TheVariants.{P1, P10}
@@ -24,8 +25,6 @@ use Rattle.moos_text.specs.Refusals.{and_then}
 use Rattle.ivp_cert.specs.Said.{at_line}
 use Rattle.ivp_cert.specs.Words.{line_words, natural_of, place_of}
 use Rattle.ivp_cert.specs.Printed.{HasSums}
-use Rattle.ivp_cert.proofs.Accepting.{each_at}
-use Rattle.ivp_cert.proofs.Paths.{Each, each_append}
 use Rattle.ivp_cert.proofs.Following.{decision_read, problem_read}
 use Rattle.ivp_cert.proofs.Reading.{IsRead}
 

@@ -1,7 +1,9 @@
 -- Which lines cover a node, and how those that cover its children come together and part.
 use Rattle.std.proofs.Common.{◌≡◌, ℕ, suc, ◌<◌, ◌≤◌, ◌⊎◌, inl, inr, Bool, true, false, nat_lt, Some, None, List, [], ◌∷◌, ◌++◌, length, refl, sym, ap, ◌∙◌, arith, append_assoc}
+use Rattle.std.specs.List.{AllByRecursion as Each}
 use Rattle.std.proofs.lemmas.Bool.Decides.{nat_tests}
 use Rattle.std.proofs.lemmas.Option.{option_and_then_some, slice_get_within}
+use Rattle.moos_io.proofs.Lists.{each_append, each_weaker}
 use Rattle.ivp_problem.specs.declared.node.Node.{Node}
 use Rattle.ivp_problem.specs.declared.term.Term.{Term}
 use Rattle.ivp_problem.specs.Keys.{index_of_key, sum_of}
@@ -10,7 +12,7 @@ use Rattle.ivp_problem.specs.Trees.{bound_of, child_in, node_below}
 use Rattle.ivp_problem.proofs.Nodes.{child_parts}
 use Rattle.ivp_cert.specs.declared.cert.Line.{Line}
 use Rattle.ivp_cert.specs.Certificates.{begins, is_before, Rise}
-use Rattle.ivp_cert.proofs.Paths.{beginning, beginning_append, beginning_none, beginning_one, begins_append, Each, each_append, each_weaker, less_before, parted, rise_append, StandsBefore}
+use Rattle.ivp_cert.proofs.Paths.{beginning, beginning_append, beginning_none, beginning_one, begins_append, less_before, parted, rise_append, StandsBefore}
 
 -- the line is that of the node which its path reaches from this one
 pub record IsUnder (problem : WeightedSum) (key : ℕ) (terms : List Term) (path : List ℕ) (node : Node) (line : Line) (more : List ℕ) : Type 0 where

@@ -1,6 +1,8 @@
 -- Lines that cover a node, parted into those of its children.
 use Rattle.std.proofs.Common.{◌≡◌, ℕ, suc, ◌+◌, ◌<◌, ◌≤◌, ◌⊎◌, inl, inr, true, Some, None, List, [], ◌∷◌, ◌++◌, length, drop, refl, sym, ap, subst, ◌∙◌, arith, length-append, length-drop}
+use Rattle.std.specs.List.{AllByRecursion as Each}
 use Rattle.std.proofs.lemmas.Option.{option_and_then_some}
+use Rattle.moos_io.proofs.Lists.{each_true, each_weaker}
 use Rattle.ivp_func.proofs.Counting.{one_if}
 use Rattle.ivp_problem.specs.declared.node.Node.{Node}
 use Rattle.ivp_problem.specs.declared.term.Term.{Term}
@@ -10,7 +12,7 @@ use Rattle.ivp_cert.specs.declared.cert.Line.{Line}
 use Rattle.ivp_cert.specs.Certificates.{begins, is_before, Rise}
 use Rattle.ivp_cert.proofs.Covering.{Anyhow, Covers, From, IsUnder, none_begins, number_is, one_more, past_all, Starts, starts_from, Under}
 use Rattle.ivp_cert.proofs.Leaves.{below_append, below_length, below_reached, Reached, some_leaf}
-use Rattle.ivp_cert.proofs.Paths.{beginning, beginning_append, beginning_cons, begins_append, before_append, before_less, Each, each_true, each_weaker, rise_parts, StandsBefore}
+use Rattle.ivp_cert.proofs.Paths.{beginning, beginning_append, beginning_cons, begins_append, before_append, before_less, rise_parts, StandsBefore}
 
 -- a line of the child by this number
 abbrev Of : ℕ → WeightedSum → ℕ → List Term → List ℕ → Node → Line → Type 0

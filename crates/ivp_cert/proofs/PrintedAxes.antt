@@ -1,9 +1,10 @@
 -- A printed axis is one word, and reading it gives the axis back.
 use Rattle.std.proofs.Common.{◌≡◌, ℕ, ◌^◌, ◌≤◌, true, ◌&&◌, nat_lt, nat_le, Some, List, [], ◌∷◌, ◌++◌, length, refl, ap, sym, ◌∙◌, arith, append_assoc, append-nil, length-append}
 use Rattle.std.specs.Prelude.{codes, decimal, slice_index}
-use Rattle.std.specs.List.{list_all}
+use Rattle.std.specs.List.{list_all, AllByRecursion as Each}
 use Rattle.std.proofs.lemmas.Bool.{and_parts}
 use Rattle.std.proofs.lemmas.Bool.Decides.{nat_tests}
+use Rattle.moos_io.proofs.Lists.{each_append, each_true, each_weaker}
 use Rattle.moos_post.specs.Words.{IsMilli}
 use Rattle.moos_text.specs.Numbers.{milli_text}
 use Rattle.moos_text.proofs.RoundTrip.{milli_back}
@@ -11,7 +12,6 @@ use Rattle.ivp_domain.specs.declared.axis.Axis.{Axis}
 use Rattle.ivp_domain.specs.AxisNames.{is_axis_name, is_letter, is_word_byte}
 use Rattle.ivp_cert.specs.Texts.{axis_text}
 use Rattle.ivp_cert.specs.Words.{axis_from, axis_of, fields_of}
-use Rattle.ivp_cert.proofs.Paths.{Each, each_append, each_true, each_weaker}
 use Rattle.ivp_cert.proofs.PrintedLines.{IsWord, line_of}
 use Rattle.ivp_cert.proofs.PrintedNumbers.{decimal_field, InField, ink_of, milli_field, whole_back}
 

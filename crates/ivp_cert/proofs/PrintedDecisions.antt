@@ -2,6 +2,7 @@
 use Rattle.std.proofs.Common.{◌≡◌, ℕ, suc, Ok, List, [], ◌∷◌, ◌++◌, flat_map, length, ap, sym, ◌∙◌, append-nil}
 use Rattle.std.specs.Prelude.{codes, max}
 use Rattle.std.specs.List.{concat}
+use Rattle.moos_io.proofs.Lists.{each_from}
 use Rattle.moos_text.specs.Lines.{raw_lines}
 use Rattle.ivp_cert.specs.declared.claim.Decision.{Decision}
 use Rattle.ivp_cert.specs.declared.phase.Phase.TheVariants.{Done, OfCuts, OfProblem}
@@ -11,7 +12,6 @@ use Rattle.ivp_cert.specs.Printed.{AllOf, IsPrefix, IsPrintableLine, IsPrintable
 use Rattle.ivp_cert.specs.Stages.{whole_decision}
 use Rattle.moos_text.specs.Refusals.{and_then}
 use Rattle.ivp_cert.specs.Texts.{claim_text, decision_lines, line_text, problem_text}
-use Rattle.ivp_cert.proofs.Accepting.{each_from}
 use Rattle.ivp_cert.proofs.Following.{decision_read}
 use Rattle.ivp_cert.proofs.Taking.{Leads, takes_both}
 use Rattle.ivp_cert.proofs.TakingClaims.{claim_taken, IsPrintableClaim}

@@ -1,14 +1,15 @@
 -- A printed line: words of visible bytes with one blank between, behind nothing or `%% `. Reading it gives its words back.
 use Rattle.std.proofs.Common.{◌≡◌, ℕ, suc, ◌<◌, ◌≤◌, inl, inr, Bool, true, false, ◌==◌, List, [], ◌∷◌, ◌++◌, length, reverse, flat_map, refl, ap, sym, ◌∙◌, arith, append_assoc, append-nil}
 use Rattle.std.specs.Prelude.{if◌then◌else◌}
+use Rattle.std.specs.List.{AllByRecursion as Each}
 use Rattle.std.proofs.lemmas.Bool.Decides.{nat_tests}
 use Rattle.std.proofs.lemmas.List.{reverse-append, reverse-reverse}
+use Rattle.moos_io.proofs.Lists.{each_append, each_weaker}
 use Rattle.moos_text.specs.Lines.{is_blank, onto_first, raw_lines, trimmed, without_front_blanks, without_return, words_of}
 use Rattle.ivp_cert.specs.Printed.{IsPrefix}
 use Rattle.moos_text.specs.Refusals.{and_then}
 use Rattle.ivp_cert.specs.Stages.{read_from}
 use Rattle.ivp_cert.specs.Words.{line_words, without_prefix}
-use Rattle.ivp_cert.proofs.Paths.{Each}
 use Rattle.ivp_cert.proofs.Reading.{After}
 
 -- at least one byte, and each is visible
@@ -115,12 +116,10 @@ said prefix first word words (inr some) letter is all =
 
 -- no byte of it ends the line
 shown_word : (word : List ℕ) → Each (λ byte. 33 ≤ byte) word → Each (λ byte. 32 ≤ byte) word
-shown_word [] ink = tt
-shown_word (byte ∷ word) ink = (omega (arith, ink.0), shown_word word ink.1)
+shown_word word ink = each_weaker (λ byte. 33 ≤ byte) (λ byte. 32 ≤ byte) (λ byte seen. omega (arith, seen)) word ink
 
 shown_both : (xs ys : List ℕ) → Each (λ byte. 32 ≤ byte) xs → Each (λ byte. 32 ≤ byte) ys → Each (λ byte. 32 ≤ byte) (xs ++ ys)
-shown_both [] ys h k = k
-shown_both (x ∷ xs) ys h k = (h.0, shown_both xs ys h.1 k)
+shown_both xs ys h k = each_append (λ byte. 32 ≤ byte) xs ys h k
 
 shown_words : (words : List (List ℕ)) → Each IsWord words → Each (λ byte. 32 ≤ byte) (flat_map spaced words)
 shown_words [] all = tt

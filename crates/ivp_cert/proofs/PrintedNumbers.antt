@@ -1,33 +1,17 @@
 -- Printed numbers are words, and reading them gives the numbers back.
-use Rattle.std.proofs.Common.{◌≡◌, ℕ, suc, ◌+◌, ◌-◌, ◌*◌, ◌/◌, ◌%◌, ◌^◌, ◌<◌, ◌≤◌, Bool, true, false, ◌==◌, nat_lt, nat_le, Some, List, [], ◌∷◌, ◌++◌, length, refl, ap, sym, ◌∙◌, arith, append-nil}
-use Rattle.std.specs.Prelude.{ℤ, pos, negsuc, neg_ℤ, ◌≤ℤ◌, codes, decimal, fold, if◌then◌else◌, option_map, option_and_then}
+use Rattle.std.proofs.Common.{◌≡◌, ℕ, suc, ◌-◌, ◌*◌, ◌/◌, ◌%◌, ◌^◌, ◌<◌, ◌≤◌, true, false, ◌==◌, nat_lt, nat_le, Some, List, [], ◌∷◌, length, refl, ap, sym, ◌∙◌, arith, append-nil}
+use Rattle.std.specs.Prelude.{ℤ, pos, negsuc, neg_ℤ, ◌≤ℤ◌, decimal, option_map, option_and_then}
 use Rattle.std.specs.Fmt.{signed_decimal}
-use Rattle.std.specs.List.{list_all}
+use Rattle.std.specs.List.{list_all, AllByRecursion as Each}
 use Rattle.std.proofs.lemmas.Bool.Decides.{nat_tests}
-use Rattle.std.proofs.lemmas.Fmt.{decimal_nonempty, digits_decimal, digits_value-decimal}
-use Rattle.std.proofs.lemmas.Str.Parse.{IsNumeralModel, IsDigitsTest, numerals_by_fold}
+use Rattle.std.proofs.lemmas.Fmt.{decimal_nonempty}
+use Rattle.moos_io.proofs.Lists.{each_true, each_weaker}
 use Rattle.moos_post.specs.Words.{is_digit, IsMilli}
-use Rattle.moos_text.specs.Numbers.{decimals_text, digit_text, digits_value, milli_of, milli_text, unsigned_text}
+use Rattle.moos_text.specs.Numbers.{digits_value, milli_of, milli_text}
+use Rattle.moos_text.proofs.PrintedDigits.{decimal_digits, decimal_value, milli_bytes}
 use Rattle.moos_text.proofs.RoundTrip.{milli_back}
 use Rattle.ivp_cert.specs.Words.{integer_of, natural_of, place_of, whole_of, whole_part}
-use Rattle.ivp_cert.proofs.Paths.{Each, each_append, each_true, each_weaker}
 use Rattle.ivp_cert.proofs.PrintedLines.{IsWord}
-
-digits_test : IsDigitsTest (λ text. list_all is_digit text ≡ true)
-digits_test = record {
-  empty = refl;
-  parts = λ byte text digits. (grind arith, grind arith);
-  more = λ byte text digit digits. grind arith;
-}
-
-own : IsNumeralModel (λ text. list_all is_digit text ≡ true) digits_value
-own = numerals_by_fold (λ text. list_all is_digit text ≡ true) digits_test (fold (λ value digit. value * 10 + (digit - 48))) (record { empty = λ n. refl; more = λ n byte text digit. refl })
-
-digits : (n : ℕ) → n < 2 ^ 64 → list_all is_digit (decimal n) ≡ true
-digits n small = digits_decimal own n small
-
-value : (n : ℕ) → n < 2 ^ 64 → digits_value (decimal n) ≡ n
-value n small = digits_value-decimal own n small
 
 least : (a b : ℕ) → a ≤ b → nat_le a b ≡ true
 least a b h = grind (arith, nat_tests)
@@ -39,8 +23,8 @@ less a b h = grind (arith, nat_tests)
 pub natural_back : (most n : ℕ) → n ≤ most → n < 2 ^ 64 → natural_of most (decimal n) ≡ Some n
 natural_back most n within small =
     let some : nat_lt 0 (length (decimal n)) ≡ true = less 0 (length (decimal n)) (decimal_nonempty n small) in
-    let fits : nat_le (digits_value (decimal n)) most ≡ true = ap (λ v. nat_le v most) (value n small) ∙ least n most within in
-    rw (some, digits n small, fits) (ap Some (value n small))
+    let fits : nat_le (digits_value (decimal n)) most ≡ true = ap (λ v. nat_le v most) (decimal_value n small) ∙ least n most within in
+    rw (some, decimal_digits n small, fits) (ap Some (decimal_value n small))
 
 pub place_back : (n : ℕ) → n < 2 ^ 32 → place_of (decimal n) ≡ Some n
 place_back n small = natural_back (2 ^ 32 - 1) n (omega (arith, small)) (omega (arith, small))
@@ -53,7 +37,7 @@ no_minus most (first ∷ rest) some all = let plain : (first == 45) ≡ false = 
 pub integer_back : (most : ℕ) (z : ℤ) → most < 2 ^ 63 → neg_ℤ (pos most) ≤ℤ z → z ≤ℤ pos most → integer_of most (signed_decimal z) ≡ Some z
 integer_back most (pos n) small low high =
     let within : n ≤ most = grind (arith, high) in
-    no_minus most (decimal n) (decimal_nonempty n (omega (arith, within, small))) (digits n (omega (arith, within, small)))
+    no_minus most (decimal n) (decimal_nonempty n (omega (arith, within, small))) (decimal_digits n (omega (arith, within, small)))
     ∙ ap (λ o. option_map pos o) (natural_back most n within (omega (arith, within, small)))
 integer_back most (negsuc n) small low high =
     let within : suc n ≤ most = grind (arith, low) in
@@ -82,32 +66,11 @@ pub record InField (byte : ℕ) : Type 0 where
 digit_field : (byte : ℕ) → is_digit byte ≡ true → InField byte
 digit_field byte digit = record { ink = grind arith; apart = grind arith }
 
-nine_field : (n : ℕ) → n < 10 → InField (48 + n)
-nine_field n small = record { ink = omega arith; apart = grind (arith, nat_tests) }
-
 pub decimal_field : (n : ℕ) → n < 2 ^ 64 → Each InField (decimal n)
-decimal_field n small = each_weaker (λ byte. is_digit byte ≡ true) InField digit_field (decimal n) (each_true is_digit (decimal n) (digits n small))
-
-point_field : InField 46
-point_field = record { ink = omega arith; apart = refl }
-
-minus_field : InField 45
-minus_field = record { ink = omega arith; apart = refl }
-
-decimals_by : (none tenths hundredths : Bool) (rest : ℕ) → rest < 1000 → Each InField (if none then [] else if tenths then codes "." ++ digit_text (rest / 100) else if hundredths then codes "." ++ digit_text (rest / 100) ++ digit_text (rest / 10 % 10) else codes "." ++ digit_text (rest / 100) ++ digit_text (rest / 10 % 10) ++ digit_text (rest % 10))
-decimals_by true tenths hundredths rest small = tt
-decimals_by false true hundredths rest small = (point_field, (nine_field (rest / 100) (omega arith), tt))
-decimals_by false false true rest small = (point_field, (nine_field (rest / 100) (omega arith), (nine_field (rest / 10 % 10) (omega arith), tt)))
-decimals_by false false false rest small = (point_field, (nine_field (rest / 100) (omega arith), (nine_field (rest / 10 % 10) (omega arith), (nine_field (rest % 10) (omega arith), tt))))
-
-unsigned_field : (n : ℕ) → n < 2 ^ 64 → Each InField (unsigned_text n)
-unsigned_field n small =
-    each_append InField (decimal (n / 1000)) (decimals_text (n % 1000)) (decimal_field (n / 1000) (omega (arith, small)))
-    (decimals_by (n % 1000 == 0) (n % 1000 % 100 == 0) (n % 1000 % 10 == 0) (n % 1000) (omega arith))
+decimal_field n small = each_weaker (λ byte. is_digit byte ≡ true) InField digit_field (decimal n) (each_true is_digit (decimal n) (decimal_digits n small))
 
 pub milli_field : (z : ℤ) → IsMilli z → Each InField (milli_text z)
-milli_field (pos n) within = let small : n ≤ 10 ^ 12 = grind (arith, within.1) in unsigned_field n (omega (arith, small))
-milli_field (negsuc n) within = let small : n ≤ 10 ^ 12 - 1 = grind (arith, within.0) in (minus_field, unsigned_field (suc n) (omega (arith, small)))
+milli_field z within = milli_bytes InField digit_field (record { ink = omega arith; apart = refl }) (record { ink = omega arith; apart = refl }) z within
 
 pub ink_of : (text : List ℕ) → Each InField text → Each (λ byte. 33 ≤ byte) text
 ink_of text each = each_weaker InField (λ byte. 33 ≤ byte) (λ byte is. is.ink) text each

@@ -1,6 +1,7 @@
 -- The words of a printed piece spell the piece.
 use Rattle.std.proofs.Common.{◌≡◌, ℕ, ◌*◌, ◌^◌, ◌<◌, ◌≤◌, true, ◌&&◌, Some, List, [], ◌∷◌, ◌++◌, length, map, take, refl, ap, sym, subst, arith}
 use Rattle.std.specs.Prelude.{ℤ, pos, negsuc, int_le, decimal}
+use Rattle.std.specs.List.{AllByRecursion as Each}
 use Rattle.std.specs.Fmt.{signed_decimal}
 use Rattle.std.proofs.lemmas.Bool.{and_parts}
 use Rattle.std.proofs.lemmas.Bool.Decides.{nat_tests}
@@ -14,7 +15,6 @@ use Rattle.ivp_func.proofs.Rises.{base_within, slope_within, small_parts}
 use Rattle.ivp_cert.specs.Pieces.{piece_of}
 use Rattle.ivp_cert.specs.Texts.{ends_of}
 use Rattle.ivp_cert.specs.Words.{integer_of, place_of}
-use Rattle.ivp_cert.proofs.Paths.{Each}
 use Rattle.ivp_cert.proofs.PrintedLines.{IsWord}
 use Rattle.ivp_cert.proofs.PrintedNumbers.{decimal_word, integer_back, place_back, signed_word}
 

@@ -1,11 +1,11 @@
 -- Printed lines one after another, as the reader takes them.
 use Rattle.std.proofs.Common.{◌≡◌, ℕ, suc, ◌≤◌, Ok, List, [], ◌∷◌, ◌++◌, refl, ap, sym, ◌∙◌, append_assoc}
+use Rattle.std.specs.List.{AllByRecursion as Each}
 use Rattle.moos_text.specs.Lines.{raw_lines}
 use Rattle.ivp_cert.specs.declared.phase.Phase.{Phase}
 use Rattle.ivp_cert.specs.Printed.{IsPrefix}
 use Rattle.ivp_cert.specs.Stages.{after_first, phase_after, read_from}
 use Rattle.moos_text.specs.Refusals.{and_then}
-use Rattle.ivp_cert.proofs.Paths.{Each}
 use Rattle.ivp_cert.proofs.PrintedLines.{IsWord, line_of, line_taken}
 
 -- the text takes the reader from a phase, after so many lines, to another one

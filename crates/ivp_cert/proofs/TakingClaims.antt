@@ -1,7 +1,9 @@
 -- What was decided, printed, as the reader takes it.
 use Rattle.std.proofs.Common.{◌≡◌, ℕ, suc, ◌^◌, ◌<◌, ◌≤◌, true, nat_lt, Some, Ok, List, [], ◌∷◌, ◌++◌, length, map, take, refl, ap, sym, subst, ◌∙◌, arith, append_assoc, append-nil}
 use Rattle.std.specs.Prelude.{codes, decimal, IsTrue}
+use Rattle.std.specs.List.{AllByRecursion as Each}
 use Rattle.std.proofs.lemmas.Bool.Decides.{nat_tests}
+use Rattle.moos_io.proofs.Lists.{each_append}
 use Rattle.ivp_domain.specs.declared.axis.Axis.{Axis}
 use Rattle.ivp_domain.specs.declared.boxes.Point.{Point}
 use Rattle.ivp_domain.specs.Domains.{is_domain, is_point, size_on}
@@ -14,7 +16,6 @@ use Rattle.ivp_cert.specs.Decisions.{are_on, spelled, spelled_with}
 use Rattle.ivp_cert.specs.Stages.{after_first}
 use Rattle.ivp_cert.specs.Printed.{IsPrefix}
 use Rattle.ivp_cert.specs.Texts.{claim_text}
-use Rattle.ivp_cert.proofs.Paths.{Each, each_append}
 use Rattle.ivp_cert.proofs.PrintedLines.{IsWord}
 use Rattle.ivp_cert.proofs.PrintedNumbers.{decimal_word, natural_back, place_back}
 use Rattle.ivp_cert.proofs.PrintedPieces.{four_of}

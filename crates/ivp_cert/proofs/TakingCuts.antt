@@ -1,7 +1,9 @@
 -- The printed lines of a certificate, as the reader takes them.
 use Rattle.std.proofs.Common.{◌≡◌, ℕ, suc, ◌+◌, ◌^◌, ◌<◌, ◌≤◌, true, false, nat_lt, Some, Ok, List, [], ◌∷◌, ◌++◌, flat_map, length, map, refl, ap, sym, ◌∙◌, arith, append_assoc, append-nil, length-append}
 use Rattle.std.specs.Prelude.{bytes_eq, codes, decimal}
+use Rattle.std.specs.List.{AllByRecursion as Each}
 use Rattle.std.proofs.lemmas.Bool.Decides.{nat_tests}
+use Rattle.moos_io.proofs.Lists.{each_append, each_from}
 use Rattle.ivp_cert.specs.declared.cert.Line.{Line}
 use Rattle.ivp_cert.specs.declared.claim.Decision.{Decision}
 use Rattle.ivp_cert.specs.declared.phase.Phase.TheVariants.{Done, OfCuts}
@@ -9,8 +11,6 @@ use Rattle.ivp_cert.specs.Decisions.{line_from}
 use Rattle.ivp_cert.specs.Stages.{after_first}
 use Rattle.ivp_cert.specs.Printed.{IsPrefix, IsPrintableLine}
 use Rattle.ivp_cert.specs.Texts.{line_text}
-use Rattle.ivp_cert.proofs.Accepting.{each_from}
-use Rattle.ivp_cert.proofs.Paths.{Each, each_append}
 use Rattle.ivp_cert.proofs.PrintedLines.{IsWord}
 use Rattle.ivp_cert.proofs.PrintedNumbers.{decimal_field, decimal_word, InField, natural_back, place_back}
 use Rattle.ivp_cert.proofs.PrintedTexts.{cut_line, cut_words}

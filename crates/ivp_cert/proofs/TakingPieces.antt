@@ -1,7 +1,7 @@
 -- The printed pieces of a function, as the reader takes them.
 use Rattle.std.proofs.Common.{◌≡◌, ℕ, suc, ◌+◌, ◌<◌, ◌≤◌, true, nat_lt, Ok, List, [], ◌∷◌, ◌++◌, flat_map, length, refl, ap, sym, arith, append_assoc, append-nil, length-append}
 use Rattle.std.specs.Prelude.{codes}
-use Rattle.std.specs.List.{list_all}
+use Rattle.std.specs.List.{list_all, AllByRecursion as Each}
 use Rattle.std.proofs.lemmas.Bool.{and_parts}
 use Rattle.std.proofs.lemmas.Bool.Decides.{nat_tests}
 use Rattle.ivp_domain.specs.Domains.{is_domain}
@@ -14,7 +14,6 @@ use Rattle.ivp_cert.specs.Stages.{after_first}
 use Rattle.ivp_cert.specs.Printed.{HasFourPlaces, IsPrefix}
 use Rattle.ivp_cert.specs.Texts.{piece_text}
 use Rattle.ivp_cert.specs.Unfinished.{UnfinishedSum}
-use Rattle.ivp_cert.proofs.Paths.{Each}
 use Rattle.ivp_cert.proofs.PrintedLines.{IsWord}
 use Rattle.ivp_cert.proofs.PrintedPieces.{IsSpelled, piece_spelled, piece_words}
 use Rattle.ivp_cert.proofs.PrintedTexts.{piece_line}

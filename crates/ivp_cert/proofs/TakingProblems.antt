@@ -1,8 +1,9 @@
 -- A printed problem, as the reader takes it.
 use Rattle.std.proofs.Common.{◌≡◌, ℕ, suc, ◌<◌, ◌≤◌, true, Some, List, [], ◌∷◌, ◌++◌, flat_map, length, refl, subst, arith}
 use Rattle.std.specs.Prelude.{codes, slice_get}
-use Rattle.std.specs.List.{concat}
+use Rattle.std.specs.List.{concat, AllByRecursion as Each}
 use Rattle.std.proofs.lemmas.Bool.{and_parts}
+use Rattle.moos_io.proofs.Lists.{each_from}
 use Rattle.ivp_domain.specs.declared.axis.Axis.{Axis}
 use Rattle.ivp_domain.specs.Axes.{is_end, is_good_axis}
 use Rattle.ivp_domain.specs.Domains.{is_domain}
@@ -18,8 +19,6 @@ use Rattle.ivp_cert.specs.declared.phase.Phase.TheVariants.{OfProblem}
 use Rattle.ivp_cert.specs.declared.stage.Stage.TheVariants.{Begun, Ended, Functions, Start}
 use Rattle.ivp_cert.specs.Printed.{HasFourPlaces, IsPrefix, IsPrintableProblem}
 use Rattle.ivp_cert.specs.Texts.{axis_text, problem_text, term_text}
-use Rattle.ivp_cert.proofs.Accepting.{each_from}
-use Rattle.ivp_cert.proofs.Paths.{Each}
 use Rattle.ivp_cert.proofs.PrintedAxes.{IsPrintedAxis}
 use Rattle.ivp_cert.proofs.PrintedLines.{IsWord}
 use Rattle.ivp_cert.proofs.Taking.{Leads, takes_both, takes_line}

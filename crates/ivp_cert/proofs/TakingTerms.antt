@@ -1,7 +1,7 @@
 -- The printed functions of a problem, as the reader takes them.
 use Rattle.std.proofs.Common.{◌≡◌, ℕ, suc, ◌+◌, ◌<◌, ◌≤◌, true, nat_lt, Ok, List, [], ◌∷◌, ◌++◌, flat_map, length, refl, ap, sym, ◌∙◌, arith, append_assoc, append-nil, length-append}
 use Rattle.std.specs.Prelude.{codes, decimal}
-use Rattle.std.specs.List.{concat, list_all}
+use Rattle.std.specs.List.{concat, list_all, AllByRecursion as Each}
 use Rattle.std.proofs.lemmas.Bool.Decides.{nat_tests}
 use Rattle.ivp_domain.specs.declared.axis.Axis.{Axis}
 use Rattle.ivp_domain.specs.Domains.{is_domain}
@@ -18,7 +18,6 @@ use Rattle.ivp_cert.specs.Stages.{after_first, as_now}
 use Rattle.ivp_cert.specs.Said.{at_line}
 use Rattle.ivp_cert.specs.Texts.{piece_text, term_text}
 use Rattle.ivp_cert.specs.Unfinished.{UnfinishedSum}
-use Rattle.ivp_cert.proofs.Paths.{Each}
 use Rattle.ivp_cert.proofs.PrintedLines.{IsWord}
 use Rattle.ivp_cert.proofs.PrintedNumbers.{decimal_word, whole_back}
 use Rattle.ivp_cert.proofs.PrintedTexts.{function_line}

@@ -32,7 +32,7 @@ fn are_digits(word: &[u8]) -> bool
 }
 
 // The number that digits spell, or one above the greatest that is allowed where it is more than that.
-#[tactic(auto, using(crate::proofs::Digits::value_more))]
+#[tactic(auto, using(moos_text::proofs::Numerals::value_more))]
 fn capped_value(digits: &[u8], most: u64) -> u64
     requires digits { list_all is_digit digits.now ≡ true }
     requires most { most ≤ 10 ^ 12 }
