@@ -2,8 +2,7 @@
 -- problem is accepted for the best point.
 use Rattle.std.proofs.Common.{◌≡◌, ℕ, suc, ◌<◌, ◌≤◌, Bool, true, false, ◌==◌, Some, List, [], ◌∷◌, ◌++◌, length, drop, refl, sym, ap, subst, ◌∙◌, arith, append-nil}
 use Rattle.std.specs.Prelude.{slice_get}
-use Rattle.std.proofs.lemmas.Bool.{and_parts}
-use Rattle.std.proofs.lemmas.Bool.Decides.{nat_tests}
+use Rattle.std.proofs.lemmas.Bool.{and_parts, eqb-true}
 use Rattle.moos_io.proofs.Lists.{each_at, each_from}
 use Rattle.ivp_domain.specs.declared.axis.Axis.{Axis}
 use Rattle.ivp_domain.specs.declared.boxes.Point.{Point}
@@ -85,12 +84,9 @@ begun [] path h = (path, refl)
 begun (n ∷ front) [] h = absurd (cc)
 begun (n ∷ front) (m ∷ path) h =
     let both = and_parts (n == m) (begins front path) h in
-    let same : n ≡ m = equal n m both.0 in
+    let same : n ≡ m = eqb-true n m both.0 in
     let more = begun front path both.1 in
     (more.0, ap (λ k. k ∷ path) (sym same) ∙ ap (λ t. n ∷ t) more.1)
-  where
-    equal : (a b : ℕ) → (a == b) ≡ true → a ≡ b
-    equal a b h = grind (arith, nat_tests)
 
 -- no key is above that of an accepted claim
 pub accepted_most : (problem : WeightedSum) (claim : Claim) (cert : List Line) (p : Point) → IsProblem problem → Accepts problem claim cert → is_point problem.axes p ≡ true → key_at problem p ≤ key_at problem claim.point

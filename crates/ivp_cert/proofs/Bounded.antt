@@ -3,7 +3,7 @@ use Rattle.std.proofs.Common.{◌≡◌, ℕ, suc, ◌+◌, ◌≤◌, Bool, tru
 use Rattle.std.specs.Prelude.{bytes_eq, codes, IfOk, max}
 use Rattle.std.specs.List.{list_all, AllByRecursion as Each}
 use Rattle.std.specs.Option.{option_and_then, option_map}
-use Rattle.std.proofs.lemmas.Bool.Decides.{nat_tests}
+use Rattle.std.proofs.lemmas.Bool.{leb-true}
 use Rattle.moos_io.proofs.Lists.{each_append, each_at}
 use Rattle.moos_post.specs.Words.{is_digit}
 use Rattle.moos_text.specs.declared.cause.Cause.{Cause}
@@ -55,14 +55,11 @@ some_of : {A B : Type 0} (f : A → Option B) (o : Option A) (b : B) → option_
 some_of f None b e = absurd (cc)
 some_of f (Some a) b e = (a, refl, e)
 
-least : (a b : ℕ) → nat_le a b ≡ true → a ≤ b
-least a b h = grind (arith, nat_tests)
-
 natural_most : (most : ℕ) (word : List ℕ) (n : ℕ) → natural_of most word ≡ Some n → n ≤ most
 natural_most most word n e = by (nat_lt 0 (length word) && list_all is_digit word) (nat_le (digits_value word) most) refl e
   where
     by : (front fits : Bool) → nat_le (digits_value word) most ≡ fits → cond (front && fits) (Some (digits_value word)) None ≡ Some n → n ≤ most
-    by true true f e = let same : digits_value word ≡ n = cc in subst (λ m. m ≤ most) same (least (digits_value word) most f)
+    by true true f e = let same : digits_value word ≡ n = cc in subst (λ m. m ≤ most) same (leb-true (digits_value word) most f)
     by true false f e = absurd (cc)
     by false fits f e = absurd (cc)
 

@@ -1,8 +1,7 @@
 -- The fields of a word, which is cut at each `:`.
-use Rattle.std.proofs.Common.{◌≡◌, ℕ, ◌+◌, ◌==◌, Some, None, List, [], ◌∷◌, length, take, drop, refl, ap, sym, ◌∙◌, arith, Bool, true, false, cond, not, nat_lt, ◌-◌, ◌≤◌}
+use Rattle.std.proofs.Common.{◌≡◌, ℕ, ◌+◌, ◌==◌, Some, None, List, [], ◌∷◌, length, take, drop, refl, ap, sym, ◌∙◌, arith, Bool, true, false, cond, not, nat_lt, ◌≤◌}
 use Rattle.std.specs.List.{onto_first, position, position_or_len}
 use Rattle.std.proofs.lemmas.Bool.Decides.{nat_tests}
-use Rattle.std.proofs.lemmas.List.{length-drop, take_all}
 use Rattle.std.proofs.lemmas.List.Quantifiers.{position-Some}
 use Rattle.std.proofs.lemmas.List.Splits.{slice_split_first}
 use Rattle.std.proofs.lemmas.List.Sums.{position_or_len_is}
@@ -39,10 +38,6 @@ fields_some (byte ∷ text) = at (byte == 58) (fields_some text)
     at : (b : Bool) → ((first : List ℕ) × (rest : List (List ℕ)) × (fields_of text ≡ first ∷ rest)) → (first : List ℕ) × (rest : List (List ℕ)) × (cond b ([] ∷ fields_of text) (onto_first byte (fields_of text)) ≡ first ∷ rest)
     at true more = ([], fields_of text, refl)
     at false more = (byte ∷ more.0, more.1, ap (onto_first byte) more.2)
-
--- what a slice from a place to the end holds
-pub from_place : (place : ℕ) (text : List ℕ) → drop place text ≡ take (length text - place) (drop place text)
-from_place place text = sym (take_all (length text - place) (drop place text) (omega (arith, length-drop place text)))
 
 -- more than four fields make no axis
 pub fifth_field : (word name low high points one two three four : List ℕ) → fields_of word ≡ name ∷ fields_of one → fields_of one ≡ low ∷ fields_of two → fields_of two ≡ high ∷ fields_of three → fields_of three ≡ points ∷ fields_of four → None ≡ axis_of word

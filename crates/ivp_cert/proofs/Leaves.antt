@@ -1,5 +1,5 @@
 -- Nodes by their paths, and the nodes of full depth below them.
-use Rattle.std.proofs.Common.{◌≡◌, ℕ, suc, ◌+◌, ◌≤◌, Bool, true, false, ◌||◌, Option, Some, None, List, [], ◌∷◌, ◌++◌, length, drop, refl, sym, ap, subst, ◌∙◌, arith, length-drop}
+use Rattle.std.proofs.Common.{◌≡◌, ℕ, suc, ◌+◌, ◌≤◌, Bool, true, false, ◌||◌, Option, Some, None, List, [], ◌∷◌, ◌++◌, length, drop, refl, sym, ap, subst, ◌∙◌, arith, length-drop, append-nil, append_assoc}
 use Rattle.std.specs.Prelude.{slice_get}
 use Rattle.std.specs.List.{flat_map}
 use Rattle.std.specs.Option.{option_to_list}
@@ -133,16 +133,8 @@ some_leaf problem terms path node h at =
 
 -- the functions behind those that a path below a node chooses from
 pub below_reached : (problem : WeightedSum) (terms : List Term) (path more : List ℕ) (node below : Node) → Reached problem terms path node → node_below terms more node ≡ Some below → Reached problem (drop (length more) terms) (path ++ more) below
-below_reached problem terms path [] node below at e = let same : node ≡ below = cc in subst (Reached problem terms (path ++ [])) same (subst (λ q. Reached problem terms q node) (sym (nil path)) at)
-  where
-    nil : (xs : List ℕ) → xs ++ [] ≡ xs
-    nil [] = refl
-    nil (x ∷ xs) = ap (λ t. x ∷ t) (nil xs)
+below_reached problem terms path [] node below at e = let same : node ≡ below = cc in subst (Reached problem terms (path ++ [])) same (subst (λ q. Reached problem terms q node) (sym (append-nil path)) at)
 below_reached problem [] path (number ∷ more) node below at e = absurd (cc)
 below_reached problem (term ∷ terms) path (number ∷ more) node below at e =
     option_and_then_some (node_below terms more) (child_in term node number) below e
-    (λ child first later. subst (λ q. Reached problem (drop (length more) terms) q below) (joined path) (below_reached problem terms (path ++ number ∷ []) more child below (child_reached problem term terms path node child number at first) later))
-  where
-    joined : (xs : List ℕ) → (xs ++ number ∷ []) ++ more ≡ xs ++ (number ∷ more)
-    joined [] = refl
-    joined (x ∷ xs) = ap (λ t. x ∷ t) (joined xs)
+    (λ child first later. subst (λ q. Reached problem (drop (length more) terms) q below) (append_assoc path (number ∷ []) more) (below_reached problem terms (path ++ number ∷ []) more child below (child_reached problem term terms path node child number at first) later))

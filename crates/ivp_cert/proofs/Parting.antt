@@ -1,5 +1,5 @@
 -- Lines that cover a node, parted into those of its children.
-use Rattle.std.proofs.Common.{◌≡◌, ℕ, suc, ◌+◌, ◌<◌, ◌≤◌, ◌⊎◌, inl, inr, true, Some, None, List, [], ◌∷◌, ◌++◌, length, drop, refl, sym, ap, subst, ◌∙◌, arith, length-append, length-drop}
+use Rattle.std.proofs.Common.{◌≡◌, ℕ, suc, ◌+◌, ◌<◌, ◌≤◌, ◌⊎◌, inl, inr, true, Some, None, List, [], ◌∷◌, ◌++◌, length, drop, refl, sym, ap, subst, ◌∙◌, arith, length-append, length-drop, append-nil}
 use Rattle.std.specs.List.{AllByRecursion as Each}
 use Rattle.std.proofs.lemmas.Option.{option_and_then_some}
 use Rattle.moos_io.proofs.Lists.{each_true, each_weaker}
@@ -191,8 +191,4 @@ covers_alone problem key terms path node line (next ∷ lines) h at own all = by
         absurd (omega (arith, once, first, second, beginning_cons target line (next ∷ lines), beginning_cons target next lines))
       where
         begin : (xs ys : List ℕ) → begins xs (xs ++ ys) ≡ true
-        begin xs ys = ap (λ q. begins q (xs ++ ys)) (sym (nil xs)) ∙ begins_append xs [] ys
-          where
-            nil : (zs : List ℕ) → zs ++ [] ≡ zs
-            nil [] = refl
-            nil (z ∷ zs) = ap (λ t. z ∷ t) (nil zs)
+        begin xs ys = ap (λ q. begins q (xs ++ ys)) (sym (append-nil xs)) ∙ begins_append xs [] ys

@@ -2,6 +2,7 @@
 use Rattle.std.proofs.Common.{◌≡◌, ℕ, ◌+◌, ◌<◌, ◌≤◌, Bool, true, false, ◌&&◌, ◌||◌, ◌==◌, nat_lt, List, [], ◌∷◌, ◌++◌, refl, sym, ap, ◌∙◌, arith}
 use Rattle.std.specs.Prelude.{count_by}
 use Rattle.std.specs.List.{AllByRecursion as Each}
+use Rattle.std.proofs.lemmas.Bool.{eq-eqb, le-ltb, lt-ltb, ne_eqb}
 use Rattle.std.proofs.lemmas.Bool.Decides.{nat_tests}
 use Rattle.std.proofs.lemmas.List.Sums.{sum_by-append, sum_by-cons}
 use Rattle.moos_io.proofs.Lists.{each_append, each_true, true_each}
@@ -9,31 +10,21 @@ use Rattle.ivp_func.proofs.Counting.{one_if}
 use Rattle.ivp_cert.specs.declared.cert.Line.{Line}
 use Rattle.ivp_cert.specs.Certificates.{begins, is_before, Rise}
 
--- tests on numbers
-same : (n : ℕ) → (n == n) ≡ true
-same n = grind (arith, nat_tests)
-
-not_less : (n : ℕ) → nat_lt n n ≡ false
-not_less n = grind (arith, nat_tests)
-
-differs : (a b : ℕ) → (a ≡ b → ⊥) → (a == b) ≡ false
-differs a b h = grind (arith, nat_tests)
-
 -- what two paths begin with in common doesn't count
 pub begins_append : (path a b : List ℕ) → begins (path ++ a) (path ++ b) ≡ begins a b
 begins_append [] a b = refl
-begins_append (n ∷ path) a b = rw (same n) (begins_append path a b)
+begins_append (n ∷ path) a b = rw (eq-eqb n n refl) (begins_append path a b)
 
 pub before_append : (path a b : List ℕ) → is_before (path ++ a) (path ++ b) ≡ is_before a b
 before_append [] a b = refl
-before_append (n ∷ path) a b = rw (not_less n, same n) (before_append path a b)
+before_append (n ∷ path) a b = rw (le-ltb n n (omega arith), eq-eqb n n refl) (before_append path a b)
 
 -- paths that part at a number
 pub parted : (path a b : List ℕ) (m n : ℕ) → (m ≡ n → ⊥) → begins (path ++ m ∷ a) (path ++ n ∷ b) ≡ false
-parted path a b m n h = begins_append path (m ∷ a) (n ∷ b) ∙ rw (differs m n h) refl
+parted path a b m n h = begins_append path (m ∷ a) (n ∷ b) ∙ rw (ne_eqb m n h) refl
 
 pub less_before : (path a b : List ℕ) (m n : ℕ) → m < n → is_before (path ++ m ∷ a) (path ++ n ∷ b) ≡ true
-less_before path a b m n h = let less : nat_lt m n ≡ true = grind (arith, nat_tests) in before_append path (m ∷ a) (n ∷ b) ∙ rw less refl
+less_before path a b m n h = before_append path (m ∷ a) (n ∷ b) ∙ rw (lt-ltb m n h) refl
 
 pub before_less : (path a b : List ℕ) (m n : ℕ) → is_before (path ++ m ∷ a) (path ++ n ∷ b) ≡ true → m ≤ n
 before_less path a b m n h = by (nat_lt m n) (m == n) refl refl (sym (before_append path (m ∷ a) (n ∷ b)) ∙ h)

@@ -3,7 +3,7 @@ use Rattle.std.proofs.Common.{◌≡◌, ℕ, suc, ◌-◌, ◌*◌, ◌/◌, �
 use Rattle.std.specs.Prelude.{ℤ, pos, negsuc, neg_ℤ, ◌≤ℤ◌, decimal, option_map, option_and_then}
 use Rattle.std.specs.Fmt.{signed_decimal}
 use Rattle.std.specs.List.{list_all, AllByRecursion as Each}
-use Rattle.std.proofs.lemmas.Bool.Decides.{nat_tests}
+use Rattle.std.proofs.lemmas.Bool.{le-leb, lt-ltb}
 use Rattle.std.proofs.lemmas.Fmt.{decimal_nonempty}
 use Rattle.moos_io.proofs.Lists.{each_true, each_weaker}
 use Rattle.moos_post.specs.Words.{is_digit, IsMilli}
@@ -13,17 +13,11 @@ use Rattle.moos_text.proofs.RoundTrip.{milli_back}
 use Rattle.ivp_cert.specs.Words.{integer_of, natural_of, place_of, whole_of, whole_part}
 use Rattle.ivp_cert.proofs.PrintedLines.{IsWord}
 
-least : (a b : ℕ) → a ≤ b → nat_le a b ≡ true
-least a b h = grind (arith, nat_tests)
-
-less : (a b : ℕ) → a < b → nat_lt a b ≡ true
-less a b h = grind (arith, nat_tests)
-
 -- a printed number within its bound
 pub natural_back : (most n : ℕ) → n ≤ most → n < 2 ^ 64 → natural_of most (decimal n) ≡ Some n
 natural_back most n within small =
-    let some : nat_lt 0 (length (decimal n)) ≡ true = less 0 (length (decimal n)) (decimal_nonempty n small) in
-    let fits : nat_le (digits_value (decimal n)) most ≡ true = ap (λ v. nat_le v most) (decimal_value n small) ∙ least n most within in
+    let some : nat_lt 0 (length (decimal n)) ≡ true = lt-ltb 0 (length (decimal n)) (decimal_nonempty n small) in
+    let fits : nat_le (digits_value (decimal n)) most ≡ true = ap (λ v. nat_le v most) (decimal_value n small) ∙ le-leb n most within in
     rw (some, decimal_digits n small, fits) (ap Some (decimal_value n small))
 
 pub place_back : (n : ℕ) → n < 2 ^ 32 → place_of (decimal n) ≡ Some n

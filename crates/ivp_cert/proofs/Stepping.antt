@@ -1,9 +1,9 @@
 -- The checker's and the cutter's loops over the children of a node, one piece after the other.
-use Rattle.std.proofs.Common.{◌≡◌, ℕ, zero, suc, ◌+◌, ◌-◌, ◌<◌, ◌≤◌, true, false, nat_le, Option, Some, None, List, [], ◌∷◌, ◌++◌, length, take, drop, get_or, refl, sym, ap, subst, ◌∙◌, arith, add-one, append_assoc, append-nil, drop-cons, length-append, length-drop}
+use Rattle.std.proofs.Common.{◌≡◌, ℕ, zero, suc, ◌+◌, ◌-◌, ◌<◌, ◌≤◌, true, false, Option, Some, None, List, [], ◌∷◌, ◌++◌, length, take, drop, get_or, refl, sym, ap, subst, ◌∙◌, arith, add-one, append_assoc, append-nil, drop-cons, length-append, length-drop}
 use Rattle.std.specs.Prelude.{IfSome, slice_get}
 use Rattle.std.specs.List.{flat_map}
 use Rattle.std.specs.Option.{option_and_then, option_to_list}
-use Rattle.std.proofs.lemmas.Bool.Decides.{nat_tests}
+use Rattle.std.proofs.lemmas.Bool.{le-leb, lt-leb}
 use Rattle.std.proofs.lemmas.List.{drop_all, take-append-le, take_all}
 use Rattle.std.proofs.lemmas.Option.{slice_get-get_or}
 use Rattle.ivp_domain.specs.Boxes.{numbers_from}
@@ -127,18 +127,12 @@ left problem key path node low = left_in problem key path node low (drop node.de
 abbrev pub topmost_of : WeightedSum → ℕ → List ℕ → Node → List Line
 topmost_of problem key path node = topmost problem key (drop node.depth problem.terms) path node
 
-above : (bound key : ℕ) → key < bound → nat_le bound key ≡ false
-above bound key h = grind (arith, nat_tests)
-
-within : (bound key : ℕ) → bound ≤ key → nat_le bound key ≡ true
-within bound key h = grind (arith, nat_tests)
-
 pub topmost_own : (problem : WeightedSum) (key : ℕ) (path : List ℕ) (node : Node) (terms : List Term) → bound_of problem node ≤ key → topmost problem key terms path node ≡ line_of problem path node ∷ []
-topmost_own problem key path node [] h = rw (within (bound_of problem node) key h) refl
-topmost_own problem key path node (term ∷ terms) h = rw (within (bound_of problem node) key h) refl
+topmost_own problem key path node [] h = rw (le-leb (bound_of problem node) key h) refl
+topmost_own problem key path node (term ∷ terms) h = rw (le-leb (bound_of problem node) key h) refl
 
 pub left_full : (problem : WeightedSum) (key : ℕ) (path : List ℕ) (node : Node) → length problem.terms ≤ node.depth → key < bound_of problem node → topmost_of problem key path node ≡ []
-left_full problem key path node full h = let past : drop node.depth problem.terms ≡ [] = drop_all node.depth problem.terms full in rw (past, above (bound_of problem node) key h) refl
+left_full problem key path node full h = let past : drop node.depth problem.terms ≡ [] = drop_all node.depth problem.terms full in rw (past, lt-leb (bound_of problem node) key h) refl
 
 pub left_start : (problem : WeightedSum) (key : ℕ) (path : List ℕ) (node : Node) (pieces : ℕ) → node.depth < length problem.terms → Counts problem node pieces → key < bound_of problem node → topmost_of problem key path node ≡ left problem key path node 0
 left_start problem key path node pieces below counts h =
@@ -146,7 +140,7 @@ left_start problem key path node pieces below counts h =
     let term = at.term in
     let terms = drop (node.depth + 1) problem.terms in
     let all : length term.func.pieces ≡ length term.func.pieces - 0 = omega arith in
-    let first : topmost problem key (term ∷ terms) path node ≡ flat_map (below_by problem key term terms path node) (numbers_from 0 (length term.func.pieces)) = rw (above (bound_of problem node) key h) refl in
+    let first : topmost problem key (term ∷ terms) path node ≡ flat_map (below_by problem key term terms path node) (numbers_from 0 (length term.func.pieces)) = rw (lt-leb (bound_of problem node) key h) refl in
     ap (λ ts. topmost problem key ts path node) at.rest ∙ (first ∙ (ap (λ n. flat_map (below_by problem key term terms path node) (numbers_from 0 n)) all ∙ ap (left_in problem key path node 0) (sym at.rest)))
 
 numbers_next : (f : ℕ → List Line) (low n : ℕ) → low < n → flat_map f (numbers_from low (n - low)) ≡ f low ++ flat_map f (numbers_from (low + 1) (n - (low + 1)))

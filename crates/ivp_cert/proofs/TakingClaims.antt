@@ -1,8 +1,8 @@
 -- What was decided, printed, as the reader takes it.
-use Rattle.std.proofs.Common.{◌≡◌, ℕ, suc, ◌^◌, ◌<◌, ◌≤◌, true, nat_lt, Some, Ok, List, [], ◌∷◌, ◌++◌, length, map, take, refl, ap, sym, subst, ◌∙◌, arith, append_assoc, append-nil}
+use Rattle.std.proofs.Common.{◌≡◌, ℕ, suc, ◌^◌, ◌<◌, ◌≤◌, true, Some, Ok, List, [], ◌∷◌, ◌++◌, length, map, take, refl, ap, sym, subst, ◌∙◌, arith, append_assoc, append-nil}
 use Rattle.std.specs.Prelude.{codes, decimal, IsTrue}
 use Rattle.std.specs.List.{AllByRecursion as Each}
-use Rattle.std.proofs.lemmas.Bool.Decides.{nat_tests}
+use Rattle.std.proofs.lemmas.Bool.{lt-ltb}
 use Rattle.moos_io.proofs.Lists.{each_append}
 use Rattle.ivp_domain.specs.declared.axis.Axis.{Axis}
 use Rattle.ivp_domain.specs.declared.boxes.Point.{Point}
@@ -46,9 +46,6 @@ record Placed (axes : List Axis) (at : List ℕ) : Type 0 where
   pub back : take 4 (take (length axes) at ++ 0 ∷ 0 ∷ 0 ∷ 0 ∷ []) ≡ at
   pub small : Each (λ place. place < 2 ^ 32) (take (length axes) at)
 
-less : (a b : ℕ) → a < b → nat_lt a b ≡ true
-less a b h = grind (arith, nat_tests)
-
 none : (n : ℕ) → n < 1 → n ≡ 0
 none n h = omega (arith, h)
 
@@ -58,26 +55,26 @@ fits size n h k = omega (arith, h, k)
 placed_by : (axes : List Axis) (i j k l : ℕ) → is_domain axes ≡ true → i < size_on 0 axes → j < size_on 1 axes → k < size_on 2 axes → l < size_on 3 axes → Placed axes (i ∷ j ∷ k ∷ l ∷ [])
 placed_by [] i j k l domain p q r s = absurd (cc)
 placed_by (a ∷ []) i j k l domain p q r s = record {
-  on = rw (less i a.points p) refl;
+  on = rw (lt-ltb i a.points p) refl;
   back = rw (none j q, none k r, none l s) refl;
   small = (fits a.points i p (few_on (a ∷ []) domain 0 (omega arith)), tt);
 }
 placed_by (a ∷ b ∷ []) i j k l domain p q r s = record {
-  on = rw (less i a.points p, less j b.points q) refl;
+  on = rw (lt-ltb i a.points p, lt-ltb j b.points q) refl;
   back = rw (none k r, none l s) refl;
   small = (fits a.points i p (few_on (a ∷ b ∷ []) domain 0 (omega arith)), (fits b.points j q (few_on (a ∷ b ∷ []) domain 1 (omega arith)), tt));
 }
 placed_by (a ∷ b ∷ d ∷ []) i j k l domain p q r s =
     let few = λ (n : ℕ) (within : n < 4). few_on (a ∷ b ∷ d ∷ []) domain n within in
     record {
-      on = rw (less i a.points p, less j b.points q, less k d.points r) refl;
+      on = rw (lt-ltb i a.points p, lt-ltb j b.points q, lt-ltb k d.points r) refl;
       back = rw (none l s) refl;
       small = (fits a.points i p (few 0 (omega arith)), (fits b.points j q (few 1 (omega arith)), (fits d.points k r (few 2 (omega arith)), tt)));
     }
 placed_by (a ∷ b ∷ d ∷ e ∷ []) i j k l domain p q r s =
     let few = λ (n : ℕ) (within : n < 4). few_on (a ∷ b ∷ d ∷ e ∷ []) domain n within in
     record {
-      on = rw (less i a.points p, less j b.points q, less k d.points r, less l e.points s) refl;
+      on = rw (lt-ltb i a.points p, lt-ltb j b.points q, lt-ltb k d.points r, lt-ltb l e.points s) refl;
       back = refl;
       small = (fits a.points i p (few 0 (omega arith)), (fits b.points j q (few 1 (omega arith)), (fits d.points k r (few 2 (omega arith)), (fits e.points l s (few 3 (omega arith)), tt))));
     }

@@ -3,8 +3,7 @@ use Rattle.std.proofs.Common.{◌≡◌, ℕ, zero, suc, ◌+◌, ◌≤◌, Boo
 use Rattle.std.specs.List.{flat_map}
 use Rattle.std.specs.Option.{option_and_then, option_to_list}
 use Rattle.std.specs.Str.{bytes_eq}
-use Rattle.std.proofs.lemmas.Bool.{and_from, and_parts}
-use Rattle.std.proofs.lemmas.Bool.Decides.{nat_tests}
+use Rattle.std.proofs.lemmas.Bool.{and_from, and_parts, eq-eqb, eqb-true, le-leb, leb-true}
 use Rattle.std.proofs.lemmas.Option.{option_and_then_some}
 use Rattle.std.proofs.lemmas.Slice.Eq.{bytes_eq-Decides}
 use Rattle.ivp_domain.specs.Boxes.{numbers_from}
@@ -32,16 +31,10 @@ own_line problem key terms path node line h =
       split = same ∙ sym (append-nil path);
       below = node;
       reached = refl;
-      sum = equal line.sum (sum_of bound) three.1;
-      index = equal line.index (index_of_key bound) two.1;
-      most = most bound key one.1;
+      sum = eqb-true line.sum (sum_of bound) three.1;
+      index = eqb-true line.index (index_of_key bound) two.1;
+      most = leb-true bound key one.1;
     }
-  where
-    equal : (a b : ℕ) → (a == b) ≡ true → a ≡ b
-    equal a b h = grind (arith, nat_tests)
-
-    most : (a b : ℕ) → nat_le a b ≡ true → a ≤ b
-    most a b h = grind (arith, nat_tests)
 
 line_own : (problem : WeightedSum) (key : ℕ) (terms : List Term) (path : List ℕ) (node : Node) (line : Line) → IsUnder problem key terms path node line [] → is_line_of problem key path node line ≡ true
 line_own problem key terms path node line own =
@@ -49,17 +42,11 @@ line_own problem key terms path node line own =
     let bound = bound_of problem node in
     let is : bound_of problem own.below ≡ bound = ap (bound_of problem) (sym same) in
     let path_is : bytes_eq line.path path ≡ true = (bytes_eq-Decides line.path path).1 (own.split ∙ append-nil path) in
-    let sum_is = equal line.sum (sum_of bound) (own.sum ∙ ap sum_of is) in
-    let index_is = equal line.index (index_of_key bound) (own.index ∙ ap index_of_key is) in
-    let most_is = most bound key (subst (λ n. n ≤ key) is own.most) in
+    let sum_is = eq-eqb line.sum (sum_of bound) (own.sum ∙ ap sum_of is) in
+    let index_is = eq-eqb line.index (index_of_key bound) (own.index ∙ ap index_of_key is) in
+    let most_is = le-leb bound key (subst (λ n. n ≤ key) is own.most) in
     and_from (bytes_eq line.path path && line.sum == sum_of bound && line.index == index_of_key bound) (nat_le bound key)
     (and_from (bytes_eq line.path path && line.sum == sum_of bound) (line.index == index_of_key bound) (and_from (bytes_eq line.path path) (line.sum == sum_of bound) path_is sum_is) index_is) most_is
-  where
-    equal : (a b : ℕ) → a ≡ b → (a == b) ≡ true
-    equal a b h = grind (arith, nat_tests)
-
-    most : (a b : ℕ) → a ≤ b → nat_le a b ≡ true
-    most a b h = grind (arith, nat_tests)
 
 -- a line of a node below isn't this node's
 line_below : (problem : WeightedSum) (key : ℕ) (path : List ℕ) (node : Node) (line : Line) (number : ℕ) (more : List ℕ) → line.path ≡ path ++ number ∷ more → is_line_of problem key path node line ≡ false
@@ -205,14 +192,10 @@ each_top problem key term terms path node tops at low (suc count) all = by (chil
 pub topmost_covers : (problem : WeightedSum) (key : ℕ) (terms : List Term) (path : List ℕ) (node : Node) → Attains problem key → Reached problem terms path node → Covers Anyhow problem key terms path node (topmost problem key terms path node)
 topmost_covers problem key [] path node attains at =
     let most = attains path node at in
-    let test : nat_le (bound_of problem node) key ≡ true = grind (arith, nat_tests) in
-    rw test (top_line problem key [] path node most)
+    rw (le-leb (bound_of problem node) key most) (top_line problem key [] path node most)
 topmost_covers problem key (term ∷ terms) path node attains at =
     by (nat_le (bound_of problem node) key) refl (λ child number reached. topmost_covers problem key terms (path ++ number ∷ []) child attains reached)
   where
-    most : (a b : ℕ) → nat_le a b ≡ true → a ≤ b
-    most a b h = grind (arith, nat_tests)
-
     by : (b : Bool) → nat_le (bound_of problem node) key ≡ b → Tops problem key terms path → Covers Anyhow problem key (term ∷ terms) path node (cond b (line_of problem path node ∷ []) (flat_map (below_by problem key term terms path node) (numbers_from 0 (length term.func.pieces))))
-    by true is tops = top_line problem key (term ∷ terms) path node (most (bound_of problem node) key is)
+    by true is tops = top_line problem key (term ∷ terms) path node (leb-true (bound_of problem node) key is)
     by false is tops = covers_all problem key term terms path node (flat_map (below_by problem key term terms path node) (numbers_from 0 (length term.func.pieces))) (each_top problem key term terms path node tops at 0 (length term.func.pieces) (omega arith))

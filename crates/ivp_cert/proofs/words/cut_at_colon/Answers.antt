@@ -1,6 +1,7 @@
 use Rattle.std.proofs.Common.{◌+◌, ◌∷◌, take, ap, sym, ◌∙◌}
+use Rattle.moos_text.proofs.Numerals.{from_place}
 use Rattle.ivp_cert.specs.Words.{fields_of}
-use Rattle.ivp_cert.proofs.Fields.{fields_cut, from_place}
+use Rattle.ivp_cert.proofs.Fields.{fields_cut}
 use Rattle.ivp_cert.proofs.words.cut_at_colon.Goals as goal
 
 pub returns-in-Some : goal.returns-in-Some
