@@ -2,6 +2,7 @@
 use Rattle.std.proofs.Common.{◌≡◌, ◌≢◌, ℕ, zero, suc, ◌+◌, ◌*◌, ◌^◌, ◌<◌, ◌≤◌, ◌⊎◌, inl, inr, Bool, true, false, ◌||◌, Some, None, List, [], ◌∷◌, ◌++◌, length, refl, sym, ap, ◌∙◌, subst, arith, append_assoc, length-append}
 use Rattle.std.specs.List.{AllByRecursion as Each}
 use Rattle.std.specs.Option.{option_to_list}
+use Rattle.std.proofs.Math.Bool.{or-true}
 use Rattle.std.proofs.lemmas.List.{append-nil}
 use Rattle.std.proofs.lemmas.List.Folds.{list_any-append}
 use Rattle.moos_io.proofs.Lists.{each_append, each_weaker}
@@ -39,17 +40,13 @@ first_or_later problem low node nodes some more p in_first in_later inside = eit
     all : has_in (some ++ more) p ≡ (has_in some p || has_in more p)
     all = list_any-append (λ (n : Node). has_point n.area p) some more
 
-    or_true : (t : Bool) → (t || true) ≡ true
-    or_true true = refl
-    or_true false = refl
-
     first : (key_at problem p ≤ low) ⊎ (has_in some p ≡ true) → (key_at problem p ≤ low) ⊎ (has_in (some ++ more) p ≡ true)
     first (inl less) = inl less
     first (inr found) = inr (all ∙ ap (λ t. t || has_in more p) found)
 
     later : (key_at problem p ≤ low) ⊎ (has_in more p ≡ true) → (key_at problem p ≤ low) ⊎ (has_in (some ++ more) p ≡ true)
     later (inl less) = inl less
-    later (inr found) = inr (all ∙ (ap (λ t. has_in some p || t) found ∙ or_true (has_in some p)))
+    later (inr found) = inr (all ∙ (ap (λ t. has_in some p || t) found ∙ or-true (has_in some p)))
 
     either : (t : Bool) → has_point node.area p ≡ t → (t || has_in nodes p) ≡ true → (key_at problem p ≤ low) ⊎ (has_in (some ++ more) p ≡ true)
     either true e inside = first (in_first e)

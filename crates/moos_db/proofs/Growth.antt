@@ -58,7 +58,7 @@ IsInbox-stays names history client kept entry inbox =
 pub IsInbox-empty : (names : List (List ℕ)) (history : History) (client : ℕ) → IsInbox names history client empty_kept
 IsInbox-empty names history client = record { within = omega arith; same = refl }
 
-posts-take : (history : History) (n : ℕ) → length (posts_of (take n history)) ≤ length (posts_of history)
+pub posts-take : (history : History) (n : ℕ) → length (posts_of (take n history)) ≤ length (posts_of history)
 posts-take history n =
     let all : length (posts_of history) ≡ length (posts_of (take n history) ++ posts_of (drop n history))
     = ap (λ h. length (posts_of h)) (sym (take-append-drop n history)) ∙ ap length (flat_map-append posts_of_entry (take n history) (drop n history)) in

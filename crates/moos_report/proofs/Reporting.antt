@@ -1,8 +1,7 @@
 -- Lemmas on the parts of a report.
-use Rattle.std.proofs.Common.{◌≡◌, ℕ, zero, suc, ◌+◌, ◌<◌, ◌≤◌, Some, None, List, [], ◌∷◌, ◌++◌, map, flat_map, length, take, drop, refl, ap, sym, ◌∙◌, arith, add-one, codes, decimal, length-append, take-append-drop, length-take, length-take-le}
+use Rattle.std.proofs.Common.{◌≡◌, ℕ, zero, suc, ◌+◌, ◌<◌, ◌≤◌, Some, None, List, [], ◌∷◌, ◌++◌, map, flat_map, length, take, drop, refl, ap, arith, add-one, codes, decimal, length-append, length-take, length-take-le}
 use Rattle.std.specs.Prelude.{slice_get, option_map}
 use Rattle.std.specs.List.{concat}
-use Rattle.std.proofs.Math.Seq.{take-append_seam}
 use Rattle.std.proofs.lemmas.List.Concat.{flat_map-append}
 use Rattle.std.proofs.lemmas.Option.{slice_get_past, slice_get_within}
 use Rattle.moos_post.specs.declared.entry.Call.TheVariants.{Post as Posts, Fetch}
@@ -13,6 +12,7 @@ use Rattle.moos_post.specs.Delivery.{mail_at}
 use Rattle.moos_post.specs.History.{History, posts_of, posts_of_entry, post_of, name_of}
 use Rattle.moos_db.specs.declared.mail.Origin.{Origin}
 use Rattle.moos_db.specs.Database.{pair_of, origin_of}
+use Rattle.moos_db.proofs.Growth.{posts-front}
 use Rattle.moos_report.specs.Report.{client_text, clients_text, entry_text, entries_text, said_text, post_text, letter_text, letters_text, call_text}
 
 -- what stands from a place on
@@ -52,18 +52,6 @@ posts_more history k {entry = entry} at =
     rw (add-one, take_at history k entry at, flat_map-append posts_of_entry (take k history) (entry ∷ []))
     (omega (arith, length-append (posts_of (take k history)) (posts_of (entry ∷ [])), length-append (posts_of_entry entry) []))
 
-posts_parted : (history : History) (k : ℕ) → posts_of (take k history) ++ posts_of (drop k history) ≡ posts_of history
-posts_parted history k = sym (flat_map-append posts_of_entry (take k history) (drop k history)) ∙ ap posts_of (take-append-drop k history)
-
--- no more posts than in the whole history
-pub posts_within : (history : History) (k : ℕ) → length (posts_of (take k history)) ≤ length (posts_of history)
-posts_within history k =
-    rw (← posts_parted history k) (omega (arith, length-append (posts_of (take k history)) (posts_of (drop k history))))
-
--- the posts up to an entry are the first ones of the history
-pub posts_front : (history : History) (k : ℕ) → take (length (posts_of (take k history))) (posts_of history) ≡ posts_of (take k history)
-posts_front history k = rw (← posts_parted history k) (take-append_seam (posts_of (take k history)) (posts_of (drop k history)))
-
 -- the lines of a batch
 pub batch_is : (names : List (List ℕ)) (stamp client : ℕ) (batch : List Pair)
     → flat_map (post_text names) (map (post_of stamp client) batch) ≡ flat_map (λ pair. said_text stamp (name_of names client) pair.var pair.value) batch
@@ -86,7 +74,7 @@ post_is names past entry {batch = batch} is behind named all = rw (is, behind, n
 pub fetch_is : (names : List (List ℕ)) (history : History) (k : ℕ) (entry : Entry) {first : ℕ} {mail : List ℕ} → slice_get history k ≡ Some entry → entry.call ≡ Fetch
     → first ≡ length (posts_of (take k history)) → mail ≡ mail_at names history k
     → call_text names (take k history) entry entry.call ≡ codes " fetch\n" ++ letters_text names (take first (posts_of history)) mail
-fetch_is names history k entry at is behind given = rw (given, at, is, behind, posts_front history k) refl
+fetch_is names history k entry at is behind given = rw (given, at, is, behind, posts-front history k) refl
 
 -- a letter whose number none of the first posts has
 pub letter_none : (names : List (List ℕ)) (posts : List Post) (first number : ℕ) → first ≤ number

@@ -1,9 +1,10 @@
 use Rattle.std.proofs.Common.{take}
-use Rattle.moos_report.proofs.Reporting.{posts_within, post_is, fetch_is}
+use Rattle.moos_db.proofs.Growth.{posts-take}
+use Rattle.moos_report.proofs.Reporting.{post_is, fetch_is}
 use Rattle.moos_report.proofs.put_call.Goals as goal
 
 pub put_fetch-requires : goal.put_fetch-requires
-put_fetch-requires g c = rw c.requires.behind (posts_within c.args.db.now.history c.args.k)
+put_fetch-requires g c = rw c.requires.behind (posts-take c.args.db.now.history c.args.k)
 
 pub returns-in-Post : goal.returns-in-Post
 returns-in-Post g c =

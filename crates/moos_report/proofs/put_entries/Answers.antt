@@ -1,5 +1,6 @@
 use Rattle.std.proofs.Common.{◌+◌, arith}
-use Rattle.moos_report.proofs.Reporting.{entries_due, posts_more, posts_within}
+use Rattle.moos_db.proofs.Growth.{posts-take}
+use Rattle.moos_report.proofs.Reporting.{entries_due, posts_more}
 use Rattle.moos_io.proofs.Passages.{leads_on, leads_failed}
 use Rattle.moos_report.proofs.put_entries.Goals as goal
 
@@ -7,7 +8,7 @@ pub posts_after-first-requires : goal.posts_after-first-requires
 posts_after-first-requires g c =
     let history = c.args.db.now.history in
     let more = posts_more history c.loop-k.k c.entry-entry.ensures in
-    let within = posts_within history (c.loop-k.k + 1) in
+    let within = posts-take history (c.loop-k.k + 1) in
     omega (arith, more, within, c.loop-k.invariant.1, c.posts-posts.ensures)
 
 pub loop-k-preserved : goal.loop-k-preserved
