@@ -1,8 +1,9 @@
 -- Lists made over a range of numbers, and the element at a place of one.
-use Rattle.std.proofs.Common.{◌≡◌, ℕ, zero, suc, ◌+◌, ◌*◌, ◌/◌, ◌%◌, ◌<◌, List, [], ◌∷◌, ◌++◌, length, Some, refl, ap, ◌∙◌, arith, length-append}
+use Rattle.std.proofs.Common.{◌≡◌, ℕ, zero, suc, ◌+◌, ◌*◌, ◌/◌, ◌%◌, ◌<◌, List, [], ◌∷◌, length, Some, refl, ap, ◌∙◌, arith, length-append}
 use Rattle.std.specs.Prelude.{slice_get, slice_index}
 use Rattle.std.specs.List.{flat_map}
 use Rattle.std.proofs.Math.Nat.{div-lt_iff_lt-mul}
+use Rattle.std.proofs.iter.runs.Lists.{nth_left, nth_right}
 use Rattle.ivp_domain.specs.Boxes.{numbers_from}
 
 pub length-numbers_from : (low n : ℕ) → length (numbers_from low n) ≡ n
@@ -16,15 +17,6 @@ length-flat f m h low (suc n) =
     let rest = length-flat f m h (suc low) n in
     omega (arith, length-append (f low) (flat_map f (numbers_from (suc low) n)), h low, rest)
 
-pub slice_get-front : {A : Type 0} (xs ys : List A) (i : ℕ) → i < length xs → slice_get (xs ++ ys) i ≡ slice_get xs i
-slice_get-front [] ys i h = absurd (omega arith)
-slice_get-front (x ∷ xs) ys zero h = refl
-slice_get-front (x ∷ xs) ys (suc i) h = slice_get-front xs ys i (omega arith)
-
-pub slice_get-back : {A : Type 0} (xs ys : List A) (i : ℕ) → slice_get (xs ++ ys) (length xs + i) ≡ slice_get ys i
-slice_get-back [] ys i = let e : 0 + i ≡ i = omega arith in rw e
-slice_get-back (x ∷ xs) ys i = let e : suc (length xs) + i ≡ suc (length xs + i) = omega arith in rw e (slice_get-back xs ys i)
-
 pub slice_get-numbers_from : (low n i : ℕ) → i < n → slice_get (numbers_from low n) i ≡ Some (low + i)
 slice_get-numbers_from low zero i h = absurd (omega arith)
 slice_get-numbers_from low (suc n) zero h = ap Some (omega arith)
@@ -36,11 +28,11 @@ slice_get-flat f m h low zero i r p q = absurd (omega arith)
 slice_get-flat f m h low (suc n) zero r p q =
     let e : 0 * m + r ≡ r = omega arith in
     let e' : low + 0 ≡ low = omega arith in
-    rw (e, e') (slice_get-front (f low) (flat_map f (numbers_from (suc low) n)) r (omega (arith, h low)))
+    rw (e, e') (nth_left (f low) (flat_map f (numbers_from (suc low) n)) r (omega (arith, h low)))
 slice_get-flat f m h low (suc n) (suc i) r p q =
     let e : suc i * m + r ≡ length (f low) + (i * m + r) = omega (arith, h low) in
     let e' : low + suc i ≡ suc low + i = omega arith in
-    rw (e, e') (slice_get-back (f low) (flat_map f (numbers_from (suc low) n)) (i * m + r) ∙ slice_get-flat f m h (suc low) n i r (omega arith) q)
+    rw (e, e') (nth_right (f low) (flat_map f (numbers_from (suc low) n)) (i * m + r) ∙ slice_get-flat f m h (suc low) n i r (omega arith) q)
 
 -- a list of four is its four elements
 pub four : (xs : List ℕ) → length xs ≡ 4 → xs ≡ slice_index xs 0 ∷ slice_index xs 1 ∷ slice_index xs 2 ∷ slice_index xs 3 ∷ []

@@ -63,11 +63,12 @@ places_below axes p h inside =
     below : (i j k l a b c d : ℕ) → 0 < a → 0 < b → 0 < c → 0 < d → ((nat_le 0 i && nat_le i (a - 1)) && (nat_le 0 j && nat_le j (b - 1)) && (nat_le 0 k && nat_le k (c - 1)) && (nat_le 0 l && nat_le l (d - 1))) ≡ true → (i < a) × (j < b) × (k < c) × (l < d)
     below i j k l a b c d p q r s h = (grind (arith, nat_tests), grind (arith, nat_tests), grind (arith, nat_tests), grind (arith, nat_tests))
 
+-- and a point whose places are below them is one of the domain
+pub is_point-from : (axes : List Axis) (p : Point) → slice_index p.at 0 < size_on 0 axes → slice_index p.at 1 < size_on 1 axes → slice_index p.at 2 < size_on 2 axes → slice_index p.at 3 < size_on 3 axes → is_point axes p ≡ true
+is_point-from axes p a b c d = grind (arith, nat_tests)
+
 pub is_point-of : (axes : List Axis) (i j k l : ℕ) → i < size_on 0 axes → j < size_on 1 axes → k < size_on 2 axes → l < size_on 3 axes → is_point axes (point_of i j k l) ≡ true
-is_point-of axes i j k l p q r s = inside i j k l (size_on 0 axes) (size_on 1 axes) (size_on 2 axes) (size_on 3 axes) p q r s
-  where
-    inside : (i j k l a b c d : ℕ) → i < a → j < b → k < c → l < d → ((nat_le 0 i && nat_le i (a - 1)) && (nat_le 0 j && nat_le j (b - 1)) && (nat_le 0 k && nat_le k (c - 1)) && (nat_le 0 l && nat_le l (d - 1))) ≡ true
-    inside i j k l a b c d p q r s = grind (arith, nat_tests)
+is_point-of axes i j k l p q r s = is_point-from axes (point_of i j k l) p q r s
 
 -- mixed radix stays below the product
 pub radix : (i j k l a b c d : ℕ) → i < a → j < b → k < c → l < d → (i * b + j < a * b) × ((i * b + j) * c + k < a * b * c) × (((i * b + j) * c + k) * d + l < a * b * c * d)
