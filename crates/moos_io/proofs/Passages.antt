@@ -1,5 +1,6 @@
 -- Lemmas on texts that are written one after another, and on loops that write.
-use Rattle.std.proofs.Common.{◌≡◌, ℕ, zero, suc, ◌+◌, ◌<◌, Some, None, Option, List, [], ◌∷◌, ◌++◌, flat_map, length, drop, get_or, Result, Ok, Err, refl, ap, sym, subst, ◌∙◌, arith, add-one, append_assoc, append-nil, drop-cons}
+use Rattle.std.proofs.Common.{◌≡◌, ℕ, ◌+◌, ◌<◌, Some, None, Option, List, [], ◌++◌, flat_map, length, drop, get_or, Result, Ok, Err, refl, ap, sym, subst, ◌∙◌, arith, add-one, append_assoc, append-nil, drop-cons}
+use Rattle.std.proofs.SliceLists.{any-default}
 use Rattle.moos_io.specs.declared.sink.Failed.{Failed}
 use Rattle.moos_io.specs.Pieces.{Took, TookFront}
 use Rattle.moos_io.specs.Writing.{Way, Went, Stopped, Wrote}
@@ -62,20 +63,14 @@ pub each_failed : {a b c : Way} {X : Type 0} {whole : List ℕ} (text : X → Li
     → Leads a b (flat_map text (drop i all)) whole → i < length all → x ≡ get_or all i x → Stopped b c (text x) → Stopped a c whole
 each_failed text all i x so within is stopped = leads_failed (flat_map text (drop (i + 1) all)) so (each_due text all i x within is) stopped
 
--- an element read with another default
-same_read : {X : Type 0} (xs : List X) (i : ℕ) (d e : X) → i < length xs → get_or xs i d ≡ get_or xs i e
-same_read [] i d e within = absurd (omega (arith, within))
-same_read (x ∷ xs) zero d e within = refl
-same_read (x ∷ xs) (suc i) d e within = same_read xs i d e (omega (arith, within))
-
 -- the same of elements that are read with a default
 pub read_on : {a b c : Way} {X : Type 0} {whole : List ℕ} (text : X → List ℕ) (all : List X) (i : ℕ) (d : X)
     → Leads a b (flat_map text (drop i all)) whole → i < length all → Went b c (text (get_or all i d)) → Leads a c (flat_map text (drop (i + 1) all)) whole
-read_on text all i d so within went = each_on text all i (get_or all i d) so within (same_read all i d (get_or all i d) within) went
+read_on text all i d so within went = each_on text all i (get_or all i d) so within (any-default all i d (get_or all i d) within) went
 
 pub read_failed : {a b c : Way} {X : Type 0} {whole : List ℕ} (text : X → List ℕ) (all : List X) (i : ℕ) (d : X)
     → Leads a b (flat_map text (drop i all)) whole → i < length all → Stopped b c (text (get_or all i d)) → Stopped a c whole
-read_failed text all i d so within stopped = each_failed text all i (get_or all i d) so within (same_read all i d (get_or all i d) within) stopped
+read_failed text all i d so within stopped = each_failed text all i (get_or all i d) so within (any-default all i d (get_or all i d) within) stopped
 
 -- the same text under another name
 pub went_as : {a b : Way} {text other : List ℕ} → text ≡ other → Went a b text → Went a b other

@@ -2,6 +2,7 @@
 use Rattle.std.proofs.Common.{◌≡◌, ◌≢◌, ℕ, zero, suc, ◌+◌, ◌%◌, ◌^◌, ◌<◌, ◌==◌, ◌⊎◌, inl, inr, true, false, cond, List, [], ◌∷◌, ◌++◌, set, drop, length, append-nil, Option, Some, unwrap_or, eq-eqb, ne_eqb, sym, refl, ap, ◌∙◌, subst, arith}
 use Rattle.std.specs.Prelude.{slice_index}
 use Rattle.std.proofs.lemmas.Bool.{false≢true, false_from_ne_true}
+use Rattle.std.proofs.Math.Seq.{drop-append_seam}
 use Rattle.std.proofs.lemmas.List.Elements.{filter-append}
 use mathlib.Core.Option.{some, some-injective, some-ne-none}
 use mathlib.Core.Logic.{dite}
@@ -19,11 +20,6 @@ use Rattle.turn_lock.specs.Steps.{Adds, advanced, Advances, began, in_hand, Retu
 use Rattle.turn_lock.proofs.Fronts.{longer_begins}
 use Rattle.turn_lock.proofs.Queues.{held_set, tickets_of}
 use Rattle.turn_lock.proofs.Sums.{sum_set}
-
--- what is dropped with the front is the rest
-drop_front : {A : Type 0} (xs ys : List A) → drop (length xs) (xs ++ ys) ≡ ys
-drop_front [] ys = refl
-drop_front (x ∷ xs) ys = drop_front xs ys
 
 -- a queue without its first seat has the others one place further in front
 tail_place : (queue : List ℕ) (id seat k : ℕ) → get_elem? queue 0 ≡ some id → get_elem? queue k ≡ some seat → seat ≢ id → (j : ℕ) × (k ≡ suc j) × (get_elem? (drop 1 queue) j ≡ some seat)
@@ -177,7 +173,7 @@ module _ {E B S : Type 0} (base_of : S → B) (history_of : S → List E) (numbe
       → done base_of history_of number base book added id v ≡ advanced v (history_of x)
   advanced_is book added id v x ticket holds log_is =
       let front : began v.turn ≡ book.log = ap began holds in
-      let rest_is : drop (length (began v.turn)) (history_of x) ≡ added = (λ i. drop (length (front i)) (log_is i)) ∙ drop_front book.log added in
+      let rest_is : drop (length (began v.turn)) (history_of x) ≡ added = (λ i. drop (length (front i)) (log_is i)) ∙ drop-append_seam book.log added in
       λ i. record v { seen = sym log_is i; mine = v.mine ++ sym rest_is i; turn = Idle }
 
   -- a pass that has the value in hand in its turn may put it back, with its own events added

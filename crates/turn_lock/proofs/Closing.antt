@@ -1,6 +1,7 @@
 -- How a lock begins, and how it ends.
 use Rattle.std.proofs.Common.{◌≡◌, ℕ, zero, suc, ◌+◌, ◌^◌, ◌<◌, ◌≤◌, ◌==◌, ◌⊎◌, inl, inr, Bool, true, false, cond, List, [], ◌∷◌, ◌++◌, length, Option, Some, unwrap_or, ne_eqb, sym, refl, ap, ◌∙◌, subst, arith}
 use Rattle.std.proofs.lemmas.Bool.{false≢true}
+use Rattle.std.proofs.lemmas.List.Sums.{sum_by_push}
 use mathlib.Core.Option.{some, some-injective, some-ne-none}
 use lib.ListN.{get_elem?}
 use Rattle.atomic_table.specs.Table.{Final, opening, Seen, Splits, State}
@@ -10,7 +11,6 @@ use Rattle.turn_lock.specs.declared.view.Turn.TheVariants.{Idle}
 use Rattle.turn_lock.specs.Passes.{Begins, own}
 use Rattle.turn_lock.specs.Rule.{Book, Fits, has_turn, IsHeldAt, IsHome, IsKnown, IsOut, IsPlaced, Kept, known_in, newcomer, Stands, tickets, times, weight}
 use Rattle.turn_lock.specs.Steps.{closed}
-use Rattle.turn_lock.proofs.Sums.{sum_snoc}
 use Rattle.turn_lock.proofs.Turns.{only, whole}
 
 -- nobody but number 0 is known at the start
@@ -103,8 +103,8 @@ module _ {E B S : Type 0} (base_of : S → B) (history_of : S → List E) (numbe
           record {
             words_are = h.words_are;
             each = λ seat u at' live. each seat u live (at_snoc s.views twin u seat at');
-            whole = omega (arith, h.whole, sum_snoc weight s.views twin);
-            lined = omega (arith, h.lined, sum_snoc tickets s.views twin);
+            whole = omega (arith, h.whole, sum_by_push weight s.views twin);
+            lined = omega (arith, h.lined, sum_by_push tickets s.views twin);
             few = h.few;
             covered = λ n below. let held = h.covered n below in (held.0, at_longer s.views (twin ∷ []) (book.owner n) held.0 held.1, held.2, held.3);
             others = h.others;

@@ -1,6 +1,7 @@
 -- A pass that is split off the first one, new or taken in before.
 use Rattle.std.proofs.Common.{◌≡◌, ◌≢◌, ℕ, zero, suc, ◌+◌, ◌-◌, ◌^◌, ◌<◌, ◌≤◌, ◌==◌, ◌⊎◌, inl, inr, Bool, true, false, cond, List, [], ◌∷◌, ◌++◌, set, length, length-set, count_by, Option, eq-eqb, ne_eqb, sym, refl, ap, ◌∙◌, subst, arith}
 use Rattle.std.specs.List.{list_any}
+use Rattle.std.proofs.lemmas.List.Sums.{sum_by_push}
 use mathlib.Core.Option.{some, some-injective, some-ne-none}
 use mathlib.Core.Logic.{dite}
 use native.Mathlib.Decide.{ℕ_discrete}
@@ -15,7 +16,7 @@ use Rattle.turn_lock.specs.Rule.{Book, Fits, has_turn, IsHeldAt, IsHome, IsKnown
 use Rattle.turn_lock.specs.Steps.{apart, dealt, new_of, parted, part_of}
 use Rattle.turn_lock.proofs.Mets.{count_gone, count_kept, events_kept, length_without, met_counts}
 use Rattle.turn_lock.proofs.Queues.{held_set, holder_stays, home_set}
-use Rattle.turn_lock.proofs.Sums.{sum_set, sum_snoc}
+use Rattle.turn_lock.proofs.Sums.{sum_set}
 use Rattle.turn_lock.proofs.Turns.{weight_of}
 
 -- the first pass with other counts, and with others taken in
@@ -180,8 +181,8 @@ module _ {E B S : Type 0} (base_of : S → B) (history_of : S → List E) (numbe
       record {
         words_are = h.words_are;
         each = cut_each;
-        whole = omega (arith, h.whole, sum_snoc weight (set s.views id one) two, sum_set weight s.views id v one at, weight_of v cuts.live, weight_of one cuts.live, cuts.weights);
-        lined = omega (arith, h.lined, sum_snoc tickets (set s.views id one) two, sum_set tickets s.views id v one at);
+        whole = omega (arith, h.whole, sum_by_push weight (set s.views id one) two, sum_set weight s.views id v one at, weight_of v cuts.live, weight_of one cuts.live, cuts.weights);
+        lined = omega (arith, h.lined, sum_by_push tickets (set s.views id one) two, sum_set tickets s.views id v one at);
         few = cuts.few;
         covered = cut_covered;
         others = λ m past. h.others m (omega (arith, past, cuts.grows));

@@ -1,7 +1,7 @@
 -- Sums over a list when one element changes, and at one or two places.
-use Rattle.std.proofs.Common.{◌≡◌, ◌≢◌, ℕ, zero, suc, ◌+◌, ◌≤◌, List, [], ◌∷◌, ◌++◌, set, sym, refl, ap, arith}
+use Rattle.std.proofs.Common.{◌≡◌, ◌≢◌, ℕ, zero, suc, ◌+◌, ◌≤◌, List, [], ◌∷◌, set, sym, refl, ap, arith}
 use Rattle.std.specs.List.{sum_by}
-use Rattle.std.proofs.lemmas.List.Sums.{sum_by-append, sum_by-cons}
+use Rattle.std.proofs.lemmas.List.Sums.{sum_by-cons}
 use mathlib.Core.Option.{some, some-injective, some-ne-none}
 use lib.ListN.{get_elem?}
 
@@ -10,9 +10,6 @@ module _ {A : Type 0} (f : A → ℕ) where
   sum_set [] i a b e = absurd (some-ne-none a (sym e))
   sum_set (x ∷ xs) zero a b e = let same : f x ≡ f a = ap f (some-injective x a e) in omega (arith, sum_by-cons f x xs, sum_by-cons f b xs)
   sum_set (x ∷ xs) (suc i) a b e = let rest = sum_set xs i a b e in omega (arith, sum_by-cons f x xs, sum_by-cons f x (set xs i b))
-
-  pub sum_snoc : (xs : List A) (b : A) → sum_by f (xs ++ b ∷ []) ≡ sum_by f xs + f b
-  sum_snoc xs b = omega (arith, sum_by-append f xs (b ∷ []))
 
   pub sum_at : (xs : List A) (i : ℕ) (a : A) → get_elem? xs i ≡ some a → f a ≤ sum_by f xs
   sum_at [] i a e = absurd (some-ne-none a (sym e))
