@@ -2,13 +2,14 @@
 use Rattle.std.proofs.Common.{◌≡◌, ℕ, zero, suc, ◌+◌, ◌<◌, ◌≤◌, Bool, true, false, ◌==◌, ◌&&◌, not, List, [], ◌∷◌, ◌++◌, length, map, drop, slice_get, Some, None, refl, ap, sym, ◌∙◌, arith, subst, if◌then◌else◌}
 use Rattle.std.proofs.lemmas.Bool.{lt-ltb, eqb-true, and_right}
 use Rattle.std.specs.List.{list_any}
+use mathlib.Core.List.{map-map}
 use Rattle.moos_post.specs.declared.value.Post.{Post}
 use Rattle.moos_post.specs.Delivery.{Live, Inbox, selects, with_came, mailed_to, is_new_for, is_latest, was_mailed, catches_up, with_caught_up, after_catching_up}
 use Rattle.moos_post.specs.History.{History, posts_of}
 use Rattle.moos_mail.specs.Sentences.{posts_before}
 use Rattle.moos_mail.specs.Registrations.{Made, is_mailed_at, live_with, came_through, live_at}
 use Rattle.moos_mail.proofs.Coming.{mailed-own, mailed-other, was-other, StandFrom, stand-rest, stand-first}
-use Rattle.moos_mail.proofs.Lists.{list_any-alike, list_any-map, map-map}
+use Rattle.moos_mail.proofs.Lists.{list_any-alike, list_any-map}
 
 module _ (names : List (List ℕ)) where
   -- the inbox after a post that may catch up

@@ -1,13 +1,15 @@
 -- Which posts come through a live registration and which are mailed, over the posts of one entry.
-use Rattle.std.proofs.Common.{◌≡◌, ℕ, zero, suc, ◌+◌, ◌<◌, ◌≤◌, Bool, true, false, ◌==◌, ◌&&◌, ◌||◌, List, [], ◌∷◌, ◌++◌, length, map, fold, slice_get, Some, None, refl, ap, sym, ◌∙◌, arith, subst, if◌then◌else◌}
+use Rattle.std.proofs.Common.{◌≡◌, ℕ, zero, suc, ◌+◌, ◌<◌, ◌≤◌, Bool, true, false, ◌==◌, ◌&&◌, List, [], ◌∷◌, ◌++◌, length, map, fold, slice_get, Some, None, refl, ap, sym, ◌∙◌, arith, subst, if◌then◌else◌}
 use Rattle.std.proofs.lemmas.Bool.{le-ltb, eq-eqb, ne_eqb}
 use Rattle.std.specs.List.{list_any}
+use Rattle.std.proofs.Math.Bool.{or-false, or-true}
+use mathlib.Core.List.{map-map}
 use Rattle.moos_post.specs.declared.value.Post.{Post}
 use Rattle.moos_post.specs.Delivery.{Live, Mailing, Inbox, is_due, with_came, with_post, mailing, was_mailed}
 use Rattle.moos_post.specs.History.{History, posts_of}
 use Rattle.moos_mail.specs.Sentences.{posts_before}
 use Rattle.moos_mail.specs.Registrations.{Made, is_mailed_at, live_with, came_through, live_at}
-use Rattle.moos_mail.proofs.Lists.{length-push, list_any-map, list_any-push, map-map, or-false}
+use Rattle.moos_mail.proofs.Lists.{length-push, list_any-map, list_any-push}
 
 -- each of these was made at an entry of which, and of those before, this is so
 abbrev pub AllMade : (ℕ → Type 0) → List Made → Type 0
@@ -23,10 +25,6 @@ pub mailed-own : (number entry : ℕ) (mailed : List Mailing) → is_mailed_at n
 mailed-own number entry mailed =
     list_any-push (λ one. one.number == number && one.entry == entry) mailed (mailing number entry)
     ∙ rw (eq-eqb number number refl, eq-eqb entry entry refl) (or-true (is_mailed_at number entry mailed))
-  where
-    or-true : (b : Bool) → (b || true) ≡ true
-    or-true true = refl
-    or-true false = refl
 
 pub mailed-other : (n number entry at : ℕ) (mailed : List Mailing) → (number ≡ n → ⊥) → is_mailed_at n entry (mailed ++ mailing number at ∷ []) ≡ is_mailed_at n entry mailed
 mailed-other n number entry at mailed other =

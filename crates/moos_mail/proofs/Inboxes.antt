@@ -1,6 +1,6 @@
 -- What each step of the delivery rule keeps, every entry keeps, and so does a history.
-use Rattle.std.proofs.Common.{◌≡◌, ℕ, suc, ◌+◌, ◌<◌, ◌≤◌, Bool, true, false, ◌==◌, ◌&&◌, not, List, [], ◌∷◌, ◌++◌, append_assoc, append-nil, length, fold, refl, ap, sym, ◌∙◌, arith, inl, inr, subst, if◌then◌else◌}
-use Rattle.std.proofs.lemmas.Bool.{cases_Bool, and_parts}
+use Rattle.std.proofs.Common.{◌≡◌, ℕ, suc, ◌+◌, ◌<◌, ◌≤◌, Bool, true, false, ◌==◌, ◌&&◌, List, [], ◌∷◌, ◌++◌, append_assoc, append-nil, length, fold, refl, ap, sym, ◌∙◌, arith, zero-add, inl, inr, subst, if◌then◌else◌}
+use Rattle.std.proofs.lemmas.Bool.{cases_Bool, and_parts, not-true}
 use Rattle.std.specs.List.{list_any}
 use Rattle.moos_post.specs.declared.entry.Call.{Call}
 use Rattle.moos_post.specs.declared.entry.Call.TheVariants.{Register, Unregister, Post as Posts, Fetch}
@@ -22,14 +22,10 @@ fetched_now inbox = record inbox { fetched = suc inbox.entries }
 abbrev pub over : Inbox → Inbox
 over inbox = record inbox { entries = suc inbox.entries }
 
-not-false-from : (b : Bool) → not b ≡ true → b ≡ false
-not-false-from true e = absurd (let e' : false ≡ true = e in cc)
-not-false-from false e = refl
-
 -- a post that catches up was never mailed
 pub catches-new : (names : List (List ℕ)) (inbox : Inbox) (number : ℕ) (post : Post) (later : List Post) → catches_up names inbox number post later ≡ true → was_mailed number inbox.mailed ≡ false
 catches-new names inbox number post later catches =
-    not-false-from _ (and_parts (is_latest post later && list_any (is_new_for names inbox.entries post) inbox.lives) _ catches).1
+    not-true _ (and_parts (is_latest post later && list_any (is_new_for names inbox.entries post) inbox.lives) _ catches).1
 
 pub posts-caught : (names : List (List ℕ)) (inbox : Inbox) (number : ℕ) (post : Post) (catches : Bool) →
     (if catches then with_caught_up names inbox number post else inbox).posts ≡ inbox.posts
@@ -121,12 +117,9 @@ keeps-history names P Q keeps begins ends fetched client inbox [] h = h
 keeps-history names P Q keeps begins ends fetched client inbox (entry ∷ history) h =
     keeps-history names P Q keeps begins ends fetched client (with_entry names client inbox entry) history (keeps-entry names P Q keeps begins ends fetched client inbox entry h)
 
-zero_plus : (n : ℕ) → 0 + n ≡ n
-zero_plus n = omega arith
-
 -- how many entries there were
 pub entries-inbox_of : (names : List (List ℕ)) (client : ℕ) (history : History) → (inbox_of names client history).entries ≡ length history
-entries-inbox_of names client history = counted empty_inbox history ∙ zero_plus (length history)
+entries-inbox_of names client history = counted empty_inbox history ∙ zero-add (length history)
   where
     counted : (inbox : Inbox) (entries : History) → (fold (with_entry names client) inbox entries).entries ≡ inbox.entries + length entries
     counted inbox [] = omega arith

@@ -1,7 +1,11 @@
 -- Lists: what stands at a place, fronts, and tests.
-use Rattle.std.proofs.Common.{◌≡◌, ℕ, zero, suc, ◌+◌, ◌<◌, Bool, true, false, cond, ◌&&◌, ◌||◌, filter, map, All, List, [], ◌∷◌, ◌++◌, length, take, get_or, slice_get, Some, None, refl, ap, ◌∙◌, arith}
+use Rattle.std.proofs.Common.{◌≡◌, ℕ, zero, suc, ◌+◌, ◌<◌, Bool, true, false, cond, ◌||◌, filter, map, All, List, [], ◌∷◌, ◌++◌, length, take, get_or, slice_get, Some, refl, ap, ◌∙◌, arith}
 use Rattle.std.specs.List.{list_any}
+use Rattle.std.proofs.Math.Bool.{or-false}
+use Rattle.std.proofs.Math.Seq.{take-suc}
+use Rattle.std.proofs.iter.runs.Lists.{nth_left}
 use Rattle.std.proofs.lemmas.Bool.{both_ways, false_from_ne_true}
+use Rattle.std.proofs.lemmas.Option.{get_or_from_slice_get, slice_get_within}
 use Rattle.std.proofs.lemmas.List.Folds.{list_any_at, list_any-append}
 use Rattle.std.proofs.lemmas.List.Elements.{All-head, All-tail}
 
@@ -15,9 +19,7 @@ none-at p xs k d none within = false_from_ne_true (p (get_or xs k d)) (λ passes
 
 -- a front that is longer by what stands behind it
 pub take-next : {X : Type 0} (xs : List X) (k : ℕ) (x : X) → slice_get xs k ≡ Some x → take (suc k) xs ≡ take k xs ++ x ∷ []
-take-next [] k x there = absurd (let e : None ≡ Some x = there in cc)
-take-next (y ∷ xs) zero x there = (let e : y ≡ x = (let e' : Some y ≡ Some x = there in cc) in ap (λ z. z ∷ []) e)
-take-next (y ∷ xs) (suc k) x there = ap (λ rest. y ∷ rest) (take-next xs k x there)
+take-next xs k x there = take-suc xs k x (slice_get_within xs k x there) ∙ ap (λ y. take k xs ++ y ∷ []) (get_or_from_slice_get xs k x x there)
 
 pub found-below : {X : Type 0} (xs : List X) (k : ℕ) → k < length xs → (x : X) × (slice_get xs k ≡ Some x)
 found-below [] k below = absurd (omega arith)
@@ -36,10 +38,6 @@ filter-none p [] none = refl
 filter-none p (x ∷ xs) none =
     ap (λ b. cond b (x ∷ filter p xs) (filter p xs)) (All-head (λ y. p y ≡ false) x xs none) ∙ filter-none p xs (All-tail (λ y. p y ≡ false) x xs none)
 
-pub and-true : (b : Bool) → (b && true) ≡ b
-and-true true = refl
-and-true false = refl
-
 pub filter-all : {X : Type 0} (p : X → Bool) (xs : List X) → ((x : X) → p x ≡ true) → filter p xs ≡ xs
 filter-all p [] all = refl
 filter-all p (x ∷ xs) all = ap (λ b. cond b (x ∷ filter p xs) (filter p xs)) (all x) ∙ ap (λ rest. x ∷ rest) (filter-all p xs all)
@@ -52,16 +50,8 @@ filter-map p h (x ∷ xs) = through (p (h x)) (filter-map p h xs)
     through true rest = ap (λ more. h x ∷ more) rest
     through false rest = rest
 
-pub or-false : (b : Bool) → (b || false) ≡ b
-or-false true = refl
-or-false false = refl
-
 pub list_any-push : {X : Type 0} (p : X → Bool) (xs : List X) (x : X) → list_any p (xs ++ x ∷ []) ≡ (list_any p xs || p x)
 list_any-push p xs x = list_any-append p xs (x ∷ []) ∙ ap (λ b. list_any p xs || b) (or-false (p x))
-
-pub map-map : {X Y Z : Type 0} (f : Y → Z) (g : X → Y) (xs : List X) → map f (map g xs) ≡ map (λ x. f (g x)) xs
-map-map f g [] = refl
-map-map f g (x ∷ xs) = ap (λ rest. f (g x) ∷ rest) (map-map f g xs)
 
 pub list_any-map : {X Y : Type 0} (p : Y → Bool) (h : X → Y) (xs : List X) → list_any p (map h xs) ≡ list_any (λ x. p (h x)) xs
 list_any-map p h [] = refl
@@ -71,10 +61,4 @@ pub list_any-alike : {X : Type 0} (p q : X → Bool) (xs : List X) → ((x : X) 
 list_any-alike p q xs alike = ap (λ (test : _ → Bool). list_any test xs) (λ i x. alike x i)
 
 pub slice_get-front : {X : Type 0} (xs ys : List X) (i : ℕ) (x : X) → slice_get xs i ≡ Some x → slice_get (xs ++ ys) i ≡ Some x
-slice_get-front [] ys i x there = absurd (let e : None ≡ Some x = there in cc)
-slice_get-front (y ∷ xs) ys zero x there = there
-slice_get-front (y ∷ xs) ys (suc i) x there = slice_get-front xs ys i x there
-
-pub slice_get-behind : {X : Type 0} (xs ys : List X) (i : ℕ) → slice_get (xs ++ ys) (length xs + i) ≡ slice_get ys i
-slice_get-behind [] ys i = (let e : 0 + i ≡ i = omega arith in ap (slice_get ys) e)
-slice_get-behind (x ∷ xs) ys i = (let e : suc (length xs) + i ≡ suc (length xs + i) = omega arith in ap (slice_get (x ∷ xs ++ ys)) e) ∙ slice_get-behind xs ys i
+slice_get-front xs ys i x there = nth_left xs ys i (slice_get_within xs i x there) ∙ there

@@ -1,5 +1,7 @@
 -- The live registrations before each entry, and what came through them.
 use Rattle.std.proofs.Common.{◌≡◌, ℕ, zero, suc, ◌+◌, ◌-◌, ◌<◌, ◌≤◌, Bool, true, false, cond, ◌==◌, ◌&&◌, ◌||◌, not, List, [], ◌∷◌, ◌++◌, append-nil, length, map, filter, fold, take, drop, slice_get, Some, All, refl, ap, sym, ◌∙◌, arith, subst, if◌then◌else◌, length-append}
+use Rattle.std.proofs.Math.Bool.{or-false}
+use Rattle.std.proofs.iter.runs.Lists.{nth_right}
 use Rattle.std.proofs.lemmas.Bool.{eq-eqb, ne_eqb, and_right}
 use Rattle.std.proofs.lemmas.List.{map-append, length-take-le, take-append-drop}
 use Rattle.std.proofs.lemmas.List.Concat.{flat_map-append}
@@ -7,6 +9,7 @@ use Rattle.std.proofs.lemmas.List.Elements.{All-weaker}
 use Rattle.std.proofs.lemmas.List.Folds.{list_any-append, list_any_none}
 use Rattle.std.proofs.lemmas.Option.{slice_get_within}
 use Rattle.std.specs.List.{list_any}
+use mathlib.Core.List.{map-map}
 use Rattle.moos_post.specs.declared.entry.Call.{Call}
 use Rattle.moos_post.specs.declared.entry.Call.TheVariants.{Register, Unregister, Post as Posts, Fetch}
 use Rattle.moos_post.specs.declared.entry.Entry.{Entry}
@@ -19,7 +22,7 @@ use Rattle.moos_mail.specs.Registrations.{Made, made_at, is_alike, is_ended_by, 
 use Rattle.moos_mail.proofs.Catching.{catching, catching_as, lives-caught}
 use Rattle.moos_mail.proofs.Coming.{AllMade, map-made, StandFrom, IsBy, lives-posts, posted-before}
 use Rattle.moos_mail.proofs.Inboxes.{ended, entries-inbox_of, posts-inbox_of, posts-own}
-use Rattle.moos_mail.proofs.Lists.{filter-all, filter-map, found-below, map-map, or-false, slice_get-behind, slice_get-front, take-next}
+use Rattle.moos_mail.proofs.Lists.{filter-all, filter-map, found-below, slice_get-front, take-next}
 use Rattle.moos_mail.proofs.Mailed.{Grown, inbox-next, mailed-front, mailed-past}
 use Rattle.moos_mail.proofs.Standing.{live-next, lives-regs, new_live}
 
@@ -78,7 +81,7 @@ post-front history k n post there = ap (λ posts. slice_get posts n) (posts-spli
 pub stand-entry : (names : List (List ℕ)) (client : ℕ) (history : History) (k : ℕ) (entry : Entry) → slice_get history k ≡ Some entry → StandFrom names client history (posts_before history k) (posts_of_entry entry)
 stand-entry names client history k entry there i post is =
     post-front history (suc k) (posts_before history k + i) post
-    (ap (λ posts. slice_get posts (posts_before history k + i)) (posts-next history k entry there) ∙ slice_get-behind (posts_of (take k history)) (posts_of_entry entry) i ∙ is)
+    (ap (λ posts. slice_get posts (posts_before history k + i)) (posts-next history k entry there) ∙ nth_right (posts_of (take k history)) (posts_of_entry entry) i ∙ is)
 
 before-suc : (history : History) (k : ℕ) → posts_before history k ≤ posts_before history (suc k)
 before-suc history zero = omega arith

@@ -1,5 +1,6 @@
 -- What is mailed along a history: the list only grows, each number stands in it once, and a fetch gives its part of it.
 use Rattle.std.proofs.Common.{◌≡◌, ℕ, zero, suc, ◌<◌, ◌≤◌, ◌⊎◌, inl, inr, Bool, true, false, ◌==◌, ◌&&◌, nat_le, nat_lt, List, [], ◌∷◌, ◌++◌, append_assoc, append-nil, length, map, filter, take, drop, fold, get_or, slice_get, Option, Some, None, All, refl, ap, sym, ◌∙◌, arith, subst, if◌then◌else◌}
+use Rattle.std.proofs.Math.Bool.{and-true}
 use Rattle.std.proofs.lemmas.Bool.{cases_Bool, lt-ltb, le-ltb, and_right}
 use Rattle.std.proofs.lemmas.List.{take-append-drop, length-take-le}
 use Rattle.std.proofs.lemmas.List.Elements.{All-push, All-append, All-weaker, filter-append}
@@ -12,7 +13,7 @@ use Rattle.moos_post.specs.Delivery.{Mailing, Inbox, with_post, with_entry, mail
 use Rattle.moos_post.specs.History.{History, posts_of_entry}
 use Rattle.moos_mail.specs.Sentences.{posts_before, AreOnceEach, is_fetch_of, since, mailed_between, given_by, given_at}
 use Rattle.moos_mail.proofs.Inboxes.{Keeps, fetch-call, keeps-call, keeps-history, entries-inbox_of, posts-inbox_of}
-use Rattle.moos_mail.proofs.Lists.{take-next, found-below, filter-alike, filter-none, and-true}
+use Rattle.moos_mail.proofs.Lists.{take-next, found-below, filter-alike, filter-none}
 use Rattle.moos_mail.proofs.Orderly.{IsSettled, settled-inbox_of}
 use Rattle.moos_mail.proofs.Rising.{rising-mailed}
 

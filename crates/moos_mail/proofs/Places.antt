@@ -1,5 +1,6 @@
 -- A registration is live before an entry just where it stands at a place of an earlier one, and nothing ends it since.
 use Rattle.std.proofs.Common.{◌≡◌, ℕ, zero, suc, ◌+◌, ◌⊎◌, inl, inr, Bool, true, false, cond, not, List, [], ◌∷◌, map, filter, take, drop, slice_get, Some, None, All, Contains, refl, ap, sym, ◌∙◌, arith, subst, if◌then◌else◌}
+use Rattle.std.proofs.lemmas.Bool.{not-true}
 use Rattle.std.proofs.lemmas.List.Elements.{All-append, All-cons, All-contains, All-head, All-map, All-nil, All-tail, All-weaker, Contains-append_left, Contains-append_right}
 use Rattle.std.specs.List.{list_any}
 use Rattle.moos_post.specs.declared.entry.Entry.{Entry}
@@ -90,17 +91,13 @@ record IsLiveFrom (client number : ℕ) (entries : History) (made : Made) : Type
   stands : IsLast (regs_of client entry) made.reg
   stays : list_any (ends client made.reg) (drop (suc i) entries) ≡ false
 
-from-not : (b : Bool) → not b ≡ true → b ≡ false
-from-not true e = absurd (let e' : false ≡ true = e in cc)
-from-not false e = refl
-
 all-live : (client number : ℕ) (entries : History) → All (IsLiveFrom client number entries) (live_from client number entries)
 all-live client number [] = All-nil (IsLiveFrom client number [])
 all-live client number (entry ∷ later) =
     let stays : Reg → Bool = λ reg. not (list_any (ends client reg) later) in
     let own : All (λ reg. IsLiveFrom client number (entry ∷ later) (made_at number reg)) (filter stays (last_of_each (regs_of client entry)))
     = all-kept stays (λ reg. IsLiveFrom client number (entry ∷ later) (made_at number reg)) (IsLast (regs_of client entry)) (last_of_each (regs_of client entry))
-    (λ reg last passes. record { i = 0; entry = entry; number_is = omega arith; at = refl; stands = last; stays = from-not (list_any (ends client reg) later) passes }) (all-last (regs_of client entry)) in
+    (λ reg last passes. record { i = 0; entry = entry; number_is = omega arith; at = refl; stands = last; stays = not-true (list_any (ends client reg) later) passes }) (all-last (regs_of client entry)) in
     All-append (IsLiveFrom client number (entry ∷ later)) (map (made_at number) (filter stays (last_of_each (regs_of client entry)))) (live_from client (suc number) later)
     (All-map (IsLiveFrom client number (entry ∷ later)) (made_at number) (filter stays (last_of_each (regs_of client entry))) own)
     (All-weaker (IsLiveFrom client (suc number) later) (IsLiveFrom client number (entry ∷ later))
