@@ -2,7 +2,7 @@
 use Rattle.std.proofs.Common.{◌≡◌, ℕ, suc, ◌+◌, ◌<◌, Bool, true, false, cond, ◌||◌, not, List, [], ◌∷◌, ◌++◌, length, map, filter, take, slice_get, Option, None, Some, option_map, bytes_eq, append_assoc, append-nil, refl, ap, sym, ◌∙◌, arith, inl, inr, subst, if◌then◌else◌}
 use Rattle.std.specs.List.{list_any}
 use Rattle.std.specs.List.Sorted.{IsPermutation, IsNonDecreasingBy}
-use Rattle.std.proofs.lemmas.Bool.{cases_Bool, both_ways, false_from_ne_true}
+use Rattle.std.proofs.lemmas.Bool.{cases_Bool}
 use Rattle.std.proofs.lemmas.Slice.Eq.{bytes_eq-Decides}
 use Rattle.std.proofs.lemmas.List.{length-take-le}
 use Rattle.std.proofs.lemmas.Option.{get_or_from_slice_get}
@@ -10,6 +10,7 @@ use Rattle.std.proofs.Math.Seq.{take-suc}
 use Rattle.moos_post.specs.declared.value.Pair.{Pair}
 use Rattle.moos_post.specs.declared.value.Post.{Post}
 use Rattle.moos_post.specs.Delivery.{is_latest}
+use Rattle.moos_post.proofs.Texts.{bytes_eq_comm}
 use Rattle.moos_db.specs.Database.{pair_of}
 use Rattle.moos_db.specs.Tables.{Row, Latest, IsLatest, is_of, with_row, rows_from, rows_of, latest_from}
 use Rattle.moos_mail.proofs.Lists.{list_any-push}
@@ -69,15 +70,12 @@ any-with_row sought var number (row ∷ rows) apart = through (is_of var row) (a
     through true rest = refl
     through false rest = ap (λ b. bytes_eq sought row.var || b) rest
 
-not_same : (a b : List ℕ) → bytes_eq a b ≡ false → bytes_eq b a ≡ false
-not_same a b apart = false_from_ne_true _ (λ same. both_ways _ apart ((bytes_eq-Decides a b).1 (sym ((bytes_eq-Decides b a).0 same))))
-
 apart-with_row : (var : List ℕ) (number : ℕ) (rows : List Row) → IsApart rows → IsApart (with_row var number rows)
 apart-with_row var number [] apart = (refl, tt)
 apart-with_row var number (row ∷ rows) apart =
     elim (cases_Bool (is_of var row)) [
       | inl own ↦ rw own apart
-      | inr other ↦ rw other (any-with_row row.var var number rows (not_same var row.var other) ∙ apart.0, apart-with_row var number rows apart.1)
+      | inr other ↦ rw other (any-with_row row.var var number rows (bytes_eq_comm row.var var ∙ other) ∙ apart.0, apart-with_row var number rows apart.1)
     ]
 
 -- sums over the rows

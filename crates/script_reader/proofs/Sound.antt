@@ -6,10 +6,10 @@ use Rattle.std.proofs.Math.Numerals.{one-add}
 use Rattle.std.proofs.Math.ListN.{drop_of_length-le}
 use Rattle.std.proofs.lemmas.Bool.{and_from, and_parts, le-leb, leb-true, leb-false, lt-ltb, ltb-true, ltb-false, eqb-true}
 use Rattle.std.proofs.lemmas.List.Folds.{list_any-append}
-use Rattle.std.proofs.lemmas.Slice.Eq.{bytes_eq-Decides}
 use Rattle.moos_post.specs.declared.entry.Call.{Call}
 use Rattle.moos_post.specs.declared.entry.Entry.{Entry}
 use Rattle.moos_post.specs.Words.{is_name}
+use Rattle.moos_post.proofs.Texts.{bytes_eq_comm}
 use Rattle.moos_text.specs.declared.cause.Cause.{Cause}
 use Rattle.moos_text.specs.declared.cause.Cause.TheVariants.{S1, S2, S4, S5, S8, S9}
 use Rattle.moos_text.specs.declared.cause.Limit.TheVariants.{Clients, Lines as NonBlank}
@@ -55,13 +55,6 @@ lines_wider clients more last stop later (line ∷ lines) wider rises good =
     four_true (nat_lt line.client more) (nat_le last line.stamp) (keeps_limits line.call) (are_lines more line.stamp later lines)
     (lt-ltb line.client more (omega arith)) tests.1 tests.2 (lines_wider clients more line.stamp stop later lines wider rises tests.3)
 
-other_bytes : (a b : List ℕ) → bytes_eq a b ≡ false → bytes_eq b a ≡ false
-other_bytes a b differ = at (bytes_eq b a) refl
-  where
-    at : (same : Bool) → bytes_eq b a ≡ same → same ≡ false
-    at true is = let other : bytes_eq a b ≡ true = (bytes_eq-Decides a b).1 (sym ((bytes_eq-Decides b a).0 is)) in cc
-    at false is = refl
-
 -- a name is the same as one that comes first
 first_place : (same : Bool) (name client : List ℕ) (names : List (List ℕ)) → bytes_eq name client ≡ same → number_of (name ∷ names) client ≡ cond same 0 (suc (number_of names client))
 first_place true name client names is = ap (λ b. cond (not b) (1 + number_of names client) 0) is
@@ -96,7 +89,7 @@ clients_more (name ∷ names) client good own new = at (bytes_eq name client) re
         (and_parts (not (bytes_eq name (codes "pHelmIvP"))) (not (list_any (λ other. bytes_eq other name) names)) here).0
         (ap not (list_any-append (λ other. bytes_eq other name) names (client ∷ []))
         ∙ joined (list_any (λ other. bytes_eq other name) names) (bytes_eq client name)
-        (and_parts (not (bytes_eq name (codes "pHelmIvP"))) (not (list_any (λ other. bytes_eq other name) names)) here).1 (other_bytes name client is)))
+        (and_parts (not (bytes_eq name (codes "pHelmIvP"))) (not (list_any (λ other. bytes_eq other name) names)) here).1 (bytes_eq_comm client name ∙ is)))
         (rest later own (omega (arith, first_place false name client names is)))
 
 -- what a script so far keeps
