@@ -1,6 +1,7 @@
 -- What a call changes in what is kept of a client: the posts that catch up are found by the table of latest posts, and no
 -- number is mailed that was mailed before.
 use Rattle.std.proofs.Common.{◌≡◌, ℕ, suc, ◌+◌, ◌<◌, ◌≤◌, Bool, true, false, ◌||◌, ◌&&◌, ◌==◌, not, List, [], ◌∷◌, ◌++◌, length, map, fold, take, drop, get_or, slice_get, Some, All, append_assoc, refl, ap, sym, ◌∙◌, arith, subst, if◌then◌else◌}
+use Rattle.std.proofs.lemmas.Bool.{ne_eqb}
 use Rattle.std.specs.List.{list_any, AllByRecursion}
 use Rattle.std.proofs.lemmas.List.{length-take, take-append-drop}
 use Rattle.std.proofs.lemmas.List.Elements.{All-from_recursion}
@@ -101,15 +102,12 @@ kept_posts-own names posts kept true (Posts batch) = refl
 kept_posts-own names posts kept true Fetch = refl
 
 -- numbers from the count of posts on stay fresh
-unlike : (m n : ℕ) → m < n → (m == n) ≡ false
-unlike m n below = grind arith
-
 fresh-push : (posts number : ℕ) (mailed : List ℕ) → number < posts → ((n : ℕ) → posts ≤ n → list_any (λ one. one == n) mailed ≡ false) →
     (n : ℕ) → posts ≤ n → list_any (λ one. one == n) (mailed ++ number ∷ []) ≡ false
 fresh-push posts number mailed below fresh n from =
     list_any-push (λ one. one == n) mailed number
     ∙ ap (λ b. b || (number == n)) (fresh n from)
-    ∙ unlike number n (omega arith)
+    ∙ ne_eqb number n (λ same. omega arith)
 
 fresh-catching : (names : List (List ℕ)) (number : ℕ) (kept : Kept) (posts : List Post) → number + length posts ≤ kept.posts → IsFresh kept → IsFresh (kept_catching names number kept posts)
 fresh-catching names number kept [] within fresh = fresh

@@ -1,8 +1,7 @@
 -- How an inbox of the delivery rule, and what is kept of it, grows with the history.
-use Rattle.std.proofs.Common.{◌≡◌, ℕ, zero, suc, ◌+◌, ◌<◌, ◌≤◌, Bool, true, false, ◌==◌, nat_le, List, [], ◌∷◌, ◌++◌, length, map, filter, take, drop, slice_get, Option, None, Some, All, append-nil, refl, ap, sym, ◌∙◌, arith, subst, length-append, if◌then◌else◌}
+use Rattle.std.proofs.Common.{◌≡◌, ℕ, zero, suc, ◌+◌, ◌<◌, ◌≤◌, Bool, true, false, ◌==◌, nat_le, List, [], ◌∷◌, ◌++◌, length, map, filter, take, drop, slice_get, Option, None, Some, All, add-one, refl, ap, sym, ◌∙◌, arith, subst, length-append, if◌then◌else◌}
 use Rattle.std.proofs.lemmas.Bool.{eq-eqb, ne_eqb}
-use Rattle.std.proofs.lemmas.List.{take-append-drop, take-append-le, take_all, length-take}
-use Rattle.std.proofs.lemmas.List.Concat.{flat_map-append}
+use Rattle.std.proofs.lemmas.List.{take-append-le, take_all, length-take}
 use Rattle.std.proofs.lemmas.List.Elements.{All-map, All-weaker, All-filter}
 use Rattle.std.proofs.lemmas.List.Folds.{list_any_none}
 use Rattle.std.proofs.lemmas.List.Sums.{fold-append}
@@ -17,14 +16,14 @@ use Rattle.moos_db.proofs.Catching.{kept_posts-own, fresh-own}
 use Rattle.moos_db.proofs.Keeping.{kept-entry}
 use Rattle.moos_mail.proofs.Inboxes.{posts-inbox_of}
 use Rattle.moos_mail.proofs.Lists.{take-next}
+use Rattle.moos_mail.proofs.Living.{before-next, posts-split}
 use Rattle.moos_mail.proofs.Orderly.{IsPast, settled-inbox_of}
 use Rattle.moos_db.proofs.Standing.{slice_get-seam}
 
 -- The first posts are those of the first entries.
 pub posts-front : (history : History) (seen : ℕ) → take (length (posts_of (take seen history))) (posts_of history) ≡ posts_of (take seen history)
 posts-front history seen =
-    ap (λ all. take (length (posts_of (take seen history))) (posts_of all)) (sym (take-append-drop seen history))
-    ∙ ap (take (length (posts_of (take seen history)))) (flat_map-append posts_of_entry (take seen history) (drop seen history))
+    ap (take (length (posts_of (take seen history)))) (posts-split history seen)
     ∙ take-append_seam (posts_of (take seen history)) (posts_of (drop seen history))
 
 -- An inbox that has seen one entry more.
@@ -59,10 +58,10 @@ pub IsInbox-empty : (names : List (List ℕ)) (history : History) (client : ℕ)
 IsInbox-empty names history client = record { within = omega arith; same = refl }
 
 pub posts-take : (history : History) (n : ℕ) → length (posts_of (take n history)) ≤ length (posts_of history)
-posts-take history n =
-    let all : length (posts_of history) ≡ length (posts_of (take n history) ++ posts_of (drop n history))
-    = ap (λ h. length (posts_of h)) (sym (take-append-drop n history)) ∙ ap length (flat_map-append posts_of_entry (take n history) (drop n history)) in
-    omega (arith, length-append (posts_of (take n history)) (posts_of (drop n history)))
+posts-take history n = omega (arith, ap length (posts-split history n), length-append (posts_of (take n history)) (posts_of (drop n history)))
+
+pub posts-more : (history : History) (k : ℕ) {entry : Entry} → slice_get history k ≡ Some entry → length (posts_of (take (k + 1) history)) ≡ length (posts_of (take k history)) + length (posts_of_entry entry)
+posts-more history k {entry = entry} there = rw add-one (before-next history k entry there)
 
 kept-posts : (names : List (List ℕ)) (history : History) (client : ℕ) (kept : Kept) → IsInbox names history client kept → kept.posts ≡ length (posts_of (take kept.seen history))
 kept-posts names history client kept inbox = ap (λ (k : Kept). k.posts) inbox.same ∙ ap length (posts-inbox_of names client (take kept.seen history))
@@ -76,10 +75,7 @@ pub IsInbox-room : (names : List (List ℕ)) (history : History) (client : ℕ) 
     kept.posts + length (posts_of_entry entry) ≤ length (posts_of history)
 IsInbox-room names history client kept entry there inbox =
     let same : kept.posts ≡ length (posts_of (take kept.seen history)) = kept-posts names history client kept inbox in
-    let more : length (posts_of (take (suc kept.seen) history)) ≡ length (posts_of (take kept.seen history) ++ posts_of_entry entry)
-    = ap (λ h. length (posts_of h)) (take-next history kept.seen entry there)
-    ∙ ap length (flat_map-append posts_of_entry (take kept.seen history) (entry ∷ []) ∙ ap (λ new. posts_of (take kept.seen history) ++ new) (append-nil (posts_of_entry entry))) in
-    omega (arith, posts-take history (suc kept.seen), length-append (posts_of (take kept.seen history)) (posts_of_entry entry))
+    omega (arith, posts-more history kept.seen there, posts-take history (kept.seen + 1))
 
 whole : (names : List (List ℕ)) (history : History) (client : ℕ) (kept : Kept) → kept.seen ≡ length history → IsInbox names history client kept → kept ≡ kept_of (inbox_of names client history)
 whole names history client kept all inbox = inbox.same ∙ ap (λ n. kept_of (inbox_of names client (take n history))) all ∙ ap (λ h. kept_of (inbox_of names client h)) (take_all (length history) history (omega arith))

@@ -63,7 +63,7 @@ live-under client history k within = made-under client k 0 (take k history) (ome
 
 -- posts by number
 
-posts-split : (history : History) (k : ℕ) → posts_of history ≡ posts_of (take k history) ++ posts_of (drop k history)
+pub posts-split : (history : History) (k : ℕ) → posts_of history ≡ posts_of (take k history) ++ posts_of (drop k history)
 posts-split history k = sym (ap posts_of (take-append-drop k history)) ∙ flat_map-append posts_of_entry (take k history) (drop k history)
 
 posts-next : (history : History) (k : ℕ) (entry : Entry) → slice_get history k ≡ Some entry → posts_of (take (suc k) history) ≡ posts_of (take k history) ++ posts_of_entry entry

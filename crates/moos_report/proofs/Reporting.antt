@@ -1,31 +1,19 @@
 -- Lemmas on the parts of a report.
-use Rattle.std.proofs.Common.{◌≡◌, ℕ, zero, suc, ◌+◌, ◌<◌, ◌≤◌, Some, None, List, [], ◌∷◌, ◌++◌, map, flat_map, length, take, drop, refl, ap, arith, add-one, codes, decimal, length-append, length-take, length-take-le}
+use Rattle.std.proofs.Common.{◌≡◌, ℕ, zero, suc, ◌+◌, ◌<◌, ◌≤◌, Some, None, List, [], ◌∷◌, ◌++◌, map, flat_map, length, take, drop, refl, ap, arith, add-one, codes, decimal, length-take, length-take-le}
 use Rattle.std.specs.Prelude.{slice_get, option_map}
 use Rattle.std.specs.List.{concat}
-use Rattle.std.proofs.lemmas.List.Concat.{flat_map-append}
-use Rattle.std.proofs.lemmas.Option.{slice_get_past, slice_get_within}
+use Rattle.std.proofs.Math.Seq.{drop-cons, take-suc}
+use Rattle.std.proofs.lemmas.Option.{get_or_from_slice_get, slice_get_past, slice_get_within}
 use Rattle.moos_post.specs.declared.entry.Call.TheVariants.{Post as Posts, Fetch}
 use Rattle.moos_post.specs.declared.entry.Entry.{Entry}
 use Rattle.moos_post.specs.declared.value.Pair.{Pair}
 use Rattle.moos_post.specs.declared.value.Post.{Post}
 use Rattle.moos_post.specs.Delivery.{mail_at}
-use Rattle.moos_post.specs.History.{History, posts_of, posts_of_entry, post_of, name_of}
+use Rattle.moos_post.specs.History.{History, posts_of, post_of, name_of}
 use Rattle.moos_db.specs.declared.mail.Origin.{Origin}
 use Rattle.moos_db.specs.Database.{pair_of, origin_of}
 use Rattle.moos_db.proofs.Growth.{posts-front}
 use Rattle.moos_report.specs.Report.{client_text, clients_text, entry_text, entries_text, said_text, post_text, letter_text, letters_text, call_text}
-
--- what stands from a place on
-drop_at : {X : Type 0} (xs : List X) (i : ℕ) (x : X) → slice_get xs i ≡ Some x → drop i xs ≡ x ∷ drop (suc i) xs
-drop_at [] i x at = cc
-drop_at (y ∷ ys) zero x at = cc
-drop_at (y ∷ ys) (suc i) x at = drop_at ys i x at
-
--- what stands up to a place and there
-take_at : {X : Type 0} (xs : List X) (i : ℕ) (x : X) → slice_get xs i ≡ Some x → take (suc i) xs ≡ take i xs ++ x ∷ []
-take_at [] i x at = cc
-take_at (y ∷ ys) zero x at = cc
-take_at (y ∷ ys) (suc i) x at = ap (λ end. y ∷ end) (take_at ys i x at)
 
 -- the first elements stand in the front where they stand in the list
 slice_get_take : {X : Type 0} (xs : List X) (n i : ℕ) → i < n → slice_get (take n xs) i ≡ slice_get xs i
@@ -37,20 +25,17 @@ slice_get_take (x ∷ xs) (suc n) (suc i) below = slice_get_take xs n i (omega (
 -- the client that is due
 pub clients_due : (names : List (List ℕ)) (number : ℕ) {name : List ℕ} → slice_get names number ≡ Some name
     → clients_text number (drop number names) ≡ client_text number name ++ clients_text (number + 1) (drop (number + 1) names)
-clients_due names number {name = name} at = rw (drop_at names number name at, add-one) refl
+clients_due names number {name = name} at =
+    let within = slice_get_within names number name at in
+    rw (drop-cons names number name within, get_or_from_slice_get names number name name at, add-one) refl
 
 -- the entry that is due
 pub entries_due : (names : List (List ℕ)) (history : History) (k : ℕ) {entry : Entry} → slice_get history k ≡ Some entry
     → entries_text names (take k history) (drop k history)
     ≡ entry_text names (take k history) entry ++ entries_text names (take (k + 1) history) (drop (k + 1) history)
-entries_due names history k {entry = entry} at = rw (drop_at history k entry at, add-one, take_at history k entry at) refl
-
--- the posts up to an entry, and its own
-pub posts_more : (history : History) (k : ℕ) {entry : Entry} → slice_get history k ≡ Some entry
-    → length (posts_of (take (k + 1) history)) ≡ length (posts_of (take k history)) + length (posts_of_entry entry)
-posts_more history k {entry = entry} at =
-    rw (add-one, take_at history k entry at, flat_map-append posts_of_entry (take k history) (entry ∷ []))
-    (omega (arith, length-append (posts_of (take k history)) (posts_of (entry ∷ [])), length-append (posts_of_entry entry) []))
+entries_due names history k {entry = entry} at =
+    let within = slice_get_within history k entry at in
+    rw (drop-cons history k entry within, add-one, take-suc history k entry within, get_or_from_slice_get history k entry entry at) refl
 
 -- the lines of a batch
 pub batch_is : (names : List (List ℕ)) (stamp client : ℕ) (batch : List Pair)
