@@ -1,13 +1,13 @@
 -- A client that has played no line, one that goes on, and lines of one stamp.
 use Rattle.std.proofs.Common.{◌≡◌, ℕ, ◌+◌, ◌-◌, ◌<◌, ◌≤◌, ◌==◌, Bool, true, List, [], ◌++◌, length, take, drop, get_or, length-drop, sym, ap, ◌∙◌, subst, arith, append-nil, eq-eqb}
 use Rattle.std.specs.List.{list_all}
+use Rattle.std.proofs.lemmas.Bool.{and_from}
 use Rattle.std.proofs.lemmas.List.{get_or-drop}
 use Rattle.std.proofs.lemmas.List.Folds.{list_all_more}
 use Rattle.moos_client.specs.Calls.{MayCall, SeatState}
 use Rattle.moos_post.specs.declared.entry.Entry.{Entry}
 use Rattle.moos_play.specs.Lawful.{entries_of}
 use Rattle.moos_play.specs.Rounds.{CommunityLock, HasPlayed}
-use Rattle.moos_play.proofs.Histories.{and_both}
 use Rattle.turn_lock.proofs.Fronts.{begins_itself}
 
 -- no line is played yet
@@ -45,7 +45,7 @@ stamp_on lines stamp from to line below within is same so =
     let place : from + (to - from) ≡ to = omega (arith, below) in
     let read : line ≡ get_or (drop from lines) (to - from) line = is ∙ sym (ap (λ i. get_or lines i line) place) ∙ sym (get_or-drop from lines (to - from) line) in
     rw n (list_all_more p (drop from lines) (to - from) line (omega (arith, below, within, length-drop from lines))
-    ∙ and_both (list_all p (take (to - from) (drop from lines))) (p (get_or (drop from lines) (to - from) line)) so (subst (λ l. p l ≡ true) read (eq-eqb line.stamp stamp same)))
+    ∙ and_from (list_all p (take (to - from) (drop from lines))) (p (get_or (drop from lines) (to - from) line)) so (subst (λ l. p l ≡ true) read (eq-eqb line.stamp stamp same)))
 
 pub stamp_more : {lines : List Entry} {stamp from to : ℕ} (line : Entry) → HaveStamp lines stamp from to → to < length lines → line ≡ get_or lines to line → line.stamp ≡ stamp → HaveStamp lines stamp from (to + 1)
 stamp_more {lines = lines} {stamp = stamp} {from = from} {to = to} line so within is same = record {

@@ -1,7 +1,7 @@
 -- The first seat and the players from one step of a round to the next.
 use Rattle.std.proofs.Common.{◌≡◌, ◌≢◌, ℕ, ◌+◌, ◌-◌, ◌<◌, ◌≤◌, ◌==◌, Bool, true, false, cond, ◌||◌, List, [], ◌∷◌, ◌++◌, map, length, length-append, refl, sym, ap, ◌∙◌, subst, arith, eq-eqb, ne_eqb, nat_lt}
 use Rattle.std.specs.List.{All, list_all}
-use Rattle.std.proofs.lemmas.Bool.{false≢true}
+use Rattle.std.proofs.lemmas.Bool.{and_parts, false≢true}
 use Rattle.std.proofs.lemmas.Bool.Decides.{nat_tests}
 use Rattle.std.proofs.lemmas.List.{map-append}
 use Rattle.std.proofs.lemmas.List.Elements.{All-push}
@@ -11,7 +11,6 @@ use Rattle.moos_post.specs.declared.entry.Entry.{Entry}
 use Rattle.moos_play.specs.declared.player.Player.{Player}
 use Rattle.moos_play.specs.Lawful.{entries_of}
 use Rattle.moos_play.specs.Rounds.{AreParted, CommunityLock, has_line, IsApart, IsGathered, met_of, times_met}
-use Rattle.moos_play.proofs.Histories.{and_left, and_right}
 use Rattle.moos_play.proofs.Mets.{moved_of, moves_each, moves_known}
 use Rattle.turn_lock.specs.declared.view.Met.{Met}
 use Rattle.turn_lock.specs.Passes.{beside, events_in, first_of, has_number, met_with, without}
@@ -120,10 +119,10 @@ none_among client (line ∷ lines) h = by (none_among client lines) (line.client
 none_past : (clients client : ℕ) (lines : List Entry) → list_all (λ line. nat_lt line.client clients) lines ≡ true → clients ≤ client → entries_of client lines ≡ []
 none_past clients client [] h past = refl
 none_past clients client (line ∷ lines) h past =
-    let here = and_left (nat_lt line.client clients) (list_all (λ line. nat_lt line.client clients) lines) h in
-    let other : line.client ≢ client = λ e. grind (arith, nat_tests, here, e, past) in
+    let tests = and_parts (nat_lt line.client clients) (list_all (λ line. nat_lt line.client clients) lines) h in
+    let other : line.client ≢ client = λ e. grind (arith, nat_tests, tests.0, e, past) in
     ap (λ b. cond b (line ∷ entries_of client lines) (entries_of client lines)) (ne_eqb line.client client other)
-    ∙ none_past clients client lines (and_right (nat_lt line.client clients) (list_all (λ line. nat_lt line.client clients) lines) h) past
+    ∙ none_past clients client lines tests.1 past
 
 -- a client without lines stays
 pub parted_skip : (lock : CommunityLock) (lines : List Entry) (client : ℕ) (before first : SeatState) (players : List Player)

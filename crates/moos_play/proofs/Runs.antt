@@ -1,7 +1,8 @@
 -- From one round to the next, and to the end.
-use Rattle.std.proofs.Common.{◌≡◌, ℕ, ◌+◌, ◌-◌, ◌≤◌, ◌==◌, Bool, true, List, [], ◌∷◌, ◌++◌, length, length-append, length-take, take, drop, nat_lt, nat_le, ◌&&◌, refl, sym, ap, ◌∙◌, subst, arith, append-nil}
+use Rattle.std.proofs.Common.{◌≡◌, ℕ, ◌+◌, ◌-◌, ◌≤◌, ◌==◌, Bool, true, List, [], ◌∷◌, ◌++◌, length, length-append, length-take, take, drop, nat_lt, nat_le, refl, sym, ap, ◌∙◌, subst, arith, append-nil}
 use Rattle.std.specs.Prelude.{IsTrue}
 use Rattle.std.specs.List.{list_all}
+use Rattle.std.proofs.lemmas.Bool.{and_from, and_parts}
 use Rattle.std.proofs.lemmas.Bool.Decides.{nat_tests}
 use Rattle.std.proofs.lemmas.List.{drop-take, take-append-drop, take-take}
 use Rattle.std.proofs.lemmas.List.Elements.{filter-append}
@@ -11,10 +12,11 @@ use Rattle.moos_post.specs.declared.entry.Entry.{Entry}
 use Rattle.moos_post.specs.History.{History}
 use Rattle.moos_play.specs.Lawful.{no_stamp_goes_back, entries_of, IsLawful, KeepsOrder}
 use Rattle.moos_play.specs.Rounds.{EndsRound, GoesOn, HasSeen, IsOneRound}
-use Rattle.moos_play.proofs.Histories.{and_both, and_left, and_right, none_keeps, none_left, order_kept, own_rest, rise_front}
+use Rattle.moos_play.proofs.Histories.{none_keeps, none_left, order_kept, own_rest, rise_front}
 use Rattle.script_reader.specs.declared.script.Order.{Order}
 use Rattle.script_reader.specs.declared.script.Script.{Script}
 use Rattle.script_reader.specs.Validity.{are_lines, keeps_limits}
+use Rattle.script_reader.proofs.Sound.{line_tests}
 use Rattle.turn_lock.specs.Passes.{Begins, known_of}
 
 -- one round more
@@ -50,8 +52,8 @@ seen_more order first after lines from to so on rises ends =
 -- the clients of a part of the lines
 pub clients_of_part : (p : Entry → Bool) (lines : List Entry) (from to : ℕ) → IsTrue (list_all p lines) → IsTrue (list_all p (take to (drop from lines)))
 clients_of_part p lines from to all =
-    let behind = and_right (list_all p (take from lines)) (list_all p (drop from lines)) (sym (list_all-append p (take from lines) (drop from lines)) ∙ ap (list_all p) (take-append-drop from lines) ∙ all) in
-    and_left (list_all p (take to (drop from lines))) (list_all p (drop to (drop from lines))) (sym (list_all-append p (take to (drop from lines)) (drop to (drop from lines))) ∙ ap (list_all p) (take-append-drop to (drop from lines)) ∙ behind)
+    let behind = (and_parts (list_all p (take from lines)) (list_all p (drop from lines)) (sym (list_all-append p (take from lines) (drop from lines)) ∙ ap (list_all p) (take-append-drop from lines) ∙ all)).1 in
+    (and_parts (list_all p (take to (drop from lines))) (list_all p (drop to (drop from lines))) (sym (list_all-append p (take to (drop from lines)) (drop to (drop from lines))) ∙ ap (list_all p) (take-append-drop to (drop from lines)) ∙ behind)).0
 
 -- the end: the history of the closed lock is lawful
 pub lawful : (order : Order) (script : Script) (first : SeatState) (history : History) → HasSeen order first script.lines → Begins history first.seen → ((n : ℕ) → entries_of n history ≡ known_of first n) → IsLawful order script history
@@ -67,26 +69,20 @@ lawful order script first history so begins whole = record {
 pub lines_clients : (clients last stop : ℕ) (lines : List Entry) → are_lines clients last stop lines ≡ true → list_all (λ line. nat_lt line.client clients) lines ≡ true
 lines_clients clients last stop [] valid = refl
 lines_clients clients last stop (line ∷ lines) valid =
-    let own : Bool = nat_lt line.client clients && nat_le last line.stamp in
-    let here = and_left (own && keeps_limits line.call) (are_lines clients line.stamp stop lines) valid in
-    and_both (nat_lt line.client clients) (list_all (λ line. nat_lt line.client clients) lines)
-    (and_left (nat_lt line.client clients) (nat_le last line.stamp) (and_left own (keeps_limits line.call) here))
-    (lines_clients clients line.stamp stop lines (and_right (own && keeps_limits line.call) (are_lines clients line.stamp stop lines) valid))
+    let tests = line_tests (nat_lt line.client clients) (nat_le last line.stamp) (keeps_limits line.call) (are_lines clients line.stamp stop lines) valid in
+    and_from (nat_lt line.client clients) (list_all (λ line. nat_lt line.client clients) lines) tests.0 (lines_clients clients line.stamp stop lines tests.3)
 
 -- and their stamps don't go back
 pub lines_rise : (clients last stop : ℕ) (lines : List Entry) → are_lines clients last stop lines ≡ true → no_stamp_goes_back last lines ≡ true
 lines_rise clients last stop [] valid = refl
 lines_rise clients last stop (line ∷ lines) valid =
-    let own : Bool = nat_lt line.client clients && nat_le last line.stamp in
-    let here = and_left (own && keeps_limits line.call) (are_lines clients line.stamp stop lines) valid in
-    and_both (nat_le last line.stamp) (no_stamp_goes_back line.stamp lines)
-    (and_right (nat_lt line.client clients) (nat_le last line.stamp) (and_left own (keeps_limits line.call) here))
-    (lines_rise clients line.stamp stop lines (and_right (own && keeps_limits line.call) (are_lines clients line.stamp stop lines) valid))
+    let tests = line_tests (nat_lt line.client clients) (nat_le last line.stamp) (keeps_limits line.call) (are_lines clients line.stamp stop lines) valid in
+    and_from (nat_le last line.stamp) (no_stamp_goes_back line.stamp lines) tests.1 (lines_rise clients line.stamp stop lines tests.3)
 
 -- without clients there are no lines
 pub no_lines : (lines : List Entry) → list_all (λ line. nat_lt line.client 0) lines ≡ true → lines ≡ []
 no_lines [] none = refl
-no_lines (line ∷ lines) none = absurd (grind (arith, nat_tests, and_left (nat_lt line.client 0) (list_all (λ line. nat_lt line.client 0) lines) none))
+no_lines (line ∷ lines) none = absurd (grind (arith, nat_tests, (and_parts (nat_lt line.client 0) (list_all (λ line. nat_lt line.client 0) lines) none).0))
 
 pub lawful_none : (order : Order) (script : Script) (history : History) → script.lines ≡ [] → history ≡ [] → IsLawful order script history
 lawful_none order script history none empty = record {

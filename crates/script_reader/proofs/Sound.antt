@@ -24,7 +24,7 @@ use Rattle.script_reader.proofs.Judging.{cond_good, and_then_good, ended_good, a
 use Rattle.moos_text.proofs.WordLemmas.{position_or_len-le-length}
 
 -- the four tests of a line, of which the last one is that of the lines behind it
-line_tests : (a b c d : Bool) → (a && b && c && d) ≡ true → (a ≡ true) × (b ≡ true) × (c ≡ true) × (d ≡ true)
+pub line_tests : (a b c d : Bool) → (a && b && c && d) ≡ true → (a ≡ true) × (b ≡ true) × (c ≡ true) × (d ≡ true)
 line_tests a b c d h =
     let three = and_parts (a && b && c) d h in
     let two = and_parts (a && b) c three.0 in
