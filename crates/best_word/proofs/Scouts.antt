@@ -7,6 +7,7 @@ use lib.ListN.{get_elem?}
 use Rattle.atomic_table.specs.Table.{Allows, Joins, keeps, Me, Splits, State, Step}
 use Rattle.atomic_table.proofs.Lists.{at_set, at_snoc, set_else}
 use Rattle.ivp_problem.specs.Problems.{WeightedSum}
+use Rattle.ivp_problem.proofs.Totals.{greater}
 use Rattle.best_word.specs.declared.best.View.{View}
 use Rattle.best_word.specs.Known.{Fits, IsKeyOf, IsKnown, joined, Kept, Looks, Raises, spent}
 
@@ -77,9 +78,6 @@ raises problem other slots id key me it first about is_key s h size at bound =
 
     held : IsKnown problem found
     held = subst (IsKnown problem) (sym is) h.known
-
-    greater : (m n : ℕ) → (max m n ≡ m) ⊎ (max m n ≡ n)
-    greater m n = grind arith
 
     by : (max found key ≡ found) ⊎ (max found key ≡ key) → IsKnown problem (max found key)
     by (inl e) = subst (IsKnown problem) (sym e) held

@@ -1,6 +1,7 @@
 -- How many pieces hold a point, and which one is found.
-use Rattle.std.proofs.Common.{◌≡◌, ℕ, zero, suc, ◌+◌, ◌<◌, ◌≤◌, Bool, true, false, cond, Some, List, [], ◌∷◌, length, take, drop, drop-cons, add-one, get_or, refl, ap, ◌∙◌, arith}
+use Rattle.std.proofs.Common.{◌≡◌, ℕ, zero, suc, ◌+◌, ◌<◌, ◌≤◌, Bool, true, false, cond, Some, List, [], ◌∷◌, length, take, drop, drop-cons, add-one, get_or, refl, ap, ◌∙◌, inl, inr, arith}
 use Rattle.std.specs.Prelude.{slice_get, find}
+use Rattle.std.proofs.lemmas.Bool.{cases_Bool}
 use Rattle.std.proofs.lemmas.Option.{slice_get_within}
 use Rattle.std.proofs.lemmas.List.Sums.{sum_by-cons, sum_by_more, sum_by-take-le}
 use Rattle.ivp_domain.specs.declared.axis.Axis.{Axis}
@@ -78,13 +79,10 @@ none_more xs i p within none h = let one : one_if (holds p (get_or xs i blank)) 
 pub one_more : (xs : List Piece) (i : ℕ) (p : Point) → i < length xs → count_at (take i xs) p ≤ 1 → (holds p (get_or xs i blank) ≡ true → count_at (take i xs) p ≡ 0) → count_at (take (i + 1) xs) p ≤ 1
 one_more xs i p within most alone =
     let more = count_at_more xs i blank p within in
-    by_bool (holds p (get_or xs i blank))
-    (λ h. let one : one_if (holds p (get_or xs i blank)) ≡ 1 = ap one_if h in omega (arith, more, one, alone h))
-    (λ h. let one : one_if (holds p (get_or xs i blank)) ≡ 0 = ap one_if h in omega (arith, more, one, most))
-  where
-    by_bool : {P : Type 0} (b : Bool) → (b ≡ true → P) → (b ≡ false → P) → P
-    by_bool true f g = f refl
-    by_bool false f g = g refl
+    elim (cases_Bool (holds p (get_or xs i blank))) [
+      | inl h ↦ let one : one_if (holds p (get_or xs i blank)) ≡ 1 = ap one_if h in omega (arith, more, one, alone h)
+      | inr h ↦ let one : one_if (holds p (get_or xs i blank)) ≡ 0 = ap one_if h in omega (arith, more, one, most)
+    ]
 
 pub two : (xs : List Piece) (i : ℕ) (p : Point) → i < length xs → 0 < count_at (take i xs) p → holds p (get_or xs i blank) ≡ true → 1 < count_at xs p
 two xs i p within some h =

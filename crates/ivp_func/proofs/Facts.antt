@@ -1,16 +1,18 @@
 -- Boxes axis by axis, and what a piece that fits a domain keeps.
-use Rattle.std.proofs.Common.{◌≡◌, ℕ, zero, suc, ◌+◌, ◌<◌, ◌≤◌, Bool, true, false, ◌&&◌, nat_le, nat_lt, Some, pos, length, get_or, take, subst, inl, inr, List, [], ◌∷◌, refl, ap, sym, ◌∙◌, leb-true, ltb-true, ◌-◌, arith}
+use Rattle.std.proofs.Common.{◌≡◌, ℕ, zero, suc, ◌+◌, ◌<◌, ◌≤◌, Bool, true, false, ◌&&◌, nat_le, nat_lt, Some, pos, length, get_or, subst, inl, inr, List, [], refl, leb-true, ltb-true, arith}
 use Rattle.std.specs.Prelude.{slice_get, slice_index}
 use Rattle.std.specs.List.{list_all}
 use Rattle.std.proofs.Math.Nat.{one-le-mul}
 use Rattle.std.proofs.lemmas.Bool.{and_from, and_parts, cases_eq}
-use Rattle.std.proofs.lemmas.Option.{get_or_from_slice_get, slice_get-get_or}
+use Rattle.std.proofs.lemmas.List.Sums.{AllPass-from_list_all, list_all-from_AllPass}
+use Rattle.std.proofs.lemmas.Option.{get_or_from_slice_get, slice_get-get_or, slice_get_within}
 use Rattle.std.proofs.lemmas.Bool.Decides.{nat_tests}
 use Rattle.ivp_domain.specs.declared.axis.Axis.{Axis}
 use Rattle.ivp_domain.specs.declared.boxes.Point.{Point}
 use Rattle.ivp_domain.specs.declared.boxes.BoxN.{BoxN}
 use Rattle.ivp_domain.specs.Boxes.{has_place, has_point, is_box, volume_of, side_of}
 use Rattle.ivp_domain.specs.Domains.{is_point, size_on}
+use Rattle.ivp_domain.proofs.Sizes.{is_point-from}
 use Rattle.ivp_func.specs.declared.piece.Piece.{Piece}
 use Rattle.ivp_func.specs.Pieces.{are_pieces_of, holds, is_box_of, is_flat_past, is_piece_of, is_small}
 
@@ -81,17 +83,15 @@ box_parts axes area h =
 pub piece_point : (axes : List Axis) (piece : Piece) (p : Point) → is_piece_of axes piece ≡ true → holds p piece ≡ true → is_point axes p ≡ true
 piece_point axes piece p fits h =
     let high = box_parts axes piece.area (piece_parts axes piece fits).0 in
-    within (slice_index p.at 0) (slice_index p.at 1) (slice_index p.at 2) (slice_index p.at 3) (size_on 0 axes) (size_on 1 axes) (size_on 2 axes) (size_on 3 axes)
+    is_point-from axes p
     (omega (arith, (place_in piece.area p h 0 (omega arith)).1, high.1)) (omega (arith, (place_in piece.area p h 1 (omega arith)).1, high.2)) (omega (arith, (place_in piece.area p h 2 (omega arith)).1, high.3)) (omega (arith, (place_in piece.area p h 3 (omega arith)).1, high.4))
-  where
-    within : (i j k l a b c d : ℕ) → i < a → j < b → k < c → l < d → ((nat_le 0 i && nat_le i (a - 1)) && (nat_le 0 j && nat_le j (b - 1)) && (nat_le 0 k && nat_le k (c - 1)) && (nat_le 0 l && nat_le l (d - 1))) ≡ true
-    within i j k l a b c d p q r s = grind (arith, nat_tests)
 
 -- each of a list that passes
 pub passes_at : {X : Type 0} (t : X → Bool) (xs : List X) (k : ℕ) (x : X) → list_all t xs ≡ true → slice_get xs k ≡ Some x → t x ≡ true
-passes_at t [] k x h e = absurd (cc)
-passes_at t (y ∷ ys) zero x h e = let same : y ≡ x = cc in ap t (sym same) ∙ (and_parts (t y) (list_all t ys) h).0
-passes_at t (y ∷ ys) (suc k) x h e = passes_at t ys k x (and_parts (t y) (list_all t ys) h).1 e
+passes_at t xs k x h e = subst (λ y. t y ≡ true) (get_or_from_slice_get xs k x x e) (AllPass-from_list_all t xs h k x (slice_get_within xs k x e))
+
+pub passes_each : {X : Type 0} (t : X → Bool) (xs : List X) → ((k : ℕ) (x : X) → slice_get xs k ≡ Some x → t x ≡ true) → list_all t xs ≡ true
+passes_each t xs each = list_all-from_AllPass t xs (λ k d within. each k (get_or xs k d) (slice_get-get_or xs k d within))
 
 -- what stands past the end of a list of pieces
 abbrev pub blank : Piece
@@ -111,12 +111,6 @@ each_more P xs i before here k x within e =
 pub left_false : (a b : Bool) → (a && b) ≡ false → b ≡ true → a ≡ false
 left_false false b h e = refl
 left_false true b h e = absurd (cc)
-
-pub take_whole : {A : Type 0} (xs : List A) (n : ℕ) → length xs ≤ n → take n xs ≡ xs
-take_whole [] zero h = refl
-take_whole [] (suc n) h = refl
-take_whole (x ∷ xs) zero h = absurd (omega arith)
-take_whole (x ∷ xs) (suc n) h = ap (λ ys. x ∷ ys) (take_whole xs n (omega arith))
 
 -- a piece that fits is over a proper box, and small
 pub piece_at : (axes : List Axis) (xs : List Piece) (k : ℕ) → are_pieces_of axes xs ≡ true → k < length xs → (is_box (get_or xs k blank).area ≡ true) × (is_small (get_or xs k blank) ≡ true)

@@ -1,8 +1,7 @@
 -- The tests over all points of a domain, and what they say of each point.
-use Rattle.std.proofs.Common.{◌≡◌, ℕ, zero, suc, true, Bool, ◌==◌, Some, List, [], ◌∷◌, refl, ap, sym, ◌∙◌, subst, arith}
-use Rattle.std.specs.Prelude.{find, Option, None, slice_get, slice_index}
+use Rattle.std.proofs.Common.{◌≡◌, true, Bool, ◌==◌, Some, List, refl, ap, sym, ◌∙◌, arith}
+use Rattle.std.specs.Prelude.{find, Option, None, slice_index}
 use Rattle.std.specs.List.{list_all}
-use Rattle.std.proofs.lemmas.Bool.{and_from, and_parts}
 use Rattle.ivp_domain.specs.declared.axis.Axis.{Axis}
 use Rattle.ivp_domain.specs.declared.boxes.Point.{Point}
 use Rattle.ivp_domain.specs.Boxes.{point_of}
@@ -11,17 +10,7 @@ use Rattle.ivp_domain.proofs.BoxLemmas.{listed_point, point_listed}
 use Rattle.ivp_func.specs.declared.piece.Piece.{Piece}
 use Rattle.ivp_func.specs.Functions.{has_values, HasValues, is_partition, IsPartition}
 use Rattle.ivp_func.specs.Pieces.{count_at, holds, is_value, value_at, value_in}
-
--- a test that every element passes
-all_pass : {X : Type 0} (test : X → Bool) (xs : List X) → ((n : ℕ) (x : X) → slice_get xs n ≡ Some x → test x ≡ true) → list_all test xs ≡ true
-all_pass test [] each = refl
-all_pass test (x ∷ xs) each = and_from (test x) (list_all test xs) (each 0 x refl) (all_pass test xs (λ n y e. each (suc n) y e))
-
--- and what it says of one
-one_passes : {X : Type 0} (test : X → Bool) (xs : List X) (n : ℕ) (x : X) → list_all test xs ≡ true → slice_get xs n ≡ Some x → test x ≡ true
-one_passes test [] n x all here = cc
-one_passes test (y ∷ xs) zero x all here = let same : y ≡ x = cc in subst (λ z. test z ≡ true) same (and_parts (test y) (list_all test xs) all).0
-one_passes test (y ∷ xs) (suc n) x all here = one_passes test xs n x (and_parts (test y) (list_all test xs) all).1 here
+use Rattle.ivp_func.proofs.Facts.{passes_at, passes_each}
 
 -- the point with the same places that is listed
 abbrev same_places : Point → Point
@@ -31,10 +20,10 @@ same_places p = point_of (slice_index p.at 0) (slice_index p.at 1) (slice_index 
 at_each : (test : Point → Bool) (axes : List Axis) → ((p : Point) → test (same_places p) ≡ test p) → list_all test (points_of axes) ≡ true → (p : Point) → is_point axes p ≡ true → test p ≡ true
 at_each test axes places all p inside =
     let found = point_listed (whole axes) (same_places p) refl inside in
-    sym (places p) ∙ one_passes test (points_of axes) found.0 (same_places p) all found.1
+    sym (places p) ∙ passes_at test (points_of axes) found.0 (same_places p) all found.1
 
 for_all : (test : Point → Bool) (axes : List Axis) → ((p : Point) → is_point axes p ≡ true → test p ≡ true) → list_all test (points_of axes) ≡ true
-for_all test axes each = all_pass test (points_of axes) (λ n p here. each p (listed_point (whole axes) n p here))
+for_all test axes each = passes_each test (points_of axes) (λ n p here. each p (listed_point (whole axes) n p here))
 
 -- exactly one piece holds each point
 pub partition_passes : (axes : List Axis) (pieces : List Piece) → IsPartition axes pieces → is_partition axes pieces ≡ true

@@ -3,6 +3,7 @@ use Rattle.std.proofs.Common.{◌≡◌, ℕ, ◌+◌, ◌<◌, ◌≤◌, ◌�
 use Rattle.std.specs.Prelude.{slice_index}
 use Rattle.std.proofs.lemmas.Bool.Decides.{nat_tests}
 use Rattle.std.proofs.lemmas.Int.{ints}
+use Rattle.std.proofs.lemmas.List.{take_all}
 use Rattle.std.proofs.lemmas.List.Sums.{sum_by-take-drop}
 use Rattle.ivp_domain.specs.declared.axis.Axis.{Axis}
 use Rattle.ivp_domain.specs.declared.boxes.BoxN.{BoxN}
@@ -10,7 +11,7 @@ use Rattle.ivp_domain.specs.declared.boxes.Point.{Point}
 use Rattle.ivp_domain.specs.Boxes.{has_point, is_box, points_in}
 use Rattle.ivp_domain.specs.Domains.{index_of, size_on}
 use Rattle.ivp_domain.proofs.BoxLemmas.{has_low_corner, listed_point}
-use Rattle.ivp_func.proofs.Facts.{box_parts, has_first_point, place_in, take_whole}
+use Rattle.ivp_func.proofs.Facts.{box_parts, has_first_point, place_in}
 use Rattle.ivp_problem.specs.declared.node.Node.{Node}
 use Rattle.ivp_problem.specs.Keys.{key_of}
 use Rattle.ivp_problem.specs.Problems.{IsProblem, WeightedSum}
@@ -68,7 +69,7 @@ greatest_chosen problem node corner keeps h =
 -- the greatest key in a node of full depth
 pub greatest_key : (problem : WeightedSum) (node : Node) (corner : Point) → Keeps problem node → IsHighCorner node corner → length problem.terms ≤ node.depth → greatest (key_at problem) (points_in node.area) ≡ key_of (weighted_sum (take node.depth problem.terms) corner) (index_of problem.axes corner)
 greatest_key problem node corner keeps h full =
-    let all : take node.depth problem.terms ≡ problem.terms = take_whole problem.terms node.depth full in
+    let all : take node.depth problem.terms ≡ problem.terms = take_all node.depth problem.terms full in
     let at = listed_at node.area corner h.inside in
     rw all
     (greatest_is (key_at problem) (points_in node.area) (key_at problem corner) at.0 (at_places corner) at.1 (key_places problem corner)

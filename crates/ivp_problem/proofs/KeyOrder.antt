@@ -1,5 +1,5 @@
 -- Keys in order: by sum, then by least index; and the keys of points.
-use Rattle.std.proofs.Common.{◌≡◌, ℕ, zero, suc, ◌+◌, ◌-◌, ◌*◌, ◌^◌, ◌<◌, ◌≤◌, true, false, cond, Bool, ◌&&◌, nat_le, nat_lt, Some, List, [], ◌∷◌, length, refl, ap, sym, ◌∙◌, ◌⊎◌, inl, inr, arith}
+use Rattle.std.proofs.Common.{◌≡◌, ℕ, zero, suc, ◌+◌, ◌*◌, ◌^◌, ◌<◌, ◌≤◌, true, false, cond, Bool, nat_lt, Some, List, [], ◌∷◌, length, refl, ap, sym, ◌∙◌, ◌⊎◌, inl, inr, arith}
 use Rattle.std.specs.Prelude.{slice_get, slice_index}
 use Rattle.std.specs.List.{fold}
 use Rattle.std.proofs.Math.Nat.{mul-le-mul_right}
@@ -123,10 +123,7 @@ best_in axes problem a (p ∷ ps) start each = best_in axes problem (better prob
 
 -- the best point is one of the domain
 pub best_point : (problem : WeightedSum) → is_point problem.axes (best_of problem) ≡ true
-best_point problem = best_in problem.axes problem (point_of 0 0 0 0) (points_of problem.axes) (origin (size_on 0 problem.axes) (size_on 1 problem.axes) (size_on 2 problem.axes) (size_on 3 problem.axes)) (λ n p e. listed_point (whole problem.axes) n p e)
-  where
-    origin : (a b c d : ℕ) → ((nat_le 0 0 && nat_le 0 (a - 1)) && (nat_le 0 0 && nat_le 0 (b - 1)) && (nat_le 0 0 && nat_le 0 (c - 1)) && (nat_le 0 0 && nat_le 0 (d - 1))) ≡ true
-    origin a b c d = grind (arith, nat_tests)
+best_point problem = best_in problem.axes problem (point_of 0 0 0 0) (points_of problem.axes) (grind (arith, nat_tests)) (λ n p e. listed_point (whole problem.axes) n p e)
 
 -- and no point has a greater key
 pub best_most : (problem : WeightedSum) (p : Point) → is_point problem.axes p ≡ true → key_at problem p ≤ key_at problem (best_of problem)

@@ -1,5 +1,5 @@
 -- What a node of a problem keeps: a box of the domain, small base and slopes, and the sum that its pieces make.
-use Rattle.std.proofs.Common.{◌≡◌, ℕ, zero, suc, ◌+◌, ◌-◌, ◌<◌, ◌≤◌, ◌*◌, ◌^◌, ℤ, pos, neg_ℤ, ◌+ℤ◌, ◌*ℤ◌, ◌≤ℤ◌, Bool, true, false, cond, ◌&&◌, nat_le, nat_lt, Some, None, List, [], ◌∷◌, ◌++◌, length, length-drop, take, drop, get_or, refl, ap, sym, subst, ◌∙◌, arith}
+use Rattle.std.proofs.Common.{◌≡◌, ℕ, zero, suc, ◌+◌, ◌<◌, ◌≤◌, ◌*◌, ◌^◌, ℤ, pos, neg_ℤ, ◌+ℤ◌, ◌*ℤ◌, ◌≤ℤ◌, Bool, true, false, cond, ◌&&◌, nat_lt, Some, None, List, [], ◌∷◌, ◌++◌, length, length-drop, take, drop, get_or, refl, ap, sym, subst, ◌∙◌, arith}
 use Rattle.std.specs.Prelude.{slice_get, slice_index}
 use Rattle.std.specs.Option.{option_map}
 use Rattle.std.proofs.lemmas.Bool.{and_from, and_parts}
@@ -13,7 +13,7 @@ use Rattle.ivp_domain.specs.declared.boxes.Point.{Point}
 use Rattle.ivp_domain.specs.Boxes.{common, has_point, is_box, meet_of}
 use Rattle.ivp_domain.specs.Domains.{is_point, size_on, whole}
 use Rattle.ivp_domain.proofs.BoxLemmas.{has_point-common}
-use Rattle.ivp_domain.proofs.Sizes.{few_on, places_below, positive}
+use Rattle.ivp_domain.proofs.Sizes.{few_on, is_point-from, places_below, positive}
 use Rattle.ivp_func.specs.declared.piece.Piece.{Piece}
 use Rattle.ivp_func.specs.Functions.{IsPartition}
 use Rattle.ivp_func.specs.Pieces.{are_pieces_of, is_box_of, is_piece_of, is_slope, is_small, slope_on, value_at, value_of}
@@ -96,13 +96,10 @@ root_keeps problem h =
     let axes = problem.axes in
     record {
       depth = omega arith;
-      inside = box_from axes (whole axes) (zero_box (size_on 0 axes) (size_on 1 axes) (size_on 2 axes) (size_on 3 axes)) (omega (arith, positive axes h.domain 0)) (omega (arith, positive axes h.domain 1)) (omega (arith, positive axes h.domain 2)) (omega (arith, positive axes h.domain 3));
+      inside = box_from axes (whole axes) (grind (arith, nat_tests)) (omega (arith, positive axes h.domain 0)) (omega (arith, positive axes h.domain 1)) (omega (arith, positive axes h.domain 2)) (omega (arith, positive axes h.domain 3));
       small = root_small problem;
       sum = λ p inside. omega (arith, ints);
     }
-  where
-    zero_box : (a b c d : ℕ) → (nat_le 0 (a - 1) && nat_le 0 (b - 1) && nat_le 0 (c - 1) && nat_le 0 (d - 1)) ≡ true
-    zero_box a b c d = grind (arith, nat_tests)
 
 -- a sum grows within its bound
 grown : (d : ℕ) (a z : ℤ) (m : ℕ) → (neg_ℤ (pos (d * m)) ≤ℤ a) × (a ≤ℤ pos (d * m)) → Within m z → (neg_ℤ (pos ((d + 1) * m)) ≤ℤ (a +ℤ z)) × ((a +ℤ z) ≤ℤ pos ((d + 1) * m))
@@ -140,11 +137,8 @@ piece_fits axes term number piece h stands =
 pub inside_point : (axes : List Axis) (area : BoxN) (p : Point) → is_box_of axes area ≡ true → has_point area p ≡ true → is_point axes p ≡ true
 inside_point axes area p fits h =
     let high = box_parts axes area fits in
-    within (slice_index p.at 0) (slice_index p.at 1) (slice_index p.at 2) (slice_index p.at 3) (size_on 0 axes) (size_on 1 axes) (size_on 2 axes) (size_on 3 axes)
+    is_point-from axes p
     (omega (arith, (place_in area p h 0 (omega arith)).1, high.1)) (omega (arith, (place_in area p h 1 (omega arith)).1, high.2)) (omega (arith, (place_in area p h 2 (omega arith)).1, high.3)) (omega (arith, (place_in area p h 3 (omega arith)).1, high.4))
-  where
-    within : (i j k l a b c d : ℕ) → i < a → j < b → k < c → l < d → ((nat_le 0 i && nat_le i (a - 1)) && (nat_le 0 j && nat_le j (b - 1)) && (nat_le 0 k && nat_le k (c - 1)) && (nat_le 0 l && nat_le l (d - 1))) ≡ true
-    within i j k l a b c d p q r s = grind (arith, nat_tests)
 
 -- the sum of one more term
 pub weighted_sums_more : (terms : List Term) (n : ℕ) (term : Term) (p : Point) → slice_get terms n ≡ Some term → weighted_sum (take (n + 1) terms) p ≡ weighted_sum (take n terms) p + weighted_at p term

@@ -3,7 +3,7 @@ use Rattle.std.proofs.Common.{◌≡◌, ℕ, zero, suc, ◌+◌, ◌<◌, Bool,
 use Rattle.std.specs.Prelude.{count_by, IfSome, slice_get}
 use Rattle.std.specs.List.{flat_map}
 use Rattle.std.specs.Option.{option_map, option_to_list}
-use Rattle.std.proofs.lemmas.Bool.Decides.{nat_tests}
+use Rattle.std.proofs.lemmas.Bool.{lt-ltb}
 use Rattle.std.proofs.lemmas.Option.{option_and_then_some, slice_get-get_or}
 use Rattle.std.proofs.lemmas.List.{append-nil}
 use Rattle.std.proofs.lemmas.List.Sums.{sum_by-cons}
@@ -54,16 +54,13 @@ child_depth problem node child number e =
 pub children_all : (problem : WeightedSum) (node : Node) (term : Term) → next_of problem node ≡ Some term → children_to problem node (length term.func.pieces) ≡ children_of problem node
 children_all problem node term is = rw is (sym (append-nil (children_in term node)))
 
-positive : (n : ℕ) → 0 < n → nat_lt 0 n ≡ true
-positive n some = grind (arith, nat_tests)
-
 any_counted : (p : Point) (nodes : List Node) → has_in nodes p ≡ nat_lt 0 (count_by (λ (n : Node). has_point n.area p) nodes)
 any_counted p [] = refl
 any_counted p (node ∷ nodes) =
     by (has_point node.area p) (has_in nodes p) (count_by (λ (n : Node). has_point n.area p) nodes) (count_by (λ (n : Node). has_point n.area p) (node ∷ nodes)) (any_counted p nodes) (sum_by-cons (λ (n : Node). one_if (has_point n.area p)) node nodes)
   where
     by : (t u : Bool) (m n : ℕ) → u ≡ nat_lt 0 m → n ≡ one_if t + m → (t || u) ≡ nat_lt 0 n
-    by true u m n e e' = let some : 0 < n = omega arith in sym (positive n some)
+    by true u m n e e' = let some : 0 < n = omega arith in sym (lt-ltb 0 n some)
     by false u m n e e' = let same : m ≡ n = omega arith in e ∙ ap (nat_lt 0) same
 
 -- the children have the points of the node

@@ -38,13 +38,14 @@ greatest_is f ps m n p e same each = omega (arith, greatest_each f ps n p e, gre
 abbrev Attained : (Point → ℕ) → ℕ → ℕ → List Point → Type 0
 Attained f a m ps = (m ≡ a) ⊎ ((n : ℕ) × (p : Point) × (slice_get ps n ≡ Some p) × (f p ≡ m))
 
+-- the greater of two numbers is one of them
+pub greater : (m n : ℕ) → (max m n ≡ m) ⊎ (max m n ≡ n)
+greater m n = grind arith
+
 most_one : (f : Point → ℕ) (a : ℕ) (ps : List Point) → Attained f a (most_from f a ps) ps
 most_one f a [] = inl refl
 most_one f a (p ∷ ps) = by (greater a (f p)) (most_one f (max a (f p)) ps)
   where
-    greater : (m n : ℕ) → (max m n ≡ m) ⊎ (max m n ≡ n)
-    greater m n = grind arith
-
     by : (max a (f p) ≡ a) ⊎ (max a (f p) ≡ f p) → Attained f (max a (f p)) (most_from f (max a (f p)) ps) ps → Attained f a (most_from f a (p ∷ ps)) (p ∷ ps)
     by (inl first) (inl same) = inl (same ∙ first)
     by (inr second) (inl same) = inr (0, p, refl, sym second ∙ sym same)

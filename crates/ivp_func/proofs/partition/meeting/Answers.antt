@@ -1,9 +1,10 @@
 use Rattle.std.proofs.Common.{◌≡◌, ◌&&◌, true, get_or, refl, sym, ◌∙◌}
 use Rattle.std.proofs.lemmas.Bool.{and_parts}
+use Rattle.std.proofs.lemmas.List.{take_all}
 use Rattle.std.proofs.lemmas.Option.{slice_get-get_or}
 use Rattle.ivp_func.specs.Pieces.{holds}
 use Rattle.ivp_func.proofs.Counting.{count_positive, none_more}
-use Rattle.ivp_func.proofs.Facts.{blank, has_first_point, left_false, take_whole}
+use Rattle.ivp_func.proofs.Facts.{blank, has_first_point, left_false}
 use Rattle.ivp_func.proofs.partition.meeting.Goals as goal
 
 pub returns-in-Some-clause-some : goal.returns-in-Some-clause-some
@@ -20,4 +21,4 @@ loop-other-preserved c = λ p h.
     none_more c.args.pieces.now c.loop-other.other-index p c.loop-other-test.true (c.loop-other.invariant p h) (left_false (holds p other) (holds p c.args.piece.now) (c.in_default.ensures.apart.0 refl p) h)
 
 pub returns-clause-none : goal.returns-clause-none
-returns-clause-none c = λ p h. rw (← take_whole c.args.pieces.now c.loop-other.other-index c.loop-other-test.false) (c.loop-other.invariant p h)
+returns-clause-none c = λ p h. rw (← take_all c.loop-other.other-index c.args.pieces.now c.loop-other-test.false) (c.loop-other.invariant p h)

@@ -1,6 +1,7 @@
 use Rattle.std.proofs.Common.{◌≡◌, subst}
+use Rattle.std.proofs.lemmas.List.{take_all}
 use Rattle.ivp_domain.specs.Domains.{index_of}
-use Rattle.ivp_func.proofs.Facts.{box_parts, take_whole}
+use Rattle.ivp_func.proofs.Facts.{box_parts}
 use Rattle.ivp_problem.specs.Keys.{key_of}
 use Rattle.ivp_problem.specs.Sums.{weighted_sum}
 use Rattle.ivp_problem.specs.Trees.{bound_of}
@@ -27,4 +28,4 @@ returns-clause-best c =
     let corner = c.high_corner.result in
     let keeps = node_keeps problem node c.len.ensures.problem c.requires.node in
     let high : IsHighCorner node corner = record { inside = c.high_corner.ensures.inside; most = c.high_corner.ensures.most } in
-    subst (λ terms. key_of (weighted_sum terms corner) (index_of problem.axes corner) ≡ bound_of problem node) (take_whole problem.terms node.depth c.requires.full) (bound_full problem node corner keeps high c.requires.full)
+    subst (λ terms. key_of (weighted_sum terms corner) (index_of problem.axes corner) ≡ bound_of problem node) (take_all node.depth problem.terms c.requires.full) (bound_full problem node corner keeps high c.requires.full)
