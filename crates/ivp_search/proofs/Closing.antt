@@ -2,6 +2,7 @@
 use Rattle.std.proofs.Common.{◌≡◌, ℕ, suc, ◌+◌, ◌-◌, ◌≤◌, ◌⊎◌, inl, inr, Bool, true, false, ◌||◌, Some, List, [], ◌∷◌, ◌++◌, length, refl, sym, ap, ◌∙◌, arith, length-append}
 use Rattle.std.specs.List.{flat_map}
 use Rattle.std.specs.Option.{option_to_list}
+use Rattle.std.proofs.Math.Bool.{or-false, or-true}
 use Rattle.std.proofs.lemmas.List.{append-nil}
 use Rattle.std.proofs.lemmas.List.Folds.{list_any-append}
 use Rattle.std.proofs.lemmas.Grind.{flat_map-append}
@@ -38,11 +39,7 @@ both problem f g h low mid high a b parts =
     by : (mid ≡ low) ⊎ ((p : Point) × (f p ≡ true) × (key_at problem p ≡ mid)) → (high ≡ mid) ⊎ ((p : Point) × (g p ≡ true) × (key_at problem p ≡ high)) → (high ≡ low) ⊎ ((p : Point) × (h p ≡ true) × (key_at problem p ≡ high))
     by (inl same) (inl same') = inl (same' ∙ same)
     by (inr found) (inl same') = inr (found.0, parts found.0 ∙ rw found.1 refl, found.2 ∙ sym same')
-    by either (inr found) = inr (found.0, parts found.0 ∙ ap (λ t. f found.0 || t) found.1 ∙ or_true (f found.0), found.2)
-      where
-        or_true : (t : Bool) → (t || true) ≡ true
-        or_true true = refl
-        or_true false = refl
+    by either (inr found) = inr (found.0, parts found.0 ∙ ap (λ t. f found.0 || t) found.1 ∙ or-true (f found.0), found.2)
 
 -- the same points, the same best
 pub same_points : (problem : WeightedSum) (f g : Point → Bool) (low high : ℕ) → IsBest problem f low high → ((p : Point) → g p ≡ f p) → IsBest problem g low high
@@ -58,11 +55,7 @@ same_points problem f g low high a same =
     by (inr found) = inr (found.0, same found.0 ∙ found.1, found.2)
 
 has_one : (child : Node) (p : Point) → has_in (child ∷ []) p ≡ has_point child.area p
-has_one child p = by (has_point child.area p)
-  where
-    by : (t : Bool) → (t || false) ≡ t
-    by true = refl
-    by false = refl
+has_one child p = or-false (has_point child.area p)
 
 -- with one more child closed
 pub closed_child : (problem : WeightedSum) (node child : Node) (count low mid high : ℕ) → child_of problem node count ≡ Some child → IsBest problem (has_in (children_to problem node count)) low mid → IsBest problem (has_point child.area) mid high → IsBest problem (has_in (children_to problem node (count + 1))) low high
