@@ -1,7 +1,7 @@
 -- Which lines cover a node, and how those that cover its children come together and part.
-use Rattle.std.proofs.Common.{◌≡◌, ℕ, suc, ◌<◌, ◌≤◌, ◌⊎◌, inl, inr, Bool, true, false, nat_lt, Some, None, List, [], ◌∷◌, ◌++◌, length, refl, sym, ap, ◌∙◌, arith, append_assoc}
+use Rattle.std.proofs.Common.{◌≡◌, ℕ, suc, ◌<◌, ◌≤◌, ◌⊎◌, inl, inr, true, false, Some, None, List, [], ◌∷◌, ◌++◌, length, refl, sym, ap, ◌∙◌, arith, append_assoc}
 use Rattle.std.specs.List.{AllByRecursion as Each}
-use Rattle.std.proofs.lemmas.Bool.Decides.{nat_tests}
+use Rattle.std.proofs.lemmas.Bool.{cases_lt}
 use Rattle.std.proofs.lemmas.Option.{option_and_then_some, slice_get_within}
 use Rattle.moos_io.proofs.Lists.{each_append, each_weaker}
 use Rattle.ivp_problem.specs.declared.node.Node.{Node}
@@ -67,11 +67,7 @@ covers_none problem key term terms path node low past = record { under = tt; onc
 
 -- which of the numbers
 pub number_is : (low number : ℕ) → low ≤ number → (low < number) ⊎ (number ≡ low)
-number_is low number h = by (nat_lt low number) refl
-  where
-    by : (t : Bool) → nat_lt low number ≡ t → (low < number) ⊎ (number ≡ low)
-    by true e = inl (grind (arith, nat_tests))
-    by false e = inr (grind (arith, nat_tests))
+number_is low number h = elim (cases_lt low number) [ inl less ↦ inl less | inr past ↦ inr (omega arith) ]
 
 -- lines of a child
 child_lines : (problem : WeightedSum) (key : ℕ) (term : Term) (terms : List Term) (path : List ℕ) (node child : Node) (low : ℕ) → child_in term node low ≡ Some child → (line : Line) → Under Anyhow problem key terms (path ++ low ∷ []) child line → Under (From low) problem key (term ∷ terms) path node line

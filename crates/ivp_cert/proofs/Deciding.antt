@@ -1,6 +1,6 @@
 -- The places of a decision: one for each axis, and those of a point.
-use Rattle.std.proofs.Common.{◌≡◌, ℕ, ◌<◌, ◌≤◌, Bool, true, false, nat_lt, List, [], ◌∷◌, ◌++◌, length, take, drop, refl, arith}
-use Rattle.std.proofs.lemmas.Bool.{and_parts, ltb-true}
+use Rattle.std.proofs.Common.{◌≡◌, ℕ, ◌<◌, ◌≤◌, true, false, nat_lt, List, [], ◌∷◌, ◌++◌, length, take, drop, refl, sym, arith}
+use Rattle.std.proofs.lemmas.Bool.{and_parts, false_from_ne_true, ltb-true}
 use Rattle.ivp_domain.specs.declared.axis.Axis.{Axis}
 use Rattle.ivp_domain.specs.Domains.{is_point}
 use Rattle.ivp_domain.proofs.Sizes.{is_point-of}
@@ -14,11 +14,7 @@ on_length (axis ∷ axes) [] h = absurd (cc)
 on_length (axis ∷ axes) (place ∷ places) h = let both = and_parts (nat_lt place axis.points) (are_on axes places) h in omega (arith, on_length axes places both.1)
 
 pub not_on : (axes : List Axis) (places : List ℕ) → (length axes ≡ length places → ⊥) → false ≡ are_on axes places
-not_on axes places other = by (are_on axes places) refl
-  where
-    by : (b : Bool) → are_on axes places ≡ b → false ≡ b
-    by true e = absurd (other (on_length axes places e))
-    by false e = refl
+not_on axes places other = sym (false_from_ne_true (are_on axes places) (λ on. other (on_length axes places on)))
 
 -- the places of a point, with 0 behind them
 pub padded : (places : List ℕ) → length places ≤ 4 → places ++ drop (length places) (0 ∷ 0 ∷ 0 ∷ 0 ∷ []) ≡ take 4 (places ++ 0 ∷ 0 ∷ 0 ∷ 0 ∷ [])

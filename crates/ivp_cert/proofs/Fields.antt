@@ -1,10 +1,11 @@
 -- The fields of a word, which is cut at each `:`.
-use Rattle.std.proofs.Common.{◌≡◌, ℕ, ◌+◌, ◌==◌, Some, None, List, [], ◌∷◌, length, take, drop, refl, ap, sym, ◌∙◌, arith, Bool, true, false, cond, not, nat_lt, ◌≤◌}
+use Rattle.std.proofs.Common.{◌≡◌, ℕ, ◌+◌, ◌==◌, Some, None, List, [], ◌∷◌, length, take, drop, refl, ap, sym, ◌∙◌, arith, Bool, true, false, cond, not, ◌≤◌}
 use Rattle.std.specs.List.{onto_first, position, position_or_len}
-use Rattle.std.proofs.lemmas.Bool.Decides.{nat_tests}
+use Rattle.std.specs.Option.{unwrap_or}
 use Rattle.std.proofs.lemmas.List.Quantifiers.{position-Some}
 use Rattle.std.proofs.lemmas.List.Splits.{slice_split_first}
 use Rattle.std.proofs.lemmas.List.Sums.{position_or_len_is}
+use Rattle.moos_text.proofs.WordLemmas.{position_or_len_of}
 use Rattle.ivp_cert.specs.Words.{axis_from, axis_of, fields_of}
 
 -- the first `:` ends the first field
@@ -24,11 +25,9 @@ one_field (byte ∷ text) none = at (byte == 58) none (one_field text)
 
 -- where none stands there is one field
 pub fields_one : (text : List ℕ) → position (λ byte. byte == 58) text ≡ None → fields_of text ≡ text ∷ []
-fields_one text none = one_field text (past (nat_lt (position_or_len (λ byte. byte == 58) text) (length text)) refl none)
-  where
-    past : (b : Bool) → nat_lt (position_or_len (λ byte. byte == 58) text) (length text) ≡ b → cond b (Some (position_or_len (λ byte. byte == 58) text)) None ≡ None → length text ≤ position_or_len (λ byte. byte == 58) text
-    past true e h = absurd (cc)
-    past false e h = grind (arith, nat_tests)
+fields_one text none =
+    let past : length text ≡ position_or_len (λ byte. byte == 58) text = sym (ap (λ o. unwrap_or o (length text)) none) ∙ position_or_len_of (λ byte. byte == 58) text in
+    one_field text (omega arith)
 
 -- a text has a field
 pub fields_some : (text : List ℕ) → (first : List ℕ) × (rest : List (List ℕ)) × (fields_of text ≡ first ∷ rest)

@@ -1,5 +1,6 @@
 -- What becomes of the last function of a problem, by what making it answers.
-use Rattle.std.proofs.Common.{◌≡◌, ◌≤◌, Bool, true, false, Ok, Err, arith, ◌∷◌, ◌++◌, [], length, refl, ap, ◌∙◌}
+use Rattle.std.proofs.Common.{◌≡◌, ◌≤◌, Ok, Err, arith, ◌∷◌, ◌++◌, [], length, refl, ap, ◌∙◌}
+use Rattle.std.proofs.lemmas.Bool.{false_from_ne_true}
 use Rattle.moos_text.specs.Refusals.{fault_at, IsFirst}
 use Rattle.ivp_func.specs.declared.func.FuncFault.{FuncFault}
 use Rattle.ivp_func.specs.declared.func.FuncFault.TheVariants.{TooMany, NotPartition, ValueOut, NoMemory}
@@ -21,16 +22,10 @@ made_good sum func made =
 -- and pieces that make none
 pub made_bad : (sum : UnfinishedSum) (fault : FuncFault) → length sum.pieces ≤ 4096 → Made sum.before.axes sum.pieces (Err fault) → IsFirst (fault_at sum.line (line_fault fault)) (finished sum)
 made_bad sum TooMany few made = absurd (omega arith)
-made_bad sum (NotPartition point count) few made = let fails = at (is_partition sum.before.axes sum.pieces) refl in rw fails refl
-  where
-    at : (b : Bool) → is_partition sum.before.axes sum.pieces ≡ b → is_partition sum.before.axes sum.pieces ≡ false
-    at true e = absurd (made.3 (made.2 ∙ passes_partition sum.before.axes sum.pieces e point made.1))
-    at false e = e
+made_bad sum (NotPartition point count) few made =
+    let fails = false_from_ne_true (is_partition sum.before.axes sum.pieces) (λ e. made.3 (made.2 ∙ passes_partition sum.before.axes sum.pieces e point made.1)) in rw fails refl
 made_bad sum (ValueOut point value) few made =
     let partition = partition_passes sum.before.axes sum.pieces made.1 in
-    let fails = at (has_values sum.before.axes sum.pieces) refl in rw (partition, fails) refl
-  where
-    at : (b : Bool) → has_values sum.before.axes sum.pieces ≡ b → has_values sum.before.axes sum.pieces ≡ false
-    at true e = let good = passes_values sum.before.axes sum.pieces e point made.2 in let same = ap is_value made.3 in let out = made.4 in absurd (cc)
-    at false e = e
+    let fails = false_from_ne_true (has_values sum.before.axes sum.pieces) (λ e. let good = passes_values sum.before.axes sum.pieces e point made.2 in let same = ap is_value made.3 in let out = made.4 in cc) in
+    rw (partition, fails) refl
 made_bad sum NoMemory few made = absurd made

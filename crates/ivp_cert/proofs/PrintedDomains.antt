@@ -1,8 +1,8 @@
 -- The first axes of a domain are a domain too.
-use Rattle.std.proofs.Common.{◌≡◌, ℕ, zero, suc, ◌*◌, ◌^◌, ◌≤◌, Bool, true, false, cond, not, ◌&&◌, nat_lt, nat_le, Option, Some, None, Ok, List, [], ◌∷◌, ◌++◌, length, refl, arith}
+use Rattle.std.proofs.Common.{◌≡◌, ℕ, zero, suc, ◌*◌, ◌^◌, ◌≤◌, Bool, true, false, cond, not, ◌&&◌, nat_lt, nat_le, Option, Some, None, Ok, List, [], ◌∷◌, ◌++◌, length, le_trans, refl, arith}
 use Rattle.std.specs.Prelude.{is_none}
 use Rattle.std.specs.List.{list_all, list_any, position_or_len}
-use Rattle.std.proofs.lemmas.Bool.{and_parts}
+use Rattle.std.proofs.lemmas.Bool.{and_parts, le-leb, le-ltb}
 use Rattle.std.proofs.lemmas.Bool.Decides.{nat_tests}
 use Rattle.std.proofs.lemmas.Nat.{mul-le}
 use Rattle.ivp_domain.specs.declared.axis.Axis.{Axis}
@@ -37,11 +37,8 @@ none_bad (axis ∷ axes) h = let both = and_parts (is_good_axis axis) (list_all 
 
 no_bad_place : (axes : List Axis) → list_all is_good_axis axes ≡ true → bad_place axes ≡ None
 no_bad_place axes h =
-    let past : nat_lt (position_or_len (λ axis. not (is_good_axis axis)) axes) (length axes) ≡ false = not_less (position_or_len (λ axis. not (is_good_axis axis)) axes) (length axes) (none_bad axes h) in
+    let past : nat_lt (position_or_len (λ axis. not (is_good_axis axis)) axes) (length axes) ≡ false = le-ltb (position_or_len (λ axis. not (is_good_axis axis)) axes) (length axes) (omega (arith, none_bad axes h)) in
     rw past refl
-  where
-    not_less : (a b : ℕ) → a ≡ b → nat_lt a b ≡ false
-    not_less a b h = grind (arith, nat_tests)
 
 front_names : (past xs ys : List Axis) → repeated_after past (xs ++ ys) ≡ None → repeated_after past xs ≡ None
 front_names past [] ys h = refl
@@ -60,8 +57,5 @@ front_domain xs ys h =
     let all = xs ++ ys in
     let good = good_axes all h in
     let names = and_parts (nat_lt 0 (length all) && nat_le (length all) 4 && list_all is_good_axis all && nat_le (size_of all) (2 ^ 22)) (is_none (repeated_place all)) h in
-    let fits : nat_le (size_of xs) (2 ^ 22) ≡ true = least (size_of xs) (size_of all) (2 ^ 22) (smaller xs ys good) (few all h) in
+    let fits : nat_le (size_of xs) (2 ^ 22) ≡ true = le-leb (size_of xs) (2 ^ 22) (le_trans (smaller xs ys good) (few all h)) in
     rw (no_bad_place xs (good_both xs ys good), fits, front_names [] xs ys (none_of (repeated_place all) names.1)) refl
-  where
-    least : (a b c : ℕ) → a ≤ b → b ≤ c → nat_le a c ≡ true
-    least a b c h k = grind (arith, nat_tests)

@@ -1,8 +1,8 @@
 -- A printed line: words of visible bytes with one blank between, behind nothing or `%% `. Reading it gives its words back.
-use Rattle.std.proofs.Common.{◌≡◌, ℕ, suc, ◌<◌, ◌≤◌, inl, inr, Bool, true, false, ◌==◌, List, [], ◌∷◌, ◌++◌, length, reverse, flat_map, refl, ap, sym, ◌∙◌, arith, append_assoc, append-nil}
+use Rattle.std.proofs.Common.{◌≡◌, ℕ, suc, ◌<◌, ◌≤◌, inl, inr, Bool, true, false, List, [], ◌∷◌, ◌++◌, length, reverse, flat_map, refl, ap, sym, ◌∙◌, arith, append_assoc, append-nil}
 use Rattle.std.specs.Prelude.{if◌then◌else◌}
 use Rattle.std.specs.List.{AllByRecursion as Each}
-use Rattle.std.proofs.lemmas.Bool.Decides.{nat_tests}
+use Rattle.std.proofs.lemmas.Bool.{ne_eqb}
 use Rattle.std.proofs.lemmas.List.{reverse-append, reverse-reverse}
 use Rattle.moos_io.proofs.Lists.{each_append, each_weaker}
 use Rattle.moos_text.specs.Lines.{is_blank, onto_first, raw_lines, trimmed, without_front_blanks, without_return, words_of}
@@ -29,16 +29,13 @@ joined word words = word ++ flat_map spaced words
 abbrev pub line_of : List ℕ → List ℕ → List (List ℕ) → List ℕ
 line_of prefix word words = prefix ++ (joined word words ++ 10 ∷ [])
 
-other : (a b : ℕ) → b < a → (a == b) ≡ false
-other a b h = grind (arith, nat_tests)
-
 seen : (byte : ℕ) → 33 ≤ byte → is_blank byte ≡ false
-seen byte h = rw (other byte 32 (omega (arith, h)), other byte 9 (omega (arith, h))) refl
+seen byte h = rw (ne_eqb byte 32 (λ same. omega arith), ne_eqb byte 9 (λ same. omega arith)) refl
 
 -- the first line ends at the first line feed
 pub line_in_front : (text rest : List ℕ) → Each (λ byte. 32 ≤ byte) text → raw_lines (text ++ 10 ∷ rest) ≡ text ∷ raw_lines rest
 line_in_front [] rest h = refl
-line_in_front (byte ∷ text) rest h = rw (other byte 10 (omega (arith, h.0)), line_in_front text rest h.1) refl
+line_in_front (byte ∷ text) rest h = rw (ne_eqb byte 10 (λ same. omega (arith, h.0)), line_in_front text rest h.1) refl
 
 -- a word ends at a blank, or at the end
 abbrev BeginsBlank : List ℕ → Type 0
@@ -83,7 +80,7 @@ ends_joined word (next ∷ words) is all = ends_behind word (flat_map spaced (ne
 
 -- such a text has no carriage return at its end, and no blank at either end
 no_return : (front : List ℕ) (last : ℕ) → 33 ≤ last → without_return (front ++ last ∷ []) ≡ front ++ last ∷ []
-no_return [] last ink = rw (other last 13 (omega (arith, ink))) refl
+no_return [] last ink = rw (ne_eqb last 13 (λ same. omega arith)) refl
 no_return (byte ∷ []) last ink = ap (λ t. byte ∷ t) (no_return [] last ink)
 no_return (byte ∷ next ∷ front) last ink = ap (λ t. byte ∷ t) (no_return (next ∷ front) last ink)
 
@@ -99,7 +96,7 @@ plain first rest begins ends =
     ap (λ t. trimmed (without_return t)) ends.split ∙ ap trimmed (no_return ends.front ends.last ends.ink ∙ sym ends.split) ∙ no_blanks first rest ends.front ends.last begins ends.ink ends.split
 
 no_prefix : (first : ℕ) (rest : List ℕ) → 38 ≤ first → without_prefix (first ∷ rest) ≡ first ∷ rest
-no_prefix first rest h = let not_percent = other first 37 (omega (arith, h)) in rw not_percent refl
+no_prefix first rest h = let not_percent = ne_eqb first 37 (λ same. omega arith) in rw not_percent refl
 
 -- the words of a printed line
 pub said : (prefix : List ℕ) (first : ℕ) (word : List ℕ) (words : List (List ℕ)) → IsPrefix prefix → 38 ≤ first → IsWord (first ∷ word) → Each IsWord words → line_words (prefix ++ joined (first ∷ word) words) ≡ (first ∷ word) ∷ words

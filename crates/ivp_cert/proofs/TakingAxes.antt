@@ -1,8 +1,8 @@
 -- The printed axes of a domain, as the reader takes them.
-use Rattle.std.proofs.Common.{◌≡◌, ℕ, suc, ◌+◌, ◌≤◌, true, nat_lt, Ok, List, [], ◌∷◌, ◌++◌, flat_map, length, refl, ap, ◌∙◌, arith, append_assoc, append-nil, length-append}
+use Rattle.std.proofs.Common.{◌≡◌, ℕ, suc, true, nat_lt, Ok, List, [], ◌∷◌, ◌++◌, flat_map, length, refl, ap, ◌∙◌, arith, append_assoc, append-nil, length-append}
 use Rattle.std.specs.Prelude.{codes}
 use Rattle.std.specs.List.{AllByRecursion as Each}
-use Rattle.std.proofs.lemmas.Bool.Decides.{nat_tests}
+use Rattle.std.proofs.lemmas.Bool.{lt-ltb}
 use Rattle.ivp_domain.specs.declared.axis.Axis.{Axis}
 use Rattle.ivp_domain.specs.Domains.{is_domain}
 use Rattle.ivp_domain.proofs.Sizes.{four_axes}
@@ -25,12 +25,9 @@ stage_at (axis ∷ axes) = Axes (axis ∷ axes)
 
 axis_added : (before after : List Axis) (axis : Axis) → is_domain (before ++ axis ∷ after) ≡ true → IsPrintedAxis axis → with_domain before (axis_word axis ∷ []) ≡ Ok (before ++ axis ∷ [])
 axis_added before after axis domain is =
-    let few : nat_lt (length before) 4 ≡ true = less (length before) (length (before ++ axis ∷ after)) (length-append before (axis ∷ after)) (four_axes (before ++ axis ∷ after) domain) in
+    let few : nat_lt (length before) 4 ≡ true = lt-ltb (length before) 4 (omega (arith, length-append before (axis ∷ after), four_axes (before ++ axis ∷ after) domain)) in
     let whole : is_domain ((before ++ axis ∷ []) ++ after) ≡ true = ap is_domain (append_assoc before (axis ∷ []) after) ∙ domain in
     rw (axis_back axis is, few, front_domain (before ++ axis ∷ []) after whole) refl
-  where
-    less : (a n : ℕ) → n ≡ a + suc (length after) → n ≤ 4 → nat_lt a 4 ≡ true
-    less a n h k = grind (arith, nat_tests)
 
 domain_word : IsWord (codes "domain")
 domain_word = record { some = omega arith; ink = (omega arith, (omega arith, (omega arith, (omega arith, (omega arith, (omega arith, tt)))))) }

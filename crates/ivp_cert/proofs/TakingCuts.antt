@@ -2,7 +2,7 @@
 use Rattle.std.proofs.Common.{◌≡◌, ℕ, suc, ◌+◌, ◌^◌, ◌<◌, ◌≤◌, true, false, nat_lt, Some, Ok, List, [], ◌∷◌, ◌++◌, flat_map, length, map, refl, ap, sym, ◌∙◌, arith, append_assoc, append-nil, length-append}
 use Rattle.std.specs.Prelude.{bytes_eq, codes, decimal}
 use Rattle.std.specs.List.{AllByRecursion as Each}
-use Rattle.std.proofs.lemmas.Bool.Decides.{nat_tests}
+use Rattle.std.proofs.lemmas.Bool.{lt-ltb}
 use Rattle.moos_io.proofs.Lists.{each_append, each_from}
 use Rattle.ivp_cert.specs.declared.cert.Line.{Line}
 use Rattle.ivp_cert.specs.declared.claim.Decision.{Decision}
@@ -28,13 +28,10 @@ line_back before (number ∷ path) sum index each few most small =
     let within = each.0 in
     let word = decimal_word number (omega (arith, within)) in
     let apart = no_colon (decimal number) word.some (decimal_field number (omega (arith, within))) in
-    let room : nat_lt (length before) 64 ≡ true = less (length before) (length path) few in
+    let room : nat_lt (length before) 64 ≡ true = lt-ltb (length before) 64 (omega (arith, few)) in
     rw (apart, room, place_back number within)
     (line_back (before ++ number ∷ []) path sum index each.1 (omega (arith, few, length-append before (number ∷ []))) most small
     ∙ ap (λ (all : List ℕ). let line : Line = record { path = all; sum = sum; index = index } in Some line) (append_assoc before (number ∷ []) path))
-  where
-    less : (a b : ℕ) → a + suc b ≤ 64 → nat_lt a 64 ≡ true
-    less a b h = grind (arith, nat_tests)
 
 cut_word : IsWord (codes "cut")
 cut_word = record { some = omega arith; ink = (omega arith, (omega arith, (omega arith, tt))) }

@@ -2,8 +2,7 @@
 use Rattle.std.proofs.Common.{◌≡◌, ℕ, suc, ◌+◌, ◌<◌, ◌≤◌, true, nat_lt, Ok, List, [], ◌∷◌, ◌++◌, flat_map, length, refl, ap, sym, arith, append_assoc, append-nil, length-append}
 use Rattle.std.specs.Prelude.{codes}
 use Rattle.std.specs.List.{list_all, AllByRecursion as Each}
-use Rattle.std.proofs.lemmas.Bool.{and_parts}
-use Rattle.std.proofs.lemmas.Bool.Decides.{nat_tests}
+use Rattle.std.proofs.lemmas.Bool.{and_parts, lt-ltb}
 use Rattle.ivp_domain.specs.Domains.{is_domain}
 use Rattle.ivp_func.specs.declared.piece.Piece.{Piece}
 use Rattle.ivp_func.specs.Pieces.{is_piece_of}
@@ -28,11 +27,8 @@ piece_word = record { some = omega arith; ink = (omega arith, (omega arith, (ome
 
 piece_first : (line : ℕ) (sum : UnfinishedSum) (piece : Piece) → IsSpelled (length sum.before.axes) piece → is_piece_of sum.before.axes piece ≡ true → length sum.pieces < 4096 → after_first line (OfProblem (Functions sum)) (codes "piece") (piece_words (length sum.before.axes) piece) ≡ Ok (OfProblem (Functions (with_pieces sum (piece ∷ []))))
 piece_first line sum piece is fit few =
-    let room : nat_lt (length sum.pieces) 4096 ≡ true = less (length sum.pieces) few in
+    let room : nat_lt (length sum.pieces) 4096 ≡ true = lt-ltb (length sum.pieces) 4096 few in
     rw (is.back, room, (piece_parts sum.before.axes piece fit).0) refl
-  where
-    less : (n : ℕ) → n < 4096 → nat_lt n 4096 ≡ true
-    less n h = grind (arith, nat_tests)
 
 piece_taken : (lines : ℕ) (prefix : List ℕ) (sum : UnfinishedSum) (piece : Piece) → IsPrefix prefix → is_domain sum.before.axes ≡ true → is_piece_of sum.before.axes piece ≡ true → HasFourPlaces piece → length sum.pieces < 4096 → Takes lines (OfProblem (Functions sum)) (piece_text prefix (length sum.before.axes) piece) (suc lines) (OfProblem (Functions (with_pieces sum (piece ∷ []))))
 piece_taken lines prefix sum piece at domain fit four few =

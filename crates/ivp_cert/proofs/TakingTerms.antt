@@ -2,6 +2,7 @@
 use Rattle.std.proofs.Common.{◌≡◌, ℕ, suc, ◌+◌, ◌<◌, ◌≤◌, true, nat_lt, Ok, List, [], ◌∷◌, ◌++◌, flat_map, length, refl, ap, sym, ◌∙◌, arith, append_assoc, append-nil, length-append}
 use Rattle.std.specs.Prelude.{codes, decimal}
 use Rattle.std.specs.List.{concat, list_all, AllByRecursion as Each}
+use Rattle.std.proofs.lemmas.Bool.{lt-ltb}
 use Rattle.std.proofs.lemmas.Bool.Decides.{nat_tests}
 use Rattle.ivp_domain.specs.declared.axis.Axis.{Axis}
 use Rattle.ivp_domain.specs.Domains.{is_domain}
@@ -71,14 +72,11 @@ weight_taken : (lines : ℕ) (prefix : List ℕ) (before : WeightedSum) (stage :
 weight_taken lines prefix before stage term at opens weight few =
     let then = OfProblem (Functions (bare before (suc lines) term)) in
     let small = small_weight term.weight weight in
-    let room : nat_lt (length before.terms) 64 ≡ true = less (length before.terms) few in
+    let room : nat_lt (length before.terms) 64 ≡ true = lt-ltb (length before.terms) 64 few in
     let good : with_function before (suc lines) (decimal term.weight ∷ []) ≡ Ok (bare before (suc lines) term) = rw (room, whole_back term.weight (omega (arith, small)), weight) refl in
     takes_as lines (suc lines) (OfProblem stage) then _ _ (function_line prefix term.weight)
     (takes_line lines (OfProblem stage) then prefix 102 (codes "unction") (decimal term.weight ∷ []) at (omega arith) function_word (decimal_word term.weight (omega (arith, small)), tt)
     (opens.function (suc lines) (decimal term.weight ∷ []) ∙ ap (λ r. as_now OfProblem (at_line (suc lines) (as_now Functions r))) good))
-  where
-    less : (n : ℕ) → n < 64 → nat_lt n 64 ≡ true
-    less n h = grind (arith, nat_tests)
 
 term_taken : (lines : ℕ) (prefix : List ℕ) (before : WeightedSum) (stage : Stage) (term : Term) → IsPrefix prefix → is_domain before.axes ≡ true → Opens before stage → IsPrintedTerm before.axes term → length before.terms < 64 → TermsTaken lines stage (term_text prefix (length before.axes) term) (with_terms before (term ∷ []))
 term_taken lines prefix before stage term at domain opens is few =

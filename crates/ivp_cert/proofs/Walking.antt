@@ -3,7 +3,7 @@ use Rattle.std.proofs.Common.{◌≡◌, ℕ, zero, suc, ◌+◌, ◌≤◌, Boo
 use Rattle.std.specs.List.{flat_map}
 use Rattle.std.specs.Option.{option_and_then, option_to_list}
 use Rattle.std.specs.Str.{bytes_eq}
-use Rattle.std.proofs.lemmas.Bool.{and_from, and_parts, eq-eqb, eqb-true, le-leb, leb-true}
+use Rattle.std.proofs.lemmas.Bool.{and_from, and_parts, eq-eqb, eqb-true, false_from_ne_true, le-leb, leb-true}
 use Rattle.std.proofs.lemmas.Option.{option_and_then_some}
 use Rattle.std.proofs.lemmas.Slice.Eq.{bytes_eq-Decides}
 use Rattle.ivp_domain.specs.Boxes.{numbers_from}
@@ -50,7 +50,8 @@ line_own problem key terms path node line own =
 
 -- a line of a node below isn't this node's
 line_below : (problem : WeightedSum) (key : ℕ) (path : List ℕ) (node : Node) (line : Line) (number : ℕ) (more : List ℕ) → line.path ≡ path ++ number ∷ more → is_line_of problem key path node line ≡ false
-line_below problem key path node line number more split = by (is_line_of problem key path node line) refl
+line_below problem key path node line number more split =
+    false_from_ne_true (is_line_of problem key path node line) (λ e. let own = own_line problem key [] path node line e in longer path (sym split ∙ (own.split ∙ append-nil path)))
   where
     longer : (xs : List ℕ) → xs ++ number ∷ more ≡ xs → ⊥
     longer [] e = absurd (cc)
@@ -59,10 +60,6 @@ line_below problem key path node line number more split = by (is_line_of problem
         simple : (ys : List ℕ) → length (ys ++ number ∷ more) ≡ length ys + suc (length more)
         simple [] = omega arith
         simple (y ∷ ys) = omega (arith, simple ys)
-
-    by : (b : Bool) → is_line_of problem key path node line ≡ b → is_line_of problem key path node line ≡ false
-    by true e = let own = own_line problem key [] path node line e in absurd (longer path (sym split ∙ (own.split ∙ append-nil path)))
-    by false e = e
 
 -- what the walk says of a node, as it is handed to the walk over its children
 abbrev Walks : WeightedSum → ℕ → List Term → List ℕ → Type 0
