@@ -4,7 +4,7 @@ use Rattle.std.specs.Prelude.{codes, encode_utf8, slice_get}
 use Rattle.std.specs.Option.{option_map_or}
 use Rattle.std.specs.List.{list_all, list_any}
 use Rattle.std.specs.Str.{bytes_eq, chars}
-use Rattle.std.proofs.lemmas.Bool.{eqb-true, ltb-false, le-leb}
+use Rattle.std.proofs.lemmas.Bool.{and_from, eqb-true, ltb-false, le-leb, or_parts}
 use Rattle.std.proofs.lemmas.List.{map-id}
 use Rattle.clap.specs.Facts.{parser_of_value, unwrap_or_range}
 use Rattle.clap.specs.ValueTests.{accepts}
@@ -29,9 +29,6 @@ use Rattle.clap.proofs.TakesLemmas.{leaf_takes}
 use Rattle.clap.proofs.WalkLemmas.{both}
 
 -- ---- tests and kinds
-
-both_true : (a b : Bool) → a ≡ true → b ≡ true → (a && b) ≡ true
-both_true a b h g = rw (h, g) refl
 
 -- no step fails where neither of two does
 or_none : (a b : Kinds) → or_else a b ≡ [] → (a ≡ []) × (b ≡ [])
@@ -67,7 +64,7 @@ values_taken : (a : Rule) (texts : List Text) → values_fault a texts ≡ [] �
 values_taken a [] none = refl
 values_taken a (text ∷ texts) none =
     let parts = or_none (value_kinds a.ignore_case (parser_of_value a.parser) text) (values_fault a texts) none in
-    both_true _ _ (value_taken a.ignore_case (parser_of_value a.parser) text parts.0) (values_taken a texts parts.1)
+    and_from _ _ (value_taken a.ignore_case (parser_of_value a.parser) text parts.0) (values_taken a texts parts.1)
 
 -- ---- how many values there are
 
@@ -91,7 +88,7 @@ count_in least most n none = go (least == most) refl (not_failed (nat_lt 0 least
 set_taken : (again : Bool) (a : Rule) (values : List Text) (rows : List Row) → set_fault again a values rows ≡ [] → set_passes again a values rows ≡ true
 set_taken again a values rows none =
     let parts = or_none (repeat_fault again a.id rows) (values_fault a values) none in
-    both_true _ _ (unless_both (has_row a.id rows) again _ _ parts.0) (values_taken a values parts.1)
+    and_from _ _ (unless_both (has_row a.id rows) again _ _ parts.0) (values_taken a values parts.1)
 
 count_taken : (a : Rule) (values : List Text) (rows : List Row) → count_fault a values rows ≡ [] → count_passes a values rows ≡ true
 count_taken a [] rows none = value_taken a.ignore_case (parser_of_value a.parser) _ none
@@ -112,7 +109,7 @@ use_taken : (again : Bool) (a : Rule) (values : List Text) (rows : List Row) →
 use_taken again a values rows none =
     let parts = or_none (range_kinds (unwrap_or_range a.range).start_inclusive (most_values a) (length values)) _ none in
     let count = count_in (unwrap_or_range a.range).start_inclusive (most_values a) (length values) parts.0 in
-    both_true _ _ count.0 (both_true _ _ count.1 (action_taken (action_of a) again a (values_or_missing a values) rows parts.1))
+    and_from _ _ count.0 (and_from _ _ count.1 (action_taken (action_of a) again a (values_or_missing a values) rows parts.1))
 
 -- ---- the walk
 
@@ -131,7 +128,7 @@ settle_taken c again h none = go h.pending none
 react_taken : (c : List Rule) (again : Bool) (a : Rule) (values : List Text) (h : Held) → react_fault c again a values h ≡ [] → react_passes c again a values h ≡ true
 react_taken c again a values h none =
     let parts = or_none (settle_fault c again h) _ none in
-    both_true _ _ (settle_taken c again h parts.0) (use_taken again a values (settled c h).rows parts.1)
+    and_from _ _ (settle_taken c again h parts.0) (use_taken again a values (settled c h).rows parts.1)
 
 option_taken : (c : List Rule) (again : Bool) (a : Rule) (v : Option Text) (h : Held) → option_fault c again a v h ≡ [] → option_passes c again a v h ≡ true
 option_taken c again a (Some v) h none = react_taken c again a (v ∷ []) h none
@@ -160,7 +157,7 @@ short_taken c again (Some a) rest h fails passes each none = go (takes_values a)
     go true none = option_taken c again a (attached_value rest) h none
     go false none =
         let parts = or_none (react_fault c again a [] h) _ none in
-        both_true _ _ (react_taken c again a [] h parts.0) (each (reacted c a [] h) parts.1)
+        and_from _ _ (react_taken c again a [] h parts.0) (each (reacted c a [] h) parts.1)
 
 bundle_step_taken : (c : List Rule) (again : Bool) (x : Option ℕ) (flags : Text) (skip : ℕ) (h : Held) (fails : Text → ℕ → Held → Kinds) (passes : Text → ℕ → Held → Bool)
     → ((rest : Text) (skip : ℕ) (after : Held) → fails rest skip after ≡ [] → passes rest skip after ≡ true)
@@ -224,21 +221,16 @@ turn_taken s names w word none =
         → (word_passes s names w.is_trailing w.waiting word w.held && step_passes s w.position met.0 met.1) ≡ true
     both_steps met none =
         let parts = or_none (word_fault s names w.is_trailing w.waiting word w.held) _ none in
-        both_true _ _ (word_taken s names w.is_trailing w.waiting word w.held parts.0) (step_taken s w.position met.0 met.1 parts.1)
+        and_from _ _ (word_taken s names w.is_trailing w.waiting word w.held parts.0) (step_taken s w.position met.0 met.1 parts.1)
 
 walk_taken : (s : Shape) (names : Names) (w : Walk) (words : List Text) → walk_fault s names w words ≡ [] → walk_passes s names w words ≡ true
 unfolding walk_fault walk_passes
 walk_taken s names w [] none = refl
 walk_taken s names w (word ∷ rest) none =
     let parts = or_none (turn_fault s names w word) _ none in
-    both_true _ _ (turn_taken s names w word parts.0) (walk_taken s names (walked s.rules names w word) rest parts.1)
+    and_from _ _ (turn_taken s names w word parts.0) (walk_taken s names (walked s.rules names w word) rest parts.1)
 
 -- ---- after the walk
-
--- of two tests that don't both hold
-neither : (a b : Bool) → (a || b) ≡ false → (a ≡ false) × (b ≡ false)
-neither true b none = cc
-neither false b none = (refl, none)
 
 unless : (a b : Bool) → (a && not b) ≡ false → (not a || b) ≡ true
 unless false b none = refl
@@ -250,8 +242,8 @@ required_given : (rows : List Row) (rules : List Rule) → list_any (λ a. a.req
     → list_all (λ a. not a.required || is_given a.id rows) rules ≡ true
 required_given rows [] none = refl
 required_given rows (a ∷ rules) none =
-    let parts = neither (a.required && not (is_given a.id rows)) _ none in
-    both_true _ _ (unless a.required (is_given a.id rows) parts.0) (required_given rows rules parts.1)
+    let parts = or_parts (a.required && not (is_given a.id rows)) _ none in
+    and_from _ _ (unless a.required (is_given a.id rows) parts.0) (required_given rows rules parts.1)
 
 last_failed : (b : Bool) (k : ErrorKind) → cond b (k ∷ []) [] ≡ [] → b ≡ false
 last_failed false k none = refl
@@ -282,7 +274,7 @@ checks_taken s rows free none = go s.arg_required_else_help s.subcommand_require
         let first = not_failed (help && not given_any) _ _ _ none in
         let second = not_failed sub _ _ _ first.1 in
         let third = last_failed (not (negates && false) && any_missing) _ second.1 in
-        both_true _ _ (unless help given_any first.0) (both_true _ _ (unwanted sub second.0) (both_true _ _ free (given negates third)))
+        and_from _ _ (unless help given_any first.0) (and_from _ _ (unwanted sub second.0) (and_from _ _ free (given negates third)))
 
 -- one level of the parse passes
 level_taken : (s : Shape) (words : List Text) → has_free_rules s ≡ true → list_all default_passes s.rules ≡ true
@@ -292,8 +284,8 @@ level_taken s words free defaults none =
     let one = or_none (walk_fault s [] (walk_from nothing_held) words) _ none in
     let two = or_none (settle_fault s.rules s.args_override_self end) _ one.1 in
     let three = or_none (defaults_fault (settled s.rules end).rows s.rules) _ two.1 in
-    both_true _ _ (walk_taken s [] (walk_from nothing_held) words one.0)
-    (both_true _ _ (settle_taken s.rules s.args_override_self end two.0) (both_true _ _ defaults (checks_taken s (finished s.rules end) free three.1)))
+    and_from _ _ (walk_taken s [] (walk_from nothing_held) words one.0)
+    (and_from _ _ (settle_taken s.rules s.args_override_self end two.0) (and_from _ _ defaults (checks_taken s (finished s.rules end) free three.1)))
 
 -- it takes the words at which no step of the parse fails
 pub faultless : (command : App) (words : List Text) → IsPlain command → fault_of command words ≡ [] → takes command words ≡ true
@@ -302,7 +294,7 @@ faultless command words plain none =
     let rules = both (has_free_rules (built command).top) _ parts.1 in
     let level : level_fault (built command).top [] nothing_held (argument_words command words) false [] ≡ [] =
     sym (leaf_fault (built command) nothing_held (argument_words command words) plain.alone) ∙ none in
-    both_true _ _ parts.0
+    and_from _ _ parts.0
     (leaf_takes (built command) nothing_held (argument_words command words) plain.alone
     (level_taken (built command).top (argument_words command words) rules.0 plain.defaults level))
 
