@@ -1,5 +1,5 @@
 -- How a lock begins, and how it ends.
-use Rattle.std.proofs.Common.{◌≡◌, ℕ, zero, suc, ◌+◌, ◌^◌, ◌<◌, ◌≤◌, ◌==◌, ◌⊎◌, inl, inr, Bool, true, false, cond, List, [], ◌∷◌, ◌++◌, length, Option, Some, unwrap_or, ne_eqb, sym, refl, ap, ◌∙◌, subst, arith}
+use Rattle.std.proofs.Common.{◌≡◌, ℕ, zero, suc, ◌^◌, ◌<◌, ◌≤◌, ◌==◌, ◌⊎◌, inl, inr, true, false, cond, List, [], ◌∷◌, ◌++◌, length, Option, Some, unwrap_or, ne_eqb, sym, refl, ap, ◌∙◌, subst, arith}
 use Rattle.std.proofs.lemmas.Bool.{false≢true}
 use Rattle.std.proofs.lemmas.List.Sums.{sum_by_push}
 use mathlib.Core.Option.{some, some-injective, some-ne-none}
@@ -12,6 +12,7 @@ use Rattle.turn_lock.specs.Passes.{Begins, own}
 use Rattle.turn_lock.specs.Rule.{Book, Fits, has_turn, IsHeldAt, IsHome, IsKnown, IsOut, IsPlaced, Kept, known_in, newcomer, Stands, tickets, times, weight}
 use Rattle.turn_lock.specs.Steps.{closed}
 use Rattle.turn_lock.proofs.Turns.{only, whole}
+use Rattle.turn_lock.proofs.Sums.{one_at_most}
 
 -- nobody but number 0 is known at the start
 first_only : (E : Type 0) {B : Type 0} (base : B) (passes n : ℕ) → 0 < times (newcomer {E = E} base passes) n → n ≡ 0
@@ -46,17 +47,10 @@ module _ {E B S : Type 0} (base_of : S → B) (history_of : S → List E) (numbe
             seen = ([], refl);
             told = ([], refl);
             each = λ n some''. subst (IsKnown number book.log book.owner book.total 0 first) (sym (first_only E base passes n some'')) (record { events = refl; given = omega arith; here = refl });
-            once = once;
+            once = λ n. one_at_most (0 == n);
             first = λ zero'. (omega arith, omega (arith, some', few));
             other = λ positive. absurd (omega (arith, positive));
           }
-        where
-          once : (n : ℕ) → times first n ≤ 1
-          once n = at_most (0 == n)
-            where
-              at_most : (b : Bool) → cond b 1 0 + 0 ≤ 1
-              at_most true = omega arith
-              at_most false = omega arith
 
       each : (seat : ℕ) (u : Known E B) → get_elem? (first ∷ []) seat ≡ some u → Fits number base book.log book.owner book.total seat u × IsPlaced book seat u.turn
       each zero u at = subst (λ (k : Known E B). Fits number base book.log book.owner book.total 0 k × IsPlaced book 0 k.turn) (some-injective first u at) (fits, tt)

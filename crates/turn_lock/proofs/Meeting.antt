@@ -1,7 +1,7 @@
 -- A pass that takes another one in, and sees what the other has seen.
 use Rattle.std.proofs.Common.{◌≡◌, ◌≢◌, ℕ, ◌+◌, ◌<◌, ◌≤◌, ◌==◌, ◌⊎◌, inl, inr, Bool, true, false, cond, List, ◌∷◌, set, length-append, count_by, Option, eq-eqb, ne_eqb, sym, refl, ap, ◌∙◌, subst, arith}
-use Rattle.std.specs.Prelude.{slice_index}
 use Rattle.std.proofs.lemmas.Bool.{false≢true}
+use Rattle.std.proofs.lemmas.List.{set-get_or}
 use mathlib.Core.Option.{some, some-injective}
 use mathlib.Core.Logic.{dite}
 use native.Mathlib.Decide.{dec_le, ℕ_discrete}
@@ -205,7 +205,7 @@ module _ {E B S : Type 0} (base_of : S → B) (history_of : S → List E) (numbe
 
   -- a pass may see what it was told
   pub settles : (slots id : ℕ) (me : Me (Option S) (Known E B)) (it : Step (Option S)) → me.0.live ≡ true → me.0.turn ≡ Idle → Allows (Kept base_of history_of number base) slots id me 1 (λ n. n) (Settles it me)
-  settles slots id me it live idle s kept size at bound = (w, keeps, tt, subst Keeps (sym words_same) (book, stands, lies kept.2), (refl, told.1, told.2))
+  settles slots id me it live idle s kept size at bound = (w, keeps, tt, subst Keeps (sym (set-get_or s.words 1 0)) (book, stands, lies kept.2), (refl, told.1, told.2))
     where
       v : Known E B
       v = me.0
@@ -227,9 +227,6 @@ module _ {E B S : Type 0} (base_of : S → B) (history_of : S → List E) (numbe
 
       Keeps : List ℕ → Type 0
       Keeps words = Kept base_of history_of number base (record { words = words; homes = s.homes; views = set s.views id w })
-
-      words_same : set s.words 1 (slice_index s.words 1) ≡ s.words
-      words_same = subst (λ ws. set ws 1 (slice_index ws 1) ≡ ws) (sym h.words_are) refl
 
       each : (seat : ℕ) (u : Known E B) → u.live ≡ true → ((seat ≡ id) × (w ≡ u)) ⊎ ((seat ≢ id) × (get_elem? s.views seat ≡ some u)) → Fits number base book.log book.owner book.total seat u × IsPlaced book seat u.turn
       each seat u live' (inl it') = subst (λ (p : ℕ × Known E B). Fits number base book.log book.owner book.total p.0 p.1 × IsPlaced book p.0 p.1.turn) (λ i. (sym it'.0 i, it'.1 i)) (settled_fits book.log book.owner book.total id v fits, (h.each id v at live).1)

@@ -1,5 +1,5 @@
 -- A pass that is split off the first one, new or taken in before.
-use Rattle.std.proofs.Common.{◌≡◌, ◌≢◌, ℕ, zero, suc, ◌+◌, ◌-◌, ◌^◌, ◌<◌, ◌≤◌, ◌==◌, ◌⊎◌, inl, inr, Bool, true, false, cond, List, [], ◌∷◌, ◌++◌, set, length, length-set, count_by, Option, eq-eqb, ne_eqb, sym, refl, ap, ◌∙◌, subst, arith}
+use Rattle.std.proofs.Common.{◌≡◌, ◌≢◌, ℕ, zero, suc, ◌+◌, ◌-◌, ◌^◌, ◌<◌, ◌≤◌, ◌==◌, ◌⊎◌, inl, inr, true, false, cond, List, [], ◌∷◌, ◌++◌, set, length, length-set, count_by, Option, eq-eqb, ne_eqb, sym, refl, ap, ◌∙◌, subst, arith}
 use Rattle.std.specs.List.{list_any}
 use Rattle.std.proofs.lemmas.List.Sums.{sum_by_push}
 use mathlib.Core.Option.{some, some-injective, some-ne-none}
@@ -16,7 +16,7 @@ use Rattle.turn_lock.specs.Rule.{Book, Fits, has_turn, IsHeldAt, IsHome, IsKnown
 use Rattle.turn_lock.specs.Steps.{apart, dealt, new_of, parted, part_of}
 use Rattle.turn_lock.proofs.Mets.{count_gone, count_kept, events_kept, length_without, met_counts}
 use Rattle.turn_lock.proofs.Queues.{held_set, holder_stays, home_set}
-use Rattle.turn_lock.proofs.Sums.{sum_set}
+use Rattle.turn_lock.proofs.Sums.{one_at_most, sum_set}
 use Rattle.turn_lock.proofs.Turns.{weight_of}
 
 -- the first pass with other counts, and with others taken in
@@ -104,14 +104,10 @@ module _ {E B S : Type 0} (base_of : S → B) (history_of : S → List E) (numbe
         told = (book.log, refl);
         each = λ m some'. subst (IsKnown number cut_book.log cut_book.owner cut_book.total (length s.views) two) (sym (two_times m some'))
             (record { events = cuts.mine_is ∙ sym (ap (λ b. cond b mine []) (eq-eqb n n refl)); given = cuts.below; here = owned_here book.owner n (length s.views) });
-        once = λ m. at_most (n == m);
+        once = λ m. one_at_most (n == m);
         first = λ zero'. absurd (omega (arith, zero', cuts.positive));
         other = λ positive. refl;
       }
-    where
-      at_most : (b : Bool) → cond b 1 0 + 0 ≤ 1
-      at_most true = omega arith
-      at_most false = omega arith
 
   else_fits : (seat : ℕ) (u : Known E B) → seat ≢ id → Fits number base book.log book.owner book.total seat u → Fits number base cut_book.log cut_book.owner cut_book.total seat u
   else_fits seat u ne f =

@@ -1,5 +1,5 @@
 -- Sums over a list when one element changes, and at one or two places.
-use Rattle.std.proofs.Common.{◌≡◌, ◌≢◌, ℕ, zero, suc, ◌+◌, ◌≤◌, List, [], ◌∷◌, set, sym, refl, ap, arith}
+use Rattle.std.proofs.Common.{◌≡◌, ◌≢◌, ℕ, zero, suc, ◌+◌, ◌≤◌, Bool, true, false, cond, List, [], ◌∷◌, set, sym, refl, ap, arith}
 use Rattle.std.specs.List.{sum_by}
 use Rattle.std.proofs.lemmas.List.Sums.{sum_by-cons}
 use mathlib.Core.Option.{some, some-injective, some-ne-none}
@@ -22,6 +22,11 @@ module _ {A : Type 0} (f : A → ℕ) where
   sum_two (x ∷ xs) zero (suc j) a b ne e g = let same : f x ≡ f a = ap f (some-injective x a e) in let rest = sum_at xs j b g in omega (arith, sum_by-cons f x xs)
   sum_two (x ∷ xs) (suc i) zero a b ne e g = let same : f x ≡ f b = ap f (some-injective x b g) in let rest = sum_at xs i a e in omega (arith, sum_by-cons f x xs)
   sum_two (x ∷ xs) (suc i) (suc j) a b ne e g = let rest = sum_two xs i j a b (λ same. ne (ap suc same)) e g in omega (arith, sum_by-cons f x xs)
+
+-- what one seat adds is at most one
+pub one_at_most : (b : Bool) → cond b 1 0 + 0 ≤ 1
+one_at_most true = omega arith
+one_at_most false = omega arith
 
 -- a sum of lesser numbers is less
 pub sum_below : {A : Type 0} (f g : A → ℕ) → ((x : A) → f x ≤ g x) → (xs : List A) → sum_by f xs ≤ sum_by g xs

@@ -2,6 +2,7 @@
 use Rattle.std.proofs.Common.{◌≡◌, ◌≢◌, ℕ, zero, suc, ◌+◌, ◌%◌, ◌^◌, ◌<◌, ◌≤◌, ◌==◌, ◌⊎◌, inl, inr, Bool, true, false, cond, List, [], ◌∷◌, set, length, Option, Some, count_by, eq-eqb, ne_eqb, lt_of_not-le, MatchBool, sym, refl, ap, ◌∙◌, subst, arith}
 use Rattle.std.specs.Prelude.{slice_index}
 use Rattle.std.proofs.lemmas.Bool.{false≢true}
+use Rattle.std.proofs.lemmas.List.{set-get_or}
 use mathlib.Core.Option.{some, none, some-injective}
 use mathlib.Core.Logic.{dite}
 use native.Mathlib.Decide.{dec_le, ℕ_discrete}
@@ -147,11 +148,8 @@ module _ {E B S : Type 0} (base_of : S → B) (history_of : S → List E) (numbe
       fits : Fits number base book.log book.owner book.total id me.0
       fits = (h.each id me.0 at live).0
 
-      words_same : set s.words 1 (slice_index s.words 1) ≡ s.words
-      words_same = subst (λ ws. set ws 1 (slice_index ws 1) ≡ ws) (sym h.words_are) refl
-
       stands : Stands number base book (set s.words 1 (slice_index s.words 1)) (set s.views id w)
-      stands = subst (λ ws. Stands number base book ws (set s.views id w)) (sym words_same) (still_stands book s.words s.views id me.0 w.turn at live (ap has_ticket waits) (now, head, home.2) h)
+      stands = subst (λ ws. Stands number base book ws (set s.views id w)) (sym (set-get_or s.words 1 0)) (still_stands book s.words s.views id me.0 w.turn at live (ap has_ticket waits) (now, head, home.2) h)
 
       away : set s.homes 0 none ≡ none ∷ []
       away = ap (λ hs. set hs 0 none) home.1
@@ -169,11 +167,8 @@ module _ {E B S : Type 0} (base_of : S → B) (history_of : S → List E) (numbe
       → Kept base_of history_of number base s → slice_index s.words 1 ≢ ticket % 2 ^ 64 → Looks id me it s
   missed id ticket me it s waits at kept ne = (me.0, keeps, tt, subst (Kept base_of history_of number base) (sym same_state) kept, told)
     where
-      words_same : set s.words 1 (slice_index s.words 1) ≡ s.words
-      words_same = subst (λ ws. set ws 1 (slice_index ws 1) ≡ ws) (sym kept.1.words_are) refl
-
       same_state : stepped s 1 (slice_index s.words 1) id me.1 me.0 keeps ≡ s
-      same_state = λ i. record { words = words_same i; homes = s.homes; views = set_again s.views id me.0 at i }
+      same_state = λ i. record { words = set-get_or s.words 1 0 i; homes = s.homes; views = set_again s.views id me.0 at i }
 
       told : Polls base_of history_of number it me (slice_index s.words 1) (me.0, me.1)
       told t waits' =
