@@ -4,24 +4,18 @@ use Rattle.std.proofs.lemmas.Bool.{cases_Bool, both_ways, false_from_ne_true}
 use Rattle.std.proofs.lemmas.Slice.Eq.{bytes_eq-Decides}
 use Rattle.moos_post.specs.Delivery.{newer_stamp, last_stamp}
 use Rattle.moos_post.specs.declared.value.Post.{Post}
+use Rattle.moos_post.proofs.Texts.{bytes_eq_comm}
 use Rattle.moos_db.specs.Tables.{Row, is_of, number_of, with_row, lasts_of}
-
-same_either : (a b : List ℕ) → bytes_eq a b ≡ bytes_eq b a
-same_either a b =
-    elim (cases_Bool (bytes_eq b a)) [
-      | inl same ↦ (bytes_eq-Decides a b).1 (sym ((bytes_eq-Decides b a).0 same)) ∙ sym same
-      | inr apart ↦ false_from_ne_true _ (λ same. both_ways _ apart ((bytes_eq-Decides b a).1 (sym ((bytes_eq-Decides a b).0 same)))) ∙ sym apart
-    ]
 
 -- what is found for a variable after a post of one
 number_of-with_row : (sought var : List ℕ) (number : ℕ) (rows : List Row) →
     number_of sought (with_row var number rows) ≡ (if bytes_eq var sought then Some number else number_of sought rows)
-number_of-with_row sought var number [] = rw (same_either sought var) (elim (bytes_eq var sought) as
+number_of-with_row sought var number [] = rw (bytes_eq_comm sought var) (elim (bytes_eq var sought) as
     (λ b. option_map (λ (row : Row). row.number) (cond b (Some (record { var = var; number = number })) None) ≡ (if b then Some number else None)) [ true ↦ refl | false ↦ refl ])
 number_of-with_row sought var number (row ∷ rows) =
     elim (cases_Bool (is_of var row)) [
       | inl own ↦
-          let alike : bytes_eq sought row.var ≡ bytes_eq var sought = ap (λ v. bytes_eq sought v) (sym ((bytes_eq-Decides var row.var).0 own)) ∙ same_either sought var in
+          let alike : bytes_eq sought row.var ≡ bytes_eq var sought = ap (λ v. bytes_eq sought v) (sym ((bytes_eq-Decides var row.var).0 own)) ∙ bytes_eq_comm sought var in
           rw (own, alike) (elim (bytes_eq var sought) as
           (λ b. option_map (λ (one : Row). one.number) (cond b (Some (record { var = row.var; number = number })) (find (is_of sought) rows))
           ≡ (if b then Some number else option_map (λ (one : Row). one.number) (cond b (Some row) (find (is_of sought) rows)))) [ true ↦ refl | false ↦ refl ])
