@@ -1,24 +1,18 @@
--- Worked examples of parts.
-use Rattle.std.proofs.Common.{◌≡◌, ℕ, zero, suc, ◌+◌, ◌<◌, ◌≤◌, inl, inr, true, false, Some, None, ℤ, pos, List, [], ◌∷◌, length, refl, sym, ap, subst, arith}
-use Rattle.std.specs.Prelude.{codes, IsTrue, slice_get}
+-- Worked examples of parts, in the tree of the worked problem: its root has one child, which has two leaves.
+use Rattle.std.proofs.Common.{◌≡◌, ℕ, ◌+◌, ◌<◌, ◌≤◌, inl, inr, true, false, Some, None, List, [], ◌∷◌, length, refl, sym, ap, subst, arith}
+use Rattle.std.specs.Prelude.{IsTrue}
 use Rattle.std.specs.List.{sum_by}
 use Rattle.std.proofs.lemmas.List.Sums.{sum_by-cons}
 use Rattle.std.proofs.lemmas.Int.{ints}
 use Rattle.atomic_table.specs.Seated.{TableId}
 use Rattle.atomic_table.specs.Table.{Me}
 use Rattle.best_word.specs.declared.best.View.{View}
-use Rattle.ivp_domain.specs.declared.axis.Axis.{Axis}
 use Rattle.ivp_domain.specs.Boxes.{has_point, point_of}
 use Rattle.ivp_domain.specs.Domains.{is_point}
-use Rattle.ivp_func.specs.declared.piece.Piece.{Piece}
-use Rattle.ivp_func.specs.Functions.{has_values, is_partition}
-use Rattle.ivp_func.specs.Pieces.{are_pieces_of}
-use Rattle.ivp_func.proofs.PointTests.{passes_partition, passes_values}
 use Rattle.ivp_problem.specs.declared.node.Node.{Node}
-use Rattle.ivp_problem.specs.declared.term.Term.{Term}
 use Rattle.ivp_problem.specs.Keys.{key_of}
-use Rattle.ivp_problem.specs.Problems.{is_weight, IsProblem, IsTermOf, WeightedSum}
 use Rattle.ivp_problem.specs.Trees.{IsNode, has_in, root_of}
+use Rattle.ivp_problem.proofs.Examples.{first, left, right, twelve, two, two_is_lawful}
 use Rattle.ivp_problem.proofs.KeyOrder.{best_most}
 use Rattle.ivp_pool.specs.declared.team.Worker.{Worker}
 use Rattle.ivp_pool.specs.Closing.{AreCovered, Closed, Passed, Pushed}
@@ -28,44 +22,6 @@ use Rattle.ivp_pool.proofs.Growing.{closed_covers}
 use Rattle.ivp_pool.proofs.Teams.{closed_one, searched}
 use Rattle.ivp_pool.specs.Tallies.{AreLinked, IsTally, IsWhole, Tally}
 use Rattle.ivp_pool.specs.Parts.{Done, Handed, handed_in, handed_of, IsPart, Part, Pruned, size_of, Split, Then}
-
-abbrev axis : List ℕ → ℕ → ℕ → Axis
-axis name high points = record { name = name; low = pos 0; high = pos high; points = points }
-
--- domain a:0:2:3, b:0:1:2, d:0:1:2
-abbrev twelve : List Axis
-twelve = axis (codes "a") 2000 3 ∷ axis (codes "b") 1000 2 ∷ axis (codes "d") 1000 2 ∷ []
-
--- a piece over these places of the first axis, with a base and two slopes
-abbrev piece : ℕ → ℕ → ℤ → ℤ → ℤ → Piece
-piece low high base s t =
-    record {
-      area = record { low = low ∷ 0 ∷ 0 ∷ 0 ∷ []; high = high ∷ 1 ∷ 1 ∷ 0 ∷ [] };
-      base = base;
-      slope = s ∷ t ∷ pos 0 ∷ pos 0 ∷ [];
-    }
-
-abbrev term : ℕ → List Piece → Term
-term weight pieces = record { weight = weight; func = record { axes = twelve; pieces = pieces } }
-
--- one function in one piece, and one in two
-abbrev two : WeightedSum
-two =
-    record {
-      axes = twelve;
-      terms = term 2 (piece 0 2 (pos 0) (pos 10) (pos 0) ∷ []) ∷ term 3 (piece 0 0 (pos 20) (pos 0) (pos 5) ∷ piece 1 2 (pos 0) (pos 0) (pos 5) ∷ []) ∷ [];
-    }
-
--- the first leaf of the tree: the root, its one child, and this child's first
-abbrev left : Node
-left = record { depth = 2; area = record { low = 0 ∷ 0 ∷ 0 ∷ 0 ∷ []; high = 0 ∷ 1 ∷ 1 ∷ 0 ∷ [] }; base = pos 60; slope = pos 20 ∷ pos 15 ∷ pos 0 ∷ pos 0 ∷ [] }
-
--- that child, and the second leaf
-abbrev first : Node
-first = record { depth = 1; area = record { low = 0 ∷ 0 ∷ 0 ∷ 0 ∷ []; high = 2 ∷ 1 ∷ 1 ∷ 0 ∷ [] }; base = pos 0; slope = pos 20 ∷ pos 0 ∷ pos 0 ∷ pos 0 ∷ [] }
-
-abbrev right : Node
-right = record { depth = 2; area = record { low = 1 ∷ 0 ∷ 0 ∷ 0 ∷ []; high = 2 ∷ 1 ∷ 1 ∷ 0 ∷ [] }; base = pos 0; slope = pos 20 ∷ pos 15 ∷ pos 0 ∷ pos 0 ∷ [] }
 
 -- the root and its child are split, and both leaves are pruned: the first has the best point, of sum 75 at index 2
 abbrev all_here : Part
@@ -184,24 +140,6 @@ other_child (inr taken) =
     let same : left ≡ taken.0 = cc in
     let other : right ≡ taken.0 = cc in
     absurd (omega (arith, ints, ap (λ (node : Node). node.base) same, ap (λ (node : Node). node.base) other))
-
--- the problem is a lawful one
-lawful_term : (weight : ℕ) (pieces : List Piece) → is_weight weight ≡ true → length pieces ≤ 4096 → are_pieces_of twelve pieces ≡ true → is_partition twelve pieces ≡ true → has_values twelve pieces ≡ true → IsTermOf twelve (term weight pieces)
-lawful_term weight pieces good few each once within =
-    record {
-      weight = good;
-      domain = refl;
-      func = record { domain = refl; few = few; pieces = each; partition = passes_partition twelve pieces once; values = passes_values twelve pieces within };
-    }
-
-two_is_lawful : IsProblem two
-two_is_lawful = record { domain = refl; some = omega arith; few = omega arith; terms = each }
-  where
-    each : (place : ℕ) (one : Term) → slice_get two.terms place ≡ Some one → IsTermOf twelve one
-    each zero one here = subst (IsTermOf twelve) (cc here) (lawful_term 2 (piece 0 2 (pos 0) (pos 10) (pos 0) ∷ []) refl (omega arith) refl refl refl)
-    each (suc zero) one here =
-        subst (IsTermOf twelve) (cc here) (lawful_term 3 (piece 0 0 (pos 20) (pos 0) (pos 5) ∷ piece 1 2 (pos 0) (pos 0) (pos 5) ∷ []) refl (omega arith) refl refl refl)
-    each (suc (suc place)) one here = cc
 
 -- where the best key is known every point is covered, and the points of a node that was handed on are whatever is known
 all_covered : AreCovered two (key_of 75 2) [] [] (is_point twelve)

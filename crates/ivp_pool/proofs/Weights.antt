@@ -1,5 +1,5 @@
 -- How many nodes a part may have: nodes side by side share no point, and each has one of the domain.
-use Rattle.std.proofs.Common.{◌≡◌, ℕ, zero, suc, ◌+◌, ◌-◌, ◌*◌, ◌^◌, ◌<◌, ◌≤◌, Bool, cond, List, [], ◌∷◌, length, get_or, refl, ap, ◌∙◌, subst, arith}
+use Rattle.std.proofs.Common.{◌≡◌, ℕ, zero, suc, ◌+◌, ◌-◌, ◌*◌, ◌^◌, ◌<◌, ◌≤◌, cond, List, [], ◌∷◌, length, get_or, refl, ap, ◌∙◌, subst, arith}
 use Rattle.std.specs.Prelude.{count_by}
 use Rattle.std.specs.List.{sum_by, AllByRecursion as Each}
 use Rattle.std.specs.Option.{option_to_list}
@@ -16,15 +16,12 @@ use Rattle.ivp_func.proofs.Facts.{box_parts}
 use Rattle.ivp_problem.specs.declared.node.Node.{Node}
 use Rattle.ivp_problem.specs.Problems.{IsProblem, WeightedSum}
 use Rattle.ivp_problem.specs.Trees.{child_of, children_of, IsNode}
-use Rattle.ivp_problem.proofs.Children.{count_children}
+use Rattle.ivp_problem.proofs.Children.{count_children, has}
 use Rattle.ivp_problem.proofs.Nodes.{blank_term, inside_point, node_keeps}
 use Rattle.ivp_problem.proofs.Pieces.{children_more, children_to}
 use Rattle.ivp_problem.proofs.Terms.{at_places, listed_at}
 use Rattle.ivp_pool.specs.Parts.{AreParts, Done, Handed, IsPart, Part, Parts, Pruned, size_in, size_of, Split, Then}
 use Rattle.ivp_pool.proofs.Standing.{children_stand, Stands}
-
-abbrev has : Point → Node → Bool
-has point node = has_point node.area point
 
 -- how many of the domain's points a node has
 abbrev pub weight_of : WeightedSum → Node → ℕ

@@ -28,7 +28,7 @@ by_numbers : {A X : Type 0} (f : Option X → List A) (xs : List X) → flat_map
 by_numbers f [] = refl
 by_numbers f (x ∷ xs) = ap (λ rest. f (Some x) ++ rest) (shifted (λ k. f (slice_get (x ∷ xs) k)) 0 (length xs) ∙ by_numbers f xs)
 
-abbrev has : Point → Node → Bool
+abbrev pub has : Point → Node → Bool
 has p child = has_point child.area p
 
 count_append : (p : Point) (xs ys : List Node) → count_by (has p) (xs ++ ys) ≡ count_by (has p) xs + count_by (has p) ys

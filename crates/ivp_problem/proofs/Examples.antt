@@ -30,7 +30,7 @@ piece a b c d e f base s t u =
     }
 
 -- domain a:0:2:3, b:0:1:2, d:0:1:2
-abbrev twelve : List Axis
+abbrev pub twelve : List Axis
 twelve = axis (codes "a") 2000 3 ∷ axis (codes "b") 1000 2 ∷ axis (codes "d") 1000 2 ∷ []
 
 abbrev term : List Axis → ℕ → List Piece → Term
@@ -42,7 +42,7 @@ rising = term twelve 2 (piece 0 2 0 1 0 1 (pos 0) (pos 10) (pos 0) (pos 0) ∷ [
 abbrev split : Term
 split = term twelve 3 (piece 0 0 0 1 0 1 (pos 20) (pos 0) (pos 5) (pos 0) ∷ piece 1 2 0 1 0 1 (pos 0) (pos 0) (pos 5) (pos 0) ∷ [])
 
-abbrev two : WeightedSum
+abbrev pub two : WeightedSum
 two = record { axes = twelve; terms = rising ∷ split ∷ [] }
 
 two_is_a_problem : problem_of twelve (rising ∷ split ∷ []) ≡ Ok two
@@ -74,16 +74,16 @@ second_left_out : AreTops (rising ∷ split ∷ []) (115 ∷ 0 ∷ 0 ∷ []) →
 second_left_out are = omega (arith, are 1 (omega arith))
 
 -- the one child of the root, and its two children
-abbrev first : Node
+abbrev pub first : Node
 first = record { depth = 1; area = record { low = 0 ∷ 0 ∷ 0 ∷ 0 ∷ []; high = 2 ∷ 1 ∷ 1 ∷ 0 ∷ [] }; base = pos 0; slope = pos 20 ∷ pos 0 ∷ pos 0 ∷ pos 0 ∷ [] }
 
 first_of_root : (children_of two (root_of two) ≡ first ∷ []) × (bound_of two first ≡ key_of 115 0)
 first_of_root = (refl, refl)
 
-abbrev left : Node
+abbrev pub left : Node
 left = record { depth = 2; area = record { low = 0 ∷ 0 ∷ 0 ∷ 0 ∷ []; high = 0 ∷ 1 ∷ 1 ∷ 0 ∷ [] }; base = pos 60; slope = pos 20 ∷ pos 15 ∷ pos 0 ∷ pos 0 ∷ [] }
 
-abbrev right : Node
+abbrev pub right : Node
 right = record { depth = 2; area = record { low = 1 ∷ 0 ∷ 0 ∷ 0 ∷ []; high = 2 ∷ 1 ∷ 1 ∷ 0 ∷ [] }; base = pos 0; slope = pos 20 ∷ pos 15 ∷ pos 0 ∷ pos 0 ∷ [] }
 
 leaves : (children_of two first ≡ left ∷ right ∷ []) × (node_of two (0 ∷ 1 ∷ []) ≡ Some right) × (children_of two right ≡ [])
@@ -193,7 +193,7 @@ split_is_a_term =
           };
     }
 
-two_is_lawful : IsProblem two
+pub two_is_lawful : IsProblem two
 two_is_lawful = record { domain = refl; some = omega arith; few = omega arith; terms = each }
   where
     each : (place : ℕ) (one : Term) → slice_get two.terms place ≡ Some one → IsTermOf twelve one
