@@ -3,10 +3,9 @@ use Rattle.std.proofs.Common.{◌≡◌, ℕ, true, false, Some, None, List, [],
 use Rattle.std.specs.Prelude.{codes, Ok, Err, pos}
 use Rattle.ivp_domain.specs.Boxes.{point_of}
 use Rattle.ivp_problem.specs.Keys.{key_of}
-use Rattle.ivp_problem.specs.Problems.{WeightedSum}
-use Rattle.ivp_problem.specs.Sums.{best_of}
 use Rattle.ivp_problem.specs.declared.node.Node.{Node}
 use Rattle.ivp_problem.specs.Trees.{bound_of, node_of, root_of}
+use Rattle.ivp_problem.proofs.Examples.{left, two}
 use Rattle.moos_text.specs.declared.cause.Cause.TheVariants.{P1, P9, P10}
 use Rattle.moos_text.specs.declared.cause.ReadFault.TheVariants.{At}
 use Rattle.ivp_cert.specs.declared.cert.Line.{Line}
@@ -16,44 +15,30 @@ use Rattle.ivp_cert.specs.Certificates.{Accepts, begins, certificate_of, is_befo
 use Rattle.ivp_cert.specs.Decisions.{decision_of}
 use Rattle.ivp_cert.specs.Walks.{behind_node}
 use Rattle.ivp_cert.proofs.Accepting.{walked_accepts}
-use Rattle.ivp_cert.proofs.Examples.{on_three, term, three_axes}
-
--- the problem of three axes and two functions
-abbrev pub three : WeightedSum
-three =
-    record {
-      axes = three_axes;
-      terms =
-          term three_axes 2 (on_three 0 2 (pos 0) (pos 10) (pos 0) ∷ [])
-          ∷ term three_axes 3 (on_three 0 0 (pos 20) (pos 0) (pos 5) ∷ on_three 1 2 (pos 0) (pos 0) (pos 5) ∷ []) ∷ [];
-    }
-
-best_is : best_of three ≡ point_of 0 1 0 0
-best_is = refl
 
 abbrev pub lines : List Line
 lines = record { path = 0 ∷ 0 ∷ []; sum = 75; index = 2 } ∷ record { path = 0 ∷ 1 ∷ []; sum = 55; index = 10 } ∷ []
 
-certificate_is : certificate_of three ≡ lines
+certificate_is : certificate_of two ≡ lines
 certificate_is = refl
 
-is_covered : behind_node three (key_of 75 2) three.terms [] (root_of three) lines ≡ Some []
+is_covered : behind_node two (key_of 75 2) two.terms [] (root_of two) lines ≡ Some []
 is_covered = refl
 
 -- what stands behind the lines that cover the tree is left; nothing covers it with a line missing, in another order, with another sum, or while one key less is known
-line_behind : behind_node three (key_of 75 2) three.terms [] (root_of three) (lines ++ record { path = []; sum = 115; index = 0 } ∷ []) ≡ Some (record { path = []; sum = 115; index = 0 } ∷ [])
+line_behind : behind_node two (key_of 75 2) two.terms [] (root_of two) (lines ++ record { path = []; sum = 115; index = 0 } ∷ []) ≡ Some (record { path = []; sum = 115; index = 0 } ∷ [])
 line_behind = refl
 
-line_missing : behind_node three (key_of 75 2) three.terms [] (root_of three) (record { path = 0 ∷ 0 ∷ []; sum = 75; index = 2 } ∷ []) ≡ None
+line_missing : behind_node two (key_of 75 2) two.terms [] (root_of two) (record { path = 0 ∷ 0 ∷ []; sum = 75; index = 2 } ∷ []) ≡ None
 line_missing = refl
 
-lines_swapped : behind_node three (key_of 75 2) three.terms [] (root_of three) (record { path = 0 ∷ 1 ∷ []; sum = 55; index = 10 } ∷ record { path = 0 ∷ 0 ∷ []; sum = 75; index = 2 } ∷ []) ≡ None
+lines_swapped : behind_node two (key_of 75 2) two.terms [] (root_of two) (record { path = 0 ∷ 1 ∷ []; sum = 55; index = 10 } ∷ record { path = 0 ∷ 0 ∷ []; sum = 75; index = 2 } ∷ []) ≡ None
 lines_swapped = refl
 
-other_sum : behind_node three (key_of 75 2) three.terms [] (root_of three) (record { path = 0 ∷ 0 ∷ []; sum = 75; index = 2 } ∷ record { path = 0 ∷ 1 ∷ []; sum = 54; index = 10 } ∷ []) ≡ None
+other_sum : behind_node two (key_of 75 2) two.terms [] (root_of two) (record { path = 0 ∷ 0 ∷ []; sum = 75; index = 2 } ∷ record { path = 0 ∷ 1 ∷ []; sum = 54; index = 10 } ∷ []) ≡ None
 other_sum = refl
 
-less_known : behind_node three (key_of 75 3) three.terms [] (root_of three) lines ≡ None
+less_known : behind_node two (key_of 75 3) two.terms [] (root_of two) lines ≡ None
 less_known = refl
 
 -- paths compared number by number
@@ -82,58 +67,55 @@ swapped_fall : Rise (record { path = 0 ∷ 1 ∷ []; sum = 55; index = 10 } ∷ 
 swapped_fall are = let first : false ≡ true = are.0 in cc
 
 -- a line by its path, sum and index: that of the first leaf, and none of another sum or index, of no node, or of one whose bound is above the key
-abbrev line : List ℕ → ℕ → ℕ → Line
+abbrev pub line : List ℕ → ℕ → ℕ → Line
 line path sum index = record { path = path; sum = sum; index = index }
 
-abbrev leaf : Node
-leaf = record { depth = 2; area = record { low = 0 ∷ 0 ∷ 0 ∷ 0 ∷ []; high = 0 ∷ 1 ∷ 1 ∷ 0 ∷ [] }; base = pos 60; slope = pos 20 ∷ pos 15 ∷ pos 0 ∷ pos 0 ∷ [] }
+leaf_line : IsLine two (key_of 75 2) (line (0 ∷ 0 ∷ []) 75 2)
+leaf_line = record { node = left; reached = refl; sum = refl; index = refl; most = omega arith }
 
-leaf_line : IsLine three (key_of 75 2) (line (0 ∷ 0 ∷ []) 75 2)
-leaf_line = record { node = leaf; reached = refl; sum = refl; index = refl; most = omega arith }
+bound_of_leaf : (node : Node) → node_of two (0 ∷ 0 ∷ []) ≡ Some node → bound_of two node ≡ key_of 75 2
+bound_of_leaf node reached = let same : left ≡ node = cc in sym (ap (bound_of two) same)
 
-bound_of_leaf : (node : Node) → node_of three (0 ∷ 0 ∷ []) ≡ Some node → bound_of three node ≡ key_of 75 2
-bound_of_leaf node reached = let same : leaf ≡ node = cc in sym (ap (bound_of three) same)
-
-other_sum_of_leaf : IsLine three (key_of 75 2) (line (0 ∷ 0 ∷ []) 74 2) → ⊥
+other_sum_of_leaf : IsLine two (key_of 75 2) (line (0 ∷ 0 ∷ []) 74 2) → ⊥
 other_sum_of_leaf is = omega (arith, is.sum, bound_of_leaf is.node is.reached)
 
-other_index_of_leaf : IsLine three (key_of 75 2) (line (0 ∷ 0 ∷ []) 75 3) → ⊥
+other_index_of_leaf : IsLine two (key_of 75 2) (line (0 ∷ 0 ∷ []) 75 3) → ⊥
 other_index_of_leaf is = omega (arith, is.index, bound_of_leaf is.node is.reached)
 
-leaf_above_the_key : IsLine three (key_of 75 3) (line (0 ∷ 0 ∷ []) 75 2) → ⊥
+leaf_above_the_key : IsLine two (key_of 75 3) (line (0 ∷ 0 ∷ []) 75 2) → ⊥
 leaf_above_the_key is = omega (arith, is.most, bound_of_leaf is.node is.reached)
 
-no_third_leaf : IsLine three (key_of 75 2) (line (0 ∷ 2 ∷ []) 55 10) → ⊥
+no_third_leaf : IsLine two (key_of 75 2) (line (0 ∷ 2 ∷ []) 55 10) → ⊥
 no_third_leaf is = let reached = is.reached in absurd (cc)
 
 -- the certificate is accepted, and not with its lines the other way round
 abbrev claim : Claim
 claim = record { point = point_of 0 1 0 0; sum = 75 }
 
-lines_accepted : Accepts three claim lines
-lines_accepted = walked_accepts three claim lines refl refl
+lines_accepted : Accepts two claim lines
+lines_accepted = walked_accepts two claim lines refl refl
 
 abbrev other_way : List Line
 other_way = record { path = 0 ∷ 1 ∷ []; sum = 55; index = 10 } ∷ record { path = 0 ∷ 0 ∷ []; sum = 75; index = 2 } ∷ []
 
-other_way_refused : Accepts three claim other_way → ⊥
+other_way_refused : Accepts two claim other_way → ⊥
 other_way_refused is = let first : false ≡ true = is.rise.0 in cc
 
 -- nor with the second leaf left out, for another sum, or for a point of a lesser one
-left_out_refused : Accepts three claim (record { path = 0 ∷ 0 ∷ []; sum = 75; index = 2 } ∷ []) → ⊥
+left_out_refused : Accepts two claim (record { path = 0 ∷ 0 ∷ []; sum = 75; index = 2 } ∷ []) → ⊥
 left_out_refused is = omega (arith, is.once (0 ∷ 1 ∷ []) (record { depth = 2; area = record { low = 1 ∷ 0 ∷ 0 ∷ 0 ∷ []; high = 2 ∷ 1 ∷ 1 ∷ 0 ∷ [] }; base = pos 0; slope = pos 20 ∷ pos 15 ∷ pos 0 ∷ pos 0 ∷ [] }) refl (omega arith))
 
-other_sum_refused : Accepts three (record { point = point_of 0 1 0 0; sum = 74 }) lines → ⊥
+other_sum_refused : Accepts two (record { point = point_of 0 1 0 0; sum = 74 }) lines → ⊥
 other_sum_refused is = omega (arith, is.sum)
 
-lesser_point_refused : Accepts three (record { point = point_of 2 1 0 0; sum = 55 }) lines → ⊥
+lesser_point_refused : Accepts two (record { point = point_of 2 1 0 0; sum = 55 }) lines → ⊥
 lesser_point_refused is = let first = is.lines 0 (record { path = 0 ∷ 0 ∷ []; sum = 75; index = 2 }) refl in omega (arith, first.sum, first.most)
 
 abbrev pub problem_bytes : List ℕ
 problem_bytes = codes "ivp 1\ndomain a:0:2:3\ndomain b:0:1:2\ndomain d:0:1:2\nfunction 2\npiece 0 2 0 1 0 1 0 10 0 0\nfunction 3\npiece 0 0 0 1 0 1 20 0 5 0\npiece 1 2 0 1 0 1 0 0 5 0\nend\n"
 
 abbrev pub decision : Decision
-decision = record { problem = three; claim = record { point = point_of 0 1 0 0; sum = 75 }; cert = lines }
+decision = record { problem = two; claim = record { point = point_of 0 1 0 0; sum = 75 }; cert = lines }
 
 decision_is : decision_of (problem_bytes ++ codes "decision 0 1 0 75\ncut 0 0 : 75 2\ncut 0 1 : 55 10\ndone\n") ≡ Ok decision
 decision_is = refl

@@ -4,7 +4,7 @@ use Rattle.std.specs.Prelude.{codes, Ok, Err, is_ok, true, ℤ, pos, negsuc}
 use Rattle.std.specs.List.{concat}
 use Rattle.ivp_domain.specs.declared.axis.Axis.{Axis}
 use Rattle.ivp_func.specs.declared.piece.Piece.{Piece}
-use Rattle.ivp_problem.specs.declared.term.Term.{Term}
+use Rattle.ivp_problem.proofs.Examples.{term, two}
 use Rattle.moos_text.specs.declared.cause.Cause.TheVariants.{P1, P2, P3, P4, P5, P6, P7, P8, P9}
 use Rattle.moos_text.specs.declared.cause.ReadFault.TheVariants.{At}
 use Rattle.ivp_cert.specs.Problems.{problem_of}
@@ -19,9 +19,6 @@ on_course low high base slope =
       base = base;
       slope = slope ∷ pos 0 ∷ pos 0 ∷ pos 0 ∷ [];
     }
-
-abbrev pub term : List Axis → ℕ → List Piece → Term
-term axes weight pieces = record { weight = weight; func = record { axes = axes; pieces = pieces } }
 
 one_function : problem_of (codes "ivp 1\ndomain course:0:359:360\nfunction 100\npiece 0 359 7 0\nend\n")
     ≡ Ok (record { axes = course; terms = term course 100 (on_course 0 359 (pos 7) (pos 0) ∷ []) ∷ [] })
@@ -40,28 +37,9 @@ no_function : problem_of (codes "ivp 1\ndomain course:0:359:360\nend\n") ≡ Err
 no_function = refl
 
 -- three axes and two functions, of which the second has two pieces
-abbrev pub three_axes : List Axis
-three_axes =
-    record { name = codes "a"; low = pos 0; high = pos 2000; points = 3 } ∷ record { name = codes "b"; low = pos 0; high = pos 1000; points = 2 }
-    ∷ record { name = codes "d"; low = pos 0; high = pos 1000; points = 2 } ∷ []
-
-abbrev pub on_three : ℕ → ℕ → ℤ → ℤ → ℤ → Piece
-on_three low high base slope second =
-    record {
-      area = record { low = low ∷ 0 ∷ 0 ∷ 0 ∷ []; high = high ∷ 1 ∷ 1 ∷ 0 ∷ [] };
-      base = base;
-      slope = slope ∷ second ∷ pos 0 ∷ pos 0 ∷ [];
-    }
-
 two_functions : problem_of
     (codes "ivp 1\ndomain a:0:2:3\ndomain b:0:1:2\ndomain d:0:1:2\nfunction 2\npiece 0 2 0 1 0 1 0 10 0 0\nfunction 3\npiece 0 0 0 1 0 1 20 0 5 0\npiece 1 2 0 1 0 1 0 0 5 0\nend\n")
-    ≡ Ok
-    (record {
-      axes = three_axes;
-      terms =
-          term three_axes 2 (on_three 0 2 (pos 0) (pos 10) (pos 0) ∷ [])
-          ∷ term three_axes 3 (on_three 0 0 (pos 20) (pos 0) (pos 5) ∷ on_three 1 2 (pos 0) (pos 0) (pos 5) ∷ []) ∷ [];
-    })
+    ≡ Ok two
 two_functions = refl
 
 -- blanks, blank lines, prefixes, ends of lines and other ways to write a number

@@ -7,6 +7,7 @@ use Rattle.moos_text.specs.declared.cause.Cause.TheVariants.{P1, P4, P5, P7, P8,
 use Rattle.moos_text.specs.declared.cause.LineFault.TheVariants.{Refused, NoMemory as OutOfMemory}
 use Rattle.moos_text.specs.declared.cause.ReadFault.TheVariants.{At}
 use Rattle.moos_text.specs.Lines.{raw_lines, words_of}
+use Rattle.ivp_problem.proofs.Examples.{two}
 use Rattle.ivp_cert.specs.declared.claim.Decision.{Decision}
 use Rattle.ivp_cert.specs.declared.phase.Phase.TheVariants.{OfProblem, OfCuts, Done}
 use Rattle.ivp_cert.specs.declared.stage.Stage.TheVariants.{Start, Begun, Axes, Functions, Ended}
@@ -14,7 +15,7 @@ use Rattle.ivp_cert.specs.Making.{line_fault}
 use Rattle.ivp_cert.specs.Pieces.{are_slopes, is_slope_where}
 use Rattle.ivp_cert.specs.Stages.{after_words, HasPoint, phase_after, read_from, whole_decision, whole_problem}
 use Rattle.ivp_cert.specs.Unfinished.{UnfinishedSum}
-use Rattle.ivp_cert.proofs.CertExamples.{decision, problem_bytes, three}
+use Rattle.ivp_cert.proofs.CertExamples.{decision, problem_bytes}
 use Rattle.ivp_cert.proofs.Examples.{course, on_course}
 
 -- the first lines of a problem: its axis, and a function that has no piece yet
@@ -35,7 +36,7 @@ blank_line = refl
 too_early : (after_words 1 Start (words_of (codes "domain course:0:359:360")) ≡ Err (At 1 P1)) × (after_words 2 Begun (words_of (codes "function 100")) ≡ Err (At 2 P1)) × (after_words 3 (Axes course) (words_of (codes "end")) ≡ Err (At 3 P8))
 too_early = (refl, refl, refl)
 
-too_late : (after_words 2 Begun (words_of (codes "ivp 1")) ≡ Err (At 2 P1)) × (after_words 4 (Functions begun) (words_of (codes "domain a:0:1:2")) ≡ Err (At 4 P1)) × (after_words 11 (Ended three) (words_of (codes "end")) ≡ Err (At 11 P1))
+too_late : (after_words 2 Begun (words_of (codes "ivp 1")) ≡ Err (At 2 P1)) × (after_words 4 (Functions begun) (words_of (codes "domain a:0:1:2")) ≡ Err (At 4 P1)) × (after_words 11 (Ended two) (words_of (codes "end")) ≡ Err (At 11 P1))
 too_late = (refl, refl, refl)
 
 -- a line that ends a function without a piece is refused at the function's line, and not at its own
@@ -43,20 +44,20 @@ no_piece : after_words 5 (Functions begun) (words_of (codes "end")) ≡ Err (At 
 no_piece = refl
 
 -- all lines of a problem come to its end; whatever stage they come to before, they end too early
-all_lines : read_from after_words 0 Start (raw_lines problem_bytes) ≡ Ok (Ended three)
+all_lines : read_from after_words 0 Start (raw_lines problem_bytes) ≡ Ok (Ended two)
 all_lines = refl
 
-ends : (whole_problem 10 (Ended three) ≡ Ok three) × (whole_problem 3 (Functions begun) ≡ Err (At 3 P9)) × (whole_problem 2 (Axes course) ≡ Err (At 2 P9)) × (whole_problem 1 Begun ≡ Err (At 1 P9)) × (whole_problem 1 Start ≡ Err (At 1 P9))
+ends : (whole_problem 10 (Ended two) ≡ Ok two) × (whole_problem 3 (Functions begun) ≡ Err (At 3 P9)) × (whole_problem 2 (Axes course) ≡ Err (At 2 P9)) × (whole_problem 1 Begun ≡ Err (At 1 P9)) × (whole_problem 1 Start ≡ Err (At 1 P9))
 ends = (refl, refl, refl, refl, refl)
 
 -- behind the problem stands what is claimed, and no second one; a point outside the domain is refused
 abbrev claimed : Decision
 claimed = record decision { cert = [] }
 
-claim : phase_after 11 (OfProblem (Ended three)) (words_of (codes "decision 0 1 0 75")) ≡ Ok (OfCuts claimed)
+claim : phase_after 11 (OfProblem (Ended two)) (words_of (codes "decision 0 1 0 75")) ≡ Ok (OfCuts claimed)
 claim = refl
 
-no_claim : (phase_after 11 (OfProblem (Ended three)) (words_of (codes "done")) ≡ Err (At 11 P1)) × (phase_after 11 (OfProblem (Ended three)) (words_of (codes "decision 0 2 0 75")) ≡ Err (At 11 P10)) × (phase_after 12 (OfCuts claimed) (words_of (codes "decision 0 1 0 75")) ≡ Err (At 12 P1))
+no_claim : (phase_after 11 (OfProblem (Ended two)) (words_of (codes "done")) ≡ Err (At 11 P1)) × (phase_after 11 (OfProblem (Ended two)) (words_of (codes "decision 0 2 0 75")) ≡ Err (At 11 P10)) × (phase_after 12 (OfCuts claimed) (words_of (codes "decision 0 1 0 75")) ≡ Err (At 12 P1))
 no_claim = (refl, refl, refl)
 
 -- and then the certificate up to `done`, behind which no line says anything
@@ -66,7 +67,7 @@ all_cuts = refl
 cut_behind_done : phase_after 15 (Done decision) (words_of (codes "cut 0 1 : 55 10")) ≡ Err (At 15 P1)
 cut_behind_done = refl
 
-whole : (whole_decision 14 (Done decision) ≡ Ok decision) × (whole_decision 13 (OfCuts decision) ≡ Err (At 13 P9)) × (whole_decision 10 (OfProblem (Ended three)) ≡ Err (At 10 P9))
+whole : (whole_decision 14 (Done decision) ≡ Ok decision) × (whole_decision 13 (OfCuts decision) ≡ Err (At 13 P9)) × (whole_decision 10 (OfProblem (Ended two)) ≡ Err (At 10 P9))
 whole = (refl, refl, refl)
 
 -- what was decided has a point of the domain: not one past the end of an axis, nor past the last axis

@@ -1,24 +1,21 @@
 -- The text of a decision, and what it keeps so that its text stands for it, worked by hand.
-use Rattle.std.proofs.Common.{◌≡◌, ℕ, zero, suc, ◌≤◌, ◌<◌, ◌^◌, inl, inr, true, false, List, [], ◌∷◌, ◌++◌, replicate, length, refl, subst, arith}
+use Rattle.std.proofs.Common.{◌≡◌, ℕ, zero, suc, ◌≤◌, ◌<◌, ◌^◌, inl, inr, true, false, List, [], ◌∷◌, ◌++◌, replicate, refl, subst, arith}
 use Rattle.std.specs.Prelude.{codes, Ok, Err, ℤ, pos, negsuc, IsTrue}
 use Rattle.std.specs.Fmt.{digits}
 use Rattle.ivp_domain.specs.declared.axis.Axis.{Axis}
 use Rattle.ivp_domain.specs.AxisNames.{is_axis_name}
 use Rattle.ivp_domain.specs.Boxes.{point_of}
 use Rattle.ivp_func.specs.declared.piece.Piece.{Piece}
-use Rattle.ivp_func.specs.Functions.{has_values, is_partition}
-use Rattle.ivp_func.specs.Pieces.{are_pieces_of}
-use Rattle.ivp_func.proofs.PointTests.{passes_partition, passes_values}
 use Rattle.ivp_problem.specs.declared.term.Term.{Term}
-use Rattle.ivp_problem.specs.Problems.{is_weight, IsProblem, IsTermOf}
+use Rattle.ivp_problem.proofs.Examples.{rising, split, term, twelve, two, two_is_lawful}
 use Rattle.moos_text.specs.declared.cause.Cause.TheVariants.{P1}
 use Rattle.moos_text.specs.declared.cause.ReadFault.TheVariants.{At}
 use Rattle.ivp_cert.specs.declared.cert.Line.{Line}
 use Rattle.ivp_cert.specs.Decisions.{decision_of}
 use Rattle.ivp_cert.specs.Printed.{AllOf, HasFourPlaces, HasSums, IsPrefix, IsPrintableLine, IsPrintableProblem}
 use Rattle.ivp_cert.specs.Texts.{axis_text, decision_lines, piece_text}
-use Rattle.ivp_cert.proofs.CertExamples.{decision, problem_bytes, three}
-use Rattle.ivp_cert.proofs.Examples.{on_course, on_three, term, three_axes}
+use Rattle.ivp_cert.proofs.CertExamples.{decision, line, problem_bytes}
+use Rattle.ivp_cert.proofs.Examples.{on_course}
 
 -- the lines of a decision, alone and behind a prefix
 printed : decision_lines [] decision ≡ problem_bytes ++ codes "decision 0 1 0 75\ncut 0 0 : 75 2\ncut 0 1 : 55 10\ndone\n"
@@ -77,10 +74,7 @@ each_below = of_more (IsBelow 3) 1 (2 ∷ []) (omega arith) (of_more (IsBelow 3)
 last_above : AllOf (IsBelow 2) (1 ∷ 2 ∷ []) → ⊥
 last_above all = omega (arith, all 1 2 refl)
 
--- a line of the certificate by its path, sum and index: each as large as can be, and one more
-abbrev line : List ℕ → ℕ → ℕ → Line
-line path sum index = record { path = path; sum = sum; index = index }
-
+-- a line whose numbers are each as large as can be, and one more
 greatest_line : IsPrintableLine (line (4294967295 ∷ []) 64000000000 4294967295)
 greatest_line = record { few = omega arith; path = of_more (IsBelow (2 ^ 32)) 4294967295 [] (omega arith) (of_none (IsBelow (2 ^ 32))); sum = omega arith; index = omega arith }
 
@@ -110,29 +104,6 @@ great_line : HasSums (record decision { cert = line [] 64000000001 2 ∷ [] }) �
 great_line has = omega (arith, has.lines 0 (line [] 64000000001 2) refl)
 
 -- the problem is a lawful one, whose axes have names and whose pieces have four places
-lawful_term : (weight : ℕ) (pieces : List Piece) → is_weight weight ≡ true → length pieces ≤ 4096 → are_pieces_of three_axes pieces ≡ true → is_partition three_axes pieces ≡ true → has_values three_axes pieces ≡ true → IsTermOf three_axes (term three_axes weight pieces)
-lawful_term weight pieces good few each once within =
-    record {
-      weight = good;
-      domain = refl;
-      func = record { domain = refl; few = few; pieces = each; partition = passes_partition three_axes pieces once; values = passes_values three_axes pieces within };
-    }
-
-abbrev first_pieces : List Piece
-first_pieces = on_three 0 2 (pos 0) (pos 10) (pos 0) ∷ []
-
-abbrev other_pieces : List Piece
-other_pieces = on_three 0 0 (pos 20) (pos 0) (pos 5) ∷ on_three 1 2 (pos 0) (pos 0) (pos 5) ∷ []
-
-lawful : IsProblem three
-lawful = record { domain = refl; some = omega arith; few = omega arith; terms = each }
-  where
-    each : AllOf (IsTermOf three_axes) three.terms
-    each =
-        of_more (IsTermOf three_axes) (term three_axes 2 first_pieces) (term three_axes 3 other_pieces ∷ [])
-        (lawful_term 2 first_pieces refl (omega arith) refl refl refl)
-        (of_more (IsTermOf three_axes) (term three_axes 3 other_pieces) [] (lawful_term 3 other_pieces refl (omega arith) refl refl refl) (of_none (IsTermOf three_axes)))
-
 abbrev IsNamed : Axis → Type 0
 IsNamed axis = IsTrue (is_axis_name axis.name)
 
@@ -142,29 +113,37 @@ named name high points = record { name = name; low = pos 0; high = pos high; poi
 abbrev HasPlaces : Term → Type 0
 HasPlaces one = AllOf HasFourPlaces one.func.pieces
 
+abbrev on_three : ℕ → ℕ → ℤ → ℤ → ℤ → Piece
+on_three low high base slope second =
+    record {
+      area = record { low = low ∷ 0 ∷ 0 ∷ 0 ∷ []; high = high ∷ 1 ∷ 1 ∷ 0 ∷ [] };
+      base = base;
+      slope = slope ∷ second ∷ pos 0 ∷ pos 0 ∷ [];
+    }
+
 placed : (low high : ℕ) (base slope second : ℤ) → HasFourPlaces (on_three low high base slope second)
 placed low high base slope second = record { low = refl; high = refl; slope = refl }
 
-printable : IsPrintableProblem three
-printable = record { lawful = lawful; names = names; pieces = pieces }
+printable : IsPrintableProblem two
+printable = record { lawful = two_is_lawful; names = names; pieces = pieces }
   where
-    names : AllOf IsNamed three_axes
+    names : AllOf IsNamed twelve
     names = of_more IsNamed (named (codes "a") 2000 3) (named (codes "b") 1000 2 ∷ named (codes "d") 1000 2 ∷ []) refl (of_more IsNamed (named (codes "b") 1000 2) (named (codes "d") 1000 2 ∷ []) refl (of_more IsNamed (named (codes "d") 1000 2) [] refl (of_none IsNamed)))
 
-    first : AllOf HasFourPlaces first_pieces
+    first : AllOf HasFourPlaces rising.func.pieces
     first = of_more HasFourPlaces (on_three 0 2 (pos 0) (pos 10) (pos 0)) [] (placed 0 2 (pos 0) (pos 10) (pos 0)) (of_none HasFourPlaces)
 
-    other : AllOf HasFourPlaces other_pieces
+    other : AllOf HasFourPlaces split.func.pieces
     other =
         of_more HasFourPlaces (on_three 0 0 (pos 20) (pos 0) (pos 5)) (on_three 1 2 (pos 0) (pos 0) (pos 5) ∷ []) (placed 0 0 (pos 20) (pos 0) (pos 5))
         (of_more HasFourPlaces (on_three 1 2 (pos 0) (pos 0) (pos 5)) [] (placed 1 2 (pos 0) (pos 0) (pos 5)) (of_none HasFourPlaces))
 
-    pieces : AllOf HasPlaces three.terms
-    pieces = of_more HasPlaces (term three_axes 2 first_pieces) (term three_axes 3 other_pieces ∷ []) first (of_more HasPlaces (term three_axes 3 other_pieces) [] other (of_none HasPlaces))
+    pieces : AllOf HasPlaces two.terms
+    pieces = of_more HasPlaces rising (split ∷ []) first (of_more HasPlaces split [] other (of_none HasPlaces))
 
 -- but not with an axis that is named by a digit, or a piece of three slopes
-digit_name : IsPrintableProblem (record three { axes = named (codes "1") 2000 3 ∷ [] }) → ⊥
+digit_name : IsPrintableProblem (record two { axes = named (codes "1") 2000 3 ∷ [] }) → ⊥
 digit_name is = let name : false ≡ true = is.names 0 (named (codes "1") 2000 3) refl in absurd (cc)
 
-flat_piece : IsPrintableProblem (record three { terms = term three_axes 2 (three_slopes ∷ []) ∷ [] }) → ⊥
-flat_piece is = without_a_slope (is.pieces 0 (term three_axes 2 (three_slopes ∷ [])) refl 0 three_slopes refl)
+flat_piece : IsPrintableProblem (record two { terms = term twelve 2 (three_slopes ∷ []) ∷ [] }) → ⊥
+flat_piece is = without_a_slope (is.pieces 0 (term twelve 2 (three_slopes ∷ [])) refl 0 three_slopes refl)

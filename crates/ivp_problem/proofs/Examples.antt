@@ -33,13 +33,13 @@ piece a b c d e f base s t u =
 abbrev pub twelve : List Axis
 twelve = axis (codes "a") 2000 3 ∷ axis (codes "b") 1000 2 ∷ axis (codes "d") 1000 2 ∷ []
 
-abbrev term : List Axis → ℕ → List Piece → Term
+abbrev pub term : List Axis → ℕ → List Piece → Term
 term axes weight pieces = record { weight = weight; func = record { axes = axes; pieces = pieces } }
 
-abbrev rising : Term
+abbrev pub rising : Term
 rising = term twelve 2 (piece 0 2 0 1 0 1 (pos 0) (pos 10) (pos 0) (pos 0) ∷ [])
 
-abbrev split : Term
+abbrev pub split : Term
 split = term twelve 3 (piece 0 0 0 1 0 1 (pos 20) (pos 0) (pos 5) (pos 0) ∷ piece 1 2 0 1 0 1 (pos 0) (pos 0) (pos 5) (pos 0) ∷ [])
 
 abbrev pub two : WeightedSum
