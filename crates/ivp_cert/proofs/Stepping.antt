@@ -1,5 +1,5 @@
 -- The checker's and the cutter's loops over the children of a node, one piece after the other.
-use Rattle.std.proofs.Common.{◌≡◌, ℕ, zero, suc, ◌+◌, ◌-◌, ◌<◌, ◌≤◌, true, false, Option, Some, None, List, [], ◌∷◌, ◌++◌, length, take, drop, get_or, refl, sym, ap, subst, ◌∙◌, arith, add-one, append_assoc, append-nil, drop-cons, length-append, length-drop}
+use Rattle.std.proofs.Common.{◌≡◌, ℕ, suc, ◌+◌, ◌-◌, ◌<◌, ◌≤◌, true, false, Option, Some, None, List, [], ◌∷◌, ◌++◌, length, take, drop, get_or, refl, sym, ap, subst, ◌∙◌, arith, add-one, append_assoc, append-nil, drop-cons, length-append, length-drop}
 use Rattle.std.specs.Prelude.{IfSome, slice_get}
 use Rattle.std.specs.List.{flat_map}
 use Rattle.std.specs.Option.{option_and_then, option_to_list}
@@ -13,6 +13,7 @@ use Rattle.ivp_problem.specs.Keys.{index_of_key, sum_of}
 use Rattle.ivp_problem.specs.Problems.{WeightedSum}
 use Rattle.ivp_func.specs.Functions.{Function}
 use Rattle.ivp_problem.specs.Trees.{bound_of, child_in, child_of, next_of, root_of}
+use Rattle.ivp_problem.proofs.Makes.{drop_at}
 use Rattle.ivp_problem.proofs.Nodes.{blank_term, child_of_in}
 use Rattle.ivp_problem.proofs.Pieces.{child_depth}
 use Rattle.ivp_cert.specs.declared.cert.Line.{Line}
@@ -177,20 +178,11 @@ left_end problem key path node pieces low below counts past =
     let none : length at.term.func.pieces - low ≡ 0 = omega (arith, at.many) in
     rw (at.rest, none) refl
 
--- the line at a place, as the first of those from there on
-here : (cert : List Line) (place : ℕ) (line : Line) → slice_get cert place ≡ Some line → drop place cert ≡ line ∷ drop (place + 1) cert
-here [] place line e = absurd (cc)
-here (x ∷ xs) zero line e = let same : x ≡ line = cc in ap (λ l. l ∷ xs) same
-here (x ∷ xs) (suc place) line e = here xs place line e ∙ ap (λ n. line ∷ drop n (x ∷ xs)) (more place)
-  where
-    more : (n : ℕ) → suc (n + 1) ≡ suc n + 1
-    more n = omega arith
-
 pub own_at : (problem : WeightedSum) (key : ℕ) (path : List ℕ) (node : Node) (cert : List Line) (place : ℕ) (line : Line) → slice_get cert place ≡ Some line → is_line_of problem key path node line ≡ true → Some (drop (place + 1) cert) ≡ behind_own problem key path node (drop place cert)
-own_at problem key path node cert place line at own = sym (ap (behind_own problem key path node) (here cert place line at) ∙ rw own refl)
+own_at problem key path node cert place line at own = sym (ap (behind_own problem key path node) (drop_at cert place line at) ∙ rw own refl)
 
 pub own_other : (problem : WeightedSum) (key : ℕ) (path : List ℕ) (node : Node) (cert : List Line) (place : ℕ) (line : Line) → slice_get cert place ≡ Some line → is_line_of problem key path node line ≡ false → None ≡ behind_own problem key path node (drop place cert)
-own_other problem key path node cert place line at own = sym (ap (behind_own problem key path node) (here cert place line at) ∙ rw own refl)
+own_other problem key path node cert place line at own = sym (ap (behind_own problem key path node) (drop_at cert place line at) ∙ rw own refl)
 
 pub own_past : (problem : WeightedSum) (key : ℕ) (path : List ℕ) (node : Node) (cert : List Line) (place : ℕ) → length cert ≤ place → None ≡ behind_own problem key path node (drop place cert)
 own_past problem key path node cert place past = sym (ap (behind_own problem key path node) (drop_all place cert past))

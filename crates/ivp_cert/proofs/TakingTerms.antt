@@ -3,13 +3,13 @@ use Rattle.std.proofs.Common.{◌≡◌, ℕ, suc, ◌+◌, ◌<◌, ◌≤◌, 
 use Rattle.std.specs.Prelude.{codes, decimal}
 use Rattle.std.specs.List.{concat, list_all, AllByRecursion as Each}
 use Rattle.std.proofs.lemmas.Bool.{lt-ltb}
-use Rattle.std.proofs.lemmas.Bool.Decides.{nat_tests}
 use Rattle.ivp_domain.specs.declared.axis.Axis.{Axis}
 use Rattle.ivp_domain.specs.Domains.{is_domain}
 use Rattle.ivp_func.specs.Functions.{has_values, is_partition}
 use Rattle.ivp_func.specs.Pieces.{is_piece_of}
 use Rattle.ivp_problem.specs.declared.term.Term.{Term}
 use Rattle.ivp_problem.specs.Problems.{is_weight, WeightedSum}
+use Rattle.ivp_problem.proofs.Slopes.{weight_most}
 use Rattle.ivp_cert.specs.declared.phase.Phase.TheVariants.{OfProblem}
 use Rattle.ivp_cert.specs.declared.stage.Stage.{Stage}
 use Rattle.ivp_cert.specs.declared.stage.Stage.TheVariants.{Axes, Ended, Functions}
@@ -65,13 +65,10 @@ function_word = record { some = omega arith; ink = (omega arith, (omega arith, (
 abbrev bare : WeightedSum → ℕ → Term → UnfinishedSum
 bare before line term = record { before = before; line = line; weight = term.weight; pieces = [] }
 
-small_weight : (weight : ℕ) → is_weight weight ≡ true → weight ≤ 10000
-small_weight weight h = grind (arith, nat_tests)
-
 weight_taken : (lines : ℕ) (prefix : List ℕ) (before : WeightedSum) (stage : Stage) (term : Term) → IsPrefix prefix → Opens before stage → is_weight term.weight ≡ true → length before.terms < 64 → Takes lines (OfProblem stage) (concat (prefix ∷ codes "function " ∷ decimal term.weight ∷ codes "\n" ∷ [])) (suc lines) (OfProblem (Functions (bare before (suc lines) term)))
 weight_taken lines prefix before stage term at opens weight few =
     let then = OfProblem (Functions (bare before (suc lines) term)) in
-    let small = small_weight term.weight weight in
+    let small = (weight_most term.weight weight).1 in
     let room : nat_lt (length before.terms) 64 ≡ true = lt-ltb (length before.terms) 64 few in
     let good : with_function before (suc lines) (decimal term.weight ∷ []) ≡ Ok (bare before (suc lines) term) = rw (room, whole_back term.weight (omega (arith, small)), weight) refl in
     takes_as lines (suc lines) (OfProblem stage) then _ _ (function_line prefix term.weight)
