@@ -74,10 +74,10 @@ fn put_axis<K: Sink>(
     ensures { Wrote (way (K.taken out.old) buffer.old (K.faults out.old)) (way (K.taken out.new) buffer.new (K.faults out.new))
         result (axis_text prefix.now axis.now) }
 {
-    let (low, high) = (
-        print_milli(end_of(axis.low)),
-        print_milli(end_of(axis.high)),
-    );
+    let low = end_of(axis.low);
+    let high = end_of(axis.high);
+    let low = print_milli(low);
+    let high = print_milli(high);
     let mut digits = itoa::Buffer::new();
     let points = digits.format(axis.points).as_bytes();
     put(

@@ -233,6 +233,18 @@ fn with_function(alloc: Global, before: Terms, line: u32, rest: &[u8]) -> Result
     if next_word(rest).is_some() {
         return Err(Cause::P1);
     }
+    with_weight_word(alloc, before, line, word)
+}
+
+// The same by that one word.
+fn with_weight_word(
+    alloc: Global,
+    before: Terms,
+    line: u32,
+    word: &[u8],
+) -> Result<Unfinished, Cause>
+    ensures { result ≡ with_function before line (word.now ∷ []) }
+{
     if before.len() >= MOST_FUNCTIONS {
         return Err(Cause::P7);
     }

@@ -1,27 +1,26 @@
-use Rattle.std.proofs.Common.{List, ℕ, ◌*◌, ◌++◌, codes, flat_map, take, ap}
+use Rattle.std.proofs.Common.{List, ℕ, ◌*◌, flat_map, take, ap}
 use Rattle.moos_io.proofs.Writing.{stopped_before, stopped_later}
 use Rattle.moos_io.proofs.Passages.{stopped_as, went_as, wrote_on}
-use Rattle.ivp_cert.specs.Texts.{integer_word, number_word}
+use Rattle.ivp_cert.specs.Texts.{number_word}
 use Rattle.ivp_cert.proofs.put_problem.put_piece.Goals as goal
+
+pub returns-in-Err : goal.returns-in-Err
+returns-in-Err g c = record { ok = tt; front = stopped_before _ c.in-Err.ensures.front }
 
 pub returns-in-Err-put_numbers : goal.returns-in-Err-put_numbers
 returns-in-Err-put_numbers g c =
-    let piece = c.args.piece.now in
     let same = ap (λ (ends : List ℕ). flat_map number_word (take (2 * c.args.axes) ends)) c.ends_of.ensures in
-    let later = integer_word piece.base ++ (flat_map integer_word (take c.args.axes piece.slope) ++ codes "\n") in
-    record { ok = tt; front = stopped_later c.in_default.ensures.ok (stopped_before later (stopped_as same c.in-Err-put_numbers.ensures.front)) }
+    record { ok = tt; front = stopped_later c.in_default.ensures.ok (stopped_before _ (stopped_as same c.in-Err-put_numbers.ensures.front)) }
 
 pub returns-in-Err-put_integer : goal.returns-in-Err-put_integer
 returns-in-Err-put_integer g c =
-    let piece = c.args.piece.now in
     let same = ap (λ (ends : List ℕ). flat_map number_word (take (2 * c.args.axes) ends)) c.ends_of.ensures in
-    let later = flat_map integer_word (take c.args.axes piece.slope) ++ codes "\n" in
-    record { ok = tt; front = stopped_later c.in_default.ensures.ok (stopped_later (went_as same c.in_default-put_numbers.ensures.ok) (stopped_before later c.in-Err-put_integer.ensures.front)) }
+    record { ok = tt; front = stopped_later c.in_default.ensures.ok (stopped_later (went_as same c.in_default-put_numbers.ensures.ok) (stopped_before _ c.in-Err-put_integer.ensures.front)) }
 
 pub returns-in-Err-put_integers : goal.returns-in-Err-put_integers
 returns-in-Err-put_integers g c =
     let same = ap (λ (ends : List ℕ). flat_map number_word (take (2 * c.args.axes) ends)) c.ends_of.ensures in
-    record { ok = tt; front = stopped_later c.in_default.ensures.ok (stopped_later (went_as same c.in_default-put_numbers.ensures.ok) (stopped_later c.in_default-put_integer.ensures.ok (stopped_before (codes "\n") c.in-Err-put_integers.ensures.front))) }
+    record { ok = tt; front = stopped_later c.in_default.ensures.ok (stopped_later (went_as same c.in_default-put_numbers.ensures.ok) (stopped_later c.in_default-put_integer.ensures.ok (stopped_before _ c.in-Err-put_integers.ensures.front))) }
 
 pub returns : goal.returns
 returns g c =
