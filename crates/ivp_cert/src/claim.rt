@@ -29,7 +29,7 @@ pub struct Decision {
 }
 
 /// The numbers of a `decision` line: places, and then a sum.
-#[derive(Debug, Drop)]
+#[derive(Drop)]
 pub struct Spelled {
     pub places: Vec<u32>,
     pub sum: u64,

@@ -16,7 +16,7 @@ use moos_text::{Cause, LineFault, ReadFault, next_word};
 use std::alloc::Global;
 
 /// How far the lines of a decision have come.
-#[derive(Debug, Drop)]
+#[derive(Drop)]
 pub enum Phase {
     /// So far in the problem, or to its end.
     OfProblem(Stage),

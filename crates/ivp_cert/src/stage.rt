@@ -26,7 +26,7 @@ const MOST_FUNCTIONS: usize = 64;
 const MOST_WEIGHT: u32 = 10_000;
 
 /// How far the lines of a problem have come.
-#[derive(Debug, Drop)]
+#[derive(Drop)]
 pub enum Stage {
     /// No line yet but blank ones.
     Start,

@@ -7,7 +7,7 @@ use std::alloc::{AllocError, Global};
 use std::marker::Model;
 
 /// The finished functions of a problem that is being read, over its domain.
-#[derive(Debug, Drop)]
+#[derive(Drop)]
 pub struct Terms {
     domain: Domain,
     terms: Vec<Term>,

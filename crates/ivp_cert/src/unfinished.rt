@@ -18,7 +18,7 @@ const MOST_PIECES: usize = 4096;
 
 /// The functions so far of a problem that is being read: the finished ones, and the last one, to which pieces may still
 /// be added, with the number of its line.
-#[derive(Debug, Drop)]
+#[derive(Drop)]
 pub struct Unfinished {
     before: Terms,
     line: u32,
