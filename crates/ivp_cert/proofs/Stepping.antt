@@ -195,6 +195,10 @@ counts problem node func pieces same e = by (next_of problem node) same
     by None same = tt
     by (Some term) same = e ∙ ap (λ (f : Function). length f.pieces) same
 
+-- a piece further down the path is one longer
+pub one_longer : (path pushed : List ℕ) (number : ℕ) → pushed ≡ path ++ number ∷ [] → length pushed ≡ length path + 1
+one_longer path pushed number more = ap length more ∙ length-append path (number ∷ [])
+
 -- the path after a walk into a child
 pub popped_back : (path pushed back : List ℕ) (number : ℕ) → pushed ≡ path ++ number ∷ [] → back ≡ take (length pushed - 1) pushed → back ≡ path
 popped_back path pushed back number more less = less ∙ (ap (λ p. take (length p - 1) p) more ∙ popped path number)

@@ -1,6 +1,6 @@
 use Rattle.std.proofs.Common.{◌≡◌, ◌<◌, ◌∷◌, [], ◌++◌, Some, None, drop, length, refl, sym, ap, ◌∙◌, arith}
 use Rattle.ivp_cert.specs.Walks.{behind_node, behind_own}
-use Rattle.ivp_cert.proofs.Stepping.{child_fails, child_passes, counts, onward_end, onward_full, onward_none, onward_own, onward_start, popped_back}
+use Rattle.ivp_cert.proofs.Stepping.{child_fails, child_passes, counts, onward_end, onward_full, onward_none, onward_own, onward_start, one_longer, popped_back}
 use Rattle.ivp_cert.proofs.accept.+behind_node.Goals as goal
 use Rattle.ivp_cert.proofs.accept.+behind_node.Goals.{in-Some-child_of+in-Some-behind_node, in_default-child_of}
 
@@ -45,6 +45,14 @@ loop-piece-init t c =
       within = c.requires.within;
       trail = refl;
     }
+
+pub behind_node-requires : goal.behind_node-requires
+behind_node-requires t c =
+    let child = c.in-Some-child_of.ensures in
+    (omega (arith, child.deeper), (child.node, (omega (arith, one_longer _ _ _ c.push.ensures, ap length c.loop-piece.invariant.trail, child.deeper), c.loop-piece.invariant.within)))
+
+pub pop-requires : goal.pop-requires
+pop-requires t c = omega (arith, one_longer _ _ _ (c.in-Some-behind_node.ensures.trail ∙ c.push.ensures))
 
 pub loop-piece-preserved : goal.loop-piece-preserved
 loop-piece-preserved t c =

@@ -1,5 +1,5 @@
 use Rattle.std.proofs.Common.{◌≡◌, ◌<◌, ◌≤◌, ◌∷◌, [], ◌++◌, length, refl, sym, ap, ◌∙◌, arith, append-nil}
-use Rattle.ivp_cert.proofs.Stepping.{child_added, counts, left_end, left_full, left_none, left_start, popped_back, own_added}
+use Rattle.ivp_cert.proofs.Stepping.{child_added, counts, left_end, left_full, left_none, left_start, one_longer, popped_back, own_added}
 use Rattle.ivp_cert.proofs.cutting.+add_topmost.Goals as goal
 use Rattle.ivp_cert.proofs.cutting.+add_topmost.Goals.{in-Some+in_ok-add_topmost, in_default}
 
@@ -26,6 +26,14 @@ loop-piece-init t c =
       lines = ap (λ ls. c.args.cert.now ++ ls) (left_start problem c.args.key c.args.trail.now node c.len-piece-end.result (omega (arith, c.if-node-len.false, c.len.ensures.len)) all (omega (arith, c.if-bound-key.false, c.bound_of-bound.ensures)));
       trail = refl;
     }
+
+pub add_topmost-requires : goal.add_topmost-requires
+add_topmost-requires t c =
+    let child = c.in-Some.ensures in
+    (omega (arith, child.deeper), (child.node, omega (arith, one_longer _ _ _ c.push.ensures, ap length c.loop-piece.invariant.trail, child.deeper)))
+
+pub pop-requires : goal.pop-requires
+pop-requires t c = omega (arith, one_longer _ _ _ (c.in_ok-add_topmost.ensures.trail ∙ c.push.ensures))
 
 pub loop-piece-preserved : goal.loop-piece-preserved
 loop-piece-preserved t c =
