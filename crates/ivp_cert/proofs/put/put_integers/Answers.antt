@@ -1,6 +1,7 @@
 use Rattle.std.proofs.Common.{pos}
 use Rattle.moos_io.proofs.Passages.{read_on, read_failed}
 use Rattle.ivp_cert.specs.Texts.{integer_word}
+use Rattle.ivp_cert.proofs.Printing.{each_written}
 use Rattle.ivp_cert.proofs.put.put_integers.Goals as goal
 
 pub loop-number-preserved : goal.loop-number-preserved
@@ -8,3 +9,6 @@ loop-number-preserved g c = read_on integer_word c.args.numbers.now c.loop-numbe
 
 pub returns-in-Err : goal.returns-in-Err
 returns-in-Err g c = record { ok = tt; front = read_failed integer_word c.args.numbers.now c.loop-number.number-index (pos 0) c.loop-number.invariant c.loop-number-test.true c.in-Err.ensures.front }
+
+pub returns : goal.returns
+returns g c = record { ok = each_written integer_word c.args.numbers.now c.loop-number.number-index c.loop-number.invariant c.loop-number-test.false; front = tt }

@@ -1,7 +1,8 @@
-use Rattle.std.proofs.Common.{sym}
+use Rattle.std.proofs.Common.{arith, sym}
 use Rattle.std.proofs.lemmas.Option.{get_or_from_slice_get, slice_get_within}
 use Rattle.moos_io.proofs.Passages.{each_on, each_failed, leads_start}
 use Rattle.ivp_cert.specs.Texts.{axis_text}
+use Rattle.ivp_cert.proofs.Printing.{each_written}
 use Rattle.ivp_cert.proofs.put_problem.put_axes.Goals as goal
 
 pub loop-number-preserved : goal.loop-number-preserved
@@ -19,3 +20,6 @@ returns-in-Err g c =
 
 pub loop-number-init : goal.loop-number-init
 loop-number-init g c = leads_start _ _
+
+pub returns : goal.returns
+returns g c = record { ok = each_written (axis_text c.args.prefix.now) c.args.domain.now c.loop-number.number c.loop-number.invariant (omega arith); front = tt }

@@ -1,6 +1,7 @@
 use Rattle.std.proofs.Common.{◌<◌, length, ap, ◌∙◌, arith}
 use Rattle.moos_io.proofs.Passages.{leads_start}
-use Rattle.ivp_cert.proofs.Printing.{terms_failed, terms_on}
+use Rattle.ivp_cert.specs.Texts.{term_text}
+use Rattle.ivp_cert.proofs.Printing.{each_written, terms_failed, terms_on}
 use Rattle.ivp_cert.proofs.put_problem.put_terms.Goals as goal
 
 pub loop-number-init : goal.loop-number-init
@@ -22,3 +23,6 @@ returns-in-Err g c =
       ok = tt;
       front = terms_failed c.args.prefix.now problem c.axes-axes.result c.loop-number.number c.weight.result c.func.result.now c.loop-number.invariant within many c.weight.ensures.weight c.func.ensures.func c.in-Err.ensures.front;
     }
+
+pub returns : goal.returns
+returns g c = record { ok = each_written (term_text c.args.prefix.now (length c.args.problem.now.axes)) c.args.problem.now.terms c.loop-number.number c.loop-number.invariant (omega (arith, c.loop-number-test.false, c.len-number-end.ensures.len)); front = tt }
