@@ -1,7 +1,6 @@
--- Elements of a list are written in turn, as the functions of a problem.
-use Rattle.std.proofs.Common.{◌≡◌, ℕ, ◌+◌, ◌<◌, ◌≤◌, Option, Some, None, List, ◌++◌, flat_map, length, drop, get_or, ap, sym, ◌∙◌, append-nil}
+-- The functions of a problem are written in turn.
+use Rattle.std.proofs.Common.{◌≡◌, ℕ, ◌+◌, ◌<◌, Option, Some, None, List, flat_map, length, drop, get_or, ap, sym, ◌∙◌}
 use Rattle.std.specs.Prelude.{IfSome, slice_get}
-use Rattle.std.proofs.lemmas.List.{drop_all}
 use Rattle.std.proofs.lemmas.Option.{get_or_from_slice_get, slice_get-get_or}
 use Rattle.moos_io.specs.Writing.{Way, Went, Stopped}
 use Rattle.moos_io.proofs.Passages.{each_failed, each_on, Leads, stopped_as, went_as}
@@ -10,11 +9,6 @@ use Rattle.ivp_problem.specs.declared.term.Term.{Term}
 use Rattle.ivp_problem.specs.Problems.{WeightedSum}
 use Rattle.ivp_problem.proofs.Nodes.{blank_term}
 use Rattle.ivp_cert.specs.Texts.{term_text}
-
--- behind the last element all is written
-pub each_written : {a b : Way} {X : Type 0} {whole : List ℕ} (text : X → List ℕ) (all : List X) (i : ℕ) → Leads a b (flat_map text (drop i all)) whole → length all ≤ i → Went a b whole
-each_written text all i so past =
-    went_as (sym (append-nil so.done) ∙ ap (λ end. so.done ++ flat_map text end) (sym (drop_all i all past)) ∙ so.rest) so.went
 
 abbrev pub term_with : ℕ → Function → Term
 term_with weight func = record { weight = weight; func = func }

@@ -1,6 +1,7 @@
 -- Lemmas on texts that are written one after another, and on loops that write.
-use Rattle.std.proofs.Common.{◌≡◌, ℕ, ◌+◌, ◌<◌, Some, None, Option, List, [], ◌++◌, flat_map, length, drop, get_or, Result, Ok, Err, refl, ap, sym, subst, ◌∙◌, arith, add-one, append_assoc, append-nil, drop-cons}
+use Rattle.std.proofs.Common.{◌≡◌, ℕ, ◌+◌, ◌<◌, ◌≤◌, Some, None, Option, List, [], ◌++◌, flat_map, length, drop, get_or, Result, Ok, Err, refl, ap, sym, subst, ◌∙◌, arith, add-one, append_assoc, append-nil, drop-cons}
 use Rattle.std.proofs.SliceLists.{any-default}
+use Rattle.std.proofs.lemmas.List.{drop_all}
 use Rattle.moos_io.specs.declared.sink.Failed.{Failed}
 use Rattle.moos_io.specs.Pieces.{Took, TookFront}
 use Rattle.moos_io.specs.Writing.{Way, Went, Stopped, Wrote}
@@ -40,6 +41,10 @@ leads_on {text = text} {later = later} so is went = record {
 pub leads_failed : {a b c : Way} {left text whole : List ℕ} (later : List ℕ) → Leads a b left whole → left ≡ text ++ later → Stopped b c text → Stopped a c whole
 leads_failed later so is stopped = rw (← so.rest, is) (stopped_later so.went (stopped_before later stopped))
 
+-- nothing is left
+pub leads_done : {a b : Way} {left whole : List ℕ} → Leads a b left whole → left ≡ [] → Went a b whole
+leads_done so none = rw (← so.rest, none, append-nil so.done) so.went
+
 -- one text after another, whatever becomes of the second
 pub wrote_on : {a b c : Way} {first second : List ℕ} (result : Result (Unit {0}) Failed) → Went a b first → Wrote b c result second → Wrote a c result (first ++ second)
 wrote_on (Ok _) one other = record { ok = went_on one other.ok; front = tt }
@@ -62,6 +67,11 @@ each_on text all i x so within is went = leads_on so (each_due text all i x with
 pub each_failed : {a b c : Way} {X : Type 0} {whole : List ℕ} (text : X → List ℕ) (all : List X) (i : ℕ) (x : X)
     → Leads a b (flat_map text (drop i all)) whole → i < length all → x ≡ get_or all i x → Stopped b c (text x) → Stopped a c whole
 each_failed text all i x so within is stopped = leads_failed (flat_map text (drop (i + 1) all)) so (each_due text all i x within is) stopped
+
+-- all are written
+pub each_done : {a b : Way} {X : Type 0} {whole : List ℕ} (text : X → List ℕ) (all : List X) (i : ℕ)
+    → Leads a b (flat_map text (drop i all)) whole → length all ≤ i → Went a b whole
+each_done text all i so past = leads_done so (ap (flat_map text) (drop_all i all past))
 
 -- the same of elements that are read with a default
 pub read_on : {a b c : Way} {X : Type 0} {whole : List ℕ} (text : X → List ℕ) (all : List X) (i : ℕ) (d : X)

@@ -1,8 +1,7 @@
 use Rattle.std.proofs.Common.{arith, sym}
 use Rattle.std.proofs.lemmas.Option.{get_or_from_slice_get, slice_get_within}
-use Rattle.moos_io.proofs.Passages.{each_on, each_failed}
+use Rattle.moos_io.proofs.Passages.{each_done, each_failed, each_on}
 use Rattle.ivp_cert.specs.Texts.{line_text}
-use Rattle.ivp_cert.proofs.Printing.{each_written}
 use Rattle.ivp_cert.proofs.print.put_cert.Goals as goal
 
 pub loop-number-preserved : goal.loop-number-preserved
@@ -19,4 +18,4 @@ returns-in-Err g c =
     }
 
 pub returns : goal.returns
-returns g c = record { ok = each_written (line_text c.args.prefix.now) c.args.cert.now c.loop-number.number c.loop-number.invariant (omega arith); front = tt }
+returns g c = record { ok = each_done (line_text c.args.prefix.now) c.args.cert.now c.loop-number.number c.loop-number.invariant (omega arith); front = tt }

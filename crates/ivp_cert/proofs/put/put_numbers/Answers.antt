@@ -1,6 +1,5 @@
-use Rattle.moos_io.proofs.Passages.{read_on, read_failed}
+use Rattle.moos_io.proofs.Passages.{each_done, read_failed, read_on}
 use Rattle.ivp_cert.specs.Texts.{number_word}
-use Rattle.ivp_cert.proofs.Printing.{each_written}
 use Rattle.ivp_cert.proofs.put.put_numbers.Goals as goal
 
 pub loop-number-preserved : goal.loop-number-preserved
@@ -10,4 +9,4 @@ pub returns-in-Err : goal.returns-in-Err
 returns-in-Err g c = record { ok = tt; front = read_failed number_word c.args.numbers.now c.loop-number.number-index 0 c.loop-number.invariant c.loop-number-test.true c.in-Err.ensures.front }
 
 pub returns : goal.returns
-returns g c = record { ok = each_written number_word c.args.numbers.now c.loop-number.number-index c.loop-number.invariant c.loop-number-test.false; front = tt }
+returns g c = record { ok = each_done number_word c.args.numbers.now c.loop-number.number-index c.loop-number.invariant c.loop-number-test.false; front = tt }

@@ -1,8 +1,7 @@
 use Rattle.std.proofs.Common.{arith, sym}
 use Rattle.std.proofs.lemmas.Option.{get_or_from_slice_get, slice_get_within}
-use Rattle.moos_io.proofs.Passages.{each_on, each_failed, leads_start}
+use Rattle.moos_io.proofs.Passages.{each_done, each_failed, each_on, leads_start}
 use Rattle.ivp_cert.specs.Texts.{piece_text}
-use Rattle.ivp_cert.proofs.Printing.{each_written}
 use Rattle.ivp_cert.proofs.put_problem.put_pieces.Goals as goal
 
 pub loop-number-preserved : goal.loop-number-preserved
@@ -22,4 +21,4 @@ pub loop-number-init : goal.loop-number-init
 loop-number-init g c = leads_start _ _
 
 pub returns : goal.returns
-returns g c = record { ok = each_written (piece_text c.args.prefix.now c.args.axes) c.args.func.now.pieces c.loop-number.number c.loop-number.invariant (omega arith); front = tt }
+returns g c = record { ok = each_done (piece_text c.args.prefix.now c.args.axes) c.args.func.now.pieces c.loop-number.number c.loop-number.invariant (omega arith); front = tt }

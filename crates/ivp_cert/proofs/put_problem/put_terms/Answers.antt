@@ -1,7 +1,7 @@
 use Rattle.std.proofs.Common.{◌<◌, length, ap, ◌∙◌, arith}
-use Rattle.moos_io.proofs.Passages.{leads_start}
+use Rattle.moos_io.proofs.Passages.{each_done, leads_start}
 use Rattle.ivp_cert.specs.Texts.{term_text}
-use Rattle.ivp_cert.proofs.Printing.{each_written, terms_failed, terms_on}
+use Rattle.ivp_cert.proofs.Printing.{terms_failed, terms_on}
 use Rattle.ivp_cert.proofs.put_problem.put_terms.Goals as goal
 
 pub loop-number-init : goal.loop-number-init
@@ -25,4 +25,4 @@ returns-in-Err g c =
     }
 
 pub returns : goal.returns
-returns g c = record { ok = each_written (term_text c.args.prefix.now (length c.args.problem.now.axes)) c.args.problem.now.terms c.loop-number.number c.loop-number.invariant (omega (arith, c.loop-number-test.false, c.len-number-end.ensures.len)); front = tt }
+returns g c = record { ok = each_done (term_text c.args.prefix.now (length c.args.problem.now.axes)) c.args.problem.now.terms c.loop-number.number c.loop-number.invariant (omega (arith, c.loop-number-test.false, c.len-number-end.ensures.len)); front = tt }
