@@ -1,7 +1,7 @@
 // The commands of the program's jobs, and what they find in the words of a command line.
 ghost use Rattle.std.specs.Prelude.{◌≡◌, ◌≤◌, IfOk, Some, option_map, false};
-ghost use Rattle.clap.specs.Words.{app_of, found_of, rows_of};
-ghost use Rattle.moos_top.specs.Commands.{IsPlain, check_command, file_in, found_in, few, is_set, play_command, solve_command, text_of, workers_in};
+ghost use Rattle.clap.specs.Words.{app_of, found_of, rows_of, rule_of};
+ghost use Rattle.moos_top.specs.Commands.{IsPlain, check_command, file_in, file_rule, found_in, few, is_set, play_command, race_rule, solve_command, text_of, workers_in, workers_rule};
 
 use crate::words::Word;
 use clap::error::ErrorKind;
@@ -13,31 +13,54 @@ use std::alloc::{AllocError, Global};
 pub fn play_command<'a>(alloc: Global) -> Result<Command<'a>, NoMemory>
     ensures { IfOk result (λ command. app_of command ≡ play_command) }
 {
-    let script = Arg::new(alloc, "script").required(true);
-    let race = Arg::new(alloc, "race")
-        .long("race")
-        .action(ArgAction::SetTrue);
-    Command::new(alloc, "play").arg(script)?.arg(race)
+    Command::new(alloc, "play")
+        .arg(file_arg(alloc, "script"))?
+        .arg(race_arg(alloc))
 }
 
 /// `solve PROBLEM [--workers N]`
 pub fn solve_command<'a>(alloc: Global) -> Result<Command<'a>, NoMemory>
     ensures { IfOk result (λ command. app_of command ≡ solve_command) }
 {
-    let problem = Arg::new(alloc, "problem").required(true);
-    let workers = Arg::new(alloc, "workers")
-        .long("workers")
-        .value_parser(value_parser!(u64).range(1..=16))
-        .default_value("1");
-    Command::new(alloc, "solve").arg(problem)?.arg(workers)
+    Command::new(alloc, "solve")
+        .arg(file_arg(alloc, "problem"))?
+        .arg(workers_arg(alloc))
 }
 
 /// `check DECISION`
 pub fn check_command<'a>(alloc: Global) -> Result<Command<'a>, NoMemory>
     ensures { IfOk result (λ command. app_of command ≡ check_command) }
 {
-    let decision = Arg::new(alloc, "decision").required(true);
-    Command::new(alloc, "check").arg(decision)
+    Command::new(alloc, "check").arg(file_arg(alloc, "decision"))
+}
+
+// The name of a file.
+fn file_arg<'a>(alloc: Global, id: &'a str) -> Arg<'a>
+    ensures rule { rule_of result ≡ file_rule id.entry.now }
+    ensures local { result.global ≡ false }
+{
+    Arg::new(alloc, id).required(true)
+}
+
+// `--race`
+fn race_arg<'a>(alloc: Global) -> Arg<'a>
+    ensures rule { rule_of result ≡ race_rule }
+    ensures local { result.global ≡ false }
+{
+    Arg::new(alloc, "race")
+        .long("race")
+        .action(ArgAction::SetTrue)
+}
+
+// `--workers N`
+fn workers_arg<'a>(alloc: Global) -> Arg<'a>
+    ensures rule { rule_of result ≡ workers_rule }
+    ensures local { result.global ≡ false }
+{
+    Arg::new(alloc, "workers")
+        .long("workers")
+        .value_parser(value_parser!(u64).range(1..=16))
+        .default_value("1")
 }
 
 /// What a command finds in a line, or none where it doesn't take it.

@@ -6,6 +6,9 @@ use Rattle.moos_top.proofs.commands.found_in.Goals as goal
 pub returns-in-Ok : goal.returns-in-Ok
 returns-in-Ok c = found_is (app_of c.args.command) c.args.line.now c.in-Ok.matches c.requires c.in-Ok.ensures.matches (c.in-Ok.ensures.kinds c.requires.free)
 
+pub returns-in-Err : goal.returns-in-Err
+returns-in-Err c = tt
+
 pub returns : goal.returns
 returns c =
     found_none (app_of c.args.command) c.args.line.now c.kind.result (λ taken. c.kind.ensures ∙ c.in-Err.ensures.passes taken)
