@@ -4,8 +4,14 @@ use Rattle.moos_report.specs.Report.{report_text}
 use Rattle.moos_top.specs.Jobs.{task_with}
 use Rattle.moos_top.specs.Jobs.Task.{Playing}
 use Rattle.moos_top.specs.declared.status.Status.TheVariants.{Done}
+use Rattle.moos_top.specs.declared.status.FileKind.TheVariants.{Script}
+use Rattle.moos_top.proofs.Loading.{refusal_ends}
 use Rattle.moos_top.proofs.Playing.{reported}
 use Rattle.moos_top.proofs.run.play_script.Goals as goal
+
+pub returns-in-Err : goal.returns-in-Err
+returns-in-Err g c =
+    refusal_ends (Playing c.args.order) Script _ c.in-Err.fault c.refused.result (g.K.Sink.taken c.args.out.now) (g.K.Sink.faults c.args.out.now) c.in-Err.ensures.refused c.refused.ensures
 
 pub returns-in-Ok-report : goal.returns-in-Ok-report
 returns-in-Ok-report g c =

@@ -4,7 +4,13 @@ use Rattle.ivp_cert.specs.Texts.{decision_lines}
 use Rattle.moos_top.specs.Jobs.{task_with}
 use Rattle.moos_top.specs.Jobs.Task.{Solving}
 use Rattle.moos_top.specs.declared.status.Status.TheVariants.{Done}
+use Rattle.moos_top.specs.declared.status.FileKind.TheVariants.{Problem}
+use Rattle.moos_top.proofs.Loading.{refusal_ends}
 use Rattle.moos_top.proofs.run.solve_problem.Goals as goal
+
+pub returns-in-Err : goal.returns-in-Err
+returns-in-Err g c =
+    refusal_ends Solving Problem _ c.in-Err.fault c.refused.result (g.K.Sink.taken c.args.out.now) (g.K.Sink.faults c.args.out.now) c.in-Err.ensures.refused c.refused.ensures
 
 pub returns-in-Ok-print_decision : goal.returns-in-Ok-print_decision
 returns-in-Ok-print_decision g c = record {

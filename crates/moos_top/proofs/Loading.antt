@@ -1,0 +1,27 @@
+-- A file that is loaded, and one that is refused.
+use Rattle.std.proofs.Common.{◌≡◌, ℕ, List, [], refl, ap, sym, subst}
+use Rattle.std.specs.Prelude.{Option, Some, None, Result}
+use Rattle.moos_io.specs.Files.{CameFrom, Loaded}
+use Rattle.moos_text.specs.Refusals.{IsFirst}
+use Rattle.moos_text.specs.declared.cause.ReadFault.{ReadFault}
+use Rattle.moos_text.specs.declared.cause.ReadFault.TheVariants.{At, NoMemory}
+use Rattle.moos_top.specs.declared.status.FileKind.{FileKind}
+use Rattle.moos_top.specs.declared.status.Status.{Status}
+use Rattle.moos_top.specs.Jobs.{Task, task_with}
+use Rattle.moos_top.specs.Run.{HasBytes}
+use Rattle.moos_top.specs.Steps.{Ended, sinking, status_of}
+
+-- what was loaded behind no bytes is the whole file
+pub whole : (told : Option (List ℕ → Option (List ℕ))) (name before now : List ℕ) → before ≡ [] → Loaded told name before now → HasBytes told name now
+whole None name before now none loaded = loaded
+whole (Some files) name before now none loaded = of (files name) (subst (λ (bytes : List ℕ). CameFrom (files name) bytes now) none loaded)
+  where
+    of : (file : Option (List ℕ)) → CameFrom file [] now → file ≡ Some now
+    of None came = absurd came
+    of (Some bytes) came = ap (λ (one : List ℕ). Some one) (sym came)
+
+-- a job whose file is refused ends with the first refusal, and nothing is written
+pub refusal_ends : {A : Type 0} (task : A → Task) (kind : FileKind) (read : Result A ReadFault) (fault : ReadFault) (status : Status) (taken : Option (List ℕ)) (faults : ℕ)
+    → IsFirst fault read → status ≡ status_of kind fault → Ended kind (task_with task read) (sinking taken taken faults faults) status
+refusal_ends task kind read (At line cause) status taken faults first is = rw is (refl, ap (task_with task) first, record { taken = refl; faults = refl })
+refusal_ends task kind read NoMemory status taken faults first is = rw is (record { taken = refl; faults = refl })
