@@ -1,15 +1,17 @@
--- A file that is loaded, and one that is refused.
+-- The steps of a run: a file is loaded, or refused, and what a job writes is put.
 use Rattle.std.proofs.Common.{◌≡◌, ℕ, List, [], refl, ap, sym, subst}
-use Rattle.std.specs.Prelude.{Option, Some, None, Result}
+use Rattle.std.specs.Prelude.{Option, Some, None, Result, Ok, Err, OnOk, OnErr}
+use Rattle.moos_io.specs.Faults.{Rose}
 use Rattle.moos_io.specs.Files.{CameFrom, Loaded}
+use Rattle.moos_io.specs.Pieces.{Took, TookFront}
 use Rattle.moos_text.specs.Refusals.{IsFirst}
 use Rattle.moos_text.specs.declared.cause.ReadFault.{ReadFault}
 use Rattle.moos_text.specs.declared.cause.ReadFault.TheVariants.{At, NoMemory}
 use Rattle.moos_top.specs.declared.status.FileKind.{FileKind}
 use Rattle.moos_top.specs.declared.status.Status.{Status}
-use Rattle.moos_top.specs.Jobs.{Task, task_with}
+use Rattle.moos_top.specs.Jobs.{IsOutput, Task, task_with}
 use Rattle.moos_top.specs.Run.{HasBytes}
-use Rattle.moos_top.specs.Steps.{Ended, sinking, status_of}
+use Rattle.moos_top.specs.Steps.{Ended, Sinking, WroteAll, sinking, status_after, status_of}
 
 -- what was loaded behind no bytes is the whole file
 pub whole : (told : Option (List ℕ → Option (List ℕ))) (name before now : List ℕ) → before ≡ [] → Loaded told name before now → HasBytes told name now
@@ -25,3 +27,13 @@ pub refusal_ends : {A : Type 0} (task : A → Task) (kind : FileKind) (read : Re
     → IsFirst fault read → status ≡ status_of kind fault → Ended kind (task_with task read) (sinking taken taken faults faults) status
 refusal_ends task kind read (At line cause) status taken faults first is = rw is (refl, ap (task_with task) first, record { taken = refl; faults = refl })
 refusal_ends task kind read NoMemory status taken faults first is = rw is (record { taken = refl; faults = refl })
+
+-- a job that puts a text which it may write to end with this status, or fails at that
+pub put_ends : {E : Type 0} (kind : FileKind) (read : Result Task ReadFault) (task : Task) (text : List ℕ) (done status : Status) (sink : Sinking) (put : Result (Unit {0}) E)
+    → (WroteAll read done sink → Ended kind read sink done) → read ≡ Ok task → IsOutput task done text → OnOk put (Took sink.taken_before sink.taken_after text)
+    → OnErr put (TookFront sink.taken_before sink.taken_after text) → OnErr put (Rose sink.faults_before sink.faults_after) → status ≡ status_after done put
+    → Ended kind read sink status
+put_ends kind read task text done status sink (Ok put) ends good output took front rose is =
+    rw is (ends (record { task = task; good = good; text = text; output = output; took = took }))
+put_ends kind read task text done status sink (Err failed) ends good output took front rose is =
+    rw is (record { task = task; good = good; status = done; text = text; output = output; took = front; rose = rose })

@@ -6,14 +6,14 @@ ghost use Rattle.moos_top.specs.Jobs.{HasFewWorkers, kind_of, task_of, task_with
 ghost use Rattle.moos_top.specs.Jobs.Task.{Checking, Playing, Solving};
 ghost use Rattle.moos_top.specs.Run.{Ran, Completes, HasBytes, Refuses, surroundings};
 ghost use Rattle.script_reader.specs.Script.{script_of};
-ghost use Rattle.moos_top.specs.Steps.{CannotLoad, Ended, sinking, status_of};
+ghost use Rattle.moos_top.specs.Steps.{CannotLoad, Ended, sinking, status_after, status_of};
 
 use crate::decide::decide;
 use crate::job::{Job, file_name, job_named};
 use crate::status::{FileKind, Refusal, Status};
 use crate::words::Words;
 use ivp_cert::{accepts, print_decision, read_decision, read_problem};
-use moos_io::{Folder, Gate, LoadFault, Sink, put_all};
+use moos_io::{Failed, Folder, Gate, LoadFault, Sink, put_all};
 use moos_play::{Order, play};
 use moos_report::report;
 use moos_text::ReadFault;
@@ -127,10 +127,7 @@ fn play_script<R: Threads + Wait + Sync, K: Sink, G: Gate>(
         Err(fault) => return refused(FileKind::Script, fault),
     };
     match play(rt, alloc, &script, order, gate) {
-        Ok(ran) => match report(&ran.db, out) {
-            Ok(()) => Status::Done,
-            Err(_) => Status::WriteFault,
-        },
+        Ok(ran) => written(Status::Done, report(&ran.db, out)),
         Err(_) => Status::NoMemory,
     }
 }
@@ -154,10 +151,7 @@ fn solve_problem<R: Threads + Wait + Sync, K: Sink, G: Gate>(
         Err(fault) => return refused(FileKind::Problem, fault),
     };
     match decide(rt, alloc, problem, workers, gate) {
-        Ok(decision) => match print_decision(&decision, b"", out) {
-            Ok(()) => Status::Done,
-            Err(_) => Status::WriteFault,
-        },
+        Ok(decision) => written(Status::Done, print_decision(&decision, b"", out)),
         Err(_) => Status::NoMemory,
     }
 }
@@ -173,15 +167,9 @@ fn check_decision<K: Sink>(alloc: Global, bytes: &[u8], out: &mut K) -> Status
         Err(fault) => return refused(FileKind::Decision, fault),
     };
     if accepts(&decision.problem, &decision.claim, &decision.cert) {
-        match put_all(out, b"accepted\n") {
-            Ok(()) => Status::Done,
-            Err(_) => Status::WriteFault,
-        }
+        written(Status::Done, put_all(out, b"accepted\n"))
     } else {
-        match put_all(out, b"not accepted\n") {
-            Ok(()) => Status::CheckNo,
-            Err(_) => Status::WriteFault,
-        }
+        written(Status::CheckNo, put_all(out, b"not accepted\n"))
     }
 }
 
@@ -192,6 +180,16 @@ fn refused(file: FileKind, fault: ReadFault) -> Status
     match fault {
         ReadFault::At { line, cause } => Status::Refused(Refusal { file, line, cause }),
         ReadFault::NoMemory => Status::NoMemory,
+    }
+}
+
+// How a run ends that put all that it writes, to end with `done`, or failed at that.
+fn written(done: Status, put: Result<(), Failed>) -> Status
+    ensures { result ≡ status_after done put }
+{
+    match put {
+        Ok(()) => done,
+        Err(_) => Status::WriteFault,
     }
 }
 
