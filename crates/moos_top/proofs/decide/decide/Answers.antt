@@ -1,9 +1,8 @@
 -- The decision's parts are those of the best point.
-use Rattle.std.proofs.Common.{◌≡◌, ℕ, List, ap, refl}
+use Rattle.std.proofs.Common.{◌≡◌, ap, refl}
 use Rattle.ivp_cert.specs.Certificates.{certificate_of}
 use Rattle.ivp_cert.specs.declared.claim.Decision.{Decision}
 use Rattle.ivp_problem.specs.Keys.{sum_of}
-use Rattle.ivp_problem.specs.Problems.{WeightedSum}
 use Rattle.ivp_problem.specs.Sums.{best_of, sum_at}
 use Rattle.moos_top.specs.Jobs.{decision_on}
 use Rattle.moos_top.proofs.decide.decide.Goals as goal
