@@ -29,11 +29,11 @@ refusal_ends task kind read (At line cause) status taken faults first is = rw is
 refusal_ends task kind read NoMemory status taken faults first is = rw is (record { taken = refl; faults = refl })
 
 -- a job that puts a text which it may write to end with this status, or fails at that
-pub put_ends : {E : Type 0} (kind : FileKind) (read : Result Task ReadFault) (task : Task) (text : List ℕ) (done status : Status) (sink : Sinking) (put : Result (Unit {0}) E)
-    → (WroteAll read done sink → Ended kind read sink done) → read ≡ Ok task → IsOutput task done text → OnOk put (Took sink.taken_before sink.taken_after text)
-    → OnErr put (TookFront sink.taken_before sink.taken_after text) → OnErr put (Rose sink.faults_before sink.faults_after) → status ≡ status_after done put
+pub put_ends : {E : Type 0} (kind : FileKind) (read : Result Task ReadFault) (task : Task) (text : List ℕ) (meant status : Status) (sink : Sinking) (put : Result (Unit {0}) E)
+    → (WroteAll read meant sink → Ended kind read sink meant) → read ≡ Ok task → IsOutput task meant text → OnOk put (Took sink.taken_before sink.taken_after text)
+    → OnErr put (TookFront sink.taken_before sink.taken_after text) → OnErr put (Rose sink.faults_before sink.faults_after) → status ≡ status_after meant put
     → Ended kind read sink status
-put_ends kind read task text done status sink (Ok put) ends good output took front rose is =
+put_ends kind read task text meant status sink (Ok put) ends good output took front rose is =
     rw is (ends (record { task = task; good = good; text = text; output = output; took = took }))
-put_ends kind read task text done status sink (Err failed) ends good output took front rose is =
-    rw is (record { task = task; good = good; status = done; text = text; output = output; took = front; rose = rose })
+put_ends kind read task text meant status sink (Err failed) ends good output took front rose is =
+    rw is (record { task = task; good = good; status = meant; text = text; output = output; took = front; rose = rose })

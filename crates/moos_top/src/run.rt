@@ -183,12 +183,12 @@ fn refused(file: FileKind, fault: ReadFault) -> Status
     }
 }
 
-// How a run ends that put all that it writes, to end with `done`, or failed at that.
-fn written(done: Status, put: Result<(), Failed>) -> Status
-    ensures { result ≡ status_after done put }
+// How a run ends that was meant to end so once all was put, or that failed at a put.
+fn written(meant: Status, put: Result<(), Failed>) -> Status
+    ensures { result ≡ status_after meant put }
 {
     match put {
-        Ok(()) => done,
+        Ok(()) => meant,
         Err(_) => Status::WriteFault,
     }
 }
