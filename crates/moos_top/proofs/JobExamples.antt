@@ -20,7 +20,7 @@ use Rattle.moos_top.specs.Commands.{check_command, few, IsPlain, play_command, r
 use Rattle.moos_top.specs.Exit.{code_of}
 use Rattle.moos_top.specs.Jobs.Task.{Checking, Playing, Solving}
 use Rattle.moos_top.specs.Jobs.{decision_on, file_of, HasEnded, HasFewWorkers, IsAccepted, IsOutput, kind_of, task_of}
-use Rattle.moos_top.specs.Steps.{CannotLoad, Ended, sinking, status_after, status_of}
+use Rattle.moos_top.specs.Steps.{CannotLoad, Ended, sinking, status_of}
 
 -- one function over two points, of value 5 and 6
 abbrev pub problem : WeightedSum
@@ -182,10 +182,6 @@ loaded_badly is = is
 -- a reader's refusal is the run's, with the kind of file, and its want of memory is the run's
 statuses : (status_of DecisionFile (At 3 P1) ≡ Refused (record { file = DecisionFile; line = 3; cause = P1 })) × (status_of DecisionFile Unread ≡ NoMemory)
 statuses = (refl, refl)
-
--- a put that fails ends a run with a fault, and one that doesn't with the status that was meant
-after_puts : (status_after {E = Unit {0}} CheckNo (Ok tt) ≡ CheckNo) × (status_after {E = Unit {0}} CheckNo (Err tt) ≡ WriteFault)
-after_puts = (refl, refl)
 
 -- how the problem's job ends: all is written, or a front of it where the sink failed
 all_written : Ended ProblemFile (Ok (Solving problem)) (sinking (Some (codes "x")) (Some (codes "x" ++ decision_bytes)) 0 0) Done

@@ -9,9 +9,10 @@ use Rattle.moos_text.specs.declared.cause.ReadFault.{ReadFault}
 use Rattle.moos_text.specs.declared.cause.ReadFault.TheVariants.{At, NoMemory}
 use Rattle.moos_top.specs.declared.status.FileKind.{FileKind}
 use Rattle.moos_top.specs.declared.status.Status.{Status}
+use Rattle.moos_top.specs.declared.status.Status.TheVariants.{WriteFault}
 use Rattle.moos_top.specs.Jobs.{IsOutput, Task, task_with}
 use Rattle.moos_top.specs.Run.{HasBytes}
-use Rattle.moos_top.specs.Steps.{Ended, Sinking, WroteAll, sinking, status_after, status_of}
+use Rattle.moos_top.specs.Steps.{Ended, Sinking, WroteAll, sinking, status_of}
 
 -- what was loaded behind no bytes is the whole file
 pub whole : (told : Option (List ℕ → Option (List ℕ))) (name before now : List ℕ) → before ≡ [] → Loaded told name before now → HasBytes told name now
@@ -31,9 +32,9 @@ refusal_ends task kind read NoMemory status taken faults first is = rw is (recor
 -- a job that puts a text which it may write to end with this status, or fails at that
 pub put_ends : {E : Type 0} (kind : FileKind) (read : Result Task ReadFault) (task : Task) (text : List ℕ) (meant status : Status) (sink : Sinking) (put : Result (Unit {0}) E)
     → (WroteAll read meant sink → Ended kind read sink meant) → read ≡ Ok task → IsOutput task meant text → OnOk put (Took sink.taken_before sink.taken_after text)
-    → OnErr put (TookFront sink.taken_before sink.taken_after text) → OnErr put (Rose sink.faults_before sink.faults_after) → status ≡ status_after meant put
-    → Ended kind read sink status
-put_ends kind read task text meant status sink (Ok put) ends good output took front rose is =
-    rw is (ends (record { task = task; good = good; text = text; output = output; took = took }))
-put_ends kind read task text meant status sink (Err failed) ends good output took front rose is =
-    rw is (record { task = task; good = good; status = meant; text = text; output = output; took = front; rose = rose })
+    → OnErr put (TookFront sink.taken_before sink.taken_after text) → OnErr put (Rose sink.faults_before sink.faults_after)
+    → OnOk put (status ≡ meant) → OnErr put (status ≡ WriteFault) → Ended kind read sink status
+put_ends kind read task text meant status sink (Ok put) ends good output took front rose all fault =
+    rw all (ends (record { task = task; good = good; text = text; output = output; took = took }))
+put_ends kind read task text meant status sink (Err failed) ends good output took front rose all fault =
+    rw fault (record { task = task; good = good; status = meant; text = text; output = output; took = front; rose = rose })

@@ -25,11 +25,6 @@ abbrev pub status_of : FileKind → ReadFault → Status
 status_of kind (At line cause) = Refused (record { file = kind; line = line; cause = cause })
 status_of kind Unread = NoMemory
 
--- the status after what a run puts, to end with this status, was put or failed
-abbrev pub status_after : {E : Type 0} → Status → Result (Unit {0}) E → Status
-status_after meant (Ok put) = meant
-status_after meant (Err failed) = WriteFault
-
 -- what the sink took before and after, and how often it failed
 pub record Sinking : Type 0 where
   pub taken_before : Option (List ℕ)

@@ -1,12 +1,12 @@
 // The top call: from a command line to what was written and how it ended.
-ghost use Rattle.std.specs.Prelude.{◌≡◌, ◌<◌, ◌≤◌, ◌^◌, length, IfOk, IfErr};
+ghost use Rattle.std.specs.Prelude.{◌≡◌, ◌<◌, ◌≤◌, ◌^◌, length, IfOk, IfErr, OnOk, OnErr};
 ghost use Rattle.ivp_cert.specs.Decisions.{decision_of};
 ghost use Rattle.ivp_cert.specs.Problems.{problem_of};
 ghost use Rattle.moos_top.specs.Jobs.{HasFewWorkers, kind_of, task_of, task_with};
 ghost use Rattle.moos_top.specs.Jobs.Task.{Checking, Playing, Solving};
 ghost use Rattle.moos_top.specs.Run.{Ran, Completes, HasBytes, Refuses, surroundings};
 ghost use Rattle.script_reader.specs.Script.{script_of};
-ghost use Rattle.moos_top.specs.Steps.{CannotLoad, Ended, sinking, status_after, status_of};
+ghost use Rattle.moos_top.specs.Steps.{CannotLoad, Ended, sinking, status_of};
 
 use crate::decide::decide;
 use crate::job::{Job, file_name, job_named};
@@ -185,7 +185,8 @@ fn refused(file: FileKind, fault: ReadFault) -> Status
 
 // How a run ends that was meant to end so once all was put, or that failed at a put.
 fn written(meant: Status, put: Result<(), Failed>) -> Status
-    ensures { result ≡ status_after meant put }
+    ensures all { OnOk put (result ≡ meant) }
+    ensures fault { OnErr put (result ≡ Status.WriteFault) }
 {
     match put {
         Ok(()) => meant,

@@ -14,10 +14,10 @@ returns-in-Err g c =
 pub returns-then-accepts : goal.returns-then-accepts
 returns-then-accepts g c =
     put_ends Decision _ (Checking c.in-Ok.decision) _ Done c.written.result _ c.put_all.result (λ all. all) (ap (task_with Checking) c.in-Ok.ensures.read)
-    (c.accepts.ensures.accepts.0 c.if-accepts.true, refl) c.put_all.ensures.ok c.put_all.ensures.front c.put_all.ensures.rose c.written.ensures
+    (c.accepts.ensures.accepts.0 c.if-accepts.true, refl) c.put_all.ensures.ok c.put_all.ensures.front c.put_all.ensures.rose c.written.ensures.all c.written.ensures.fault
 
 pub returns : goal.returns
 returns g c =
     put_ends Decision _ (Checking c.in-Ok.decision) _ CheckNo c.written-else-accepts.result _ c.put_all-else-accepts.result (λ all. all) (ap (task_with Checking) c.in-Ok.ensures.read)
     (λ accepted. true≢false (sym (c.accepts.ensures.accepts.1 accepted) ∙ c.if-accepts.false), refl)
-    c.put_all-else-accepts.ensures.ok c.put_all-else-accepts.ensures.front c.put_all-else-accepts.ensures.rose c.written-else-accepts.ensures
+    c.put_all-else-accepts.ensures.ok c.put_all-else-accepts.ensures.front c.put_all-else-accepts.ensures.rose c.written-else-accepts.ensures.all c.written-else-accepts.ensures.fault

@@ -15,4 +15,4 @@ returns-in-Err g c =
 pub returns-in-Ok-decide : goal.returns-in-Ok-decide
 returns-in-Ok-decide g c =
     put_ends Problem _ (Solving c.in-Ok.problem) _ Done c.written.result _ c.print_decision.result (λ all. all) (ap (task_with Solving) c.in-Ok.ensures.read)
-    (ap (decision_lines []) c.in-Ok-decide.ensures) c.print_decision.ensures.ok c.print_decision.ensures.front c.print_decision.ensures.rose c.written.ensures
+    (ap (decision_lines []) c.in-Ok-decide.ensures) c.print_decision.ensures.ok c.print_decision.ensures.front c.print_decision.ensures.rose c.written.ensures.all c.written.ensures.fault
