@@ -1,5 +1,5 @@
 -- What a client's call of the database through the lock does to the client's seat.
-use Rattle.std.specs.Prelude.{◌≡◌, ℕ, ◌<◌, List, [], ◌∷◌, ◌++◌, length}
+use Rattle.std.specs.Prelude.{◌≡◌, ℕ, ◌<◌, ◌==◌, List, [], ◌∷◌, ◌++◌, filter, length}
 use Rattle.moos_post.specs.declared.entry.Call.{Call}
 use Rattle.moos_post.specs.declared.entry.Call.TheVariants.{Fetch}
 use Rattle.moos_post.specs.declared.entry.Entry.{Entry}
@@ -27,16 +27,23 @@ entry_of client stamp call = record { stamp = stamp; client = client; call = cal
 abbrev pub with_call : SeatState → History → Entry → SeatState
 with_call seat before entry = record seat { seen = before ++ entry ∷ []; mine = seat.mine ++ entry ∷ [] }
 
--- The call is the client's next entry, and the last that the client has seen. What the client had seen stands before it.
+-- a client's own entries, in order
+abbrev pub entries_of : ℕ → History → List Entry
+entries_of client history = filter (λ entry. entry.client == client) history
+
+-- The call is the client's next entry, and the last that the client has seen. What the client had seen stands before it,
+-- and of the client's own entries just those that it had made.
 pub record IsCalled (old new : SeatState) (stamp : ℕ) (call : Call) : Type 0 where
   pub before : History
   pub later : Begins before old.seen
+  pub own : entries_of old.number before ≡ old.mine
   pub after : new ≡ with_call old before (entry_of old.number stamp call)
 
 -- the same for a fetch, whose mail is what was mailed to the client since its fetch before
 pub record IsFetched (old new : SeatState) (names : List (List ℕ)) (stamp : ℕ) (mail : List Letter) : Type 0 where
   pub before : History
   pub later : Begins before old.seen
+  pub own : entries_of old.number before ≡ old.mine
   pub after : new ≡ with_call old before (entry_of old.number stamp Fetch)
   pub given : AreLetters (posts_of before) (mail_after names old.number before) mail
 

@@ -13,7 +13,7 @@ use Rattle.moos_play.specs.declared.player.Player.{Player}
 use Rattle.moos_play.specs.Rounds.{AreParted, CommunityLock, EndsRound, GoesOn, has_line, HasEnded, HasPlayed, HasSeen, HasSeenAll, HasTaken, IsApart, IsGathered, IsOneRound, KnowsNothing, met_of, times_met}
 use Rattle.script_reader.specs.declared.script.Order.TheVariants.{Stamp, Race}
 use Rattle.script_reader.specs.declared.script.Script.{Script}
-use Rattle.turn_lock.specs.Passes.{beside, events_in, first_of}
+use Rattle.turn_lock.specs.Passes.{beside, events_in, first_pass}
 
 -- a fetch of a client at a stamp
 abbrev fetch_at : ℕ → ℕ → Entry
@@ -85,20 +85,20 @@ has_lines : (has_line 0 (fetch_at 1000 0 ∷ []) ≡ true) × (has_line 1 (fetch
 has_lines = (refl, refl)
 
 -- the first seat of a community before and after its client's lines of the script
-before_all : (lock : CommunityLock) → KnowsNothing (first_of lock 1)
+before_all : (lock : CommunityLock) → KnowsNothing (first_pass lock 1)
 before_all lock = record { seen = refl; known = λ n. nothing (0 == n) }
   where
     nothing : (b : Bool) → cond {A = List Entry} b [] [] ≡ []
     nothing true = refl
     nothing false = refl
 
-knows_calls : (lock : CommunityLock) → KnowsNothing (record (first_of lock 1) { mine = fetch_at 0 0 ∷ [] }) → ⊥
+knows_calls : (lock : CommunityLock) → KnowsNothing (record (first_pass lock 1) { mine = fetch_at 0 0 ∷ [] }) → ⊥
 knows_calls lock nothing = omega (arith, ap length (nothing.known 0))
 
-after_all : (lock : CommunityLock) → HasPlayed lines (first_of lock 2) (record (first_of lock 2) { seen = other_turn; mine = fetch_at 0 0 ∷ fetch_at 1000 0 ∷ [] })
+after_all : (lock : CommunityLock) → HasPlayed lines (first_pass lock 2) (record (first_pass lock 2) { seen = other_turn; mine = fetch_at 0 0 ∷ fetch_at 1000 0 ∷ [] })
 after_all lock = record { later = (other_turn, refl); same = refl }
 
-seen_forgotten : (lock : CommunityLock) → HasPlayed [] (record (first_of lock 2) { seen = other_turn }) (first_of lock 2) → ⊥
+seen_forgotten : (lock : CommunityLock) → HasPlayed [] (record (first_pass lock 2) { seen = other_turn }) (first_pass lock 2) → ⊥
 seen_forgotten lock played = let (rest, same) = played.later in omega (arith, ap length same)
 
 counted : (times_met 1 (record { number = 2; events = [] } ∷ record { number = 1; events = lines } ∷ []) ≡ 1) × (times_met 0 [] ≡ 0)
@@ -117,7 +117,7 @@ module _ (lock : CommunityLock) where
 
   -- before it the first seat has taken in the other
   abbrev start : SeatState
-  start = record (first_of community 2) { left = 0; made = 1; met = record { number = 1; events = [] } ∷ [] }
+  start = record (first_pass community 2) { left = 0; made = 1; met = record { number = 1; events = [] } ∷ [] }
 
   may_call : MayCall community start
   may_call = record { of_lock = record { same = refl; live = refl; base = refl }; free = refl; client = omega arith }

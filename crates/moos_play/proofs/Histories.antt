@@ -7,7 +7,8 @@ use Rattle.std.proofs.lemmas.List.{append_cancel_left}
 use Rattle.std.proofs.lemmas.List.Elements.{filter-append}
 use Rattle.moos_post.specs.declared.entry.Entry.{Entry}
 use Rattle.moos_post.specs.History.{History}
-use Rattle.moos_play.specs.Lawful.{entries_of, no_stamp_goes_back, KeepsOrder}
+use Rattle.moos_client.specs.Calls.{entries_of}
+use Rattle.moos_play.specs.Lawful.{no_stamp_goes_back, KeepsOrder}
 use Rattle.moos_play.specs.Rounds.{IsOneRound}
 use Rattle.script_reader.specs.declared.script.Order.{Order}
 use Rattle.script_reader.specs.declared.script.Order.TheVariants.{Stamp, Race}

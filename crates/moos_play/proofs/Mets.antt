@@ -4,7 +4,7 @@ use native.Mathlib.Decide.{ℕ_discrete}
 use Rattle.moos_post.specs.declared.entry.Entry.{Entry}
 use Rattle.moos_play.specs.Rounds.{times_met}
 use Rattle.turn_lock.specs.declared.view.Met.{Met}
-use Rattle.turn_lock.specs.Passes.{events_in, without}
+use Rattle.turn_lock.specs.Passes.{events_in, without_number}
 use Rattle.turn_lock.proofs.Mets.{count_gone, count_kept, count_more, count_one, events_back, events_front, events_none, events_other, events_without}
 
 -- what is kept of a number that is taken out
@@ -13,17 +13,17 @@ moved_of m met = record { number = m; events = events_in met m }
 
 -- One number is moved behind others, with its events: how often a number is there stays, and so do all events.
 pub moves_each : (m : ℕ) (met others : List (Met Entry)) → times_met m met ≡ 1 → (n : ℕ)
-    → times_met n (without m met) + times_met n (others ++ moved_of m met ∷ []) ≡ times_met n met + times_met n others
+    → times_met n (without_number m met) + times_met n (others ++ moved_of m met ∷ []) ≡ times_met n met + times_met n others
 moves_each m met others once n = by (ℕ_discrete m n)
   where
     moved : Met Entry
     moved = moved_of m met
 
-    by : Dec (m ≡ n) → times_met n (without m met) + times_met n (others ++ moved ∷ []) ≡ times_met n met + times_met n others
+    by : Dec (m ≡ n) → times_met n (without_number m met) + times_met n (others ++ moved ∷ []) ≡ times_met n met + times_met n others
     by (yes e) =
         let single : ℕ = 1 in
         let here : cond (m == n) single 0 ≡ single = ap (λ b. cond b single 0) (eq-eqb m n e) in
-        let gone : times_met n (without m met) ≡ 0 = subst (λ k. times_met k (without m met) ≡ 0) e (count_gone m met) in
+        let gone : times_met n (without_number m met) ≡ 0 = subst (λ k. times_met k (without_number m met) ≡ 0) e (count_gone m met) in
         let one : times_met n met ≡ 1 = subst (λ k. times_met k met ≡ 1) e once in
         omega (arith, here, gone, one, count_more n others (moved ∷ []), count_one n moved [])
     by (no ne) =
@@ -32,7 +32,7 @@ moves_each m met others once n = by (ℕ_discrete m n)
         omega (arith, other, count_kept m n met (λ e. ne (sym e)), count_more n others (moved ∷ []), count_one n moved [])
 
 pub moves_known : (m : ℕ) (met others : List (Met Entry)) → times_met m met ≡ 1 → times_met m others ≡ 0 → (n : ℕ)
-    → events_in (without m met ++ (others ++ moved_of m met ∷ [])) n ≡ events_in (met ++ others) n
+    → events_in (without_number m met ++ (others ++ moved_of m met ∷ [])) n ≡ events_in (met ++ others) n
 moves_known m met others once apart n = by (ℕ_discrete m n)
   where
     moved : Met Entry
@@ -41,12 +41,12 @@ moves_known m met others once apart n = by (ℕ_discrete m n)
     here : events_in (moved ∷ []) m ≡ events_in met m
     here = ap (λ b. cond b (events_in met m) []) (eq-eqb m m refl)
 
-    by : Dec (m ≡ n) → events_in (without m met ++ (others ++ moved ∷ [])) n ≡ events_in (met ++ others) n
-    by (yes e) = subst (λ k. events_in (without m met ++ (others ++ moved ∷ [])) k ≡ events_in (met ++ others) k) e
-        (events_back (without m met) (others ++ moved ∷ []) m (count_gone m met) ∙ events_back others (moved ∷ []) m apart ∙ here ∙ sym (events_front met others m (omega (arith, once))))
+    by : Dec (m ≡ n) → events_in (without_number m met ++ (others ++ moved ∷ [])) n ≡ events_in (met ++ others) n
+    by (yes e) = subst (λ k. events_in (without_number m met ++ (others ++ moved ∷ [])) k ≡ events_in (met ++ others) k) e
+        (events_back (without_number m met) (others ++ moved ∷ []) m (count_gone m met) ∙ events_back others (moved ∷ []) m apart ∙ here ∙ sym (events_front met others m (omega (arith, once))))
     by (no ne) =
-        ap (λ l. events_in l n) (sym (append_assoc (without m met) others (moved ∷ [])))
-        ∙ events_other (without m met ++ others) moved n ne
+        ap (λ l. events_in l n) (sym (append_assoc (without_number m met) others (moved ∷ [])))
+        ∙ events_other (without_number m met ++ others) moved n ne
         ∙ events_without m n met others (λ e. ne (sym e))
 
 -- The events of those that were apart are longer by what they have added, and those of all others are the same.

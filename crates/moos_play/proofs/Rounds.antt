@@ -6,19 +6,18 @@ use Rattle.std.proofs.lemmas.Bool.Decides.{nat_tests}
 use Rattle.std.proofs.lemmas.List.{map-append}
 use Rattle.std.proofs.lemmas.List.Elements.{All-push}
 use native.Mathlib.Decide.{ℕ_discrete}
-use Rattle.moos_client.specs.Calls.{MayCall, SeatState}
+use Rattle.moos_client.specs.Calls.{MayCall, SeatState, entries_of}
 use Rattle.moos_post.specs.declared.entry.Entry.{Entry}
 use Rattle.moos_play.specs.declared.player.Player.{Player}
-use Rattle.moos_play.specs.Lawful.{entries_of}
 use Rattle.moos_play.specs.Rounds.{AreParted, CommunityLock, has_line, IsApart, IsGathered, met_of, times_met}
 use Rattle.moos_play.proofs.Mets.{moved_of, moves_each, moves_known}
 use Rattle.turn_lock.specs.declared.view.Met.{Met}
-use Rattle.turn_lock.specs.Passes.{beside, events_in, first_of, has_number, met_with, without}
+use Rattle.turn_lock.specs.Passes.{beside, events_in, first_pass, has_number, met_with, without_number}
 use Rattle.turn_lock.proofs.Mets.{count_more, count_one, length_without}
 
 -- The seats of the clients below this one are split off and taken in, with nothing seen and no calls.
 pub record AreSeated (lock : CommunityLock) (clients client : ℕ) (first : SeatState) : Type 0 where
-  pub same : first ≡ record (first_of lock clients) { left = first.left; made = first.made; met = first.met }
+  pub same : first ≡ record (first_pass lock clients) { left = first.left; made = first.made; met = first.met }
   pub left : first.left + client ≡ clients
   pub made : first.made + 1 ≡ client
   pub all : length first.met ≡ first.made
@@ -54,8 +53,8 @@ times_other met one n ne =
     omega (arith, other, count_more n met (one ∷ []), count_one n one [])
 
 -- one seat more is split off and taken in
-seated_on : (lock : CommunityLock) (clients client : ℕ) (left made : ℕ) (met : List (Met Entry)) → AreSeated lock clients client (record (first_of lock clients) { left = left; made = made; met = met }) → client < clients
-    → AreSeated lock clients (client + 1) (record (first_of lock clients) { left = left - 1; made = made + 1; met = met ++ record { number = made + 1; events = [] } ∷ [] })
+seated_on : (lock : CommunityLock) (clients client : ℕ) (left made : ℕ) (met : List (Met Entry)) → AreSeated lock clients client (record (first_pass lock clients) { left = left; made = made; met = met }) → client < clients
+    → AreSeated lock clients (client + 1) (record (first_pass lock clients) { left = left - 1; made = made + 1; met = met ++ record { number = made + 1; events = [] } ∷ [] })
 seated_on lock clients client left made met so below = record {
   same = refl;
   left = omega (arith, so.left, below);
@@ -83,7 +82,7 @@ pub seated_more : (lock : CommunityLock) (clients client : ℕ) (first split new
 seated_more lock clients client first split new after so below split_is new_is after_is =
     let step : SeatState → SeatState = λ s. met_with (record s { left = s.left - 1; made = s.made + 1 }) (beside s (s.made + 1) []) in
     let shape : after ≡ step first = after_is ∙ ap (λ s. met_with s new) split_is ∙ ap (λ s. met_with (record first { left = first.left - 1; made = first.made + 1 }) s) new_is in
-    let full : after ≡ step (record (first_of lock clients) { left = first.left; made = first.made; met = first.met }) = shape ∙ ap step so.same in
+    let full : after ≡ step (record (first_pass lock clients) { left = first.left; made = first.made; met = first.met }) = shape ∙ ap step so.same in
     subst (AreSeated lock clients (client + 1)) (sym full)
     (seated_on lock clients client first.left first.made first.met (subst (AreSeated lock clients client) so.same so) below)
 
@@ -149,21 +148,21 @@ is_with lock lines client before first players gathered so above below =
 
 -- a client with lines is parted from the first seat
 pub parted_more : (lock : CommunityLock) (lines : List Entry) (client : ℕ) (before first after seat : SeatState) (players : List Player) (player : Player) → IsGathered lock before → ArePartedTo lock lines client before first players
-    → 0 < client → client < length lock.base → after ≡ record first { met = without client first.met } → player.seat ≡ beside first client (events_in first.met client)
+    → 0 < client → client < length lock.base → after ≡ record first { met = without_number client first.met } → player.seat ≡ beside first client (events_in first.met client)
     → ArePartedTo lock lines (client + 1) before after (players ++ player ∷ [])
 parted_more lock lines client before first after seat players player gathered so above below after_is seat_is =
     subst (λ s. ArePartedTo lock lines (client + 1) before s (players ++ player ∷ [])) (sym shape) (record {
       same = refl;
       apart = All-push (λ player. IsApart lock player.seat) players player so.apart (subst (IsApart lock) (sym seat_is) apart);
       all = omega (arith, so.all, length_without client first.met, with', length-append players (player ∷ []));
-      each = λ n. ap (λ met. times_met n (without client first.met) + times_met n met) mets ∙ moves_each client first.met (map met_of players) with' n ∙ so.each n;
-      known = λ n. ap (λ met. events_in (without client first.met ++ met) n) mets ∙ moves_known client first.met (map met_of players) with' (so.fresh client (omega arith)) n ∙ so.known n;
+      each = λ n. ap (λ met. times_met n (without_number client first.met) + times_met n met) mets ∙ moves_each client first.met (map met_of players) with' n ∙ so.each n;
+      known = λ n. ap (λ met. events_in (without_number client first.met ++ met) n) mets ∙ moves_known client first.met (map met_of players) with' (so.fresh client (omega arith)) n ∙ so.known n;
       busy = λ n above' below' absent. busy n above' below' (subst (λ met. times_met n met ≡ 0) mets absent) (ℕ_discrete client n);
       fresh = λ n past. ap (times_met n) mets ∙ times_other (map met_of players) moved n (λ e. omega (arith, e, past)) ∙ so.fresh n (omega (arith, past));
     })
   where
-    shape : after ≡ record before { met = without client first.met }
-    shape = after_is ∙ ap {A = SeatState} (λ s. record s { met = without client first.met }) so.same
+    shape : after ≡ record before { met = without_number client first.met }
+    shape = after_is ∙ ap {A = SeatState} (λ s. record s { met = without_number client first.met }) so.same
 
     with' : times_met client first.met ≡ 1
     with' = is_with lock lines client before first players gathered so above below

@@ -7,10 +7,10 @@ use Rattle.std.proofs.lemmas.Bool.Decides.{nat_tests}
 use Rattle.std.proofs.lemmas.List.{drop-take, take-append-drop, take-take}
 use Rattle.std.proofs.lemmas.List.Elements.{filter-append}
 use Rattle.std.proofs.lemmas.List.Folds.{list_all-append}
-use Rattle.moos_client.specs.Calls.{SeatState}
+use Rattle.moos_client.specs.Calls.{SeatState, entries_of}
 use Rattle.moos_post.specs.declared.entry.Entry.{Entry}
 use Rattle.moos_post.specs.History.{History}
-use Rattle.moos_play.specs.Lawful.{no_stamp_goes_back, entries_of, IsLawful, KeepsOrder}
+use Rattle.moos_play.specs.Lawful.{no_stamp_goes_back, IsLawful, KeepsOrder}
 use Rattle.moos_play.specs.Rounds.{EndsRound, GoesOn, HasSeen, IsOneRound}
 use Rattle.moos_play.proofs.Histories.{none_keeps, none_left, order_kept, own_rest, rise_front}
 use Rattle.script_reader.specs.declared.script.Order.{Order}

@@ -1,14 +1,14 @@
 -- The players after their lines, and the first seat that takes them in.
-use Rattle.std.proofs.Common.{◌≡◌, ◌≢◌, ℕ, suc, ◌<◌, ◌==◌, cond, List, [], ◌∷◌, ◌++◌, map, length, length-append, take, drop, Ok, Err, OnOk, IfOk, Result, refl, sym, ap, ◌∙◌, subst, arith, append-nil, append_assoc, eq-eqb, ne_eqb}
+use Rattle.std.proofs.Common.{◌≡◌, ◌≢◌, ℕ, suc, ◌<◌, ◌==◌, cond, List, [], ◌∷◌, ◌++◌, map, length, length-append, take, drop, Ok, Err, None, Some, OnOk, IfOk, Result, refl, sym, ap, ◌∙◌, subst, arith, append-nil, append_assoc, eq-eqb, ne_eqb}
 use Rattle.std.specs.Prelude.{slice_index_or}
 use Rattle.std.specs.List.{All, AllZip}
 use Rattle.std.proofs.lemmas.List.{drop_all, map-append, length-map, take_all}
 use Rattle.std.proofs.lemmas.List.Elements.{All-cons, All-head, All-nil, All-push, All-tail, length_all_zip}
 use native.Mathlib.Decide.{ℕ_discrete}
-use Rattle.moos_client.specs.Calls.{SeatState}
+use Rattle.moos_client.specs.Calls.{SeatState, entries_of}
 use Rattle.moos_post.specs.declared.entry.Entry.{Entry}
+use Rattle.moos_post.specs.History.{History}
 use Rattle.moos_play.specs.declared.player.Player.{Player}
-use Rattle.moos_play.specs.Lawful.{entries_of}
 use Rattle.moos_play.specs.Rounds.{AreParted, CommunityLock, GoesOn, HasEnded, HasPlayed, HasSeenAll, HasTaken, IsApart, IsGathered, met_of, times_met}
 use Rattle.moos_play.proofs.Mets.{known_after}
 use Rattle.moos_play.proofs.Playing.{may_on}
@@ -168,6 +168,13 @@ round_gathered lock lines before parted played after players ended gathered apar
       each = λ n above below. omega (arith, round_times ended n apart zip taken.ended, gathered.each n above below);
       once = λ n. omega (arith, round_times ended n apart zip taken.ended, gathered.once n);
     })
+
+-- the first seat has seen all once it has given back what was lent to it, whose history is all that it knows
+pub seen_all : (before lent after : SeatState) (history : History) → before.turn ≡ None → Begins history before.seen → ((n : ℕ) → entries_of n history ≡ known_of before n)
+    → lent ≡ record before { turn = Some history } → after ≡ record lent { seen = history; turn = None } → HasSeenAll before after
+seen_all before lent after history free later whole lent_is after_is =
+    let is : after ≡ record before { seen = history; turn = None } = after_is ∙ ap {A = SeatState} (λ s. record s { seen = history; turn = None }) lent_is in
+    subst (HasSeenAll before) (sym is) (record { later = later; same = ap (λ turn. record before { seen = history; turn = turn }) (sym free); whole = whole })
 
 -- the first seat sees no more than it may
 pub seen_gathered : (lock : CommunityLock) (before after : SeatState) → HasSeenAll before after → IsGathered lock before → IsGathered lock after

@@ -1,14 +1,10 @@
 -- Which histories the clients of a script may leave, whatever the threads did.
-use Rattle.std.specs.Prelude.{◌≡◌, ℕ, Bool, ◌&&◌, nat_le, List, [], ◌∷◌, filter, ◌==◌, IsTrue, true}
-use Rattle.moos_post.specs.declared.entry.Entry.{Entry}
+use Rattle.std.specs.Prelude.{◌≡◌, ℕ, Bool, ◌&&◌, nat_le, [], ◌∷◌, IsTrue, true}
+use Rattle.moos_client.specs.Calls.{entries_of}
 use Rattle.moos_post.specs.History.{History}
 use Rattle.script_reader.specs.declared.script.Order.{Order}
 use Rattle.script_reader.specs.declared.script.Order.TheVariants.{Stamp, Race}
 use Rattle.script_reader.specs.declared.script.Script.{Script}
-
--- a client's own entries, in order
-abbrev pub entries_of : ℕ → History → List Entry
-entries_of client history = filter (λ entry. entry.client == client) history
 
 -- no stamp is below the one before
 abbrev pub no_stamp_goes_back : ℕ → History → Bool

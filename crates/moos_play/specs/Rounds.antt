@@ -1,10 +1,10 @@
 -- What a round does to the seats of the clients. This serves the functions of this crate alone.
 use Rattle.std.specs.Prelude.{◌≡◌, ℕ, ◌+◌, ◌-◌, ◌==◌, ◌<◌, ◌≤◌, Bool, IsTrue, List, [], ◌++◌, length, map, take, drop, OnOk, Ok, count_by}
 use Rattle.std.specs.List.{All, list_all, list_any}
-use Rattle.moos_client.specs.Calls.{MayCall, SeatState}
+use Rattle.moos_client.specs.Calls.{MayCall, SeatState, entries_of}
 use Rattle.moos_post.specs.declared.entry.Entry.{Entry}
 use Rattle.moos_play.specs.declared.player.Player.{Player}
-use Rattle.moos_play.specs.Lawful.{entries_of, KeepsOrder}
+use Rattle.moos_play.specs.Lawful.{KeepsOrder}
 use Rattle.script_reader.specs.declared.script.Order.{Order}
 use Rattle.script_reader.specs.declared.script.Order.TheVariants.{Stamp, Race}
 use Rattle.turn_lock.specs.declared.view.Met.{Met}

@@ -4,7 +4,7 @@ ghost use Rattle.std.specs.List.{list_all};
 ghost use Rattle.moos_play.specs.Lawful.{IsLawful, no_stamp_goes_back};
 ghost use Rattle.moos_play.specs.Rounds.{EndsRound, HasSeen, IsGathered, KnowsNothing};
 ghost use Rattle.script_reader.specs.Validity.{IsValid};
-ghost use Rattle.turn_lock.specs.Passes.{first_of};
+ghost use Rattle.turn_lock.specs.Passes.{first_pass};
 
 use crate::round::play_round;
 use moos_client::{Lock, Seat};
@@ -69,7 +69,7 @@ fn copy_names(alloc: Global, names: &Names) -> Result<Names, NoMemory>
 // Splits off the seats of all other clients from that of the first, which takes them in.
 fn seat_all(lock: &Lock, first: &mut Seat, clients: u32)
     requires clients { (0 < clients) × (clients ≡ length lock.now.base) }
-    requires first { first.old ≡ first_of lock.now clients }
+    requires first { first.old ≡ first_pass lock.now clients }
     ensures gathered { IsGathered lock.now first.new }
     ensures nothing { KnowsNothing first.new }
 {

@@ -15,8 +15,8 @@ use Rattle.turn_lock.specs.declared.view.Known.{Known}
 use Rattle.turn_lock.specs.declared.view.Turn.{Turn}
 use Rattle.turn_lock.specs.declared.view.Turn.TheVariants.{Idle, Waits, Holds}
 use Rattle.turn_lock.specs.Passes.{events_in, own}
-use Rattle.turn_lock.specs.Rule.{Book, Fits, has_turn, IsHome, IsOut, IsPlaced, Kept, known_in, Stands, tickets, times, weight}
-use Rattle.turn_lock.specs.Steps.{Adds, advanced, Advances, began, in_hand, Returns}
+use Rattle.turn_lock.specs.Rule.{Book, Fits, has_turn, IsHome, IsOut, IsPlaced, TurnRule, known_in, Stands, tickets, times, turn_start, weight}
+use Rattle.turn_lock.specs.Steps.{Adds, advanced, Advances, in_hand, Returns}
 use Rattle.turn_lock.proofs.Fronts.{longer_begins}
 use Rattle.turn_lock.proofs.Queues.{held_set, tickets_of}
 use Rattle.turn_lock.proofs.Sums.{sum_set}
@@ -172,13 +172,13 @@ module _ {E B S : Type 0} (base_of : S → B) (history_of : S → List E) (numbe
   advanced_is : (book : Book E) (added : List E) (id : ℕ) (v : Known E B) (x : S) (ticket : ℕ) → v.turn ≡ Holds ticket book.log → history_of x ≡ book.log ++ added
       → done base_of history_of number base book added id v ≡ advanced v (history_of x)
   advanced_is book added id v x ticket holds log_is =
-      let front : began v.turn ≡ book.log = ap began holds in
-      let rest_is : drop (length (began v.turn)) (history_of x) ≡ added = (λ i. drop (length (front i)) (log_is i)) ∙ drop-append_seam book.log added in
+      let front : unwrap_or (turn_start v.turn) [] ≡ book.log = ap (λ turn. unwrap_or (turn_start turn) []) holds in
+      let rest_is : drop (length (unwrap_or (turn_start v.turn) [])) (history_of x) ≡ added = (λ i. drop (length (front i)) (log_is i)) ∙ drop-append_seam book.log added in
       λ i. record v { seen = sym log_is i; mine = v.mine ++ sym rest_is i; turn = Idle }
 
   -- a pass that has the value in hand in its turn may put it back, with its own events added
   pub advances : (slots id ticket : ℕ) (me : Me (Option S) (Known E B)) (it : Step (Option S)) (x : S) (added : List E) → me.0.live ≡ true → me.1 ≡ (0, Some x) ∷ [] → Returns base_of history_of number ticket added me.0 x
-      → Allows (Kept base_of history_of number base) slots id me 1 (λ n. (n + 1) % 2 ^ 64) (Advances history_of it me)
+      → Allows (TurnRule base_of history_of number base) slots id me 1 (λ n. (n + 1) % 2 ^ 64) (Advances history_of it me)
   advances slots id ticket me it x added live hand returns s kept size at bound =
       (advanced me.0 (in_hand history_of me.1), gives, tt, subst Keeps (sym hand) kept_after, refl)
     where
@@ -210,10 +210,10 @@ module _ {E B S : Type 0} (base_of : S → B) (history_of : S → List E) (numbe
       words = set s.words 1 ((slice_index s.words 1 + 1) % 2 ^ 64)
 
       Keeps : List (ℕ × Option S) → Type 0
-      Keeps hs = Kept base_of history_of number base (record { words = words; homes = put_back s.homes hs; views = set s.views id (advanced v (in_hand history_of hs)) })
+      Keeps hs = TurnRule base_of history_of number base (record { words = words; homes = put_back s.homes hs; views = set s.views id (advanced v (in_hand history_of hs)) })
 
       kept_after : Keeps ((0, Some x) ∷ [])
-      kept_after = subst (λ (w : Known E B). Kept base_of history_of number base (record { words = words; homes = set s.homes 0 (some (Some x)); views = set s.views id w })) (advanced_is book added id v x ticket holds log_is) (
+      kept_after = subst (λ (w : Known E B). TurnRule base_of history_of number base (record { words = words; homes = set s.homes 0 (some (Some x)); views = set s.views id w })) (advanced_is book added id v x ticket holds log_is) (
         after base_of history_of number base book added id v,
         done_stands base_of history_of number base book added id v s.words s.views ticket book.log at live holds returns.adds stands,
         inr (done_home base_of history_of number base book added id v s x ticket book.log words at live holds stands kept.2 log_is base_is),

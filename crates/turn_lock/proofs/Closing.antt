@@ -9,7 +9,7 @@ use Rattle.atomic_table.proofs.Lists.{at_longer, at_snoc, set_again}
 use Rattle.turn_lock.specs.declared.view.Known.{Known}
 use Rattle.turn_lock.specs.declared.view.Turn.TheVariants.{Idle}
 use Rattle.turn_lock.specs.Passes.{Begins, own}
-use Rattle.turn_lock.specs.Rule.{Book, Fits, has_turn, IsHeldAt, IsHome, IsKnown, IsOut, IsPlaced, Kept, known_in, newcomer, Stands, tickets, times, weight}
+use Rattle.turn_lock.specs.Rule.{Book, Fits, has_turn, IsHeldAt, IsHome, IsKnown, IsOut, IsPlaced, TurnRule, known_in, newcomer, Stands, tickets, times, weight}
 use Rattle.turn_lock.specs.Steps.{closed}
 use Rattle.turn_lock.proofs.Turns.{only, whole}
 use Rattle.turn_lock.proofs.Sums.{one_at_most}
@@ -27,7 +27,7 @@ first_only E base passes (suc n) some' = absurd (omega (arith, some', other))
 
 module _ {E B S : Type 0} (base_of : S → B) (history_of : S → List E) (number : E → ℕ) (base : B) where
   -- a lock begins with the value in its slot and the first pass
-  pub begins : (x : S) (passes : ℕ) → history_of x ≡ [] → base_of x ≡ base → 1 ≤ passes → passes < 2 ^ 32 → Kept base_of history_of number base (opening (0 ∷ 0 ∷ []) (Some x ∷ []) (newcomer base passes))
+  pub begins : (x : S) (passes : ℕ) → history_of x ≡ [] → base_of x ≡ base → 1 ≤ passes → passes < 2 ^ 32 → TurnRule base_of history_of number base (opening (0 ∷ 0 ∷ []) (Some x ∷ []) (newcomer base passes))
   begins x passes empty base_is some' few = (book, stands, inr (x, refl, empty, base_is, λ seat u at live. idle seat u at))
     where
       first : Known E B
@@ -73,7 +73,7 @@ module _ {E B S : Type 0} (base_of : S → B) (history_of : S → List E) (numbe
           }
 
   -- what is left of the first pass stands beside the others
-  pub leaves : (id : ℕ) (v : Known E B) → v.turn ≡ Idle → Splits (Kept base_of history_of number base) id v v (closed v)
+  pub leaves : (id : ℕ) (v : Known E B) → v.turn ≡ Idle → Splits (TurnRule base_of history_of number base) id v v (closed v)
   leaves id v idle s kept at = subst Keeps (sym (set_again s.views id v at)) (book, stands, lies kept.2)
     where
       book : Book E
@@ -86,7 +86,7 @@ module _ {E B S : Type 0} (base_of : S → B) (history_of : S → List E) (numbe
       twin = closed v
 
       Keeps : List (Known E B) → Type 0
-      Keeps views = Kept base_of history_of number base (record { words = s.words; homes = s.homes; views = views ++ twin ∷ [] })
+      Keeps views = TurnRule base_of history_of number base (record { words = s.words; homes = s.homes; views = views ++ twin ∷ [] })
 
       each : (seat : ℕ) (u : Known E B) → u.live ≡ true → (get_elem? s.views seat ≡ some u) ⊎ (twin ≡ u) → Fits number base book.log book.owner book.total seat u × IsPlaced book seat u.turn
       each seat u live (inl at') = h.each seat u at' live
@@ -120,14 +120,14 @@ module _ {E B S : Type 0} (base_of : S → B) (history_of : S → List E) (numbe
     pub seen : Begins (history_of x) v.seen
     pub whole_is : (n : ℕ) → own number n (history_of x) ≡ known_in v n
 
-  pub ends : (id : ℕ) (v : Known E B) (words : List ℕ) (slots : List (Option S)) (slot : Option S) → v.live ≡ true → v.turn ≡ Idle → v.number ≡ 0 → length v.met ≡ v.made → Final (Seen (Kept base_of history_of number base) id v) words slots
+  pub ends : (id : ℕ) (v : Known E B) (words : List ℕ) (slots : List (Option S)) (slot : Option S) → v.live ≡ true → v.turn ≡ Idle → v.number ≡ 0 → length v.met ≡ v.made → Final (Seen (TurnRule base_of history_of number base) id v) words slots
       → get_elem? slots 0 ≡ some slot → Ends slot v
   ends id v words slots slot live idle first all final there = by kept.2
     where
       s : State (Option S) (Known E B)
       s = final.0
 
-      kept : Kept base_of history_of number base s
+      kept : TurnRule base_of history_of number base s
       kept = final.1.0
 
       at : get_elem? s.views id ≡ some v

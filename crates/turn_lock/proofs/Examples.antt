@@ -14,9 +14,9 @@ use Rattle.turn_lock.specs.declared.view.Met.{Met}
 use Rattle.turn_lock.specs.declared.view.Turn.{Turn}
 use Rattle.turn_lock.specs.declared.view.Turn.TheVariants.{Idle, Waits, Holds}
 use Rattle.turn_lock.specs.Lending.{LendsValue}
-use Rattle.turn_lock.specs.Passes.{Begins, beside, events_in, first_of, HasAll, IsFree, IsOf, IsWhole, known_of, LockState, longer, met_with, own, PassState, WasLent, without}
-use Rattle.turn_lock.specs.Rule.{begun, Book, Fits, IsHeldAt, IsHome, IsKnown, IsOut, IsPlaced, Kept, Stands, has_ticket, has_turn, known_in, newcomer, shown, tickets, times, weight}
-use Rattle.turn_lock.specs.Steps.{Adds, advanced, Advances, closed, dealt, Draws, hand_of, in_hand, IsAtRest, IsLent, joined, new_of, part_of, parted, Polls, Returns, Settles, spent, Takes}
+use Rattle.turn_lock.specs.Passes.{Begins, beside, events_in, first_pass, HasAll, IsFree, IsOf, KnowsAll, known_of, LockState, longer, met_with, own, PassState, WasLent, without_number}
+use Rattle.turn_lock.specs.Rule.{turn_start, Book, Fits, IsHeldAt, IsHome, IsKnown, IsOut, IsPlaced, TurnRule, Stands, has_ticket, has_turn, known_in, newcomer, shown, tickets, times, weight}
+use Rattle.turn_lock.specs.Steps.{Adds, advanced, Advances, closed, split_off, Draws, hand_of, in_hand, IsAtRest, IsLent, took_in, new_of, part_of, parted, Polls, Returns, Settles, used_up, Takes}
 
 -- the pass of an event
 abbrev pass_of : ℕ → ℕ
@@ -38,7 +38,7 @@ longer_one = (refl, refl)
 abbrev both : List (Met ℕ)
 both = record { number = 1; events = 10 ∷ [] } ∷ record { number = 2; events = 20 ∷ 21 ∷ [] } ∷ []
 
-events : (events_in both 2 ≡ 20 ∷ 21 ∷ []) × (events_in both 3 ≡ []) × (events_in (without 2 both) 2 ≡ [])
+events : (events_in both 2 ≡ 20 ∷ 21 ∷ []) × (events_in both 3 ≡ []) × (events_in (without_number 2 both) 2 ≡ [])
 events = (refl, refl, refl)
 
 -- the events of each number in the history 0, 10 are those that the passes 0 and 1 made
@@ -54,7 +54,7 @@ module _ (table : TableId) where
 
   -- the first of two passes: nobody else is to be taken in yet
   abbrev first : PassState ℕ (Unit {0})
-  first = first_of community 2
+  first = first_pass community 2
 
   first_is : IsOf community first × IsFree first × HasAll first
   first_is = (record { same = refl; live = refl; base = refl }, refl, record { first = refl; all = refl })
@@ -83,14 +83,14 @@ module _ (table : TableId) where
   taken_is = (refl, refl, refl, refl, record { first = refl; all = refl })
 
   -- so it knows the whole history
-  taken_whole : IsWhole pass_of taken (0 ∷ 10 ∷ [])
+  taken_whole : KnowsAll pass_of taken (0 ∷ 10 ∷ [])
   taken_whole n = both_own (0 == n) (1 == n) (λ a b. grind arith)
 
   -- and it knew less before it had taken the other in: not all passes, and not the other's event
   not_all_before : HasAll first_after → ⊥
   not_all_before all = omega (arith, all.all)
 
-  not_whole_before : IsWhole pass_of first_after (0 ∷ 10 ∷ []) → ⊥
+  not_whole_before : KnowsAll pass_of first_after (0 ∷ 10 ∷ []) → ⊥
   not_whole_before whole = omega (arith, ap length (whole 1))
 
   -- what a pass shows of what it knows
@@ -102,12 +102,12 @@ abbrev alone : Known ℕ (Unit {0})
 alone = newcomer tt 2
 
 abbrev again : Known ℕ (Unit {0})
-again = joined (dealt alone) (record (new_of alone) { mine = 10 ∷ [] })
+again = took_in (split_off alone) (record (new_of alone) { mine = 10 ∷ [] })
 
 counts : (weight alone ≡ 1) × (weight again ≡ 2) × (times again 1 ≡ 1) × (times again 2 ≡ 0) × (known_in again 1 ≡ 10 ∷ []) × (weight (closed again) ≡ 0)
 counts = (refl, refl, refl, refl, refl, refl)
 
-splits : ((dealt alone).left ≡ 0) × ((dealt alone).made ≡ 1) × ((new_of alone).number ≡ 1)
+splits : ((split_off alone).left ≡ 0) × ((split_off alone).made ≡ 1) × ((new_of alone).number ≡ 1)
 splits = (refl, refl, refl)
 
 parts : (weight (parted 1 again) ≡ 1) × ((part_of 1 again).mine ≡ 10 ∷ []) × ((part_of 1 again).number ≡ 1)
@@ -120,7 +120,7 @@ waiting = record alone { turn = Waits 7 }
 abbrev holding : Known ℕ (Unit {0})
 holding = record alone { turn = Holds 7 (10 ∷ []) }
 
-turns : (tickets alone ≡ 0) × (tickets waiting ≡ 1) × (tickets holding ≡ 1) × (has_ticket waiting.turn ≡ true) × (has_turn waiting.turn ≡ false) × (has_turn holding.turn ≡ true) × (begun holding.turn ≡ Some (10 ∷ []))
+turns : (tickets alone ≡ 0) × (tickets waiting ≡ 1) × (tickets holding ≡ 1) × (has_ticket waiting.turn ≡ true) × (has_turn waiting.turn ≡ false) × (has_turn holding.turn ≡ true) × (turn_start holding.turn ≡ Some (10 ∷ []))
 turns = (refl, refl, refl, refl, refl, refl, refl)
 
 hands : (hand_of {S = ℕ} waiting.turn ≡ []) × (hand_of {S = ℕ} holding.turn ≡ (0, None) ∷ [])
@@ -162,7 +162,7 @@ lent = record gathered { turn = Holds 7 whole }
 
 -- the value with all that the first pass has seen and knows is lent to it
 is_lent : IsLent base_of history_of pass_of 7 gathered whole lent
-is_lent = record { holds = refl; seen = (10 ∷ [], refl); base = refl; whole = λ first all n. both_own (0 == n) (1 == n) (grind arith) }
+is_lent = record { holds = refl; seen = (10 ∷ [], refl); mine = refl; base = refl; whole = λ first all n. both_own (0 == n) (1 == n) (grind arith) }
 
 -- no value is lent to it that lacks what it has seen, nor one with an event of the other pass that it doesn't know
 lacks_seen : IsLent base_of history_of pass_of 7 gathered (10 ∷ []) (record gathered { turn = Holds 7 (10 ∷ []) }) → ⊥
@@ -171,9 +171,13 @@ lacks_seen given = let (rest, same) = given.seen in cc
 has_unknown : IsLent base_of history_of pass_of 7 gathered (0 ∷ 10 ∷ 11 ∷ []) (record gathered { turn = Holds 7 (0 ∷ 10 ∷ 11 ∷ []) }) → ⊥
 has_unknown given = omega (arith, ap length (given.whole refl refl 1))
 
+-- nor one with an event under its own number that it didn't add
+has_own_unknown : IsLent base_of history_of pass_of 7 gathered (0 ∷ 1 ∷ 10 ∷ []) (record gathered { turn = Holds 7 (0 ∷ 1 ∷ 10 ∷ []) }) → ⊥
+has_own_unknown given = omega (arith, ap length given.mine)
+
 -- to a pass that has not taken in all others, the same may be lent: it has seen its front
 unknown_to_some : IsLent base_of history_of pass_of 7 (record gathered { met = [] }) (0 ∷ 10 ∷ 11 ∷ []) (record gathered { met = []; turn = Holds 7 (0 ∷ 10 ∷ 11 ∷ []) })
-unknown_to_some = record { holds = refl; seen = (10 ∷ 11 ∷ [], refl); base = refl; whole = λ first all. absurd (omega arith) }
+unknown_to_some = record { holds = refl; seen = (10 ∷ 11 ∷ [], refl); mine = refl; base = refl; whole = λ first all. absurd (omega arith) }
 
 -- a turn that ends gives the value back with one event of the pass more, or none, and with none of another pass
 one_more : Returns base_of history_of pass_of 7 (1 ∷ []) lent (0 ∷ 10 ∷ 1 ∷ [])
@@ -326,7 +330,7 @@ stands = record {
 is_out : IsOut book out
 is_out = (refl, (1, other_holds, refl, refl, refl, refl))
 
-kept : Kept base_of history_of pass_of tt out
+kept : TurnRule base_of history_of pass_of tt out
 kept = (book, stands, inl is_out)
 
 other_number : IsHeldAt (first_waits ∷ other_holds ∷ []) 0 1 → ⊥
@@ -357,16 +361,16 @@ other_home : IsHome base_of history_of tt book (record back { homes = some (Some
 other_home (value, home, history, base, idle) = let equal : 0 ∷ [] ≡ value = cc in omega (arith, ap length equal, ap length history)
 
 -- a value doesn't lie in the slot while a pass holds a turn, and isn't missing while none does
-held_twice : Kept base_of history_of pass_of tt (record out { homes = some (Some whole) ∷ [] }) → ⊥
+held_twice : TurnRule base_of history_of pass_of tt (record out { homes = some (Some whole) ∷ [] }) → ⊥
 held_twice (now, all, inl (gone, held)) = cc
 held_twice (now, all, inr (value, home, history, base, idle)) = let held : true ≡ false = idle 1 other_holds refl refl in cc
 
-lost : Kept base_of history_of pass_of tt (record back { homes = none ∷ [] }) → ⊥
+lost : TurnRule base_of history_of pass_of tt (record back { homes = none ∷ [] }) → ⊥
 lost (now, all, inl (gone, (seat, v, queued, at, live, holds))) =
     let waits : has_turn v.turn ≡ false = two_seats IsWithoutTurn first_waits (record other_holds { turn = Idle }) (λ one. refl) (λ one. refl) seat v at live in
     cc
 lost (now, all, inr (value, home, history, base, idle)) = cc
 
 -- what is left of a pass that was taken in counts no more
-none_left : (weight {E = ℕ} {B = Unit {0}} spent ≡ 0) × (tickets {E = ℕ} {B = Unit {0}} spent ≡ 0)
+none_left : (weight {E = ℕ} {B = Unit {0}} used_up ≡ 0) × (tickets {E = ℕ} {B = Unit {0}} used_up ≡ 0)
 none_left = (refl, refl)

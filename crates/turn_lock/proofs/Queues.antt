@@ -14,7 +14,7 @@ use Rattle.atomic_table.proofs.Lists.{at_last, at_longer, at_set, set_else, set_
 use Rattle.turn_lock.specs.declared.view.Known.{Known}
 use Rattle.turn_lock.specs.declared.view.Turn.{Turn}
 use Rattle.turn_lock.specs.declared.view.Turn.TheVariants.{Idle, Waits, Holds}
-use Rattle.turn_lock.specs.Rule.{Book, Fits, has_ticket, has_turn, IsHeldAt, IsHome, IsOut, IsPlaced, Kept, Stands, tickets, times, weight}
+use Rattle.turn_lock.specs.Rule.{Book, Fits, has_ticket, has_turn, IsHeldAt, IsHome, IsOut, IsPlaced, TurnRule, Stands, tickets, times, weight}
 use Rattle.turn_lock.specs.Steps.{Draws}
 use Rattle.turn_lock.proofs.Sums.{sum_set}
 
@@ -125,7 +125,7 @@ module _ {E B S : Type 0} (base_of : S → B) (history_of : S → List E) (numbe
 
   -- a pass that holds no turn may draw a ticket
   pub draws : (slots id : ℕ) (me : Me (Option S) (Known E B)) (it : Step (Option S)) → me.0.live ≡ true → me.0.turn ≡ Idle
-      → Allows (Kept base_of history_of number base) slots id me 0 (λ n. (n + 1) % 2 ^ 64) (Draws it me)
+      → Allows (TurnRule base_of history_of number base) slots id me 0 (λ n. (n + 1) % 2 ^ 64) (Draws it me)
   draws slots id me it live idle s kept size at bound =
       let book = kept.0 in
       let ticket : ℕ = book.start + length book.queue in

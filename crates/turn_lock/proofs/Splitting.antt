@@ -11,9 +11,9 @@ use Rattle.atomic_table.proofs.Lists.{at_last, at_longer, at_set, at_snoc}
 use Rattle.turn_lock.specs.declared.view.Known.{Known}
 use Rattle.turn_lock.specs.declared.view.Met.{Met}
 use Rattle.turn_lock.specs.declared.view.Turn.TheVariants.{Idle}
-use Rattle.turn_lock.specs.Passes.{events_in, has_number, own, without}
-use Rattle.turn_lock.specs.Rule.{Book, Fits, has_turn, IsHeldAt, IsHome, IsKnown, IsOut, IsPlaced, Kept, known_in, Stands, tickets, times, weight}
-use Rattle.turn_lock.specs.Steps.{apart, dealt, new_of, parted, part_of}
+use Rattle.turn_lock.specs.Passes.{events_in, has_number, own, without_number}
+use Rattle.turn_lock.specs.Rule.{Book, Fits, has_turn, IsHeldAt, IsHome, IsKnown, IsOut, IsPlaced, TurnRule, known_in, Stands, tickets, times, weight}
+use Rattle.turn_lock.specs.Steps.{apart, split_off, new_of, parted, part_of}
 use Rattle.turn_lock.proofs.Mets.{count_gone, count_kept, events_kept, length_without, met_counts}
 use Rattle.turn_lock.proofs.Queues.{held_set, holder_stays, home_set}
 use Rattle.turn_lock.proofs.Sums.{one_at_most, sum_set}
@@ -200,8 +200,8 @@ module _ {E B S : Type 0} (base_of : S → B) (history_of : S → List E) (numbe
 
 module _ {E B S : Type 0} (base_of : S → B) (history_of : S → List E) (number : E → ℕ) (base : B) where
   -- a new pass may be split off the first
-  pub deals : (id : ℕ) (v : Known E B) → v.live ≡ true → v.turn ≡ Idle → v.number ≡ 0 → 0 < v.left → Splits (Kept base_of history_of number base) id v (dealt v) (new_of v)
-  deals id v live idle first left s kept at =
+  pub splits : (id : ℕ) (v : Known E B) → v.live ≡ true → v.turn ≡ Idle → v.number ≡ 0 → 0 < v.left → Splits (TurnRule base_of history_of number base) id v (split_off v) (new_of v)
+  splits id v live idle first left s kept at =
       (cut_book base_of history_of number base book id v (v.left - 1) (v.made + 1) v.met n [] total cuts s at h, cut_stands base_of history_of number base book id v (v.left - 1) (v.made + 1) v.met n [] total cuts s at h, cut_lies base_of history_of number base book id v (v.left - 1) (v.made + 1) v.met n [] total cuts s at h kept.2)
     where
       book : Book E
@@ -246,9 +246,9 @@ module _ {E B S : Type 0} (base_of : S → B) (history_of : S → List E) (numbe
           }
 
   -- a pass that the first one has taken in may be parted from it
-  pub parts : (id n : ℕ) (v : Known E B) → v.live ≡ true → v.turn ≡ Idle → v.number ≡ 0 → list_any (has_number n) v.met ≡ true → Splits (Kept base_of history_of number base) id v (parted n v) (part_of n v)
+  pub parts : (id n : ℕ) (v : Known E B) → v.live ≡ true → v.turn ≡ Idle → v.number ≡ 0 → list_any (has_number n) v.met ≡ true → Splits (TurnRule base_of history_of number base) id v (parted n v) (part_of n v)
   parts id n v live idle first has s kept at =
-      (cut_book base_of history_of number base book id v v.left v.made (without n v.met) n mine book.total cuts s at h, cut_stands base_of history_of number base book id v v.left v.made (without n v.met) n mine book.total cuts s at h, cut_lies base_of history_of number base book id v v.left v.made (without n v.met) n mine book.total cuts s at h kept.2)
+      (cut_book base_of history_of number base book id v v.left v.made (without_number n v.met) n mine book.total cuts s at h, cut_stands base_of history_of number base book id v v.left v.made (without_number n v.met) n mine book.total cuts s at h, cut_lies base_of history_of number base book id v v.left v.made (without_number n v.met) n mine book.total cuts s at h kept.2)
     where
       book : Book E
       book = kept.0
@@ -274,7 +274,7 @@ module _ {E B S : Type 0} (base_of : S → B) (history_of : S → List E) (numbe
       not_own : (v.number == n) ≡ false
       not_own = ne_eqb v.number n apart_here
 
-      cuts : Cuts number book id v v.left v.made (without n v.met) n mine book.total
+      cuts : Cuts number book id v v.left v.made (without_number n v.met) n mine book.total
       cuts =
           record {
             live = live;

@@ -13,7 +13,7 @@ use Rattle.turn_lock.specs.declared.view.Known.{Known}
 use Rattle.turn_lock.specs.declared.view.Turn.{Turn}
 use Rattle.turn_lock.specs.declared.view.Turn.TheVariants.{Idle, Waits, Holds}
 use Rattle.turn_lock.specs.Passes.{Begins, events_in, has_number, own}
-use Rattle.turn_lock.specs.Rule.{Book, Fits, has_turn, has_ticket, IsHome, IsOut, IsPlaced, Kept, known_in, Stands, tickets, times, weight}
+use Rattle.turn_lock.specs.Rule.{Book, Fits, has_turn, has_ticket, IsHome, IsOut, IsPlaced, TurnRule, known_in, Stands, tickets, times, weight}
 use Rattle.turn_lock.specs.Steps.{Polls, Takes}
 use Rattle.turn_lock.proofs.Mets.{events_none}
 use Rattle.turn_lock.proofs.Queues.{held_set, turned, within}
@@ -26,6 +26,14 @@ unknown v n e = by (v.number == n) (omega arith)
     by : (b : Bool) → cond b 1 0 + count_by (has_number n) v.met ≡ 0 → cond b v.mine (events_in v.met n) ≡ []
     by true h = absurd (omega arith)
     by false h = events_none v.met n (omega arith)
+
+-- a pass knows its own number, and its own events of it
+knows_own : {E B : Type 0} (v : Known E B) → (0 < times v v.number) × (known_in v v.number ≡ v.mine)
+knows_own v = by (v.number == v.number) (eq-eqb v.number v.number refl)
+  where
+    by : (b : Bool) → b ≡ true → (0 < cond b 1 0 + count_by (has_number v.number) v.met) × (cond b v.mine (events_in v.met v.number) ≡ v.mine)
+    by true same = (omega arith, refl)
+    by false same = absurd (false≢true same)
 
 -- a live pass stands for itself and those that it has taken in
 pub weight_of : {E B : Type 0} (v : Known E B) → v.live ≡ true → weight v ≡ 1 + length v.met
@@ -131,7 +139,7 @@ module _ {E B S : Type 0} (base_of : S → B) (history_of : S → List E) (numbe
   -- what a look at the turn allows
   abbrev Looks : ℕ → Me (Option S) (Known E B) → Step (Option S) → State (Option S) (Known E B) → Type 0
   Looks id me it s =
-      (w : Known E B) × (a : Act (Option S)) × Valid s.homes me.1 a × Kept base_of history_of number base (stepped s 1 (slice_index s.words 1) id me.1 w a)
+      (w : Known E B) × (a : Act (Option S)) × Valid s.homes me.1 a × TurnRule base_of history_of number base (stepped s 1 (slice_index s.words 1) id me.1 w a)
       × Polls base_of history_of number it me (slice_index s.words 1) (w, carried_after me.1 a)
 
   taken : (id ticket : ℕ) (me : Me (Option S) (Known E B)) (it : Step (Option S)) (s : State (Option S) (Known E B)) (book : Book E) → me.0.live ≡ true → me.0.turn ≡ Waits ticket → get_elem? s.views id ≡ some me.0
@@ -154,6 +162,9 @@ module _ {E B S : Type 0} (base_of : S → B) (history_of : S → List E) (numbe
       away : set s.homes 0 none ≡ none ∷ []
       away = ap (λ hs. set hs 0 none) home.1
 
+      mine_here : own number me.0.number (history_of x) ≡ me.0.mine
+      mine_here = ap (own number me.0.number) home.2 ∙ ((fits.each me.0.number (knows_own me.0).0).events ∙ (knows_own me.0).1)
+
       whole_here : me.0.number ≡ 0 → length me.0.met ≡ me.0.made → (n : ℕ) → own number n (history_of x) ≡ known_in me.0 n
       whole_here first all n = ap (own number n) home.2 ∙ whole number base book s.words s.views h id me.0 at live first all n
 
@@ -161,11 +172,11 @@ module _ {E B S : Type 0} (base_of : S → B) (history_of : S → List E) (numbe
       told t waits' =
           let same : ticket ≡ t = ap ticket_of (sym waits ∙ waits') in
           subst (λ b. MatchBool b (Takes base_of history_of number t me (w, (0, Some x) ∷ me.1)) ((w, (0, Some x) ∷ me.1) ≡ me)) (sym (eq-eqb (slice_index s.words 1) (t % 2 ^ 64) (found ∙ ap (λ k. k % 2 ^ 64) same)))
-          (x, record { holds = ap (λ k. record me.0 { turn = Holds k (history_of x) }) same; seen = subst (λ log. Begins log me.0.seen) (sym home.2) fits.seen; base = fits.same ∙ ap Some (sym home.3); whole = whole_here }, refl)
+          (x, record { holds = ap (λ k. record me.0 { turn = Holds k (history_of x) }) same; seen = subst (λ log. Begins log me.0.seen) (sym home.2) fits.seen; mine = mine_here; base = fits.same ∙ ap Some (sym home.3); whole = whole_here }, refl)
 
   missed : (id ticket : ℕ) (me : Me (Option S) (Known E B)) (it : Step (Option S)) (s : State (Option S) (Known E B)) → me.0.turn ≡ Waits ticket → get_elem? s.views id ≡ some me.0
-      → Kept base_of history_of number base s → slice_index s.words 1 ≢ ticket % 2 ^ 64 → Looks id me it s
-  missed id ticket me it s waits at kept ne = (me.0, keeps, tt, subst (Kept base_of history_of number base) (sym same_state) kept, told)
+      → TurnRule base_of history_of number base s → slice_index s.words 1 ≢ ticket % 2 ^ 64 → Looks id me it s
+  missed id ticket me it s waits at kept ne = (me.0, keeps, tt, subst (TurnRule base_of history_of number base) (sym same_state) kept, told)
     where
       same_state : stepped s 1 (slice_index s.words 1) id me.1 me.0 keeps ≡ s
       same_state = λ i. record { words = set-get_or s.words 1 0 i; homes = s.homes; views = set_again s.views id me.0 at i }
@@ -177,7 +188,7 @@ module _ {E B S : Type 0} (base_of : S → B) (history_of : S → List E) (numbe
 
   -- a pass that waits may look at the turn, and takes the value where it is its own
   pub polls : (slots id ticket : ℕ) (me : Me (Option S) (Known E B)) (it : Step (Option S)) → me.0.live ≡ true → me.0.turn ≡ Waits ticket
-      → Allows (Kept base_of history_of number base) slots id me 1 (λ n. n) (Polls base_of history_of number it me)
+      → Allows (TurnRule base_of history_of number base) slots id me 1 (λ n. n) (Polls base_of history_of number it me)
   polls slots id ticket me it live waits s kept size at bound = dite (ℕ_discrete (slice_index s.words 1) (ticket % 2 ^ 64)) hit (missed id ticket me it s waits at kept)
     where
       placed : IsPlaced kept.0 id (Waits ticket)

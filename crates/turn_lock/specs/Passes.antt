@@ -61,8 +61,8 @@ events_in [] n = []
 events_in (one ∷ met) n = if has_number n one then one.events else events_in met n
 
 -- those taken in without each of this number
-abbrev pub without : {E : Type 0} → ℕ → List (Met E) → List (Met E)
-without n met = filter (λ one. not (has_number n one)) met
+abbrev pub without_number : {E : Type 0} → ℕ → List (Met E) → List (Met E)
+without_number n met = filter (λ one. not (has_number n one)) met
 
 -- all of the lock's passes have been taken in by this one, the first
 pub record HasAll {E B : Type 0} (pass : PassState E B) : Type 0 where
@@ -74,12 +74,12 @@ abbrev pub known_of : {E B : Type 0} → PassState E B → ℕ → List E
 known_of pass n = if pass.number == n then pass.mine else events_in pass.met n
 
 -- the history has of each number just the events that the pass knows, in order
-abbrev pub IsWhole : {E B : Type 0} → (E → ℕ) → PassState E B → List E → Type 0
-IsWhole number pass history = (n : ℕ) → own number n history ≡ known_of pass n
+abbrev pub KnowsAll : {E B : Type 0} → (E → ℕ) → PassState E B → List E → Type 0
+KnowsAll number pass history = (n : ℕ) → own number n history ≡ known_of pass n
 
 -- the first pass of a lock that may have so many
-abbrev pub first_of : {E B : Type 0} → LockState B → ℕ → PassState E B
-first_of lock passes =
+abbrev pub first_pass : {E B : Type 0} → LockState B → ℕ → PassState E B
+first_pass lock passes =
     record { lock = lock.lock; live = true; base = Some lock.base; number = 0; seen = []; mine = []; left = passes - 1; made = 0; met = []; turn = None }
 
 -- a pass of a number and these events, which has seen as much as another one and holds no turn

@@ -11,10 +11,10 @@ use Rattle.turn_lock.specs.declared.view.Turn.TheVariants.{Idle, Waits, Holds}
 use Rattle.turn_lock.specs.Passes.{Begins, events_in, has_number, own, PassState}
 
 -- the history that a turn began with
-abbrev pub begun : {E : Type 0} → Turn E → Option (List E)
-begun Idle = None
-begun (Waits ticket) = None
-begun (Holds ticket history) = Some history
+abbrev pub turn_start : {E : Type 0} → Turn E → Option (List E)
+turn_start Idle = None
+turn_start (Waits ticket) = None
+turn_start (Holds ticket history) = Some history
 
 -- what a pass shows of what it knows
 abbrev pub shown : {E B : Type 0} → TableId → Known E B → PassState E B
@@ -29,7 +29,7 @@ shown lock v =
       left = v.left;
       made = v.made;
       met = v.met;
-      turn = begun v.turn;
+      turn = turn_start v.turn;
     }
 
 -- the pass waits for its turn or holds it
@@ -117,8 +117,8 @@ IsHome {E} {B} {S} base_of history_of base book s =
     × ((seat : ℕ) (v : Known E B) → get_elem? s.views seat ≡ some v → v.live ≡ true → has_turn v.turn ≡ false)
 
 -- the rule of a lock over a value that stood for this base when the lock was made
-abbrev pub Kept : {E B S : Type 0} → (S → B) → (S → List E) → (E → ℕ) → B → State (Option S) (Known E B) → Type 0
-Kept {E} base_of history_of number base s =
+abbrev pub TurnRule : {E B S : Type 0} → (S → B) → (S → List E) → (E → ℕ) → B → State (Option S) (Known E B) → Type 0
+TurnRule {E} base_of history_of number base s =
     (book : Book E) × Stands number base book s.words s.views × (IsOut book s ⊎ IsHome base_of history_of base book s)
 
 -- what the first pass knows when the lock is made

@@ -1,11 +1,11 @@
 -- What each step on a lock's words tells the pass that makes it.
-use Rattle.std.specs.Prelude.{◌≡◌, ℕ, ◌+◌, ◌-◌, ◌%◌, ◌^◌, ◌==◌, ◌⊎◌, true, false, List, [], ◌∷◌, ◌++◌, length, drop, Option, Some, None, MatchBool}
+use Rattle.std.specs.Prelude.{◌≡◌, ℕ, ◌+◌, ◌-◌, ◌%◌, ◌^◌, ◌==◌, ◌⊎◌, true, false, List, [], ◌∷◌, ◌++◌, length, drop, Option, Some, None, MatchBool, unwrap_or}
 use Rattle.atomic_table.specs.Table.{Me, rest, Step}
 use Rattle.turn_lock.specs.declared.view.Known.{Known}
 use Rattle.turn_lock.specs.declared.view.Turn.{Turn}
 use Rattle.turn_lock.specs.declared.view.Turn.TheVariants.{Idle, Waits, Holds}
-use Rattle.turn_lock.specs.Passes.{Begins, events_in, longer, own, without}
-use Rattle.turn_lock.specs.Rule.{known_in}
+use Rattle.turn_lock.specs.Passes.{Begins, events_in, longer, own, without_number}
+use Rattle.turn_lock.specs.Rule.{known_in, turn_start}
 
 -- what a seat has in hand: the value's place while its turn is held
 abbrev pub hand_of : {E S : Type 0} → Turn E → List (ℕ × Option S)
@@ -23,11 +23,12 @@ IsAtRest (Holds ticket history) = Unit {0}
 abbrev pub Draws : {E B S : Type 0} → Step S → Me S (Known E B) → ℕ → Me S (Known E B) → Type 0
 Draws step me found after = (ticket : ℕ) × (found ≡ ticket % 2 ^ 64) × (after ≡ (record me.0 { turn = Waits ticket }, me.1))
 
--- the value is lent to a pass in its turn: its history begins with all that the pass has seen, and is whole where the pass
--- has taken in all others
+-- the value is lent to a pass in its turn: its history begins with all that the pass has seen, has of its number just its
+-- own events, and is whole where the pass has taken in all others
 pub record IsLent {E B S : Type 0} (base_of : S → B) (history_of : S → List E) (number : E → ℕ) (ticket : ℕ) (v : Known E B) (x : S) (w : Known E B) : Type 0 where
   pub holds : w ≡ record v { turn = Holds ticket (history_of x) }
   pub seen : Begins (history_of x) v.seen
+  pub mine : own number v.number (history_of x) ≡ v.mine
   pub base : v.base ≡ Some (base_of x)
   pub whole : v.number ≡ 0 → length v.met ≡ v.made → (n : ℕ) → own number n (history_of x) ≡ known_in v n
 
@@ -47,15 +48,9 @@ in_hand history_of [] = []
 in_hand history_of ((place, None) ∷ hand) = []
 in_hand history_of ((place, Some x) ∷ hand) = history_of x
 
--- the history that the turn began with
-abbrev pub began : {E : Type 0} → Turn E → List E
-began Idle = []
-began (Waits ticket) = []
-began (Holds ticket history) = history
-
 -- a pass after its turn, in which the history became this one
 abbrev pub advanced : {E B : Type 0} → Known E B → List E → Known E B
-advanced v history = record v { seen = history; mine = v.mine ++ drop (length (began v.turn)) history; turn = Idle }
+advanced v history = record v { seen = history; mine = v.mine ++ drop (length (unwrap_or (turn_start v.turn) [])) history; turn = Idle }
 
 -- the value was put back, and the turn is over
 abbrev pub Advances : {E B S : Type 0} → (S → List E) → Step (Option S) → Me (Option S) (Known E B) → ℕ → Me (Option S) (Known E B) → Type 0
@@ -82,8 +77,8 @@ apart v number mine =
     record { live = true; base = v.base; number = number; seen = v.seen; told = []; mine = mine; left = 0; made = 0; met = []; turn = Idle }
 
 -- the first pass after a new one was split off
-abbrev pub dealt : {E B : Type 0} → Known E B → Known E B
-dealt v = record v { left = v.left - 1; made = v.made + 1 }
+abbrev pub split_off : {E B : Type 0} → Known E B → Known E B
+split_off v = record v { left = v.left - 1; made = v.made + 1 }
 
 -- the new pass: it has the next number and no events
 abbrev pub new_of : {E B : Type 0} → Known E B → Known E B
@@ -91,19 +86,19 @@ new_of v = apart v (v.made + 1) []
 
 -- the first pass after it parted with the pass of a number
 abbrev pub parted : {E B : Type 0} → ℕ → Known E B → Known E B
-parted n v = record v { met = without n v.met }
+parted n v = record v { met = without_number n v.met }
 
 -- the pass that was parted: it has the number's events
 abbrev pub part_of : {E B : Type 0} → ℕ → Known E B → Known E B
 part_of n v = apart v n (events_in v.met n)
 
 -- a pass after it took another in, before it has seen what the other has
-abbrev pub joined : {E B : Type 0} → Known E B → Known E B → Known E B
-joined v w = record v { told = w.seen; met = v.met ++ record { number = w.number; events = w.mine } ∷ w.met }
+abbrev pub took_in : {E B : Type 0} → Known E B → Known E B → Known E B
+took_in v w = record v { told = w.seen; met = v.met ++ record { number = w.number; events = w.mine } ∷ w.met }
 
 -- what is left of a pass that was taken in
-abbrev pub spent : {E B : Type 0} → Known E B
-spent = record { live = false; base = None; number = 0; seen = []; told = []; mine = []; left = 0; made = 0; met = []; turn = Idle }
+abbrev pub used_up : {E B : Type 0} → Known E B
+used_up = record { live = false; base = None; number = 0; seen = []; told = []; mine = []; left = 0; made = 0; met = []; turn = Idle }
 
 -- a pass after its lock was closed
 abbrev pub closed : {E B : Type 0} → Known E B → Known E B

@@ -5,10 +5,11 @@ ghost use Rattle.turn_lock.specs.declared.view.Turn.TheVariants.{Idle, Waits};
 ghost use Rattle.turn_lock.specs.declared.view.Known.{Known};
 ghost use Rattle.turn_lock.specs.Passes.{Begins, has_number, longer, own};
 ghost use Rattle.turn_lock.specs.Rule.{known_in};
-ghost use Rattle.turn_lock.specs.Steps.{advanced, closed, dealt, IsLent, joined, new_of, part_of, parted, Returns, Takes};
+ghost use Rattle.turn_lock.specs.Steps.{advanced, closed, split_off, IsLent, took_in, new_of, part_of, parted, Returns, Takes};
 
+use crate::bells::Bells;
 use crate::journal::Journaled;
-use crate::rule::{Advance, Cut, Deal, Draw, Leave, Meet, Picked, Poll, Ruling, Settle};
+use crate::rule::{Advance, Draw, Leave, Meet, PartOff, Picked, Poll, Ruling, Settle, SplitOff};
 use crate::view::Known;
 use atomic_table::{Seat, Shared, Table};
 use std::alloc::Global;
@@ -34,7 +35,10 @@ pub(crate) type Locked<S> = Table<
 >;
 
 /// A pass's seat at the table.
-pub(crate) type Chair<S> = Seat<Option<S>, Known<<S as Journaled>::Event, <S as Journaled>::Base>>;
+pub(crate) type TableSeat<S> = Seat<
+    Option<S>,
+    Known<<S as Journaled>::Event, <S as Journaled>::Base>,
+>;
 
 /// The word whose value is the next ticket.
 const TICKET: usize = 0;
@@ -45,148 +49,164 @@ const TURN: usize = 1;
 /// The slot of the value.
 const VALUE: usize = 0;
 
-/// A thread that sleeps on a word looks at its low 32 bits, which are the rest by this number.
-const LOW_BITS: u64 = 1 << 32;
-
 /// Draws the next ticket.
-pub(crate) fn draw<S: Journaled>(board: &Board<S>, chair: &mut Chair<S>) -> u64
-    requires table { (chair.old.table_id ≡ board.now.table_id) × (board.now.table_id.words ≡ 2) × (board.now.table_id.slots ≡ 1) }
-    requires free { (chair.old.me.0.live ≡ true) × (chair.old.me.0.turn ≡ Idle) × (chair.old.me.1 ≡ []) }
-    ensures table { (chair.new.table_id ≡ chair.old.table_id) × (chair.new.id ≡ chair.old.id) }
-    ensures waits { (ticket : ℕ) × (result ≡ ticket % 2 ^ 64) × (chair.new.me ≡ (record chair.old.me.0 { turn = Waits ticket }, [])) }
+pub(crate) fn draw<S: Journaled>(board: &Board<S>, seat: &mut TableSeat<S>) -> u64
+    requires table { (seat.old.table_id ≡ board.now.table_id) × (board.now.table_id.words ≡ 2) × (board.now.table_id.slots ≡ 1) }
+    requires free { (seat.old.me.0.live ≡ true) × (seat.old.me.0.turn ≡ Idle) × (seat.old.me.1 ≡ []) }
+    ensures table { (seat.new.table_id ≡ seat.old.table_id) × (seat.new.id ≡ seat.old.id) }
+    ensures waits { (ticket : ℕ) × (result ≡ ticket % 2 ^ 64) × (seat.new.me ≡ (record seat.old.me.0 { turn = Waits ticket }, [])) }
 {
-    board.fetch_add::<Draw>(chair, TICKET, 1)
+    board.fetch_add::<Draw>(seat, TICKET, 1)
 }
 
 /// Looks at the turn, and has the value in hand where the turn is the ticket's.
-fn look<S: Journaled>(board: &Board<S>, chair: &mut Chair<S>) -> u64
-    requires table { (chair.old.table_id ≡ board.now.table_id) × (board.now.table_id.words ≡ 2) × (board.now.table_id.slots ≡ 1) }
-    requires waits { (chair.old.me.0.live ≡ true) × ((ticket : ℕ) × (chair.old.me.0.turn ≡ Waits ticket)) }
-    ensures table { (chair.new.table_id ≡ chair.old.table_id) × (chair.new.id ≡ chair.old.id) }
-    ensures took { (ticket : ℕ) → chair.old.me.0.turn ≡ Waits ticket → MatchBool (result == ticket % 2 ^ 64) (Takes S.base S.history S.number ticket chair.old.me chair.new.me) (chair.new.me ≡ chair.old.me) }
+fn poll<S: Journaled>(board: &Board<S>, seat: &mut TableSeat<S>) -> u64
+    requires table { (seat.old.table_id ≡ board.now.table_id) × (board.now.table_id.words ≡ 2) × (board.now.table_id.slots ≡ 1) }
+    requires waits { (seat.old.me.0.live ≡ true) × ((ticket : ℕ) × (seat.old.me.0.turn ≡ Waits ticket)) }
+    ensures table { (seat.new.table_id ≡ seat.old.table_id) × (seat.new.id ≡ seat.old.id) }
+    ensures took { (ticket : ℕ) → seat.old.me.0.turn ≡ Waits ticket → MatchBool (result == ticket % 2 ^ 64) (Takes S.base S.history S.number ticket seat.old.me seat.new.me) (seat.new.me ≡ seat.old.me) }
 {
-    board.load::<Poll>(chair, TURN)
+    board.load::<Poll>(seat, TURN)
 }
 
 /// The value that the look put into the pass's hand.
-fn lift<S: Journaled>(board: &Board<S>, chair: &mut Chair<S>) -> S
-    requires table { chair.old.table_id ≡ board.now.table_id }
-    requires hand { (value : S) × (chair.old.me.1 ≡ (0, Some value) ∷ []) }
-    ensures table { (chair.new.table_id ≡ chair.old.table_id) × (chair.new.id ≡ chair.old.id) }
-    ensures value { chair.old.me.1 ≡ (0, Some result) ∷ [] }
-    ensures hand { chair.new.me ≡ (chair.old.me.0, (0, None) ∷ []) }
+fn lift<S: Journaled>(board: &Board<S>, seat: &mut TableSeat<S>) -> S
+    requires table { seat.old.table_id ≡ board.now.table_id }
+    requires hand { (value : S) × (seat.old.me.1 ≡ (0, Some value) ∷ []) }
+    ensures table { (seat.new.table_id ≡ seat.old.table_id) × (seat.new.id ≡ seat.old.id) }
+    ensures value { seat.old.me.1 ≡ (0, Some result) ∷ [] }
+    ensures hand { seat.new.me ≡ (seat.old.me.0, (0, None) ∷ []) }
 {
-    match board.exchange(chair, VALUE, None) {
+    match board.exchange(seat, VALUE, None) {
         Some(value) => value,
         None => unreachable!(),
     }
 }
 
-/// Waits for the turn of the ticket that the pass has drawn, and takes the value.
+/// Waits for the turn of the ticket that the pass has drawn, and takes the value. The bell is heard before the turn is
+/// looked at: where the turn comes after that look, the bell has rung when the pass is about to sleep, or wakes it.
 pub(crate) fn take<S: Journaled, R: Wait>(
     rt: &R,
     board: &Board<S>,
-    chair: &mut Chair<S>,
+    bells: &Bells,
+    seat: &mut TableSeat<S>,
     ticket: u64,
 ) -> S
-    requires table { (chair.old.table_id ≡ board.now.table_id) × (board.now.table_id.words ≡ 2) × (board.now.table_id.slots ≡ 1) }
-    requires waits { (chair.old.me.0.live ≡ true) × ((drawn : ℕ) × (ticket ≡ drawn % 2 ^ 64) × (chair.old.me.0.turn ≡ Waits drawn)) × (chair.old.me.1 ≡ []) }
-    ensures table { (chair.new.table_id ≡ chair.old.table_id) × (chair.new.id ≡ chair.old.id) }
-    ensures lent { (drawn : ℕ) × IsLent S.base S.history S.number drawn chair.old.me.0 result chair.new.me.0 }
-    ensures hand { chair.new.me.1 ≡ (0, None) ∷ [] }
+    requires table { (seat.old.table_id ≡ board.now.table_id) × (board.now.table_id.words ≡ 2) × (board.now.table_id.slots ≡ 1) }
+    requires waits { (seat.old.me.0.live ≡ true) × ((drawn : ℕ) × (ticket ≡ drawn % 2 ^ 64) × (seat.old.me.0.turn ≡ Waits drawn)) × (seat.old.me.1 ≡ []) }
+    ensures table { (seat.new.table_id ≡ seat.old.table_id) × (seat.new.id ≡ seat.old.id) }
+    ensures lent { (drawn : ℕ) × IsLent S.base S.history S.number drawn seat.old.me.0 result seat.new.me.0 }
+    ensures hand { seat.new.me.1 ≡ (0, None) ∷ [] }
 {
     for _ in rt.forever() {
-        let turn = look(board, chair);
-        if turn == ticket {
-            return lift(board, chair);
+        let heard = bells.heard(ticket);
+        if poll(board, seat) == ticket {
+            return lift(board, seat);
         }
-        board.park(rt, TURN, (turn % LOW_BITS) as u32);
+        bells.sleep(rt, ticket, heard);
     }
     unreachable!()
 }
 
-/// Puts the value back, and gives the turn to the next ticket.
-pub(crate) fn put_back<S: Journaled>(board: &Board<S>, chair: &mut Chair<S>, value: S)
-    requires table { (chair.old.table_id ≡ board.now.table_id) × (board.now.table_id.words ≡ 2) × (board.now.table_id.slots ≡ 1) }
-    requires holds { (chair.old.me.0.live ≡ true) × (chair.old.me.1 ≡ (0, None) ∷ []) }
-    requires turn { (ticket : ℕ) × (added : List S.Event) × Returns S.base S.history S.number ticket added chair.old.me.0 value }
-    ensures table { (chair.new.table_id ≡ chair.old.table_id) × (chair.new.id ≡ chair.old.id) }
-    ensures after { chair.new.me ≡ (advanced chair.old.me.0 (S.history value), []) }
+/// Puts the value back, and gives the turn to the next ticket. Where that one is out its bell rings. Whoever draws it
+/// later finds the turn there.
+pub(crate) fn put_back<S: Journaled>(
+    board: &Board<S>,
+    bells: &Bells,
+    seat: &mut TableSeat<S>,
+    value: S,
+)
+    requires table { (seat.old.table_id ≡ board.now.table_id) × (board.now.table_id.words ≡ 2) × (board.now.table_id.slots ≡ 1) }
+    requires holds { (seat.old.me.0.live ≡ true) × (seat.old.me.1 ≡ (0, None) ∷ []) }
+    requires turn { (ticket : ℕ) × (added : List S.Event) × Returns S.base S.history S.number ticket added seat.old.me.0 value }
+    ensures table { (seat.new.table_id ≡ seat.old.table_id) × (seat.new.id ≡ seat.old.id) }
+    ensures after { seat.new.me ≡ (advanced seat.old.me.0 (S.history value), []) }
 {
-    let hand = board.exchange(chair, VALUE, Some(value));
+    let hand = board.exchange(seat, VALUE, Some(value));
     let None = hand else { unreachable!() };
-    board.fetch_add::<Advance>(chair, TURN, 1);
-    board.wake_all(TURN);
+    let turn = board.fetch_add::<Advance>(seat, TURN, 1);
+    let next = turn.wrapping_add(1);
+    if board.peek(TICKET) != next {
+        bells.ring(next);
+    }
 }
 
 /// Splits a new pass's seat off that of the first.
-pub(crate) fn deal<S: Journaled>(board: &Board<S>, chair: &mut Chair<S>) -> Chair<S>
-    requires table { (chair.old.table_id ≡ board.now.table_id) × (board.now.table_id.words ≡ 2) }
-    requires free { (chair.old.me.0.live ≡ true) × (chair.old.me.0.turn ≡ Idle) × (chair.old.me.1 ≡ []) }
-    requires first { (chair.old.me.0.number ≡ 0) × (0 < chair.old.me.0.left) }
-    ensures table { (chair.new.table_id ≡ chair.old.table_id) × (result.table_id ≡ chair.old.table_id) }
-    ensures views { (chair.new.me ≡ (dealt chair.old.me.0, [])) × (result.me ≡ (new_of chair.old.me.0, [])) }
+pub(crate) fn split<S: Journaled>(board: &Board<S>, seat: &mut TableSeat<S>) -> TableSeat<S>
+    requires table { (seat.old.table_id ≡ board.now.table_id) × (board.now.table_id.words ≡ 2) }
+    requires free { (seat.old.me.0.live ≡ true) × (seat.old.me.0.turn ≡ Idle) × (seat.old.me.1 ≡ []) }
+    requires first { (seat.old.me.0.number ≡ 0) × (0 < seat.old.me.0.left) }
+    ensures table { (seat.new.table_id ≡ seat.old.table_id) × (result.table_id ≡ seat.old.table_id) }
+    ensures views { (seat.new.me ≡ (split_off seat.old.me.0, [])) × (result.me ≡ (new_of seat.old.me.0, [])) }
 {
-    board.split_seat::<Deal>(chair)
+    board.split_seat::<SplitOff>(seat)
 }
 
 /// Parts the seat of a number from that of the first. The number is for the proof alone, which picks it: a seat has none
 /// at run time.
-fn cut<S: Journaled, N: Picked>(board: &Board<S>, chair: &mut Chair<S>, _number: u32) -> Chair<S>
+fn part_picked<S: Journaled, N: Picked>(
+    board: &Board<S>,
+    seat: &mut TableSeat<S>,
+    _number: u32,
+) -> TableSeat<S>
     requires picked { N.picked ≡ _number }
-    requires table { (chair.old.table_id ≡ board.now.table_id) × (board.now.table_id.words ≡ 2) }
-    requires free { (chair.old.me.0.live ≡ true) × (chair.old.me.0.turn ≡ Idle) × (chair.old.me.1 ≡ []) }
-    requires first { (chair.old.me.0.number ≡ 0) × (list_any (has_number N.picked) chair.old.me.0.met ≡ true) }
-    ensures table { (chair.new.table_id ≡ chair.old.table_id) × (result.table_id ≡ chair.old.table_id) }
-    ensures views { (chair.new.me ≡ (parted N.picked chair.old.me.0, [])) × (result.me ≡ (part_of N.picked chair.old.me.0, [])) }
+    requires table { (seat.old.table_id ≡ board.now.table_id) × (board.now.table_id.words ≡ 2) }
+    requires free { (seat.old.me.0.live ≡ true) × (seat.old.me.0.turn ≡ Idle) × (seat.old.me.1 ≡ []) }
+    requires first { (seat.old.me.0.number ≡ 0) × (list_any (has_number N.picked) seat.old.me.0.met ≡ true) }
+    ensures table { (seat.new.table_id ≡ seat.old.table_id) × (result.table_id ≡ seat.old.table_id) }
+    ensures views { (seat.new.me ≡ (parted N.picked seat.old.me.0, [])) × (result.me ≡ (part_of N.picked seat.old.me.0, [])) }
 {
-    board.split_seat::<Cut<N>>(chair)
+    board.split_seat::<PartOff<N>>(seat)
 }
 
 /// Parts the seat of a number from that of the first.
-pub(crate) fn part<S: Journaled>(board: &Board<S>, chair: &mut Chair<S>, number: u32) -> Chair<S>
-    requires table { (chair.old.table_id ≡ board.now.table_id) × (board.now.table_id.words ≡ 2) }
-    requires free { (chair.old.me.0.live ≡ true) × (chair.old.me.0.turn ≡ Idle) × (chair.old.me.1 ≡ []) }
-    requires first { (chair.old.me.0.number ≡ 0) × (list_any (has_number number) chair.old.me.0.met ≡ true) }
-    ensures table { (chair.new.table_id ≡ chair.old.table_id) × (result.table_id ≡ chair.old.table_id) }
-    ensures views { (chair.new.me ≡ (parted number chair.old.me.0, [])) × (result.me ≡ (part_of number chair.old.me.0, [])) }
+pub(crate) fn part<S: Journaled>(
+    board: &Board<S>,
+    seat: &mut TableSeat<S>,
+    number: u32,
+) -> TableSeat<S>
+    requires table { (seat.old.table_id ≡ board.now.table_id) × (board.now.table_id.words ≡ 2) }
+    requires free { (seat.old.me.0.live ≡ true) × (seat.old.me.0.turn ≡ Idle) × (seat.old.me.1 ≡ []) }
+    requires first { (seat.old.me.0.number ≡ 0) × (list_any (has_number number) seat.old.me.0.met ≡ true) }
+    ensures table { (seat.new.table_id ≡ seat.old.table_id) × (result.table_id ≡ seat.old.table_id) }
+    ensures views { (seat.new.me ≡ (parted number seat.old.me.0, [])) × (result.me ≡ (part_of number seat.old.me.0, [])) }
 {
-    cut::<S, Brand>(board, chair, number)
+    part_picked::<S, Brand>(board, seat, number)
 }
 
 /// Takes in the seat of another pass, and sees what that one has seen.
-pub(crate) fn meet<S: Journaled>(board: &Board<S>, chair: &mut Chair<S>, other: Chair<S>)
-    requires table { (chair.old.table_id ≡ board.now.table_id) × (other.table_id ≡ board.now.table_id) × (board.now.table_id.words ≡ 2) }
-    requires free { (chair.old.me.0.live ≡ true) × (chair.old.me.0.turn ≡ Idle) × (chair.old.me.1 ≡ []) }
+pub(crate) fn meet<S: Journaled>(board: &Board<S>, seat: &mut TableSeat<S>, other: TableSeat<S>)
+    requires table { (seat.old.table_id ≡ board.now.table_id) × (other.table_id ≡ board.now.table_id) × (board.now.table_id.words ≡ 2) }
+    requires free { (seat.old.me.0.live ≡ true) × (seat.old.me.0.turn ≡ Idle) × (seat.old.me.1 ≡ []) }
     requires other { (other.me.0.live ≡ true) × (other.me.0.turn ≡ Idle) × (other.me.1 ≡ []) }
-    ensures table { chair.new.table_id ≡ chair.old.table_id }
-    ensures view { let met : Known S.Event S.Base = joined chair.old.me.0 other.me.0 in chair.new.me ≡ (record met { seen = longer chair.old.me.0.seen other.me.0.seen }, []) }
-    ensures begins { Begins (longer chair.old.me.0.seen other.me.0.seen) chair.old.me.0.seen × Begins (longer chair.old.me.0.seen other.me.0.seen) other.me.0.seen }
+    ensures table { seat.new.table_id ≡ seat.old.table_id }
+    ensures view { let met : Known S.Event S.Base = took_in seat.old.me.0 other.me.0 in seat.new.me ≡ (record met { seen = longer seat.old.me.0.seen other.me.0.seen }, []) }
+    ensures begins { Begins (longer seat.old.me.0.seen other.me.0.seen) seat.old.me.0.seen × Begins (longer seat.old.me.0.seen other.me.0.seen) other.me.0.seen }
 {
-    board.join_seat::<Meet>(chair, other);
-    board.load::<Settle>(chair, TURN);
+    board.join_seat::<Meet>(seat, other);
+    board.load::<Settle>(seat, TURN);
 }
 
 /// The seat that stays when a lock is closed.
-pub(crate) fn leave<S: Journaled>(board: &Board<S>, chair: &mut Chair<S>) -> Chair<S>
-    requires table { (chair.old.table_id ≡ board.now.table_id) × (board.now.table_id.words ≡ 2) }
-    requires free { (chair.old.me.0.turn ≡ Idle) × (chair.old.me.1 ≡ []) }
-    ensures table { (chair.new.table_id ≡ chair.old.table_id) × (chair.new.id ≡ chair.old.id) × (result.table_id ≡ chair.old.table_id) }
-    ensures views { (chair.new.me ≡ chair.old.me) × (result.me ≡ (closed chair.old.me.0, [])) }
+pub(crate) fn leave<S: Journaled>(board: &Board<S>, seat: &mut TableSeat<S>) -> TableSeat<S>
+    requires table { (seat.old.table_id ≡ board.now.table_id) × (board.now.table_id.words ≡ 2) }
+    requires free { (seat.old.me.0.turn ≡ Idle) × (seat.old.me.1 ≡ []) }
+    ensures table { (seat.new.table_id ≡ seat.old.table_id) × (seat.new.id ≡ seat.old.id) × (result.table_id ≡ seat.old.table_id) }
+    ensures views { (seat.new.me ≡ seat.old.me) × (result.me ≡ (closed seat.old.me.0, [])) }
 {
-    board.split_seat::<Leave>(chair)
+    board.split_seat::<Leave>(seat)
 }
 
 /// The value of a table that is closed with the seat of the first pass, which has taken in all others.
-pub(crate) fn closed_with<S: Journaled>(table: Locked<S>, chair: Chair<S>) -> S
-    requires table { (chair.table_id ≡ table.shared.table_id) × (table.shared.table_id.words ≡ 2) × (table.shared.table_id.slots ≡ 1) }
-    requires free { (chair.me.0.live ≡ true) × (chair.me.0.turn ≡ Idle) }
-    requires all { (chair.me.0.number ≡ 0) × (length chair.me.0.met ≡ chair.me.0.made) }
+pub(crate) fn close<S: Journaled>(table: Locked<S>, seat: TableSeat<S>) -> S
+    requires table { (seat.table_id ≡ table.shared.table_id) × (table.shared.table_id.words ≡ 2) × (table.shared.table_id.slots ≡ 1) }
+    requires free { (seat.me.0.live ≡ true) × (seat.me.0.turn ≡ Idle) }
+    requires all { (seat.me.0.number ≡ 0) × (length seat.me.0.met ≡ seat.me.0.made) }
     ensures base { S.base result ≡ S.base table.shared.key.0.value }
-    ensures seen { Begins (S.history result) chair.me.0.seen }
-    ensures whole { (n : ℕ) → own S.number n (S.history result) ≡ known_in chair.me.0 n }
+    ensures seen { Begins (S.history result) seat.me.0.seen }
+    ensures whole { (n : ℕ) → own S.number n (S.history result) ≡ known_in seat.me.0 n }
 {
-    let mut closed = table.close_with(chair);
+    let mut closed = table.close_with(seat);
     let slot = closed.take(VALUE);
     closed.free();
     let Some(value) = slot else { unreachable!() };

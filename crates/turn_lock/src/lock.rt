@@ -1,7 +1,8 @@
 ghost use Rattle.std.specs.Prelude.{◌≡◌, ◌+◌, ◌-◌, ◌<◌, ◌≤◌, ◌++◌, ◌∷◌, [], true, false, Some, None, IfOk, IfErr};
 ghost use Rattle.std.specs.List.{list_any};
-ghost use Rattle.turn_lock.specs.Passes.{Begins, beside, WasLent, events_in, first_of, has_number, HasAll, IsFree, IsOf, IsWhole, met_with, without};
+ghost use Rattle.turn_lock.specs.Passes.{Begins, beside, WasLent, events_in, first_pass, has_number, HasAll, IsFree, IsOf, KnowsAll, met_with, own, without_number};
 
+use crate::bells::Bells;
 use crate::board::{self, Locked};
 use crate::held::Held;
 use crate::journal::Journaled;
@@ -16,6 +17,7 @@ use std::sync::Wait;
 #[derive(Drop)]
 pub struct TurnLock<S: Journaled> {
     pub(crate) table: Locked<S>,
+    pub(crate) bells: Bells,
 }
 
 impl<S: Journaled> Model for TurnLock<S> {
@@ -35,7 +37,7 @@ impl<S: Journaled> TurnLock<S> {
     pub fn make(alloc: Global, value: S, passes: u32) -> Result<(TurnLock<S>, Pass<S>), S>
         requires some { 1 ≤ passes }
         requires empty { S.history value ≡ [] }
-        ensures made { IfOk result (λ lock. (lock.0.base ≡ S.base value) × (lock.1 ≡ first_of lock.0 passes)) }
+        ensures made { IfOk result (λ lock. (lock.0.base ≡ S.base value) × (lock.1 ≡ first_pass lock.0 passes)) }
         ensures back { IfErr result (λ back. back ≡ value) }
     {
         let about = (Snapshot::of(&value), passes);
@@ -45,7 +47,10 @@ impl<S: Journaled> TurnLock<S> {
         };
         match Table::new(alloc, &[0, 0], slots, &about) {
             Ok((table, seat)) => Ok((
-                TurnLock { table },
+                TurnLock {
+                    table,
+                    bells: Bells::new(),
+                },
                 Pass {
                     number: 0,
                     made: 0,
@@ -64,7 +69,7 @@ impl<S: Journaled> TurnLock<S> {
         ensures pass { pass.new ≡ record pass.old { left = pass.old.left - 1; made = pass.old.made + 1 } }
         ensures new { result ≡ beside pass.old (pass.old.made + 1) [] }
     {
-        let seat = board::deal(&self.table.shared, &mut pass.seat);
+        let seat = board::split(&self.table.shared, &mut pass.seat);
         pass.made += 1;
         Pass {
             number: pass.made,
@@ -94,7 +99,7 @@ impl<S: Journaled> TurnLock<S> {
         requires lock { IsOf self.now pass.old }
         requires free { IsFree pass.old }
         requires first { (pass.old.number ≡ 0) × (list_any (has_number number) pass.old.met ≡ true) }
-        ensures pass { pass.new ≡ record pass.old { met = without number pass.old.met } }
+        ensures pass { pass.new ≡ record pass.old { met = without_number number pass.old.met } }
         ensures part { result ≡ beside pass.old number (events_in pass.old.met number) }
     {
         let seat = board::part(&self.table.shared, &mut pass.seat, number);
@@ -113,17 +118,17 @@ impl<S: Journaled> TurnLock<S> {
         requires all { HasAll pass }
         ensures base { S.base result.0 ≡ self.base }
         ensures seen { Begins (S.history result.0) pass.seen }
-        ensures whole { IsWhole S.number pass (S.history result.0) }
+        ensures whole { KnowsAll S.number pass (S.history result.0) }
         ensures pass { result.1 ≡ record pass { live = false } }
     {
-        let TurnLock { table } = self;
+        let TurnLock { table, bells: _ } = self;
         let Pass {
             number,
             made,
             mut seat,
         } = pass;
         let left = board::leave(&table.shared, &mut seat);
-        let value = board::closed_with(table, seat);
+        let value = board::close(table, seat);
         (
             value,
             Pass {
@@ -135,20 +140,21 @@ impl<S: Journaled> TurnLock<S> {
     }
 
     /// Lends the value to the pass, in its turn: it waits until all who asked before have given the value back. The
-    /// history then begins with all that the pass has seen; and where the first pass has taken in all others, it is just
-    /// what the passes have added.
+    /// history then begins with all that the pass has seen, and has of its number just the pass's own events; and where
+    /// the first pass has taken in all others, it is just what the passes have added.
     pub fn take<R: Wait>(&self, rt: &R, pass: &mut Pass<S>) -> Held<S>
         requires lock { IsOf self.now pass.old }
         requires free { IsFree pass.old }
         ensures held { (result.number ≡ pass.old.number) × (result.start.value ≡ result.value) }
         ensures base { S.base result.value ≡ self.now.base }
         ensures seen { Begins (S.history result.value) pass.old.seen }
-        ensures whole { HasAll pass.old → IsWhole S.number pass.old (S.history result.value) }
+        ensures mine { own S.number pass.old.number (S.history result.value) ≡ pass.old.mine }
+        ensures whole { HasAll pass.old → KnowsAll S.number pass.old (S.history result.value) }
         ensures pass { pass.new ≡ record pass.old { turn = Some (S.history result.value) } }
     {
         let table = &self.table.shared;
         let ticket = board::draw(table, &mut pass.seat);
-        let value = board::take(rt, table, &mut pass.seat, ticket);
+        let value = board::take(rt, table, &self.bells, &mut pass.seat, ticket);
         let start = Snapshot::of(&value);
         Held {
             value,
@@ -170,7 +176,7 @@ impl<S: Journaled> TurnLock<S> {
             number: _,
             start: _,
         } = held;
-        board::put_back(&self.table.shared, &mut pass.seat, value);
+        board::put_back(&self.table.shared, &self.bells, &mut pass.seat, value);
     }
 
     /// Gives the value back with the history that it had when it was taken.
@@ -186,7 +192,7 @@ impl<S: Journaled> TurnLock<S> {
             number: _,
             start: _,
         } = held;
-        board::put_back(&self.table.shared, &mut pass.seat, value);
+        board::put_back(&self.table.shared, &self.bells, &mut pass.seat, value);
     }
 }
 

@@ -9,9 +9,9 @@ use std::snapshot::Snapshot;
 pub(crate) struct Ruling;
 
 impl<S: Journaled> TableRule<Option<S>, Known<S::Event, S::Base>, (Snapshot<S>, u32)> for Ruling {
-    ghost use Rattle.turn_lock.specs.Rule.{Kept, newcomer};
+    ghost use Rattle.turn_lock.specs.Rule.{TurnRule, newcomer};
 
-    ghost holds = { λ key. Kept S.base S.history S.number (S.base key.0.value) };
+    ghost holds = { λ key. TurnRule S.base S.history S.number (S.base key.0.value) };
 
     ghost first = { λ key. newcomer (S.base key.0.value) key.1 };
 }
@@ -53,12 +53,12 @@ impl<S: Journaled> Play<Option<S>, Known<S::Event, S::Base>> for Settle {
 }
 
 /// A new pass is split off the first one.
-pub(crate) struct Deal;
+pub(crate) struct SplitOff;
 
-impl<E, B> Split<Known<E, B>> for Deal {
-    ghost use Rattle.turn_lock.specs.Steps.{dealt, new_of};
+impl<E, B> Split<Known<E, B>> for SplitOff {
+    ghost use Rattle.turn_lock.specs.Steps.{split_off, new_of};
 
-    ghost left = { dealt };
+    ghost left = { split_off };
 
     ghost right = { new_of };
 }
@@ -67,11 +67,11 @@ impl<E, B> Split<Known<E, B>> for Deal {
 pub(crate) struct Meet;
 
 impl<E, B> Join<Known<E, B>> for Meet {
-    ghost use Rattle.turn_lock.specs.Steps.{joined, spent};
+    ghost use Rattle.turn_lock.specs.Steps.{took_in, used_up};
 
-    ghost both = { joined };
+    ghost both = { took_in };
 
-    ghost spent = { spent };
+    ghost spent = { used_up };
 }
 
 /// What stays of the first pass when the lock is closed.
@@ -97,11 +97,11 @@ impl Picked for Brand {
 }
 
 /// The pass of the picked number is parted from the first one.
-pub(crate) struct Cut<N> {
+pub(crate) struct PartOff<N> {
     number: PhantomData<N>,
 }
 
-impl<E, B, N: Picked> Split<Known<E, B>> for Cut<N> {
+impl<E, B, N: Picked> Split<Known<E, B>> for PartOff<N> {
     ghost use Rattle.turn_lock.specs.Steps.{parted, part_of};
 
     ghost left = { parted N.picked };

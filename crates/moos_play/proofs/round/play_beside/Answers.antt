@@ -1,7 +1,7 @@
 use Rattle.std.proofs.Common.{◌≡◌, ◌∙◌, subst, sym, rules}
 use Rattle.std.specs.List.{AllZip}
 use Rattle.std.proofs.lemmas.List.Elements.{length_all_zip}
-use Rattle.moos_play.specs.Lawful.{entries_of}
+use Rattle.moos_client.specs.Calls.{entries_of}
 use Rattle.moos_play.specs.Rounds.{HasEnded}
 use Rattle.moos_play.proofs.Playing.{played_none}
 use Rattle.moos_play.proofs.Rounds.{none_among}

@@ -10,5 +10,5 @@ fetch_add-requires g c =
     let base = g.S.Journaled.base c.args.board.now.key.0.value in (
       c.requires.table.0,
       omega (arith, c.requires.table.1),
-      draws g.S.Journaled.base g.S.Journaled.history g.S.Journaled.number base table.slots c.args.chair.now.id c.args.chair.now.me (step table.slots 0 1 0 none) c.requires.free.0 c.requires.free.1,
+      draws g.S.Journaled.base g.S.Journaled.history g.S.Journaled.number base table.slots c.args.seat.now.id c.args.seat.now.me (step table.slots 0 1 0 none) c.requires.free.0 c.requires.free.1,
     )

@@ -7,5 +7,5 @@ split_seat-requires g c =
     let base = g.S.Journaled.base c.args.board.now.key.0.value in (
       c.requires.table.0,
       omega (arith, c.requires.table.1),
-      leaves g.S.Journaled.base g.S.Journaled.history g.S.Journaled.number base c.args.chair.now.id c.args.chair.now.me.0 c.requires.free.0,
+      leaves g.S.Journaled.base g.S.Journaled.history g.S.Journaled.number base c.args.seat.now.id c.args.seat.now.me.0 c.requires.free.0,
     )

@@ -12,7 +12,7 @@ join_seat-requires g c =
       c.requires.table.1,
       c.requires.other.2,
       omega (arith, c.requires.table.2),
-      meets g.S.Journaled.base g.S.Journaled.history g.S.Journaled.number base c.args.chair.now.id c.args.other.id c.args.chair.now.me.0 c.args.other.me.0 c.requires.free.0 c.requires.other.0 c.requires.free.1 c.requires.other.1,
+      meets g.S.Journaled.base g.S.Journaled.history g.S.Journaled.number base c.args.seat.now.id c.args.other.id c.args.seat.now.me.0 c.args.other.me.0 c.requires.free.0 c.requires.other.0 c.requires.free.1 c.requires.other.1,
     )
 
 pub load-requires : goal.load-requires

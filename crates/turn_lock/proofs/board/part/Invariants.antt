@@ -1,4 +1,4 @@
 use Rattle.turn_lock.proofs.board.part.Given as goal
 
-abbrev pub ghosts-cut : goal.ghosts-cut
-ghosts-cut g a = record { picked = a._number }
+abbrev pub ghosts-part_picked : goal.ghosts-part_picked
+ghosts-part_picked g a = record { picked = a._number }

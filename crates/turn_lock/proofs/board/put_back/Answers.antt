@@ -6,8 +6,8 @@ use Rattle.turn_lock.specs.Steps.{Returns}
 use Rattle.turn_lock.proofs.Advancing.{advances}
 use Rattle.turn_lock.proofs.board.put_back.Goals as goal
 
-pub fetch_add-requires : goal.fetch_add-requires
-fetch_add-requires g c =
+pub fetch_add-turn-requires : goal.fetch_add-turn-requires
+fetch_add-turn-requires g c =
     let table = c.args.board.now.table_id in
     let base = g.S.Journaled.base c.args.board.now.key.0.value in
     let seat = c.exchange-hand.new.seat in

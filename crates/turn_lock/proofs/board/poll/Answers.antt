@@ -2,7 +2,7 @@ use Rattle.std.proofs.Common.{arith}
 use mathlib.Core.Option.{none}
 use Rattle.atomic_table.specs.Table.{step}
 use Rattle.turn_lock.proofs.Turns.{polls}
-use Rattle.turn_lock.proofs.board.look.Goals as goal
+use Rattle.turn_lock.proofs.board.poll.Goals as goal
 
 pub load-requires : goal.load-requires
 load-requires g c =
@@ -10,5 +10,5 @@ load-requires g c =
     let base = g.S.Journaled.base c.args.board.now.key.0.value in (
       c.requires.table.0,
       omega (arith, c.requires.table.1),
-      polls g.S.Journaled.base g.S.Journaled.history g.S.Journaled.number base table.slots c.args.chair.now.id c.requires.waits.1.0 c.args.chair.now.me (step table.slots 1 0 0 none) c.requires.waits.0 c.requires.waits.1.1,
+      polls g.S.Journaled.base g.S.Journaled.history g.S.Journaled.number base table.slots c.args.seat.now.id c.requires.waits.1.0 c.args.seat.now.me (step table.slots 1 0 0 none) c.requires.waits.0 c.requires.waits.1.1,
     )
