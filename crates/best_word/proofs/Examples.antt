@@ -5,13 +5,13 @@ use lib.ListN.{get_elem?}
 use Rattle.atomic_table.specs.Table.{Me, State, Step, step}
 use Rattle.std.specs.Prelude.{codes}
 use Rattle.ivp_domain.specs.declared.axis.Axis.{Axis}
-use Rattle.ivp_domain.specs.Boxes.{point_of}
+use Rattle.ivp_domain.specs.Boxes.{point_from}
 use Rattle.ivp_func.specs.declared.piece.Piece.{Piece}
 use Rattle.ivp_problem.specs.Keys.{key_of}
 use Rattle.ivp_problem.specs.Problems.{WeightedSum}
 use Rattle.ivp_problem.proofs.KeyOrder.{index_small}
 use Rattle.best_word.specs.declared.best.View.{View}
-use Rattle.best_word.specs.Known.{first_of, Fits, IsKnown, joined, Kept, Looks, Raises, spent}
+use Rattle.best_word.specs.Known.{first_scout, IsScoutOf, IsKnownKey, joined_scout, WordRule, Looks, Raises, spent_scout}
 
 abbrev axes : List Axis
 axes = record { name = codes "a"; low = pos 0; high = pos 1000; points = 2 } ∷ []
@@ -23,33 +23,33 @@ abbrev one : WeightedSum
 one = record { axes = axes; terms = record { weight = 1; func = record { axes = axes; pieces = rising ∷ [] } } ∷ [] }
 
 -- nothing was offered yet, or the key of a point was
-nothing_known : IsKnown one 0
+nothing_known : IsKnownKey one 0
 nothing_known = inl refl
 
-first_known : IsKnown one (key_of 5 0)
-first_known = inr (point_of 0 0 0 0, refl, refl)
+first_known : IsKnownKey one (key_of 5 0)
+first_known = inr (point_from 0 0 0 0, refl, refl)
 
-last_known : IsKnown one (key_of 6 1)
-last_known = inr (point_of 1 0 0 0, refl, refl)
+last_known : IsKnownKey one (key_of 6 1)
+last_known = inr (point_from 1 0 0 0, refl, refl)
 
 -- a scout of the problem that knows so much
 abbrev knows : ℕ → View
 knows low = record { about = Some one; low = low }
 
 -- it fits a word that holds as much, and none that holds less
-fits : Fits one 7 (first_of one) × Fits one 7 (knows 7) × Fits one 0 spent
+fits : IsScoutOf one 7 (first_scout one) × IsScoutOf one 7 (knows 7) × IsScoutOf one 0 spent_scout
 fits = (inr (refl, omega arith), inr (refl, omega arith), inl refl)
 
-too_much : Fits one 6 (knows 7) → ⊥
+too_much : IsScoutOf one 6 (knows 7) → ⊥
 too_much (inl none) = absurd (cc)
 too_much (inr of) = let low = of.1 in absurd (omega arith)
 
 -- of two scouts the one that stays knows the greater
-taken_in : (joined (knows 3) (knows 7) ≡ knows 7) × (joined (knows 7) (knows 3) ≡ knows 7)
+taken_in : (joined_scout (knows 3) (knows 7) ≡ knows 7) × (joined_scout (knows 7) (knows 3) ≡ knows 7)
 taken_in = (refl, refl)
 
 -- no point has the key 1, of sum 0 at index 2^24 - 2
-no_key : IsKnown one 1 → ⊥
+no_key : IsKnownKey one 1 → ⊥
 no_key (inl empty) = absurd (omega arith)
 no_key (inr point) = absurd (omega (arith, point.2, index_small axes point.0 refl point.1))
 
@@ -57,15 +57,15 @@ no_key (inr point) = absurd (omega (arith, point.2, index_small axes point.0 ref
 abbrev word : List ℕ → List View → State (Unit {0}) View
 word words views = record { words = words; homes = []; views = views }
 
-kept : Kept one (word (key_of 6 1 ∷ []) (knows (key_of 6 1) ∷ spent ∷ []))
+kept : WordRule one (word (key_of 6 1 ∷ []) (knows (key_of 6 1) ∷ spent_scout ∷ []))
 kept = record { word = key_of 6 1; words = refl; known = last_known; each = each }
   where
-    each : (seat : ℕ) (v : View) → get_elem? (knows (key_of 6 1) ∷ spent ∷ []) seat ≡ some v → Fits one (key_of 6 1) v
-    each zero v here = let same : knows (key_of 6 1) ≡ v = cc in subst (Fits one (key_of 6 1)) same (inr (refl, omega arith))
-    each (suc zero) v here = let same : spent ≡ v = cc in subst (Fits one (key_of 6 1)) same (inl refl)
+    each : (seat : ℕ) (v : View) → get_elem? (knows (key_of 6 1) ∷ spent_scout ∷ []) seat ≡ some v → IsScoutOf one (key_of 6 1) v
+    each zero v here = let same : knows (key_of 6 1) ≡ v = cc in subst (IsScoutOf one (key_of 6 1)) same (inr (refl, omega arith))
+    each (suc zero) v here = let same : spent_scout ≡ v = cc in subst (IsScoutOf one (key_of 6 1)) same (inl refl)
     each (suc (suc seat)) v here = cc
 
-knows_too_much : Kept one (word (key_of 5 0 ∷ []) (knows (key_of 6 1) ∷ [])) → ⊥
+knows_too_much : WordRule one (word (key_of 5 0 ∷ []) (knows (key_of 6 1) ∷ [])) → ⊥
 knows_too_much is =
     let holds : is.word ≡ key_of 5 0 = cc is.words in
     elim (is.each 0 (knows (key_of 6 1)) refl) [
@@ -74,11 +74,11 @@ knows_too_much is =
     ]
 
 -- nor does a second word stand beside it, or one hold what is no point's key
-two_words : Kept one (word (0 ∷ 0 ∷ []) []) → ⊥
+two_words : WordRule one (word (0 ∷ 0 ∷ []) []) → ⊥
 two_words is = absurd (omega (arith, ap length is.words))
 
-holds_no_key : Kept one (word (1 ∷ []) []) → ⊥
-holds_no_key is = let holds : is.word ≡ 1 = cc is.words in no_key (subst (IsKnown one) holds is.known)
+holds_no_key : WordRule one (word (1 ∷ []) []) → ⊥
+holds_no_key is = let holds : is.word ≡ 1 = cc is.words in no_key (subst (IsKnownKey one) holds is.known)
 
 -- a scout with so much before it, and the steps that it makes at the only word
 abbrev scout : ℕ → Me (Unit {0}) View
@@ -92,7 +92,7 @@ offers key = step 0 0 key 0 silent
 
 -- it looks at a word that holds the last point's key, which becomes its own
 looked : Looks (offers 0) (scout 0) (key_of 6 1) (scout (key_of 6 1))
-looked problem about = let same : one ≡ problem = cc in (refl, omega arith, subst (λ p. IsKnown p (key_of 6 1)) same last_known)
+looked problem about = let same : one ≡ problem = cc in (refl, omega arith, subst (λ p. IsKnownKey p (key_of 6 1)) same last_known)
 
 -- but not where the scout knew more, where what the word holds doesn't become its own, or is no point's key
 looked_lower : Looks (offers 0) (scout (key_of 6 1)) (key_of 5 0) (scout (key_of 5 0)) → ⊥
@@ -107,8 +107,8 @@ looked_at_no_key is = no_key (is one refl).2
 -- it offers the first point's key, and then the last one's, of which it knows the greater in both orders
 offered : Raises (offers (key_of 6 1)) (scout 0) (key_of 5 0) (scout (key_of 6 1)) × Raises (offers (key_of 5 0)) (scout 0) (key_of 6 1) (scout (key_of 6 1))
 offered = (
-  λ problem about. let same : one ≡ problem = cc in (refl, omega arith, subst (λ p. IsKnown p (key_of 5 0)) same first_known),
-  λ problem about. let same : one ≡ problem = cc in (refl, omega arith, subst (λ p. IsKnown p (key_of 6 1)) same last_known),
+  λ problem about. let same : one ≡ problem = cc in (refl, omega arith, subst (λ p. IsKnownKey p (key_of 5 0)) same first_known),
+  λ problem about. let same : one ≡ problem = cc in (refl, omega arith, subst (λ p. IsKnownKey p (key_of 6 1)) same last_known),
 )
 
 -- but not the lesser one, whether that is what it offered or what the word held
@@ -119,5 +119,5 @@ found_the_lesser : Raises (offers (key_of 6 1)) (scout 0) (key_of 5 0) (scout (k
 found_the_lesser is = absurd (omega (arith, ap low_of (is one refl).0))
 
 -- of the looks of a spent scout nothing is said, and none are made: a scout that looks is one of a problem
-spent_looks : Looks (offers 0) (spent, []) 3 (scout 9)
+spent_looks : Looks (offers 0) (spent_scout, []) 3 (scout 9)
 spent_looks problem about = cc

@@ -9,37 +9,37 @@ use Rattle.atomic_table.proofs.Lists.{at_set, at_snoc, set_else}
 use Rattle.ivp_problem.specs.Problems.{WeightedSum}
 use Rattle.ivp_problem.proofs.Totals.{greater}
 use Rattle.best_word.specs.declared.best.View.{View}
-use Rattle.best_word.specs.Known.{Fits, IsKeyOf, IsKnown, joined, Kept, Looks, Raises, spent}
+use Rattle.best_word.specs.Known.{IsScoutOf, IsKeyOf, IsKnownKey, joined_scout, WordRule, Looks, Raises, spent_scout}
 
 -- a scout of a problem is of the rule's, and knows no more than the word
-about_is : (problem other : WeightedSum) (word : ℕ) (v : View) → Fits problem word v → v.about ≡ Some other → (problem ≡ other) × (v.low ≤ word)
+about_is : (problem other : WeightedSum) (word : ℕ) (v : View) → IsScoutOf problem word v → v.about ≡ Some other → (problem ≡ other) × (v.low ≤ word)
 about_is problem other word v (inl none) is = absurd (false≢true (ap is_some (sym none ∙ is)))
 about_is problem other word v (inr some') is = (ap (λ o. unwrap_or o problem) (sym some'.0 ∙ is), some'.1)
 
 -- a word that rose leaves each scout fitting
-risen : (problem : WeightedSum) (word more : ℕ) (v : View) → word ≤ more → Fits problem word v → Fits problem more v
+risen : (problem : WeightedSum) (word more : ℕ) (v : View) → word ≤ more → IsScoutOf problem word v → IsScoutOf problem more v
 risen problem word more v up (inl none) = inl none
 risen problem word more v up (inr some') = inr (some'.0, omega (arith, some'.1, up))
 
 -- a scout that learns a number up to the word fits
-learnt : (problem : WeightedSum) (word low : ℕ) (v : View) → low ≤ word → Fits problem word v → Fits problem word (record v { low = low })
+learnt : (problem : WeightedSum) (word low : ℕ) (v : View) → low ≤ word → IsScoutOf problem word v → IsScoutOf problem word (record v { low = low })
 learnt problem word low v within (inl none) = inl none
 learnt problem word low v within (inr some') = inr (some'.0, within)
 
 -- the word rises, and one scout's view changes
-kept_with : (problem : WeightedSum) (s : State (Unit {0}) View) (h : Kept problem s) (id more : ℕ) (w : View) → h.word ≤ more → IsKnown problem more → Fits problem more w
-    → Kept problem (record { words = set s.words 0 more; homes = s.homes; views = set s.views id w })
+kept_with : (problem : WeightedSum) (s : State (Unit {0}) View) (h : WordRule problem s) (id more : ℕ) (w : View) → h.word ≤ more → IsKnownKey problem more → IsScoutOf problem more w
+    → WordRule problem (record { words = set s.words 0 more; homes = s.homes; views = set s.views id w })
 kept_with problem s h id more w up known fits = record { word = more; words = ap (λ ws. set ws 0 more) h.words; known = known; each = λ seat v at. by (at_set s.views id seat w v at) }
   where
-    by : {seat : ℕ} {v : View} → ((seat ≡ id) × (w ≡ v)) ⊎ ((seat ≢ id) × (get_elem? s.views seat ≡ some v)) → Fits problem more v
-    by (inl it) = subst (Fits problem more) it.1 fits
+    by : {seat : ℕ} {v : View} → ((seat ≡ id) × (w ≡ v)) ⊎ ((seat ≢ id) × (get_elem? s.views seat ≡ some v)) → IsScoutOf problem more v
+    by (inl it) = subst (IsScoutOf problem more) it.1 fits
     by (inr it) = risen problem h.word more _ up (h.each _ _ it.1)
 
-found_is : (problem : WeightedSum) (s : State (Unit {0}) View) (h : Kept problem s) → slice_index s.words 0 ≡ h.word
+found_is : (problem : WeightedSum) (s : State (Unit {0}) View) (h : WordRule problem s) → slice_index s.words 0 ≡ h.word
 found_is problem s h = ap (λ ws. slice_index ws 0) h.words
 
-pub looks : (problem : WeightedSum) (slots id : ℕ) (me : Me (Unit {0}) View) (it : Step (Unit {0})) → Allows (Kept problem) slots id me 0 (λ n. n) (Looks it me)
-looks problem slots id me it s h size at bound = (w, keeps, tt, kept_with problem s h id found w (omega (arith, is)) (subst (IsKnown problem) (sym is) h.known) (learnt problem found found me.0 (omega arith) fits), told)
+pub looks : (problem : WeightedSum) (slots id : ℕ) (me : Me (Unit {0}) View) (it : Step (Unit {0})) → Allows (WordRule problem) slots id me 0 (λ n. n) (Looks it me)
+looks problem slots id me it s h size at bound = (w, keeps, tt, kept_with problem s h id found w (omega (arith, is)) (subst (IsKnownKey problem) (sym is) h.known) (learnt problem found found me.0 (omega arith) fits), told)
   where
     found : ℕ
     found = slice_index s.words 0
@@ -50,14 +50,14 @@ looks problem slots id me it s h size at bound = (w, keeps, tt, kept_with proble
     w : View
     w = record me.0 { low = found }
 
-    fits : Fits problem found me.0
-    fits = subst (λ n. Fits problem n me.0) (sym is) (h.each id me.0 at)
+    fits : IsScoutOf problem found me.0
+    fits = subst (λ n. IsScoutOf problem n me.0) (sym is) (h.each id me.0 at)
 
     told : Looks it me found (w, me.1)
-    told other about = let same = about_is problem other found me.0 fits about in (refl, same.1, subst (λ p. IsKnown p found) same.0 (subst (IsKnown problem) (sym is) h.known))
+    told other about = let same = about_is problem other found me.0 fits about in (refl, same.1, subst (λ p. IsKnownKey p found) same.0 (subst (IsKnownKey problem) (sym is) h.known))
 
 pub raises : (problem other : WeightedSum) (slots id key : ℕ) (me : Me (Unit {0}) View) (it : Step (Unit {0})) → it.first ≡ key → me.0.about ≡ Some other → IsKeyOf other key
-    → Allows (Kept problem) slots id me 0 (λ n. max n key) (Raises it me)
+    → Allows (WordRule problem) slots id me 0 (λ n. max n key) (Raises it me)
 raises problem other slots id key me it first about is_key s h size at bound =
     (w, keeps, tt, kept_with problem s h id (max found key) w (omega (arith, is)) known (learnt problem (max found key) (max found key) me.0 (omega arith) (risen problem found (max found key) me.0 (omega arith) fits)), told)
   where
@@ -70,59 +70,59 @@ raises problem other slots id key me it first about is_key s h size at bound =
     w : View
     w = record me.0 { low = max found key }
 
-    fits : Fits problem found me.0
-    fits = subst (λ n. Fits problem n me.0) (sym is) (h.each id me.0 at)
+    fits : IsScoutOf problem found me.0
+    fits = subst (λ n. IsScoutOf problem n me.0) (sym is) (h.each id me.0 at)
 
     same : (problem ≡ other) × (me.0.low ≤ found)
     same = about_is problem other found me.0 fits about
 
-    held : IsKnown problem found
-    held = subst (IsKnown problem) (sym is) h.known
+    held : IsKnownKey problem found
+    held = subst (IsKnownKey problem) (sym is) h.known
 
-    by : (max found key ≡ found) ⊎ (max found key ≡ key) → IsKnown problem (max found key)
-    by (inl e) = subst (IsKnown problem) (sym e) held
-    by (inr e) = subst (IsKnown problem) (sym e) (inr (subst (λ p. IsKeyOf p key) (sym same.0) is_key))
+    by : (max found key ≡ found) ⊎ (max found key ≡ key) → IsKnownKey problem (max found key)
+    by (inl e) = subst (IsKnownKey problem) (sym e) held
+    by (inr e) = subst (IsKnownKey problem) (sym e) (inr (subst (λ p. IsKeyOf p key) (sym same.0) is_key))
 
-    known : IsKnown problem (max found key)
+    known : IsKnownKey problem (max found key)
     known = by (greater found key)
 
     told : Raises it me found (w, me.1)
     told third about' =
         let same' = about_is problem third found me.0 fits about' in
-        (ap (λ k. (record me.0 { low = max found k }, me.1)) (sym first), same'.1, subst (λ p. IsKnown p found) same'.0 held)
+        (ap (λ k. (record me.0 { low = max found k }, me.1)) (sym first), same'.1, subst (λ p. IsKnownKey p found) same'.0 held)
 
-pub forks : (problem : WeightedSum) (id : ℕ) (v : View) → Splits (Kept problem) id v v v
+pub forks : (problem : WeightedSum) (id : ℕ) (v : View) → Splits (WordRule problem) id v v v
 forks problem id v s h at =
     record { word = h.word; words = h.words; known = h.known; each = λ seat u at'. by seat u (at_snoc (set s.views id v) v u seat at') }
   where
-    mine : Fits problem h.word v
+    mine : IsScoutOf problem h.word v
     mine = h.each id v at
 
-    here : {seat : ℕ} {u : View} → ((seat ≡ id) × (v ≡ u)) ⊎ ((seat ≢ id) × (get_elem? s.views seat ≡ some u)) → Fits problem h.word u
-    here (inl it) = subst (Fits problem h.word) it.1 mine
+    here : {seat : ℕ} {u : View} → ((seat ≡ id) × (v ≡ u)) ⊎ ((seat ≢ id) × (get_elem? s.views seat ≡ some u)) → IsScoutOf problem h.word u
+    here (inl it) = subst (IsScoutOf problem h.word) it.1 mine
     here (inr it) = h.each _ _ it.1
 
-    by : (seat : ℕ) (u : View) → (get_elem? (set s.views id v) seat ≡ some u) ⊎ (v ≡ u) → Fits problem h.word u
+    by : (seat : ℕ) (u : View) → (get_elem? (set s.views id v) seat ≡ some u) ⊎ (v ≡ u) → IsScoutOf problem h.word u
     by seat u (inl at') = here (at_set s.views id seat v u at')
-    by seat u (inr is) = subst (Fits problem h.word) is mine
+    by seat u (inr is) = subst (IsScoutOf problem h.word) is mine
 
-pub merges : (problem : WeightedSum) (id other : ℕ) (v w : View) (about : WeightedSum) → v.about ≡ Some about → w.about ≡ Some about → Joins (Kept problem) id v other w (joined v w) spent
+pub merges : (problem : WeightedSum) (id other : ℕ) (v w : View) (about : WeightedSum) → v.about ≡ Some about → w.about ≡ Some about → Joins (WordRule problem) id v other w (joined_scout v w) spent_scout
 merges problem id other v w about is is' s h at ne at' =
-    record { word = h.word; words = h.words; known = h.known; each = λ seat u at''. by seat u (at_set (set s.views id (joined v w)) other seat spent u at'') }
+    record { word = h.word; words = h.words; known = h.known; each = λ seat u at''. by seat u (at_set (set s.views id (joined_scout v w)) other seat spent_scout u at'') }
   where
     one : (problem ≡ about) × (v.low ≤ h.word)
     one = about_is problem about h.word v (h.each id v at) is
 
     two : (problem ≡ about) × (w.low ≤ h.word)
-    two = about_is problem about h.word w (h.each other w (sym (set_else s.views id other (joined v w) ne) ∙ at')) is'
+    two = about_is problem about h.word w (h.each other w (sym (set_else s.views id other (joined_scout v w) ne) ∙ at')) is'
 
-    both : Fits problem h.word (joined v w)
+    both : IsScoutOf problem h.word (joined_scout v w)
     both = inr (is ∙ ap Some (sym one.0), omega (arith, one.1, two.1))
 
-    here : {seat : ℕ} {u : View} → ((seat ≡ id) × (joined v w ≡ u)) ⊎ ((seat ≢ id) × (get_elem? s.views seat ≡ some u)) → Fits problem h.word u
-    here (inl it) = subst (Fits problem h.word) it.1 both
+    here : {seat : ℕ} {u : View} → ((seat ≡ id) × (joined_scout v w ≡ u)) ⊎ ((seat ≢ id) × (get_elem? s.views seat ≡ some u)) → IsScoutOf problem h.word u
+    here (inl it) = subst (IsScoutOf problem h.word) it.1 both
     here (inr it) = h.each _ _ it.1
 
-    by : (seat : ℕ) (u : View) → ((seat ≡ other) × (spent ≡ u)) ⊎ ((seat ≢ other) × (get_elem? (set s.views id (joined v w)) seat ≡ some u)) → Fits problem h.word u
-    by seat u (inl it) = subst (Fits problem h.word) it.1 (inl refl)
-    by seat u (inr it) = here (at_set s.views id seat (joined v w) u it.1)
+    by : (seat : ℕ) (u : View) → ((seat ≡ other) × (spent_scout ≡ u)) ⊎ ((seat ≢ other) × (get_elem? (set s.views id (joined_scout v w)) seat ≡ some u)) → IsScoutOf problem h.word u
+    by seat u (inl it) = subst (IsScoutOf problem h.word) it.1 (inl refl)
+    by seat u (inr it) = here (at_set s.views id seat (joined_scout v w) u it.1)

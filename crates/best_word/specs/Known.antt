@@ -14,38 +14,38 @@ abbrev pub IsKeyOf : WeightedSum → ℕ → Type 0
 IsKeyOf problem key = (p : Point) × IsTrue (is_point problem.axes p) × (key_at problem p ≡ key)
 
 -- 0, which is no point's key, or the key of a point of the problem
-abbrev pub IsKnown : WeightedSum → ℕ → Type 0
-IsKnown problem key = (key ≡ 0) ⊎ IsKeyOf problem key
+abbrev pub IsKnownKey : WeightedSum → ℕ → Type 0
+IsKnownKey problem key = (key ≡ 0) ⊎ IsKeyOf problem key
 
 -- a scout that isn't spent is one of the problem, and knows no more than the word
-abbrev pub Fits : WeightedSum → ℕ → View → Type 0
-Fits problem word v = (v.about ≡ None) ⊎ ((v.about ≡ Some problem) × (v.low ≤ word))
+abbrev pub IsScoutOf : WeightedSum → ℕ → View → Type 0
+IsScoutOf problem word v = (v.about ≡ None) ⊎ ((v.about ≡ Some problem) × (v.low ≤ word))
 
 -- the rule of the word
-pub record Kept (problem : WeightedSum) (s : State (Unit {0}) View) : Type 0 where
+pub record WordRule (problem : WeightedSum) (s : State (Unit {0}) View) : Type 0 where
   pub word : ℕ
   pub words : s.words ≡ word ∷ []
-  pub known : IsKnown problem word
-  pub each : (seat : ℕ) (v : View) → get_elem? s.views seat ≡ some v → Fits problem word v
+  pub known : IsKnownKey problem word
+  pub each : (seat : ℕ) (v : View) → get_elem? s.views seat ≡ some v → IsScoutOf problem word v
 
 -- the first scout, which knows nothing yet
-abbrev pub first_of : WeightedSum → View
-first_of problem = record { about = Some problem; low = 0 }
+abbrev pub first_scout : WeightedSum → View
+first_scout problem = record { about = Some problem; low = 0 }
 
 -- the word was looked at: what it held becomes the scout's
 abbrev pub Looks : Step (Unit {0}) → Me (Unit {0}) View → ℕ → Me (Unit {0}) View → Type 0
 Looks step me found after =
-    (problem : WeightedSum) → me.0.about ≡ Some problem → (after ≡ (record me.0 { low = found }, me.1)) × (me.0.low ≤ found) × IsKnown problem found
+    (problem : WeightedSum) → me.0.about ≡ Some problem → (after ≡ (record me.0 { low = found }, me.1)) × (me.0.low ≤ found) × IsKnownKey problem found
 
 -- a key was offered: the greater of it and of what the word held becomes the scout's
 abbrev pub Raises : Step (Unit {0}) → Me (Unit {0}) View → ℕ → Me (Unit {0}) View → Type 0
 Raises step me found after =
-    (problem : WeightedSum) → me.0.about ≡ Some problem → (after ≡ (record me.0 { low = max found step.first }, me.1)) × (me.0.low ≤ found) × IsKnown problem found
+    (problem : WeightedSum) → me.0.about ≡ Some problem → (after ≡ (record me.0 { low = max found step.first }, me.1)) × (me.0.low ≤ found) × IsKnownKey problem found
 
 -- a scout that took another one in
-abbrev pub joined : View → View → View
-joined v w = record v { low = max v.low w.low }
+abbrev pub joined_scout : View → View → View
+joined_scout v w = record v { low = max v.low w.low }
 
 -- what is left of a scout that was taken in
-abbrev pub spent : View
-spent = record { about = None; low = 0 }
+abbrev pub spent_scout : View
+spent_scout = record { about = None; low = 0 }

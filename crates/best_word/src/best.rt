@@ -2,7 +2,7 @@ ghost use Rattle.std.specs.Prelude.{◌≡◌, ℕ, ◌≤◌, max, [], Some, If
 ghost use Rattle.ivp_domain.specs.Domains.{is_point};
 ghost use Rattle.ivp_problem.specs.Problems.{WeightedSum};
 ghost use Rattle.ivp_problem.specs.Sums.{key_at};
-ghost use Rattle.best_word.specs.Known.{first_of, IsKnown, joined};
+ghost use Rattle.best_word.specs.Known.{first_scout, IsKnownKey, joined_scout};
 
 use atomic_table::{Join, Play, Seat, Split, Table, TableRule};
 use ivp_domain::Point;
@@ -23,11 +23,11 @@ pub type Scout = Seat<(), View>;
 struct Greatest;
 
 impl TableRule<(), View, Problem> for Greatest {
-    ghost use Rattle.best_word.specs.Known.{first_of, Kept};
+    ghost use Rattle.best_word.specs.Known.{first_scout, WordRule};
 
-    ghost holds = { Kept };
+    ghost holds = { WordRule };
 
-    ghost first = { first_of };
+    ghost first = { first_scout };
 }
 
 /// The word is looked at.
@@ -61,11 +61,11 @@ impl Split<View> for Fork {
 struct Merge;
 
 impl Join<View> for Merge {
-    ghost use Rattle.best_word.specs.Known.{joined, spent};
+    ghost use Rattle.best_word.specs.Known.{joined_scout, spent_scout};
 
-    ghost both = { joined };
+    ghost both = { joined_scout };
 
-    ghost spent = { spent };
+    ghost spent = { spent_scout };
 }
 
 /// The place of the only word.
@@ -92,7 +92,7 @@ impl Best {
     /// A word for this problem, at 0, and its first scout.
     pub fn make(alloc: Global, problem: &Problem) -> Result<(Best, Scout), AllocError>
         ensures word { IfOk result (λ made. made.1.table_id ≡ made.0) }
-        ensures scout { IfOk result (λ made. made.1.me ≡ (first_of problem.now, [])) }
+        ensures scout { IfOk result (λ made. made.1.me ≡ (first_scout problem.now, [])) }
     {
         let (table, scout) = Table::of_words(alloc, &[0], problem)?;
         Ok((Best { table }, scout))
@@ -102,7 +102,7 @@ impl Best {
     pub fn known(&self, scout: &mut Scout) -> Key
         requires word { scout.old.table_id ≡ self.now }
         requires problem { (problem : WeightedSum) × (scout.old.me.0.about ≡ Some problem) }
-        ensures known { (problem : WeightedSum) → scout.old.me.0.about ≡ Some problem → IsKnown problem result }
+        ensures known { (problem : WeightedSum) → scout.old.me.0.about ≡ Some problem → IsKnownKey problem result }
         ensures later { scout.old.me.0.low ≤ result }
         ensures scout { (scout.new.table_id ≡ scout.old.table_id) × (scout.new.me ≡ (record scout.old.me.0 { low = result }, scout.old.me.1)) }
     {
@@ -115,8 +115,8 @@ impl Best {
         requires word { scout.old.table_id ≡ self.now }
         requires problem { scout.old.me.0.about ≡ Some problem.now }
         requires point { IsTrue (is_point problem.now.axes p.now) × (key_at problem.now p.now ≡ key) }
-        ensures greater { (found : ℕ) × (result ≡ max found key) × (scout.old.me.0.low ≤ found) × IsKnown problem.now found }
-        ensures known { IsKnown problem.now result }
+        ensures greater { (found : ℕ) × (result ≡ max found key) × (scout.old.me.0.low ≤ found) × IsKnownKey problem.now found }
+        ensures known { IsKnownKey problem.now result }
         ensures scout { (scout.new.table_id ≡ scout.old.table_id) × (scout.new.me ≡ (record scout.old.me.0 { low = result }, scout.old.me.1)) }
     {
         let found = self.table.shared.fetch_max::<Raise>(scout, WORD, key);
@@ -136,7 +136,7 @@ impl Best {
     pub fn join(&self, scout: &mut Scout, other: Scout)
         requires word { (scout.old.table_id ≡ self.now) × (other.table_id ≡ self.now) × (other.me.1 ≡ []) }
         requires problem { (problem : WeightedSum) × (scout.old.me.0.about ≡ Some problem) × (other.me.0.about ≡ Some problem) }
-        ensures { (scout.new.table_id ≡ scout.old.table_id) × (scout.new.me ≡ (joined scout.old.me.0 other.me.0, scout.old.me.1)) }
+        ensures { (scout.new.table_id ≡ scout.old.table_id) × (scout.new.me ≡ (joined_scout scout.old.me.0 other.me.0, scout.old.me.1)) }
     {
         self.table.shared.join_seat::<Merge>(scout, other);
     }

@@ -19,8 +19,8 @@ use Rattle.ivp_cert.specs.declared.phase.Phase.TheVariants.{Done, OfCuts, OfProb
 use Rattle.ivp_cert.specs.declared.stage.Stage.{Stage}
 use Rattle.ivp_cert.specs.declared.stage.Stage.TheVariants.{Start, Begun, Axes, Functions, Ended}
 use Rattle.ivp_cert.specs.Decisions.{are_on, bound_with, claimed, decision_of, in_form, line_from, line_with, point_at, spelled, Spelled, spelled_with, sum_word, with_claim, with_cut, with_line}
-use Rattle.ivp_cert.specs.Problems.{ended, problem_of}
-use Rattle.ivp_cert.specs.Stages.{after_cuts, after_problem, after_stage, after_word, after_words, as_now, phase_after, read_from, whole_decision, whole_problem}
+use Rattle.ivp_cert.specs.Problems.{nothing_behind, problem_of}
+use Rattle.ivp_cert.specs.Stages.{after_cuts, after_problem, after_stage, after_word, stage_after, as_now, phase_after, after_lines, whole_decision, whole_problem}
 use Rattle.moos_text.specs.Refusals.{and_then}
 use Rattle.ivp_cert.specs.Said.{at_line}
 use Rattle.ivp_cert.specs.Words.{line_words, natural_of, place_of}
@@ -135,14 +135,14 @@ problem_good problem word words next e = by (bytes_eq word (codes "decision")) e
         good_at (OfCuts claim.0) next claim.2 (claimed_good problem one.0 claim.0 (spelled_sum [] words one.0 (form_of (spelled [] words) one.0 one.1)) one.2)
     by false e = absurd (cc)
 
-done_good : (decision : Decision) (words : List (List ℕ)) (next : Phase) → KeepsSums decision → as_now Done (ended decision words) ≡ Ok next → Good next
+done_good : (decision : Decision) (words : List (List ℕ)) (next : Phase) → KeepsSums decision → as_now Done (nothing_behind decision words) ≡ Ok next → Good next
 done_good decision [] next good e = good_at (Done decision) next e good
 done_good decision (word ∷ words) next good e = absurd (cc)
 
 cuts_good : (decision : Decision) (word : List ℕ) (words : List (List ℕ)) (next : Phase) → KeepsSums decision → after_cuts decision word words ≡ Ok next → Good next
 cuts_good decision word words next good e = by (bytes_eq word (codes "cut")) (bytes_eq word (codes "done")) e
   where
-    by : (cut done : Bool) → cond cut (as_now OfCuts (with_cut decision words)) (cond done (as_now Done (ended decision words)) (Err P1)) ≡ Ok next → Good next
+    by : (cut done : Bool) → cond cut (as_now OfCuts (with_cut decision words)) (cond done (as_now Done (nothing_behind decision words)) (Err P1)) ≡ Ok next → Good next
     by true done e =
         let more = then_of (λ decision. Ok (OfCuts decision)) (with_cut decision words) next e in
         let one = then_of (λ line. Ok (with_line decision line)) (in_form (line_from [] words)) more.0 more.1 in
@@ -166,10 +166,10 @@ phase_good line (OfProblem stage) (word ∷ words) next good e = stage_good line
 phase_good line (OfCuts decision) (word ∷ words) next good e = cuts_good decision word words next good (line_of line (after_cuts decision word words) next e)
 phase_good line (Done decision) (word ∷ words) next good e = absurd (cc)
 
-read_good : (raws : List (List ℕ)) (lines : ℕ) (phase last : Phase) → Good phase → read_from phase_after lines phase raws ≡ Ok last → Good last
+read_good : (raws : List (List ℕ)) (lines : ℕ) (phase last : Phase) → Good phase → after_lines phase_after lines phase raws ≡ Ok last → Good last
 read_good [] lines phase last good e = good_at phase last e good
 read_good (raw ∷ raws) lines phase last good e =
-    let one = then_of (λ next. read_from phase_after (suc lines) next raws) (phase_after (suc lines) phase (line_words raw)) last e in
+    let one = then_of (λ next. after_lines phase_after (suc lines) next raws) (phase_after (suc lines) phase (line_words raw)) last e in
     read_good raws (suc lines) one.0 last (phase_good (suc lines) phase (line_words raw) one.0 good one.1) one.2
 
 whole_good : (last : ℕ) (phase : Phase) (decision : Decision) → Good phase → whole_decision last phase ≡ Ok decision → KeepsSums decision
@@ -179,7 +179,7 @@ whole_good last (Done done) decision good e = let same : done ≡ decision = cc 
 
 read_keeps : (bytes : List ℕ) (decision : Decision) → decision_of bytes ≡ Ok decision → KeepsSums decision
 read_keeps bytes decision e =
-    let one = then_of (whole_decision (max 1 (length (raw_lines bytes)))) (read_from phase_after 0 (OfProblem Start) (raw_lines bytes)) decision (decision_read bytes ∙ e) in
+    let one = then_of (whole_decision (max 1 (length (raw_lines bytes)))) (after_lines phase_after 0 (OfProblem Start) (raw_lines bytes)) decision (decision_read bytes ∙ e) in
     whole_good (max 1 (length (raw_lines bytes))) one.0 decision (read_good (raw_lines bytes) 0 (OfProblem Start) one.0 tt one.1) one.2
 
 -- as the reader answers
@@ -192,14 +192,14 @@ read_sums bytes (Err fault) e = tt
 -- where no line is left
 pub read_whole : (bytes : List ℕ) (lines last : ℕ) (phase : Phase) (left : List ℕ) → IsRead phase_after (OfProblem Start) bytes lines phase left → left ≡ [] → last ≡ max lines 1 → decision_of bytes ≡ whole_decision last phase
 read_whole bytes lines last phase left read none is =
-    let so_far : read_from phase_after 0 (OfProblem Start) (raw_lines bytes) ≡ Ok phase = read.so_far ∙ ap (λ text. read_from phase_after lines phase (raw_lines text)) none in
+    let so_far : after_lines phase_after 0 (OfProblem Start) (raw_lines bytes) ≡ Ok phase = read.so_far ∙ ap (λ text. after_lines phase_after lines phase (raw_lines text)) none in
     let counted : length (raw_lines bytes) ≡ lines = sym read.counted ∙ (ap (λ text. lines + length (raw_lines text)) none ∙ omega arith) in
     let same : max 1 (length (raw_lines bytes)) ≡ last = omega (arith, counted, is) in
     sym (decision_read bytes) ∙ ap (and_then (whole_decision (max 1 (length (raw_lines bytes))))) so_far ∙ ap (λ n. whole_decision n phase) same
 
-pub problem_whole : (bytes : List ℕ) (lines last : ℕ) (stage : Stage) (left : List ℕ) → IsRead after_words Start bytes lines stage left → left ≡ [] → last ≡ max lines 1 → problem_of bytes ≡ whole_problem last stage
+pub problem_whole : (bytes : List ℕ) (lines last : ℕ) (stage : Stage) (left : List ℕ) → IsRead stage_after Start bytes lines stage left → left ≡ [] → last ≡ max lines 1 → problem_of bytes ≡ whole_problem last stage
 problem_whole bytes lines last stage left read none is =
-    let so_far : read_from after_words 0 Start (raw_lines bytes) ≡ Ok stage = read.so_far ∙ ap (λ text. read_from after_words lines stage (raw_lines text)) none in
+    let so_far : after_lines stage_after 0 Start (raw_lines bytes) ≡ Ok stage = read.so_far ∙ ap (λ text. after_lines stage_after lines stage (raw_lines text)) none in
     let counted : length (raw_lines bytes) ≡ lines = sym read.counted ∙ (ap (λ text. lines + length (raw_lines text)) none ∙ omega arith) in
     let same : max 1 (length (raw_lines bytes)) ≡ last = omega (arith, counted, is) in
     sym (problem_read bytes) ∙ ap (and_then (whole_problem (max 1 (length (raw_lines bytes))))) so_far ∙ ap (λ n. whole_problem n stage) same

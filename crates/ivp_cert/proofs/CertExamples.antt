@@ -1,7 +1,7 @@
 -- Certificates and decisions worked by hand.
 use Rattle.std.proofs.Common.{◌≡◌, ℕ, true, false, Some, None, List, [], ◌∷◌, ◌++◌, refl, ap, sym, arith}
 use Rattle.std.specs.Prelude.{codes, Ok, Err, pos}
-use Rattle.ivp_domain.specs.Boxes.{point_of}
+use Rattle.ivp_domain.specs.Boxes.{point_from}
 use Rattle.ivp_problem.specs.Keys.{key_of}
 use Rattle.ivp_problem.specs.declared.node.Node.{Node}
 use Rattle.ivp_problem.specs.Trees.{bound_of, node_of, root_of}
@@ -90,7 +90,7 @@ no_third_leaf is = let reached = is.reached in absurd (cc)
 
 -- the certificate is accepted, and not with its lines the other way round
 abbrev claim : Claim
-claim = record { point = point_of 0 1 0 0; sum = 75 }
+claim = record { point = point_from 0 1 0 0; sum = 75 }
 
 lines_accepted : Accepts two claim lines
 lines_accepted = walked_accepts two claim lines refl refl
@@ -105,17 +105,17 @@ other_way_refused is = let first : false ≡ true = is.rise.0 in cc
 left_out_refused : Accepts two claim (record { path = 0 ∷ 0 ∷ []; sum = 75; index = 2 } ∷ []) → ⊥
 left_out_refused is = omega (arith, is.once (0 ∷ 1 ∷ []) (record { depth = 2; area = record { low = 1 ∷ 0 ∷ 0 ∷ 0 ∷ []; high = 2 ∷ 1 ∷ 1 ∷ 0 ∷ [] }; base = pos 0; slope = pos 20 ∷ pos 15 ∷ pos 0 ∷ pos 0 ∷ [] }) refl (omega arith))
 
-other_sum_refused : Accepts two (record { point = point_of 0 1 0 0; sum = 74 }) lines → ⊥
+other_sum_refused : Accepts two (record { point = point_from 0 1 0 0; sum = 74 }) lines → ⊥
 other_sum_refused is = omega (arith, is.sum)
 
-lesser_point_refused : Accepts two (record { point = point_of 2 1 0 0; sum = 55 }) lines → ⊥
+lesser_point_refused : Accepts two (record { point = point_from 2 1 0 0; sum = 55 }) lines → ⊥
 lesser_point_refused is = let first = is.lines 0 (record { path = 0 ∷ 0 ∷ []; sum = 75; index = 2 }) refl in omega (arith, first.sum, first.most)
 
 abbrev pub problem_bytes : List ℕ
 problem_bytes = codes "ivp 1\ndomain a:0:2:3\ndomain b:0:1:2\ndomain d:0:1:2\nfunction 2\npiece 0 2 0 1 0 1 0 10 0 0\nfunction 3\npiece 0 0 0 1 0 1 20 0 5 0\npiece 1 2 0 1 0 1 0 0 5 0\nend\n"
 
 abbrev pub decision : Decision
-decision = record { problem = two; claim = record { point = point_of 0 1 0 0; sum = 75 }; cert = lines }
+decision = record { problem = two; claim = record { point = point_from 0 1 0 0; sum = 75 }; cert = lines }
 
 decision_is : decision_of (problem_bytes ++ codes "decision 0 1 0 75\ncut 0 0 : 75 2\ncut 0 1 : 55 10\ndone\n") ≡ Ok decision
 decision_is = refl

@@ -16,9 +16,9 @@ use Rattle.ivp_cert.specs.declared.stage.Stage.{Stage}
 use Rattle.ivp_cert.specs.declared.stage.Stage.TheVariants.{Axes, Begun, Ended, Functions, Start}
 use Rattle.ivp_cert.specs.Decisions.{claim_in, cuts_in, decision_of, with_claim, with_cut}
 use Rattle.ivp_cert.specs.Pieces.{piece_of}
-use Rattle.ivp_cert.specs.Problems.{axes_in, domain_in, ended, ended_early, finished, functions_in, is_first, last_line, problem_in, problem_of, with_domain, with_function, with_piece}
+use Rattle.ivp_cert.specs.Problems.{axes_in, domain_in, nothing_behind, ended_early, finished, functions_in, is_first, last_line, problem_in, problem_of, with_domain, with_function, with_piece}
 use Rattle.ivp_cert.specs.Said.{at_line, last_of, Said, said_from, said_with}
-use Rattle.ivp_cert.specs.Stages.{after_first, after_word, after_words, as_now, phase_after, read_from, whole_decision, whole_problem}
+use Rattle.ivp_cert.specs.Stages.{after_first, after_word, stage_after, as_now, phase_after, after_lines, whole_decision, whole_problem}
 use Rattle.ivp_cert.specs.Unfinished.{UnfinishedSum}
 use Rattle.ivp_cert.specs.Words.{line_words}
 
@@ -75,10 +75,10 @@ line_axes last next lines axes line words false true end = one_line Functions (b
 line_axes last next lines axes line words false false true = refl
 line_axes last next lines axes line words false false false = refl
 
-line_functions : {A : Type 0} (last : ℕ) (next : Next A) (lines : List Said) (sum : UnfinishedSum) (line : ℕ) (words : List (List ℕ)) (piece function end : Bool) → and_then (behind last next lines) (cond piece (at_line line (as_now Functions (with_piece sum (piece_of (length sum.before.axes) words)))) (cond function (and_then (λ before. at_line line (as_now Functions (with_function before line words))) (finished sum)) (cond end (and_then (λ whole. at_line line (as_now Ended (ended whole words))) (finished sum)) (Err (At line P1))))) ≡ cond piece (and_then (λ more. functions_in last next more lines) (at_line line (with_piece sum (piece_of (length sum.before.axes) words)))) (cond function (and_then (λ before. and_then (λ more. functions_in last next more lines) (at_line line (with_function before line words))) (finished sum)) (cond end (and_then (λ whole. and_then (λ problem. next problem lines) (at_line line (ended whole words))) (finished sum)) (Err (At line P1))))
+line_functions : {A : Type 0} (last : ℕ) (next : Next A) (lines : List Said) (sum : UnfinishedSum) (line : ℕ) (words : List (List ℕ)) (piece function end : Bool) → and_then (behind last next lines) (cond piece (at_line line (as_now Functions (with_piece sum (piece_of (length sum.before.axes) words)))) (cond function (and_then (λ before. at_line line (as_now Functions (with_function before line words))) (finished sum)) (cond end (and_then (λ whole. at_line line (as_now Ended (nothing_behind whole words))) (finished sum)) (Err (At line P1))))) ≡ cond piece (and_then (λ more. functions_in last next more lines) (at_line line (with_piece sum (piece_of (length sum.before.axes) words)))) (cond function (and_then (λ before. and_then (λ more. functions_in last next more lines) (at_line line (with_function before line words))) (finished sum)) (cond end (and_then (λ whole. and_then (λ problem. next problem lines) (at_line line (nothing_behind whole words))) (finished sum)) (Err (At line P1))))
 line_functions last next lines sum line words true function end = one_line Functions (behind last next lines) line (with_piece sum (piece_of (length sum.before.axes) words))
 line_functions last next lines sum line words false true end = finished_line Functions (behind last next lines) line (λ before. with_function before line words) (finished sum)
-line_functions last next lines sum line words false false true = finished_line Ended (behind last next lines) line (λ whole. ended whole words) (finished sum)
+line_functions last next lines sum line words false false true = finished_line Ended (behind last next lines) line (λ whole. nothing_behind whole words) (finished sum)
 line_functions last next lines sum line words false false false = refl
 
 abbrev said : ℕ → List ℕ → List (List ℕ) → Said
@@ -114,9 +114,9 @@ line_claim : (last : ℕ) (lines : List Said) (problem : WeightedSum) (line : �
 line_claim last lines problem line words true = one_line OfCuts (behind_phase last lines) line (with_claim problem words)
 line_claim last lines problem line words false = refl
 
-line_cuts : (last : ℕ) (lines : List Said) (decision : Decision) (line : ℕ) (words : List (List ℕ)) (cut done : Bool) → and_then (behind_phase last lines) (at_line line (cond cut (as_now OfCuts (with_cut decision words)) (cond done (as_now Done (ended decision words)) (Err P1)))) ≡ cond cut (and_then (λ more. cuts_in last more lines) (at_line line (with_cut decision words))) (cond done (and_then (λ whole. last_of whole lines) (at_line line (ended decision words))) (Err (At line P1)))
+line_cuts : (last : ℕ) (lines : List Said) (decision : Decision) (line : ℕ) (words : List (List ℕ)) (cut done : Bool) → and_then (behind_phase last lines) (at_line line (cond cut (as_now OfCuts (with_cut decision words)) (cond done (as_now Done (nothing_behind decision words)) (Err P1)))) ≡ cond cut (and_then (λ more. cuts_in last more lines) (at_line line (with_cut decision words))) (cond done (and_then (λ whole. last_of whole lines) (at_line line (nothing_behind decision words))) (Err (At line P1)))
 line_cuts last lines decision line words true done = one_line OfCuts (behind_phase last lines) line (with_cut decision words)
-line_cuts last lines decision line words false true = one_line Done (behind_phase last lines) line (ended decision words)
+line_cuts last lines decision line words false true = one_line Done (behind_phase last lines) line (nothing_behind decision words)
 line_cuts last lines decision line words false false = refl
 
 decision_line : (last : ℕ) (lines : List Said) (phase : Phase) (line : ℕ) (word : List ℕ) (words : List (List ℕ)) → and_then (behind_phase last lines) (after_first line phase word words) ≡ behind_phase last (said line word words ∷ lines) phase
@@ -129,19 +129,19 @@ decision_line last lines (OfCuts decision) line word words = line_cuts last line
 decision_line last lines (Done decision) line word words = refl
 
 -- all lines, by those behind the first
-problem_more : (last : ℕ) (raws : List (List ℕ)) (lines : ℕ) (stage : Stage) (words : List (List ℕ)) → ((next : Stage) → and_then (whole_problem last) (read_from after_words (suc lines) next raws) ≡ behind last last_of (said_from (suc lines) raws) next) → and_then (whole_problem last) (and_then (λ next. read_from after_words (suc lines) next raws) (after_words (suc lines) stage words)) ≡ behind last last_of (said_with (suc lines) words (said_from (suc lines) raws)) stage
+problem_more : (last : ℕ) (raws : List (List ℕ)) (lines : ℕ) (stage : Stage) (words : List (List ℕ)) → ((next : Stage) → and_then (whole_problem last) (after_lines stage_after (suc lines) next raws) ≡ behind last last_of (said_from (suc lines) raws) next) → and_then (whole_problem last) (and_then (λ next. after_lines stage_after (suc lines) next raws) (stage_after (suc lines) stage words)) ≡ behind last last_of (said_with (suc lines) words (said_from (suc lines) raws)) stage
 problem_more last raws lines stage [] others = others stage
 problem_more last raws lines stage (word ∷ words) others =
-    then_each (whole_problem last) (λ next. read_from after_words (suc lines) next raws) (behind last last_of (said_from (suc lines) raws)) (after_word (suc lines) stage word words) others
+    then_each (whole_problem last) (λ next. after_lines stage_after (suc lines) next raws) (behind last last_of (said_from (suc lines) raws)) (after_word (suc lines) stage word words) others
     ∙ problem_line last (said_from (suc lines) raws) stage (suc lines) word words
 
-decision_more : (last : ℕ) (raws : List (List ℕ)) (lines : ℕ) (phase : Phase) (words : List (List ℕ)) → ((next : Phase) → and_then (whole_decision last) (read_from phase_after (suc lines) next raws) ≡ behind_phase last (said_from (suc lines) raws) next) → and_then (whole_decision last) (and_then (λ next. read_from phase_after (suc lines) next raws) (phase_after (suc lines) phase words)) ≡ behind_phase last (said_with (suc lines) words (said_from (suc lines) raws)) phase
+decision_more : (last : ℕ) (raws : List (List ℕ)) (lines : ℕ) (phase : Phase) (words : List (List ℕ)) → ((next : Phase) → and_then (whole_decision last) (after_lines phase_after (suc lines) next raws) ≡ behind_phase last (said_from (suc lines) raws) next) → and_then (whole_decision last) (and_then (λ next. after_lines phase_after (suc lines) next raws) (phase_after (suc lines) phase words)) ≡ behind_phase last (said_with (suc lines) words (said_from (suc lines) raws)) phase
 decision_more last raws lines phase [] others = others phase
 decision_more last raws lines phase (word ∷ words) others =
-    then_each (whole_decision last) (λ next. read_from phase_after (suc lines) next raws) (behind_phase last (said_from (suc lines) raws)) (after_first (suc lines) phase word words) others
+    then_each (whole_decision last) (λ next. after_lines phase_after (suc lines) next raws) (behind_phase last (said_from (suc lines) raws)) (after_first (suc lines) phase word words) others
     ∙ decision_line last (said_from (suc lines) raws) phase (suc lines) word words
 
-problem_lines : (last : ℕ) (raws : List (List ℕ)) (lines : ℕ) (stage : Stage) → and_then (whole_problem last) (read_from after_words lines stage raws) ≡ behind last last_of (said_from lines raws) stage
+problem_lines : (last : ℕ) (raws : List (List ℕ)) (lines : ℕ) (stage : Stage) → and_then (whole_problem last) (after_lines stage_after lines stage raws) ≡ behind last last_of (said_from lines raws) stage
 problem_lines last [] lines Start = refl
 problem_lines last [] lines Begun = refl
 problem_lines last [] lines (Axes axes) = refl
@@ -149,7 +149,7 @@ problem_lines last [] lines (Functions sum) = refl
 problem_lines last [] lines (Ended problem) = refl
 problem_lines last (raw ∷ raws) lines stage = problem_more last raws lines stage (line_words raw) (λ next. problem_lines last raws (suc lines) next)
 
-decision_lines : (last : ℕ) (raws : List (List ℕ)) (lines : ℕ) (phase : Phase) → and_then (whole_decision last) (read_from phase_after lines phase raws) ≡ behind_phase last (said_from lines raws) phase
+decision_lines : (last : ℕ) (raws : List (List ℕ)) (lines : ℕ) (phase : Phase) → and_then (whole_decision last) (after_lines phase_after lines phase raws) ≡ behind_phase last (said_from lines raws) phase
 decision_lines last [] lines (OfProblem Start) = refl
 decision_lines last [] lines (OfProblem Begun) = refl
 decision_lines last [] lines (OfProblem (Axes axes)) = refl
@@ -159,8 +159,8 @@ decision_lines last [] lines (OfCuts decision) = refl
 decision_lines last [] lines (Done decision) = refl
 decision_lines last (raw ∷ raws) lines phase = decision_more last raws lines phase (line_words raw) (λ next. decision_lines last raws (suc lines) next)
 
-pub problem_read : (bytes : List ℕ) → and_then (whole_problem (last_line bytes)) (read_from after_words 0 Start (raw_lines bytes)) ≡ problem_of bytes
+pub problem_read : (bytes : List ℕ) → and_then (whole_problem (last_line bytes)) (after_lines stage_after 0 Start (raw_lines bytes)) ≡ problem_of bytes
 problem_read bytes = problem_lines (last_line bytes) (raw_lines bytes) 0 Start
 
-pub decision_read : (bytes : List ℕ) → and_then (whole_decision (last_line bytes)) (read_from phase_after 0 (OfProblem Start) (raw_lines bytes)) ≡ decision_of bytes
+pub decision_read : (bytes : List ℕ) → and_then (whole_decision (last_line bytes)) (after_lines phase_after 0 (OfProblem Start) (raw_lines bytes)) ≡ decision_of bytes
 decision_read bytes = decision_lines (last_line bytes) (raw_lines bytes) 0 (OfProblem Start)

@@ -9,7 +9,7 @@ use Rattle.moos_post.specs.Words.{IsMilli}
 use Rattle.moos_text.specs.Numbers.{milli_text}
 use Rattle.moos_text.proofs.RoundTrip.{milli_back}
 use Rattle.ivp_domain.specs.declared.axis.Axis.{Axis}
-use Rattle.ivp_domain.specs.AxisNames.{is_axis_name, is_letter, is_word_byte}
+use Rattle.ivp_domain.specs.AxisNames.{is_axis_name, is_axis_letter, is_word_byte}
 use Rattle.ivp_cert.specs.Texts.{axis_text}
 use Rattle.ivp_cert.specs.Words.{axis_from, axis_of, fields_of}
 use Rattle.ivp_cert.proofs.PrintedLines.{IsWord, line_of}
@@ -32,7 +32,7 @@ name_byte byte is = record { ink = grind (arith, nat_tests); apart = grind (arit
 
 name_field : (name : List ℕ) → is_axis_name name ≡ true → Each InField name
 name_field name is =
-    let parts = and_parts (nat_lt 0 (length name) && is_letter (slice_index name 0) && nat_le (length name) 16) (list_all is_word_byte name) is in
+    let parts = and_parts (nat_lt 0 (length name) && is_axis_letter (slice_index name 0) && nat_le (length name) 16) (list_all is_word_byte name) is in
     each_weaker (λ byte. is_word_byte byte ≡ true) InField name_byte name (each_true is_word_byte name parts.1)
 
 -- what the text of an axis tells

@@ -7,7 +7,7 @@ use Rattle.std.proofs.lemmas.Bool.Decides.{nat_tests}
 use Rattle.std.proofs.lemmas.Nat.{mul-le}
 use Rattle.ivp_domain.specs.declared.axis.Axis.{Axis}
 use Rattle.ivp_domain.specs.Axes.{is_good_axis}
-use Rattle.ivp_domain.specs.Domains.{bad_place, domain_of, is_domain, repeated_after, repeated_place, same_name, size_of, size_on}
+use Rattle.ivp_domain.specs.Domains.{bad_axis, domain_of, is_domain, repeated_after, repeated_place, same_name, size_of, size_on}
 use Rattle.ivp_domain.proofs.Sizes.{few, good_axes}
 
 good_both : (xs ys : List Axis) → list_all is_good_axis (xs ++ ys) ≡ true → list_all is_good_axis xs ≡ true
@@ -35,8 +35,8 @@ none_bad : (axes : List Axis) → list_all is_good_axis axes ≡ true → positi
 none_bad [] h = refl
 none_bad (axis ∷ axes) h = let both = and_parts (is_good_axis axis) (list_all is_good_axis axes) h in rw both.0 (omega (arith, none_bad axes both.1))
 
-no_bad_place : (axes : List Axis) → list_all is_good_axis axes ≡ true → bad_place axes ≡ None
-no_bad_place axes h =
+no_bad_axis : (axes : List Axis) → list_all is_good_axis axes ≡ true → bad_axis axes ≡ None
+no_bad_axis axes h =
     let past : nat_lt (position_or_len (λ axis. not (is_good_axis axis)) axes) (length axes) ≡ false = le-ltb (position_or_len (λ axis. not (is_good_axis axis)) axes) (length axes) (omega (arith, none_bad axes h)) in
     rw past refl
 
@@ -58,4 +58,4 @@ front_domain xs ys h =
     let good = good_axes all h in
     let names = and_parts (nat_lt 0 (length all) && nat_le (length all) 4 && list_all is_good_axis all && nat_le (size_of all) (2 ^ 22)) (is_none (repeated_place all)) h in
     let fits : nat_le (size_of xs) (2 ^ 22) ≡ true = le-leb (size_of xs) (2 ^ 22) (le_trans (smaller xs ys good) (few all h)) in
-    rw (no_bad_place xs (good_both xs ys good), fits, front_names [] xs ys (none_of (repeated_place all) names.1)) refl
+    rw (no_bad_axis xs (good_both xs ys good), fits, front_names [] xs ys (none_of (repeated_place all) names.1)) refl

@@ -8,7 +8,7 @@ use Rattle.moos_io.proofs.Lists.{each_append, each_weaker}
 use Rattle.moos_text.specs.Lines.{is_blank, onto_first, raw_lines, trimmed, without_front_blanks, without_return, words_of}
 use Rattle.ivp_cert.specs.Printed.{IsPrefix}
 use Rattle.moos_text.specs.Refusals.{and_then}
-use Rattle.ivp_cert.specs.Stages.{read_from}
+use Rattle.ivp_cert.specs.Stages.{after_lines}
 use Rattle.ivp_cert.specs.Words.{line_words, without_prefix}
 use Rattle.ivp_cert.proofs.Reading.{After}
 
@@ -127,12 +127,12 @@ shown_prefix prefix (inl none) = rw none tt
 shown_prefix prefix (inr some) = rw some (omega arith, (omega arith, (omega arith, tt)))
 
 -- one printed line more is taken by its words
-pub line_taken : {S : Type 0} (after : After S) (lines : ℕ) (state : S) (prefix : List ℕ) (first : ℕ) (word : List ℕ) (words : List (List ℕ)) (rest : List ℕ) → IsPrefix prefix → 38 ≤ first → IsWord (first ∷ word) → Each IsWord words → read_from after lines state (raw_lines (line_of prefix (first ∷ word) words ++ rest)) ≡ and_then (λ next. read_from after (suc lines) next (raw_lines rest)) (after (suc lines) state ((first ∷ word) ∷ words))
+pub line_taken : {S : Type 0} (after : After S) (lines : ℕ) (state : S) (prefix : List ℕ) (first : ℕ) (word : List ℕ) (words : List (List ℕ)) (rest : List ℕ) → IsPrefix prefix → 38 ≤ first → IsWord (first ∷ word) → Each IsWord words → after_lines after lines state (raw_lines (line_of prefix (first ∷ word) words ++ rest)) ≡ and_then (λ next. after_lines after (suc lines) next (raw_lines rest)) (after (suc lines) state ((first ∷ word) ∷ words))
 line_taken after lines state prefix first word words rest at letter is all =
     let text = joined (first ∷ word) words in
     let whole : line_of prefix (first ∷ word) words ++ rest ≡ (prefix ++ text) ++ 10 ∷ rest =
     append_assoc prefix (text ++ 10 ∷ []) rest ∙ ap (λ t. prefix ++ t) (append_assoc text (10 ∷ []) rest) ∙ sym (append_assoc prefix text (10 ∷ rest)) in
     let shown = shown_both prefix text (shown_prefix prefix at) (shown_both (first ∷ word) (flat_map spaced words) (shown_word (first ∷ word) is.ink) (shown_words words all)) in
-    ap (λ t. read_from after lines state (raw_lines t)) whole
-    ∙ ap (read_from after lines state) (line_in_front (prefix ++ text) rest shown)
-    ∙ ap (λ ws. and_then (λ next. read_from after (suc lines) next (raw_lines rest)) (after (suc lines) state ws)) (said prefix first word words at letter is all)
+    ap (λ t. after_lines after lines state (raw_lines t)) whole
+    ∙ ap (after_lines after lines state) (line_in_front (prefix ++ text) rest shown)
+    ∙ ap (λ ws. and_then (λ next. after_lines after (suc lines) next (raw_lines rest)) (after (suc lines) state ws)) (said prefix first word words at letter is all)

@@ -55,21 +55,21 @@ spelled_four : (l0 h0 l1 h1 l2 h2 l3 h3 : ℕ) (base s0 s1 s2 s3 : ℤ) → IsPl
 spelled_four l0 h0 l1 h1 l2 h2 l3 h3 base s0 s1 s2 s3 a0 b0 a1 b1 a2 b2 a3 b3 base_is t0 t1 t2 t3 = record { back = rw (a0.back, b0.back, a1.back, b1.back, a2.back, b2.back, a3.back, b3.back, base_is.back, t0.back, t1.back, t2.back, t3.back) refl; words = (a0.word, (b0.word, (a1.word, (b1.word, (a2.word, (b2.word, (a3.word, (b3.word, (base_is.word, (t0.word, (t1.word, (t2.word, (t3.word, tt))))))))))))) }
 
 -- what a piece that fits keeps on an axis: its place, where there is one, and 0 past the last
-record Kept (size : ℕ) (low high : ℕ) : Type 0 where
+record KeepsSpan (size : ℕ) (low high : ℕ) : Type 0 where
   pub rise : low ≤ high
   pub within : high < size
   pub few : size ≤ 2 ^ 22
 
-low_place : (size low high : ℕ) → Kept size low high → IsPlace low
+low_place : (size low high : ℕ) → KeepsSpan size low high → IsPlace low
 low_place size low high k = place low (omega (arith, k.rise, k.within, k.few))
 
-high_place : (size low high : ℕ) → Kept size low high → IsPlace high
+high_place : (size low high : ℕ) → KeepsSpan size low high → IsPlace high
 high_place size low high k = place high (omega (arith, k.within, k.few))
 
-low_none : (low high : ℕ) → Kept 1 low high → low ≡ 0
+low_none : (low high : ℕ) → KeepsSpan 1 low high → low ≡ 0
 low_none low high k = omega (arith, k.rise, k.within)
 
-high_none : (low high : ℕ) → Kept 1 low high → high ≡ 0
+high_none : (low high : ℕ) → KeepsSpan 1 low high → high ≡ 0
 high_none low high k = omega (arith, k.within)
 
 slope_number : (s : ℤ) → is_slope s ≡ true → IsNumber 100000 s
@@ -80,11 +80,11 @@ slope_none (pos n) h = let same : n ≡ 0 = grind (arith, nat_tests) in ap pos s
 slope_none (negsuc n) h = absurd (cc)
 
 -- all of it
-record Fits (axes : List Axis) (l0 l1 l2 l3 h0 h1 h2 h3 : ℕ) (base s0 s1 s2 s3 : ℤ) : Type 0 where
-  pub k0 : Kept (size_on 0 axes) l0 h0
-  pub k1 : Kept (size_on 1 axes) l1 h1
-  pub k2 : Kept (size_on 2 axes) l2 h2
-  pub k3 : Kept (size_on 3 axes) l3 h3
+record FitsAxes (axes : List Axis) (l0 l1 l2 l3 h0 h1 h2 h3 : ℕ) (base s0 s1 s2 s3 : ℤ) : Type 0 where
+  pub k0 : KeepsSpan (size_on 0 axes) l0 h0
+  pub k1 : KeepsSpan (size_on 1 axes) l1 h1
+  pub k2 : KeepsSpan (size_on 2 axes) l2 h2
+  pub k3 : KeepsSpan (size_on 3 axes) l3 h3
   pub base_is : IsNumber (10 ^ 12) base
   pub t0 : IsNumber 100000 s0
   pub t1 : IsNumber 100000 s1
@@ -94,7 +94,7 @@ record Fits (axes : List Axis) (l0 l1 l2 l3 h0 h1 h2 h3 : ℕ) (base s0 s1 s2 s3
   pub f2 : is_flat_past axes 2 (piece_at (l0 ∷ l1 ∷ l2 ∷ l3 ∷ []) (h0 ∷ h1 ∷ h2 ∷ h3 ∷ []) base (s0 ∷ s1 ∷ s2 ∷ s3 ∷ [])) ≡ true
   pub f3 : is_flat_past axes 3 (piece_at (l0 ∷ l1 ∷ l2 ∷ l3 ∷ []) (h0 ∷ h1 ∷ h2 ∷ h3 ∷ []) base (s0 ∷ s1 ∷ s2 ∷ s3 ∷ [])) ≡ true
 
-fits : (axes : List Axis) (l0 l1 l2 l3 h0 h1 h2 h3 : ℕ) (base s0 s1 s2 s3 : ℤ) → is_domain axes ≡ true → is_piece_of axes (piece_at (l0 ∷ l1 ∷ l2 ∷ l3 ∷ []) (h0 ∷ h1 ∷ h2 ∷ h3 ∷ []) base (s0 ∷ s1 ∷ s2 ∷ s3 ∷ [])) ≡ true → Fits axes l0 l1 l2 l3 h0 h1 h2 h3 base s0 s1 s2 s3
+fits : (axes : List Axis) (l0 l1 l2 l3 h0 h1 h2 h3 : ℕ) (base s0 s1 s2 s3 : ℤ) → is_domain axes ≡ true → is_piece_of axes (piece_at (l0 ∷ l1 ∷ l2 ∷ l3 ∷ []) (h0 ∷ h1 ∷ h2 ∷ h3 ∷ []) base (s0 ∷ s1 ∷ s2 ∷ s3 ∷ [])) ≡ true → FitsAxes axes l0 l1 l2 l3 h0 h1 h2 h3 base s0 s1 s2 s3
 fits axes l0 l1 l2 l3 h0 h1 h2 h3 base s0 s1 s2 s3 domain h =
     let piece = (piece_at (l0 ∷ l1 ∷ l2 ∷ l3 ∷ []) (h0 ∷ h1 ∷ h2 ∷ h3 ∷ []) base (s0 ∷ s1 ∷ s2 ∷ s3 ∷ [])) in
     let parts = piece_parts axes piece h in
@@ -120,7 +120,7 @@ fits axes l0 l1 l2 l3 h0 h1 h2 h3 base s0 s1 s2 s3 domain h =
       f3 = three.1;
     }
 
-by_axes : (axes : List Axis) (l0 l1 l2 l3 h0 h1 h2 h3 : ℕ) (base s0 s1 s2 s3 : ℤ) → is_domain axes ≡ true → Fits axes l0 l1 l2 l3 h0 h1 h2 h3 base s0 s1 s2 s3 → IsSpelled (length axes) (piece_at (l0 ∷ l1 ∷ l2 ∷ l3 ∷ []) (h0 ∷ h1 ∷ h2 ∷ h3 ∷ []) base (s0 ∷ s1 ∷ s2 ∷ s3 ∷ []))
+by_axes : (axes : List Axis) (l0 l1 l2 l3 h0 h1 h2 h3 : ℕ) (base s0 s1 s2 s3 : ℤ) → is_domain axes ≡ true → FitsAxes axes l0 l1 l2 l3 h0 h1 h2 h3 base s0 s1 s2 s3 → IsSpelled (length axes) (piece_at (l0 ∷ l1 ∷ l2 ∷ l3 ∷ []) (h0 ∷ h1 ∷ h2 ∷ h3 ∷ []) base (s0 ∷ s1 ∷ s2 ∷ s3 ∷ []))
 by_axes [] l0 l1 l2 l3 h0 h1 h2 h3 base s0 s1 s2 s3 domain f = absurd (cc)
 by_axes (a ∷ []) l0 l1 l2 l3 h0 h1 h2 h3 base s0 s1 s2 s3 domain f = rw (low_none l1 h1 f.k1, high_none l1 h1 f.k1, low_none l2 h2 f.k2, high_none l2 h2 f.k2, low_none l3 h3 f.k3, high_none l3 h3 f.k3, slope_none s1 f.f1, slope_none s2 f.f2, slope_none s3 f.f3) (spelled_one l0 h0 base s0 (low_place a.points l0 h0 f.k0) (high_place a.points l0 h0 f.k0) f.base_is f.t0)
 by_axes (a ∷ b ∷ []) l0 l1 l2 l3 h0 h1 h2 h3 base s0 s1 s2 s3 domain f = rw (low_none l2 h2 f.k2, high_none l2 h2 f.k2, low_none l3 h3 f.k3, high_none l3 h3 f.k3, slope_none s2 f.f2, slope_none s3 f.f3) (spelled_two l0 h0 l1 h1 base s0 s1 (low_place a.points l0 h0 f.k0) (high_place a.points l0 h0 f.k0) (low_place b.points l1 h1 f.k1) (high_place b.points l1 h1 f.k1) f.base_is f.t0 f.t1)

@@ -5,7 +5,7 @@ use Rattle.moos_text.specs.declared.cause.ReadFault.{ReadFault}
 use Rattle.moos_text.specs.declared.cause.ReadFault.TheVariants.{At, NoMemory}
 use Rattle.moos_text.specs.Lines.{first_line, raw_lines, trimmed, without_return, words_of}
 use Rattle.moos_text.specs.Refusals.{and_then, IsFirst}
-use Rattle.ivp_cert.specs.Stages.{read_from}
+use Rattle.ivp_cert.specs.Stages.{after_lines}
 use Rattle.ivp_cert.specs.Words.{without_prefix}
 
 -- what one line more comes to, by its number and its words
@@ -14,7 +14,7 @@ After S = ℕ → S → List (List ℕ) → Result S ReadFault
 
 -- what was read of the bytes: so many lines, which come to this state, and what is left
 pub record IsRead {S : Type 0} (after : After S) (start : S) (bytes : List ℕ) (lines : ℕ) (state : S) (left : List ℕ) : Type 0 where
-  pub so_far : read_from after 0 start (raw_lines bytes) ≡ read_from after lines state (raw_lines left)
+  pub so_far : after_lines after 0 start (raw_lines bytes) ≡ after_lines after lines state (raw_lines left)
   pub counted : lines + length (raw_lines left) ≡ length (raw_lines bytes)
   pub within : lines + length left ≤ length bytes
 
@@ -29,16 +29,16 @@ abbrev pub said_by : List ℕ → List (List ℕ)
 said_by line = words_of (without_prefix (trimmed line))
 
 -- the lines that are left, by the next one
-lines_left : {S : Type 0} (after : After S) (lines : ℕ) (state : S) (left line rest : List ℕ) → IsNext left line rest → read_from after lines state (raw_lines left) ≡ and_then (λ next. read_from after (lines + 1) next (raw_lines rest)) (after (lines + 1) state (said_by line))
+lines_left : {S : Type 0} (after : After S) (lines : ℕ) (state : S) (left line rest : List ℕ) → IsNext left line rest → after_lines after lines state (raw_lines left) ≡ and_then (λ next. after_lines after (lines + 1) next (raw_lines rest)) (after (lines + 1) state (said_by line))
 lines_left after lines state left line rest next =
-    ap (read_from after lines state) next.lines
-    ∙ ap (λ words. and_then (λ s. read_from after (suc lines) s (raw_lines rest)) (after (suc lines) state (said_by words))) (sym next.text)
-    ∙ ap (λ n. and_then (λ s. read_from after n s (raw_lines rest)) (after n state (said_by line))) (sym (add-one lines))
+    ap (after_lines after lines state) next.lines
+    ∙ ap (λ words. and_then (λ s. after_lines after (suc lines) s (raw_lines rest)) (after (suc lines) state (said_by words))) (sym next.text)
+    ∙ ap (λ n. and_then (λ s. after_lines after n s (raw_lines rest)) (after n state (said_by line))) (sym (add-one lines))
 
 -- a good line more
 pub one_read : {S : Type 0} (after : After S) (start : S) (bytes : List ℕ) (lines : ℕ) (state then : S) (left line rest : List ℕ) → IsRead after start bytes lines state left → IsNext left line rest → after (lines + 1) state (said_by line) ≡ Ok then → IsRead after start bytes (lines + 1) then rest
 one_read after start bytes lines state then left line rest read next good = record {
-  so_far = read.so_far ∙ lines_left after lines state left line rest next ∙ ap (and_then (λ s. read_from after (lines + 1) s (raw_lines rest))) good;
+  so_far = read.so_far ∙ lines_left after lines state left line rest next ∙ ap (and_then (λ s. after_lines after (lines + 1) s (raw_lines rest))) good;
   counted = let long = ap length next.lines in omega (arith, read.counted);
   within = omega (arith, read.within, next.shorter);
 }
@@ -51,9 +51,9 @@ first_then whole NoMemory r e = tt
 first_as : {S : Type 0} (fault : ReadFault) (r same : Result S ReadFault) → r ≡ same → IsFirst fault r → IsFirst fault same
 first_as fault r same e is = subst (IsFirst fault) e is
 
-pub one_refused : {S A : Type 0} (after : After S) (start : S) (whole : S → Result A ReadFault) (all : Result A ReadFault) (bytes : List ℕ) (lines : ℕ) (state : S) (left line rest : List ℕ) (fault : ReadFault) → and_then whole (read_from after 0 start (raw_lines bytes)) ≡ all → IsRead after start bytes lines state left → IsNext left line rest → IsFirst fault (after (lines + 1) state (said_by line)) → IsFirst fault all
+pub one_refused : {S A : Type 0} (after : After S) (start : S) (whole : S → Result A ReadFault) (all : Result A ReadFault) (bytes : List ℕ) (lines : ℕ) (state : S) (left line rest : List ℕ) (fault : ReadFault) → and_then whole (after_lines after 0 start (raw_lines bytes)) ≡ all → IsRead after start bytes lines state left → IsNext left line rest → IsFirst fault (after (lines + 1) state (said_by line)) → IsFirst fault all
 one_refused after start whole all bytes lines state left line rest fault e read next is =
-    let here = first_then (λ s. read_from after (lines + 1) s (raw_lines rest)) fault (after (lines + 1) state (said_by line)) is in
+    let here = first_then (λ s. after_lines after (lines + 1) s (raw_lines rest)) fault (after (lines + 1) state (said_by line)) is in
     let same = read.so_far ∙ lines_left after lines state left line rest next in
     first_as fault _ all e (first_then whole fault _ (first_as fault _ _ (sym same) here))
 

@@ -1,7 +1,7 @@
 -- The reader's stages, line by line, on examples worked by hand.
 use Rattle.std.proofs.Common.{◌≡◌, true, false, [], ◌∷◌, refl}
 use Rattle.std.specs.Prelude.{codes, Ok, Err, pos, negsuc}
-use Rattle.ivp_domain.specs.Boxes.{point_of}
+use Rattle.ivp_domain.specs.Boxes.{point_from}
 use Rattle.ivp_func.specs.declared.func.FuncFault.TheVariants.{TooMany, NotPartition, ValueOut, NoMemory}
 use Rattle.moos_text.specs.declared.cause.Cause.TheVariants.{P1, P4, P5, P7, P8, P9, P10}
 use Rattle.moos_text.specs.declared.cause.LineFault.TheVariants.{Refused, NoMemory as OutOfMemory}
@@ -13,7 +13,7 @@ use Rattle.ivp_cert.specs.declared.phase.Phase.TheVariants.{OfProblem, OfCuts, D
 use Rattle.ivp_cert.specs.declared.stage.Stage.TheVariants.{Start, Begun, Axes, Functions, Ended}
 use Rattle.ivp_cert.specs.Making.{line_fault}
 use Rattle.ivp_cert.specs.Pieces.{are_slopes, is_slope_where}
-use Rattle.ivp_cert.specs.Stages.{after_words, HasPoint, phase_after, read_from, whole_decision, whole_problem}
+use Rattle.ivp_cert.specs.Stages.{stage_after, HasPoint, phase_after, after_lines, whole_decision, whole_problem}
 use Rattle.ivp_cert.specs.Unfinished.{UnfinishedSum}
 use Rattle.ivp_cert.proofs.CertExamples.{decision, problem_bytes}
 use Rattle.ivp_cert.proofs.Examples.{course, on_course}
@@ -22,29 +22,29 @@ use Rattle.ivp_cert.proofs.Examples.{course, on_course}
 abbrev begun : UnfinishedSum
 begun = record { before = record { axes = course; terms = [] }; line = 3; weight = 100; pieces = [] }
 
-so_far : read_from after_words 0 Start (raw_lines (codes "ivp 1\ndomain course:0:359:360\nfunction 100\n")) ≡ Ok (Functions begun)
+so_far : after_lines stage_after 0 Start (raw_lines (codes "ivp 1\ndomain course:0:359:360\nfunction 100\n")) ≡ Ok (Functions begun)
 so_far = refl
 
 -- a piece more is one of this function, and a blank line says nothing
-with_a_piece : after_words 4 (Functions begun) (words_of (codes "piece 0 359 7 0")) ≡ Ok (Functions (record begun { pieces = on_course 0 359 (pos 7) (pos 0) ∷ [] }))
+with_a_piece : stage_after 4 (Functions begun) (words_of (codes "piece 0 359 7 0")) ≡ Ok (Functions (record begun { pieces = on_course 0 359 (pos 7) (pos 0) ∷ [] }))
 with_a_piece = refl
 
-blank_line : after_words 4 (Functions begun) [] ≡ Ok (Functions begun)
+blank_line : stage_after 4 (Functions begun) [] ≡ Ok (Functions begun)
 blank_line = refl
 
 -- each stage refuses what belongs to another
-too_early : (after_words 1 Start (words_of (codes "domain course:0:359:360")) ≡ Err (At 1 P1)) × (after_words 2 Begun (words_of (codes "function 100")) ≡ Err (At 2 P1)) × (after_words 3 (Axes course) (words_of (codes "end")) ≡ Err (At 3 P8))
+too_early : (stage_after 1 Start (words_of (codes "domain course:0:359:360")) ≡ Err (At 1 P1)) × (stage_after 2 Begun (words_of (codes "function 100")) ≡ Err (At 2 P1)) × (stage_after 3 (Axes course) (words_of (codes "end")) ≡ Err (At 3 P8))
 too_early = (refl, refl, refl)
 
-too_late : (after_words 2 Begun (words_of (codes "ivp 1")) ≡ Err (At 2 P1)) × (after_words 4 (Functions begun) (words_of (codes "domain a:0:1:2")) ≡ Err (At 4 P1)) × (after_words 11 (Ended two) (words_of (codes "end")) ≡ Err (At 11 P1))
+too_late : (stage_after 2 Begun (words_of (codes "ivp 1")) ≡ Err (At 2 P1)) × (stage_after 4 (Functions begun) (words_of (codes "domain a:0:1:2")) ≡ Err (At 4 P1)) × (stage_after 11 (Ended two) (words_of (codes "end")) ≡ Err (At 11 P1))
 too_late = (refl, refl, refl)
 
 -- a line that ends a function without a piece is refused at the function's line, and not at its own
-no_piece : after_words 5 (Functions begun) (words_of (codes "end")) ≡ Err (At 3 P4)
+no_piece : stage_after 5 (Functions begun) (words_of (codes "end")) ≡ Err (At 3 P4)
 no_piece = refl
 
 -- all lines of a problem come to its end; whatever stage they come to before, they end too early
-all_lines : read_from after_words 0 Start (raw_lines problem_bytes) ≡ Ok (Ended two)
+all_lines : after_lines stage_after 0 Start (raw_lines problem_bytes) ≡ Ok (Ended two)
 all_lines = refl
 
 ends : (whole_problem 10 (Ended two) ≡ Ok two) × (whole_problem 3 (Functions begun) ≡ Err (At 3 P9)) × (whole_problem 2 (Axes course) ≡ Err (At 2 P9)) × (whole_problem 1 Begun ≡ Err (At 1 P9)) × (whole_problem 1 Start ≡ Err (At 1 P9))
@@ -61,7 +61,7 @@ no_claim : (phase_after 11 (OfProblem (Ended two)) (words_of (codes "done")) ≡
 no_claim = (refl, refl, refl)
 
 -- and then the certificate up to `done`, behind which no line says anything
-all_cuts : read_from phase_after 11 (OfCuts claimed) (raw_lines (codes "cut 0 0 : 75 2\n\ncut 0 1 : 55 10\ndone\n\n")) ≡ Ok (Done decision)
+all_cuts : after_lines phase_after 11 (OfCuts claimed) (raw_lines (codes "cut 0 0 : 75 2\n\ncut 0 1 : 55 10\ndone\n\n")) ≡ Ok (Done decision)
 all_cuts = refl
 
 cut_behind_done : phase_after 15 (Done decision) (words_of (codes "cut 0 1 : 55 10")) ≡ Err (At 15 P1)
@@ -74,10 +74,10 @@ whole = (refl, refl, refl)
 points : HasPoint (OfProblem Start) × HasPoint (OfCuts claimed) × HasPoint (Done decision)
 points = (tt, refl, refl)
 
-past_an_axis : HasPoint (OfCuts (record claimed { claim = record { point = point_of 0 2 0 0; sum = 75 } })) → ⊥
+past_an_axis : HasPoint (OfCuts (record claimed { claim = record { point = point_from 0 2 0 0; sum = 75 } })) → ⊥
 past_an_axis is = let none : false ≡ true = is in absurd (cc)
 
-past_the_last_axis : HasPoint (Done (record decision { claim = record { point = point_of 0 1 0 1; sum = 75 } })) → ⊥
+past_the_last_axis : HasPoint (Done (record decision { claim = record { point = point_from 0 1 0 1; sum = 75 } })) → ⊥
 past_the_last_axis is = let none : false ≡ true = is in absurd (cc)
 
 -- a slope stands on an axis that is there, of at most 100,000 either way
@@ -88,5 +88,5 @@ one_slope : (is_slope_where true (pos 100000) ≡ true) × (is_slope_where true 
 one_slope = (refl, refl, refl, refl)
 
 -- why pieces make no function, as the cause of a line
-causes : (line_fault TooMany ≡ Refused P7) × (line_fault (NotPartition (point_of 0 0 0 0) 2) ≡ Refused P4) × (line_fault (ValueOut (point_of 0 0 0 0) (negsuc 0)) ≡ Refused P5) × (line_fault NoMemory ≡ OutOfMemory)
+causes : (line_fault TooMany ≡ Refused P7) × (line_fault (NotPartition (point_from 0 0 0 0) 2) ≡ Refused P4) × (line_fault (ValueOut (point_from 0 0 0 0) (negsuc 0)) ≡ Refused P5) × (line_fault NoMemory ≡ OutOfMemory)
 causes = (refl, refl, refl, refl)

@@ -10,7 +10,7 @@ use Rattle.std.proofs.lemmas.Iterator.Adapters.{position_from-zero}
 use Rattle.std.proofs.lemmas.List.Folds.{list_all-append}
 use Rattle.ivp_domain.specs.declared.axis.Axis.{Axis}
 use Rattle.ivp_problem.specs.declared.term.Term.{Term}
-use Rattle.ivp_problem.specs.Problems.{is_weight, problem_of, same_axis, same_domain}
+use Rattle.ivp_problem.specs.Problems.{is_weight, problem_from, same_axis, same_domain}
 
 -- where all pass, none fails
 none_from : {X : Type 0} (test : X → Bool) (xs : List X) (i : ℕ) → list_all test xs ≡ true → position_from (λ x. not (test x)) i xs ≡ None
@@ -28,7 +28,7 @@ abbrev pub are_over : List Axis → List Term → Bool
 are_over axes terms = list_all (λ term. same_domain axes term.func.axes) terms
 
 -- 1 to 64 such functions make a problem
-pub makes_problem : (axes : List Axis) (terms : List Term) → 0 < length terms → length terms ≤ 64 → have_weights terms ≡ true → are_over axes terms ≡ true → problem_of axes terms ≡ Ok (record { axes = axes; terms = terms })
+pub makes_problem : (axes : List Axis) (terms : List Term) → 0 < length terms → length terms ≤ 64 → have_weights terms ≡ true → are_over axes terms ≡ true → problem_from axes terms ≡ Ok (record { axes = axes; terms = terms })
 makes_problem axes terms some few weights same =
     let no_weight = none_found (λ (term : Term). is_weight term.weight) terms weights in
     let no_other = none_found (λ (term : Term). same_domain axes term.func.axes) terms same in

@@ -4,7 +4,7 @@ use Rattle.std.specs.Prelude.{codes, Ok, Err, ℤ, pos, negsuc, IsTrue}
 use Rattle.std.specs.Fmt.{digits}
 use Rattle.ivp_domain.specs.declared.axis.Axis.{Axis}
 use Rattle.ivp_domain.specs.AxisNames.{is_axis_name}
-use Rattle.ivp_domain.specs.Boxes.{point_of}
+use Rattle.ivp_domain.specs.Boxes.{point_from}
 use Rattle.ivp_func.specs.declared.piece.Piece.{Piece}
 use Rattle.ivp_problem.specs.declared.term.Term.{Term}
 use Rattle.ivp_problem.proofs.Examples.{rising, split, term, twelve, two, two_is_lawful}
@@ -97,7 +97,7 @@ HasSum of = of.sum ≤ 64000000000
 sums : HasSums decision
 sums = record { claim = omega arith; lines = of_more HasSum (line (0 ∷ 0 ∷ []) 75 2) (line (0 ∷ 1 ∷ []) 55 10 ∷ []) (omega arith) (of_more HasSum (line (0 ∷ 1 ∷ []) 55 10) [] (omega arith) (of_none HasSum)) }
 
-great_claim : HasSums (record decision { claim = record { point = point_of 0 1 0 0; sum = 64000000001 } }) → ⊥
+great_claim : HasSums (record decision { claim = record { point = point_from 0 1 0 0; sum = 64000000001 } }) → ⊥
 great_claim has = omega (arith, has.claim)
 
 great_line : HasSums (record decision { cert = line [] 64000000001 2 ∷ [] }) → ⊥

@@ -12,7 +12,7 @@ use Rattle.ivp_domain.specs.declared.boxes.Point.{Point}
 use Rattle.ivp_problem.specs.Problems.{WeightedSum}
 use Rattle.ivp_cert.specs.declared.cert.Line.{Line}
 use Rattle.ivp_cert.specs.declared.claim.Decision.{Decision}
-use Rattle.ivp_cert.specs.Problems.{ended, last_line, problem_in}
+use Rattle.ivp_cert.specs.Problems.{nothing_behind, last_line, problem_in}
 use Rattle.ivp_cert.specs.Said.{at_line, last_of, Said, said_from}
 use Rattle.ivp_cert.specs.Words.{natural_of, place_of}
 
@@ -96,7 +96,7 @@ abbrev pub cuts_in : ℕ → Decision → List Said → Result Decision ReadFaul
 cuts_in last decision [] = Err (At last P9)
 cuts_in last decision (said ∷ behind) =
     if bytes_eq said.word (codes "cut") then and_then (λ more. cuts_in last more behind) (at_line said.line (with_cut decision said.rest))
-    else if bytes_eq said.word (codes "done") then and_then (λ whole. last_of whole behind) (at_line said.line (ended decision said.rest))
+    else if bytes_eq said.word (codes "done") then and_then (λ whole. last_of whole behind) (at_line said.line (nothing_behind decision said.rest))
     else Err (At said.line P1)
 
 -- behind a problem stands what is claimed of it, and then the certificate

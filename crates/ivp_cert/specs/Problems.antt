@@ -75,9 +75,9 @@ finished sum =
     else Err (At sum.line P4)
 
 -- no word stands behind `end`
-abbrev pub ended : {A : Type 0} → A → List (List ℕ) → Result A Cause
-ended value [] = Ok value
-ended value (word ∷ rest) = Err P1
+abbrev pub nothing_behind : {A : Type 0} → A → List (List ℕ) → Result A Cause
+nothing_behind value [] = Ok value
+nothing_behind value (word ∷ rest) = Err P1
 
 -- why `end` without a function is refused
 abbrev pub ended_early : List (List ℕ) → Cause
@@ -94,7 +94,7 @@ functions_in last next sum (said ∷ behind) =
     else if bytes_eq said.word (codes "function") then
     and_then (λ before. and_then (λ more. functions_in last next more behind) (at_line said.line (with_function before said.line said.rest))) (finished sum)
     else if bytes_eq said.word (codes "end") then
-    and_then (λ whole. and_then (λ problem. next problem behind) (at_line said.line (ended whole said.rest))) (finished sum)
+    and_then (λ whole. and_then (λ problem. next problem behind) (at_line said.line (nothing_behind whole said.rest))) (finished sum)
     else Err (At said.line P1)
 
 -- behind an axis stands another one, the first function, or `end`, which comes too early

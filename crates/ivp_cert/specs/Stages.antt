@@ -15,7 +15,7 @@ use Rattle.ivp_cert.specs.declared.stage.Stage.{Stage}
 use Rattle.ivp_cert.specs.declared.stage.Stage.TheVariants.{Start, Begun, Axes, Functions, Ended}
 use Rattle.ivp_cert.specs.Decisions.{with_claim, with_cut}
 use Rattle.ivp_cert.specs.Pieces.{piece_of}
-use Rattle.ivp_cert.specs.Problems.{ended, ended_early, finished, is_first, with_domain, with_function, with_piece}
+use Rattle.ivp_cert.specs.Problems.{nothing_behind, ended_early, finished, is_first, with_domain, with_function, with_piece}
 use Rattle.ivp_cert.specs.Said.{at_line}
 use Rattle.ivp_cert.specs.Unfinished.{UnfinishedSum}
 use Rattle.ivp_cert.specs.Words.{line_words}
@@ -25,8 +25,8 @@ abbrev pub as_now : {A B E : Type 0} → (A → B) → Result A E → Result B E
 as_now form read = and_then (λ value. Ok (form value)) read
 
 -- the first line
-abbrev pub begun : List ℕ → List (List ℕ) → Result Stage Cause
-begun word words = if is_first word words then Ok Begun else Err P1
+abbrev pub after_start : List ℕ → List (List ℕ) → Result Stage Cause
+after_start word words = if is_first word words then Ok Begun else Err P1
 
 -- behind the first line
 abbrev pub after_begun : List ℕ → List (List ℕ) → Result Stage Cause
@@ -45,26 +45,26 @@ abbrev pub after_functions : UnfinishedSum → ℕ → List ℕ → List (List �
 after_functions sum line word words =
     if bytes_eq word (codes "piece") then at_line line (as_now Functions (with_piece sum (piece_of (length sum.before.axes) words)))
     else if bytes_eq word (codes "function") then and_then (λ before. at_line line (as_now Functions (with_function before line words))) (finished sum)
-    else if bytes_eq word (codes "end") then and_then (λ whole. at_line line (as_now Ended (ended whole words))) (finished sum)
+    else if bytes_eq word (codes "end") then and_then (λ whole. at_line line (as_now Ended (nothing_behind whole words))) (finished sum)
     else Err (At line P1)
 
 -- the stage after one line more of a problem, by its first word and those behind
 abbrev pub after_word : ℕ → Stage → List ℕ → List (List ℕ) → Result Stage ReadFault
-after_word line Start word words = at_line line (begun word words)
+after_word line Start word words = at_line line (after_start word words)
 after_word line Begun word words = at_line line (after_begun word words)
 after_word line (Axes axes) word words = at_line line (after_axes axes line word words)
 after_word line (Functions sum) word words = after_functions sum line word words
 after_word line (Ended problem) word words = Err (At line P1)
 
 -- the same by the words of the line, which says nothing where it is blank
-abbrev pub after_words : ℕ → Stage → List (List ℕ) → Result Stage ReadFault
-after_words line stage [] = Ok stage
-after_words line stage (word ∷ words) = after_word line stage word words
+abbrev pub stage_after : ℕ → Stage → List (List ℕ) → Result Stage ReadFault
+stage_after line stage [] = Ok stage
+stage_after line stage (word ∷ words) = after_word line stage word words
 
 -- What the lines come to from here on, where so many were read. One line more is taken by its number and its words.
-abbrev pub read_from : {S : Type 0} → (ℕ → S → List (List ℕ) → Result S ReadFault) → ℕ → S → List (List ℕ) → Result S ReadFault
-read_from after lines state [] = Ok state
-read_from after lines state (raw ∷ raws) = and_then (λ next. read_from after (suc lines) next raws) (after (suc lines) state (line_words raw))
+abbrev pub after_lines : {S : Type 0} → (ℕ → S → List (List ℕ) → Result S ReadFault) → ℕ → S → List (List ℕ) → Result S ReadFault
+after_lines after lines state [] = Ok state
+after_lines after lines state (raw ∷ raws) = and_then (λ next. after_lines after (suc lines) next raws) (after (suc lines) state (line_words raw))
 
 -- the problem, where the lines come to `end`; else they end too early, which the last line is refused for
 abbrev pub whole_problem : ℕ → Stage → Result WeightedSum ReadFault
@@ -82,7 +82,7 @@ after_problem problem word words = if bytes_eq word (codes "decision") then as_n
 abbrev pub after_cuts : Decision → List ℕ → List (List ℕ) → Result Phase Cause
 after_cuts decision word words =
     if bytes_eq word (codes "cut") then as_now OfCuts (with_cut decision words)
-    else if bytes_eq word (codes "done") then as_now Done (ended decision words)
+    else if bytes_eq word (codes "done") then as_now Done (nothing_behind decision words)
     else Err P1
 
 -- the phase after one line more behind a stage of the problem, by its first word and those behind

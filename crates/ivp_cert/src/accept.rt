@@ -9,7 +9,7 @@ use crate::cert::{Cert, Line};
 use crate::claim::Claim;
 use crate::trail::Trail;
 use crate::tree::{bound_of, child_of, sum_at};
-use ivp_problem::{Key, Node, Problem, index_of_key, key_of, sum_of};
+use ivp_problem::{Key, Node, Problem, index_of_key, key_of, problem_law, sum_of};
 
 /// Whether a certificate is accepted for what is claimed of a problem: the claim's sum is the one at its point; each line is
 /// that of a node of the tree, with the sum and the index of the node's bound, which is at most the key of the claim; each
@@ -20,7 +20,7 @@ pub fn accepts(problem: &Problem, claim: &Claim, cert: &Cert) -> bool
     ensures accepts { IsTrue result ↔ Accepts problem.now claim.now cert.now }
     ensures best { IsTrue result → claim.now.point ≡ best_of problem.now }
 {
-    let _ = problem.len();
+    problem_law(problem);
     if claim.sum != sum_at(problem, &claim.point) {
         return false;
     }

@@ -6,12 +6,9 @@ ghost use Rattle.ivp_cert.specs.Decisions.{are_on, in_form, point_at, spelled, s
 use crate::cert::Cert;
 use crate::words::{natural_of, place_of};
 use ivp_domain::{Axis, Point};
-use ivp_problem::Problem;
+use ivp_problem::{MOST_SUM, Problem};
 use moos_text::{Cause, LineFault, next_word};
 use std::alloc::Global;
-
-/// The greatest sum.
-const MOST_SUM: u64 = 64_000_000_000;
 
 /// What is claimed of a problem: that this point is its best, and this sum is the one there.
 #[derive(Clone, Copy, Debug, PartialEq, Eq)]

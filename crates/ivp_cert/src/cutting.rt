@@ -8,7 +8,7 @@ use crate::cert::{Cert, Line};
 use crate::path::Path;
 use crate::trail::Trail;
 use crate::tree::{bound_of, child_of};
-use ivp_problem::{Key, Node, Problem, index_of_key, sum_of};
+use ivp_problem::{Key, Node, Problem, index_of_key, problem_law, sum_of};
 use moos_post::NoMemory;
 use std::alloc::{AllocError, Global};
 
@@ -18,7 +18,7 @@ pub fn cut(alloc: Global, problem: &Problem, key: Key) -> Result<Cert, NoMemory>
     requires { key ≡ key_at problem.now (best_of problem.now) }
     ensures { IfOk result (λ cert. cert ≡ certificate_of problem.now) }
 {
-    let _ = problem.len();
+    problem_law(problem);
     let mut cert = Cert::new(alloc);
     add_topmost(
         alloc,

@@ -10,7 +10,7 @@ ghost use Rattle.ivp_cert.specs.Texts.{decision_lines};
 use crate::cert::Cert;
 use crate::claim::{Claim, Decision};
 use crate::printed::{lines_print, places_print, problem_prints};
-use ivp_problem::Problem;
+use ivp_problem::{Problem, problem_law};
 
 /// What holds of a claim and a certificate that is accepted for it, by the definitions alone: the claim's point is the
 /// problem's best. It does nothing.
@@ -18,7 +18,7 @@ pub fn accepted_law(problem: &Problem, claim: &Claim, cert: &Cert)
     requires { IsTrue (is_point problem.now.axes claim.now.point) }
     ensures { Accepts problem.now claim.now cert.now → claim.now.point ≡ best_of problem.now }
 {
-    let _ = problem.len();
+    problem_law(problem);
     let _ = problem.domain().index_of(&claim.point);
     let _ = cert.len();
 }
@@ -28,7 +28,7 @@ pub fn accepted_law(problem: &Problem, claim: &Claim, cert: &Cert)
 pub fn certificate_law(problem: &Problem)
     ensures { (claim : Claim) → claim.point ≡ best_of problem.now → claim.sum ≡ sum_at problem.now claim.point → Accepts problem.now claim (certificate_of problem.now) }
 {
-    let _ = problem.len();
+    problem_law(problem);
 }
 
 /// What holds of the text of a decision, by the definitions alone: it stands for the decision, so reading what was printed

@@ -5,7 +5,8 @@ ghost use Rattle.ivp_cert.specs.Decisions.{bound_with, in_form, line_from};
 
 use crate::cert::Line;
 use crate::claim::sum_word;
-use crate::path::{MOST_NUMBERS, Path};
+use crate::path::Path;
+use ivp_problem::MOST_FUNCTIONS;
 use crate::trail::Trail;
 use crate::words::place_of;
 use moos_text::{Cause, LineFault, next_word};
@@ -42,7 +43,7 @@ pub fn line_of(alloc: Global, text: &[u8]) -> Result<Line, LineFault>
                 None => Err(LineFault::Refused(Cause::P1)),
             };
         }
-        if numbers.all().len() >= MOST_NUMBERS {
+        if numbers.all().len() >= MOST_FUNCTIONS {
             return Err(LineFault::Refused(Cause::P1));
         }
         let Some(number) = place_of(word) else {

@@ -4,9 +4,6 @@ use moos_post::NoMemory;
 use std::alloc::Global;
 use std::marker::Model;
 
-/// The most numbers of a path: as many as a problem may have functions.
-pub const MOST_NUMBERS: usize = 64;
-
 /// The path of a node: the numbers of its pieces, from function 0 on, at most 64. Contracts see the list.
 #[derive(Debug, Drop)]
 pub struct Path {

@@ -5,14 +5,8 @@ ghost use Rattle.ivp_cert.specs.Pieces.{are_slopes, is_slope_where, piece_of, ra
 
 use crate::words::{integer_of, place_of};
 use ivp_domain::BoxN;
-use ivp_func::Piece;
+use ivp_func::{MOST_BASE, MOST_SLOPE, Piece};
 use moos_text::next_word;
-
-/// The greatest base, either way.
-const MOST_BASE: u64 = 1_000_000_000_000;
-
-/// The greatest slope, either way.
-const MOST_SLOPE: u64 = 100_000;
 
 // Low and high on an axis that is there, and what stands behind the two words.
 fn range_of(present: bool, text: &[u8]) -> Option<(u32, u32, &[u8])>
@@ -37,7 +31,7 @@ fn slope_of(present: bool, text: &[u8]) -> Option<(i64, &[u8])>
         return Some((0, text));
     }
     let (word, rest) = next_word(text)?;
-    Some((integer_of(word, MOST_SLOPE)?, rest))
+    Some((integer_of(word, MOST_SLOPE as u64)?, rest))
 }
 
 // The slopes along so many axes, and no word behind them.
@@ -61,7 +55,7 @@ fn sloped(axes: u32, area: BoxN, text: &[u8]) -> Option<Piece>
     ensures good { IfSome result (λ piece. IsTrue (is_base piece.base && are_slopes axes piece.slope)) }
 {
     let (word, rest) = next_word(text)?;
-    let base = integer_of(word, MOST_BASE)?;
+    let base = integer_of(word, MOST_BASE as u64)?;
     let slope = slopes_of(axes, rest)?;
     Some(Piece { area, base, slope })
 }

@@ -1,8 +1,8 @@
 ghost use Rattle.std.specs.Prelude.{◌≡◌, ◌+◌, ◌<◌, ◌∷◌, ◌++◌, [], take, Ok, Err, Some, length, IfOk, IfErr};
 ghost use Rattle.moos_text.specs.Lines.{trimmed, words_of};
 ghost use Rattle.moos_text.specs.Refusals.{IsFirst, IsLineFault};
-ghost use Rattle.ivp_cert.specs.Problems.{ended, ended_early, with_axis, with_domain, with_function, with_piece, with_weight};
-ghost use Rattle.ivp_cert.specs.Stages.{after_axes, after_begun, after_functions, after_word, after_words, begun, whole_problem};
+ghost use Rattle.ivp_cert.specs.Problems.{nothing_behind, ended_early, with_axis, with_domain, with_function, with_piece, with_weight};
+ghost use Rattle.ivp_cert.specs.Stages.{after_axes, after_begun, after_functions, after_word, stage_after, after_start, whole_problem};
 ghost use Rattle.ivp_cert.specs.Said.{at_line};
 ghost use Rattle.ivp_cert.specs.Pieces.{piece_of};
 ghost use Rattle.ivp_cert.specs.Words.{axis_of, without_prefix};
@@ -11,19 +11,10 @@ use crate::piece::piece_of;
 use crate::terms::Terms;
 use crate::unfinished::Unfinished;
 use crate::words::{axis_of, content_of, whole_of};
-use ivp_domain::{Axis, Domain};
-use ivp_problem::Problem;
+use ivp_domain::{Axis, Domain, MOST_AXES};
+use ivp_problem::{MOST_FUNCTIONS, MOST_WEIGHT, Problem};
 use moos_text::{Cause, LineFault, ReadFault, next_word};
 use std::alloc::Global;
-
-/// The most axes that a domain may have.
-const MOST_AXES: usize = 4;
-
-/// The most functions that a problem may have.
-const MOST_FUNCTIONS: usize = 64;
-
-/// The greatest weight.
-const MOST_WEIGHT: u32 = 10_000;
 
 /// How far the lines of a problem have come.
 #[derive(Drop)]
@@ -43,8 +34,8 @@ pub enum Stage {
 impl Stage {
     /// The stage after one line more, which has this number and is given without its end; or its first refusal.
     pub fn after_line(self, alloc: Global, number: u32, line: &[u8]) -> Result<Stage, ReadFault>
-        ensures read { IfOk result (λ stage. after_words number self (words_of (without_prefix (trimmed line.now))) ≡ Ok stage) }
-        ensures refused { IfErr result (λ fault. IsFirst fault (after_words number self (words_of (without_prefix (trimmed line.now))))) }
+        ensures read { IfOk result (λ stage. stage_after number self (words_of (without_prefix (trimmed line.now))) ≡ Ok stage) }
+        ensures refused { IfErr result (λ fault. IsFirst fault (stage_after number self (words_of (without_prefix (trimmed line.now))))) }
     {
         match next_word(content_of(line)) {
             None => Ok(self),
@@ -64,7 +55,7 @@ impl Stage {
         ensures refused { IfErr result (λ fault. IsFirst fault (after_word number self word.now (words_of rest.now))) }
     {
         match self {
-            Stage::Start => at_line(number, begun(word, rest)),
+            Stage::Start => at_line(number, after_start(word, rest)),
             Stage::Begun => at_line(number, after_begun(word, rest)),
             Stage::Axes(domain) => at_line(number, after_axes(alloc, &domain, number, word, rest)),
             Stage::Functions(sum) => after_functions(alloc, sum, number, word, rest),
@@ -99,8 +90,8 @@ fn at_line(line: u32, outcome: Result<Stage, Cause>) -> Result<Stage, ReadFault>
 }
 
 // The first line that isn't blank is `ivp 1`.
-fn begun(word: &[u8], rest: &[u8]) -> Result<Stage, Cause>
-    ensures { result ≡ begun word.now (words_of rest.now) }
+fn after_start(word: &[u8], rest: &[u8]) -> Result<Stage, Cause>
+    ensures { result ≡ after_start word.now (words_of rest.now) }
 {
     let Some((one, rest)) = next_word(rest) else {
         return Err(Cause::P1);
@@ -176,7 +167,7 @@ fn after_functions(
     }
     if word == b"end".as_slice() {
         let whole = sum.finished(alloc)?;
-        return match ended(whole, rest) {
+        return match nothing_behind(whole, rest) {
             Ok(problem) => Ok(Stage::Ended(problem)),
             Err(cause) => at_line(number, Err(cause)),
         };
@@ -278,9 +269,9 @@ fn with_piece(sum: Unfinished, rest: &[u8]) -> Result<Unfinished, LineFault>
 }
 
 // No word stands behind `end`.
-fn ended(whole: Terms, rest: &[u8]) -> Result<Problem, Cause>
+fn nothing_behind(whole: Terms, rest: &[u8]) -> Result<Problem, Cause>
     requires { 0 < length whole.terms }
-    ensures { result ≡ ended whole (words_of rest.now) }
+    ensures { result ≡ nothing_behind whole (words_of rest.now) }
 {
     if next_word(rest).is_some() {
         return Err(Cause::P1);

@@ -1,12 +1,12 @@
 ghost use Rattle.std.specs.Prelude.{◌≡◌, ◌<◌, ◌≤◌, ◌++◌, ◌-◌, ◌∷◌, [], length, take};
 
-use crate::path::MOST_NUMBERS;
+use ivp_problem::MOST_FUNCTIONS;
 use std::marker::Model;
 
 /// The path of the node at which a walk over a tree stands. It takes no memory. Contracts see its numbers.
 #[derive(Drop)]
 pub struct Trail {
-    numbers: [u32; MOST_NUMBERS],
+    numbers: [u32; MOST_FUNCTIONS],
     len: usize,
 }
 
@@ -26,7 +26,7 @@ impl Trail {
         ensures { result ≡ [] }
     {
         Trail {
-            numbers: [0; MOST_NUMBERS],
+            numbers: [0; MOST_FUNCTIONS],
             len: 0,
         }
     }

@@ -7,14 +7,11 @@ ghost use Rattle.ivp_cert.specs.Problems.{finished, with_piece};
 
 use crate::terms::Terms;
 use ivp_domain::Domain;
-use ivp_func::{Func, FuncFault, Piece, is_piece_of};
+use ivp_func::{Func, FuncFault, MOST_PIECES, Piece, is_piece_of};
 use ivp_problem::Term;
 use moos_text::{Cause, LineFault, ReadFault};
 use std::alloc::Global;
 use std::marker::Model;
-
-/// The most pieces that a function may have.
-const MOST_PIECES: usize = 4096;
 
 /// The functions so far of a problem that is being read: the finished ones, and the last one, to which pieces may still
 /// be added, with the number of its line.

@@ -10,12 +10,12 @@ use Rattle.std.proofs.lemmas.Option.{slice_get-map, slice_get_within}
 use Rattle.std.proofs.lemmas.Bool.Decides.{nat_tests}
 use Rattle.ivp_domain.specs.declared.boxes.Point.{Point}
 use Rattle.ivp_domain.specs.declared.boxes.BoxN.{BoxN}
-use Rattle.ivp_domain.specs.Boxes.{common, has_place, has_point, is_box, places_on, point_of, points_in, side_of, volume_of}
+use Rattle.ivp_domain.specs.Boxes.{common, has_place, has_point, is_box, places_on, point_from, points_in, side_of, volume_of}
 use Rattle.ivp_domain.proofs.Ranges.{digits, factors, four, length-numbers_from, length-flat, slice_get-numbers_from, slice_get-flat}
 
 -- the points with these places on the first axes
 abbrev last : BoxN → ℕ → ℕ → ℕ → List Point
-last area i j k = map (point_of i j k) (places_on 3 area)
+last area i j k = map (point_from i j k) (places_on 3 area)
 
 abbrev last_two : BoxN → ℕ → ℕ → List Point
 last_two area i j = flat_map (last area i j) (places_on 2 area)
@@ -39,7 +39,7 @@ length-points_in area =
     omega (arith, e)
 
 -- the point at these places from the low corner stands at their mixed radix
-pub slice_get-points_in : (area : BoxN) (i j k l : ℕ) → i < side_of 0 area → j < side_of 1 area → k < side_of 2 area → l < side_of 3 area → slice_get (points_in area) (((i * side_of 1 area + j) * side_of 2 area + k) * side_of 3 area + l) ≡ Some (point_of (slice_index area.low 0 + i) (slice_index area.low 1 + j) (slice_index area.low 2 + k) (slice_index area.low 3 + l))
+pub slice_get-points_in : (area : BoxN) (i j k l : ℕ) → i < side_of 0 area → j < side_of 1 area → k < side_of 2 area → l < side_of 3 area → slice_get (points_in area) (((i * side_of 1 area + j) * side_of 2 area + k) * side_of 3 area + l) ≡ Some (point_from (slice_index area.low 0 + i) (slice_index area.low 1 + j) (slice_index area.low 2 + k) (slice_index area.low 3 + l))
 slice_get-points_in area i j k l p q r s =
     let b = side_of 1 area in
     let c = side_of 2 area in
@@ -53,7 +53,7 @@ slice_get-points_in area i j k l p q r s =
     rw e (slice_get-flat (last_three area) (b * (c * d)) (length-last_three area) (slice_index area.low 0) (side_of 0 area) i (j * (c * d) + (k * d + l)) p in_three
     ∙ (slice_get-flat (last_two area i') (c * d) (length-last_two area i') (slice_index area.low 1) (side_of 1 area) j (k * d + l) q in_two
     ∙ (slice_get-flat (last area i' j') d (length-last area i' j') (slice_index area.low 2) (side_of 2 area) k l r s
-    ∙ (slice_get-map (point_of i' j' k') (places_on 3 area) l ∙ ap (option_map (point_of i' j' k')) (slice_get-numbers_from (slice_index area.low 3) (side_of 3 area) l s)))))
+    ∙ (slice_get-map (point_from i' j' k') (places_on 3 area) l ∙ ap (option_map (point_from i' j' k')) (slice_get-numbers_from (slice_index area.low 3) (side_of 3 area) l s)))))
 
 -- a place is in the common span exactly where it is in both
 in_common : (a b c d x : ℕ) → (nat_le (max a b) x && nat_le x (min c d)) ≡ ((nat_le a x && nat_le x c) && (nat_le b x && nat_le x d))
@@ -127,8 +127,8 @@ listed_point area n p e =
     let k_below : k < c = let q = some.1 in omega arith in
     let l_below : l < d = let q = some.2 in omega arith in
     let there = slice_get-points_in area i j k l back.0 j_below k_below l_below in
-    let same : Some (point_of (slice_index area.low 0 + i) (slice_index area.low 1 + j) (slice_index area.low 2 + k) (slice_index area.low 3 + l)) ≡ Some p = sym there ∙ (ap (slice_get (points_in area)) back.1 ∙ e) in
-    let point : point_of (slice_index area.low 0 + i) (slice_index area.low 1 + j) (slice_index area.low 2 + k) (slice_index area.low 3 + l) ≡ p = cc in
+    let same : Some (point_from (slice_index area.low 0 + i) (slice_index area.low 1 + j) (slice_index area.low 2 + k) (slice_index area.low 3 + l)) ≡ Some p = sym there ∙ (ap (slice_get (points_in area)) back.1 ∙ e) in
+    let point : point_from (slice_index area.low 0 + i) (slice_index area.low 1 + j) (slice_index area.low 2 + k) (slice_index area.low 3 + l) ≡ p = cc in
     ap (has_point area) (sym point) ∙ inside (slice_index area.low 0) (slice_index area.low 1) (slice_index area.low 2) (slice_index area.low 3) (slice_index area.high 0) (slice_index area.high 1) (slice_index area.high 2) (slice_index area.high 3) i j k l back.0 j_below k_below l_below
   where
     inside : (a b c d a' b' c' d' i j k l : ℕ) → i < a' + 1 - a → j < b' + 1 - b → k < c' + 1 - c → l < d' + 1 - d → ((nat_le a (a + i) && nat_le (a + i) a') && (nat_le b (b + j) && nat_le (b + j) b') && (nat_le c (c + k) && nat_le (c + k) c') && (nat_le d (d + l) && nat_le (d + l) d')) ≡ true
@@ -145,7 +145,7 @@ point_listed area p four_places h =
     let two : low 1 + (at 1 - low 1) ≡ at 1 = omega (arith, places.1) in
     let three : low 2 + (at 2 - low 2) ≡ at 2 = omega (arith, places.2) in
     let four_th : low 3 + (at 3 - low 3) ≡ at 3 = omega (arith, places.3) in
-    let same : point_of (low 0 + (at 0 - low 0)) (low 1 + (at 1 - low 1)) (low 2 + (at 2 - low 2)) (low 3 + (at 3 - low 3)) ≡ p = rw (one, two, three, four_th) (ap (λ (places : List ℕ). let q : Point = record { at = places } in q) (sym (four p.at four_places))) in (
+    let same : point_from (low 0 + (at 0 - low 0)) (low 1 + (at 1 - low 1)) (low 2 + (at 2 - low 2)) (low 3 + (at 3 - low 3)) ≡ p = rw (one, two, three, four_th) (ap (λ (places : List ℕ). let q : Point = record { at = places } in q) (sym (four p.at four_places))) in (
       (((at 0 - low 0) * side_of 1 area + (at 1 - low 1)) * side_of 2 area + (at 2 - low 2)) * side_of 3 area + (at 3 - low 3),
       slice_get-points_in area (at 0 - low 0) (at 1 - low 1) (at 2 - low 2) (at 3 - low 3) (omega (arith, places.0)) (omega (arith, places.1)) (omega (arith, places.2)) (omega (arith, places.3)) ∙ ap Some same,
     )

@@ -6,7 +6,7 @@ use Rattle.ivp_domain.specs.declared.boxes.BoxN.{BoxN}
 use Rattle.ivp_domain.specs.declared.domain.DomainFault.TheVariants.{BadAxis, TooLarge, SameName}
 use Rattle.ivp_domain.specs.AxisNames.{is_axis_name}
 use Rattle.ivp_domain.specs.Axes.{is_good_axis, no_axis, value_on}
-use Rattle.ivp_domain.specs.Boxes.{meet_of, point_of, points_in, volume_of}
+use Rattle.ivp_domain.specs.Boxes.{meet_of, point_from, points_in, volume_of}
 use Rattle.ivp_domain.specs.Domains.{domain_of, index_of, is_domain, points_of, size_of, size_on}
 use Rattle.ivp_domain.specs.Filled.{IsFilled}
 
@@ -20,10 +20,10 @@ six = axis (codes "a") 0 2000 3 ∷ axis (codes "b") 0 1000 2 ∷ []
 six_is_a_domain : domain_of six ≡ Ok six
 six_is_a_domain = refl
 
-points_of_six : points_of six ≡ point_of 0 0 0 0 ∷ point_of 0 1 0 0 ∷ point_of 1 0 0 0 ∷ point_of 1 1 0 0 ∷ point_of 2 0 0 0 ∷ point_of 2 1 0 0 ∷ []
+points_of_six : points_of six ≡ point_from 0 0 0 0 ∷ point_from 0 1 0 0 ∷ point_from 1 0 0 0 ∷ point_from 1 1 0 0 ∷ point_from 2 0 0 0 ∷ point_from 2 1 0 0 ∷ []
 points_of_six = refl
 
-index_in_six : index_of six (point_of 2 1 0 0) ≡ 5
+index_in_six : index_of six (point_from 2 1 0 0) ≡ 5
 index_in_six = refl
 
 -- bad axes come before the size, and the size before a repeated name

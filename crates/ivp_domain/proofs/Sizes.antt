@@ -10,7 +10,7 @@ use Rattle.std.proofs.lemmas.Bool.Decides.{nat_tests}
 use Rattle.ivp_domain.specs.declared.axis.Axis.{Axis}
 use Rattle.ivp_domain.specs.declared.boxes.Point.{Point}
 use Rattle.ivp_domain.specs.Axes.{is_good_axis}
-use Rattle.ivp_domain.specs.Boxes.{point_of, side_of, volume_of}
+use Rattle.ivp_domain.specs.Boxes.{point_from, side_of, volume_of}
 use Rattle.ivp_domain.specs.Domains.{index_of, is_domain, is_point, points_of, repeated_place, size_of, size_of_axis, size_on, whole}
 use Rattle.ivp_domain.proofs.Ranges.{digits, four}
 use Rattle.ivp_domain.proofs.BoxLemmas.{length-points_in, product_part, slice_get-points_in}
@@ -67,8 +67,8 @@ places_below axes p h inside =
 pub is_point-from : (axes : List Axis) (p : Point) → slice_index p.at 0 < size_on 0 axes → slice_index p.at 1 < size_on 1 axes → slice_index p.at 2 < size_on 2 axes → slice_index p.at 3 < size_on 3 axes → is_point axes p ≡ true
 is_point-from axes p a b c d = grind (arith, nat_tests)
 
-pub is_point-of : (axes : List Axis) (i j k l : ℕ) → i < size_on 0 axes → j < size_on 1 axes → k < size_on 2 axes → l < size_on 3 axes → is_point axes (point_of i j k l) ≡ true
-is_point-of axes i j k l p q r s = is_point-from axes (point_of i j k l) p q r s
+pub is_point-of : (axes : List Axis) (i j k l : ℕ) → i < size_on 0 axes → j < size_on 1 axes → k < size_on 2 axes → l < size_on 3 axes → is_point axes (point_from i j k l) ≡ true
+is_point-of axes i j k l p q r s = is_point-from axes (point_from i j k l) p q r s
 
 -- mixed radix stays below the product
 pub radix : (i j k l a b c d : ℕ) → i < a → j < b → k < c → l < d → (i * b + j < a * b) × ((i * b + j) * c + k < a * b * c) × (((i * b + j) * c + k) * d + l < a * b * c * d)
@@ -85,21 +85,21 @@ pub record IsPointAt (axes : List Axis) (n : ℕ) (p : Point) : Type 0 where
   pub inside : is_point axes p ≡ true
 
 -- the point at these places stands at its index
-pub point_in_list : (axes : List Axis) → is_domain axes ≡ true → (i j k l : ℕ) → i < size_on 0 axes → j < size_on 1 axes → k < size_on 2 axes → l < size_on 3 axes → slice_get (points_of axes) (index_of axes (point_of i j k l)) ≡ Some (point_of i j k l)
+pub point_in_list : (axes : List Axis) → is_domain axes ≡ true → (i j k l : ℕ) → i < size_on 0 axes → j < size_on 1 axes → k < size_on 2 axes → l < size_on 3 axes → slice_get (points_of axes) (index_of axes (point_from i j k l)) ≡ Some (point_from i j k l)
 point_in_list axes h i j k l p q r s =
     let e = side_of-whole axes h in
     let b = size_on 1 axes in
     let c = size_on 2 axes in
     let d = size_on 3 axes in
     let index : ((i * b + j) * c + k) * d + l ≡ ((i * side_of 1 (whole axes) + j) * side_of 2 (whole axes) + k) * side_of 3 (whole axes) + l = rw (e.1, e.2, e.3) refl in
-    let same : point_of (0 + i) (0 + j) (0 + k) (0 + l) ≡ point_of i j k l = rw (zero-add i, zero-add j, zero-add k, zero-add l) refl in
+    let same : point_from (0 + i) (0 + j) (0 + k) (0 + l) ≡ point_from i j k l = rw (zero-add i, zero-add j, zero-add k, zero-add l) refl in
     ap (slice_get (points_of axes)) index ∙ (slice_get-points_in (whole axes) i j k l (omega (arith, e.0)) (omega (arith, e.1)) (omega (arith, e.2)) (omega (arith, e.3)) ∙ ap Some same)
 
 -- a point is that at its places
 pub point_in_list_at : (axes : List Axis) (p : Point) → is_domain axes ≡ true → is_point axes p ≡ true → length p.at ≡ 4 → slice_get (points_of axes) (index_of axes p) ≡ Some p
 point_in_list_at axes p h inside four_places =
     let at = places_below axes p h inside in
-    let same : point_of (slice_index p.at 0) (slice_index p.at 1) (slice_index p.at 2) (slice_index p.at 3) ≡ p = ap (λ (places : List ℕ). let q : Point = record { at = places } in q) (sym (four p.at four_places)) in
+    let same : point_from (slice_index p.at 0) (slice_index p.at 1) (slice_index p.at 2) (slice_index p.at 3) ≡ p = ap (λ (places : List ℕ). let q : Point = record { at = places } in q) (sym (four p.at four_places)) in
     point_in_list axes h (slice_index p.at 0) (slice_index p.at 1) (slice_index p.at 2) (slice_index p.at 3) at.0 at.1 at.2 at.3 ∙ ap Some same
 
 -- a capped product
@@ -167,7 +167,7 @@ is_domain-from axes some most good few one =
     (ap is_none one)
 
 -- the digits of an index below the number of points
-pub point_of_index : (axes : List Axis) (n : ℕ) → is_domain axes ≡ true → n < length (points_of axes) → IsPointAt axes n (point_of (n / size_on 3 axes / size_on 2 axes / size_on 1 axes) (n / size_on 3 axes / size_on 2 axes % size_on 1 axes) (n / size_on 3 axes % size_on 2 axes) (n % size_on 3 axes))
+pub point_of_index : (axes : List Axis) (n : ℕ) → is_domain axes ≡ true → n < length (points_of axes) → IsPointAt axes n (point_from (n / size_on 3 axes / size_on 2 axes / size_on 1 axes) (n / size_on 3 axes / size_on 2 axes % size_on 1 axes) (n / size_on 3 axes % size_on 2 axes) (n % size_on 3 axes))
 point_of_index axes n h within =
     let a = size_on 0 axes in
     let b = size_on 1 axes in

@@ -27,12 +27,12 @@ abbrev pub places_on : ℕ → BoxN → List ℕ
 places_on axis area = numbers_from (slice_index area.low axis) (side_of axis area)
 
 -- the point at these four places
-abbrev pub point_of : ℕ → ℕ → ℕ → ℕ → Point
-point_of i j k l = record { at = i ∷ j ∷ k ∷ l ∷ [] }
+abbrev pub point_from : ℕ → ℕ → ℕ → ℕ → Point
+point_from i j k l = record { at = i ∷ j ∷ k ∷ l ∷ [] }
 
 -- all points of a box, the first axis outermost
 abbrev pub points_in : BoxN → List Point
-points_in area = flat_map (λ i. flat_map (λ j. flat_map (λ k. map (point_of i j k) (places_on 3 area)) (places_on 2 area)) (places_on 1 area)) (places_on 0 area)
+points_in area = flat_map (λ i. flat_map (λ j. flat_map (λ k. map (point_from i j k) (places_on 3 area)) (places_on 2 area)) (places_on 1 area)) (places_on 0 area)
 
 -- the number of points of a box: the product of its sides
 abbrev pub volume_of : BoxN → ℕ

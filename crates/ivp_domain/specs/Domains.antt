@@ -45,8 +45,8 @@ index_of axes point =
     ((slice_index point.at 0 * size_on 1 axes + slice_index point.at 1) * size_on 2 axes + slice_index point.at 2) * size_on 3 axes + slice_index point.at 3
 
 -- the place of the first axis that is not good
-abbrev pub bad_place : List Axis → Option ℕ
-bad_place axes = position (λ axis. not (is_good_axis axis)) axes
+abbrev pub bad_axis : List Axis → Option ℕ
+bad_axis axes = position (λ axis. not (is_good_axis axis)) axes
 
 -- two axes have the same name
 abbrev pub same_name : Axis → Axis → Bool
@@ -67,12 +67,12 @@ is_domain axes =
     nat_lt 0 (length axes) && nat_le (length axes) 4 && list_all is_good_axis axes && nat_le (size_of axes) (2 ^ 22) && is_none (repeated_place axes)
 
 -- the axes themselves, or the first refusal: a bad axis, too many points, a repeated name
-abbrev pub judged : List Axis → Option ℕ → Bool → Option ℕ → Result (List Axis) DomainFault
-judged axes (Some place) fits same = Err (BadAxis place)
-judged axes None false same = Err TooLarge
-judged axes None true (Some place) = Err (SameName place)
-judged axes None true None = Ok axes
+abbrev pub judged_axes : List Axis → Option ℕ → Bool → Option ℕ → Result (List Axis) DomainFault
+judged_axes axes (Some place) fits same = Err (BadAxis place)
+judged_axes axes None false same = Err TooLarge
+judged_axes axes None true (Some place) = Err (SameName place)
+judged_axes axes None true None = Ok axes
 
 -- the domain that one to four axes make
 abbrev pub domain_of : List Axis → Result (List Axis) DomainFault
-domain_of axes = judged axes (bad_place axes) (nat_le (size_of axes) (2 ^ 22)) (repeated_place axes)
+domain_of axes = judged_axes axes (bad_axis axes) (nat_le (size_of axes) (2 ^ 22)) (repeated_place axes)

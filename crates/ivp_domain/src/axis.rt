@@ -1,6 +1,6 @@
 ghost use Rattle.std.specs.Prelude.{◌≡◌, ℕ, ◌-◌, ◌^◌, ◌<◌, ◌≤◌, ◌↔◌, List, ◌++◌, ◌*◌, ◌/◌, ◌-ℤ◌, nat_abs, length, take, replicate, IsTrue, IsSome, IfSome};
 ghost use Rattle.std.specs.List.{list_all};
-ghost use Rattle.ivp_domain.specs.AxisNames.{is_axis_name, is_letter, is_word_byte};
+ghost use Rattle.ivp_domain.specs.AxisNames.{is_axis_name, is_axis_letter, is_word_byte};
 ghost use Rattle.ivp_domain.specs.Axes.{is_good_axis, no_axis, value_on};
 
 use std::marker::Model;
@@ -27,7 +27,7 @@ impl Model for AxisName {
 }
 
 fn letter(byte: u8) -> bool
-    ensures { result ≡ is_letter byte }
+    ensures { result ≡ is_axis_letter byte }
 {
     (byte >= 65 && byte <= 90) || (byte >= 97 && byte <= 122)
 }

@@ -2,7 +2,7 @@ ghost use Rattle.std.specs.Prelude.{◌≡◌, ◌+◌, ◌*◌, ◌^◌, ◌<�
 ghost use Rattle.std.specs.List.{list_any};
 ghost use Rattle.ivp_domain.specs.Axes.{is_good_axis, no_axis, value_on};
 ghost use Rattle.ivp_domain.specs.Boxes.{is_box, volume_of};
-ghost use Rattle.ivp_domain.specs.Domains.{bad_place, domain_of, index_of, is_domain, is_point, points_of, repeated_place, same_name, size_of, size_on, whole};
+ghost use Rattle.ivp_domain.specs.Domains.{bad_axis, domain_of, index_of, is_domain, is_point, points_of, repeated_place, same_name, size_of, size_on, whole};
 
 use crate::axis::{Axis, filler, good_axis, number_at};
 use crate::boxes::{BoxN, Point};
@@ -10,6 +10,9 @@ use std::marker::Model;
 
 /// The most points that a domain may have: 2^22.
 const MOST_POINTS: u64 = 4_194_304;
+
+/// The most axes that a domain may have.
+pub const MOST_AXES: usize = 4;
 
 /// Why axes make no domain. A place is the number of an axis, from 0.
 #[derive(Clone, Copy, Debug, PartialEq, Eq)]
@@ -22,7 +25,7 @@ pub enum DomainFault {
 /// The decision space of one to four axes, with at most 2^22 points.
 #[derive(Clone, Copy, Debug, PartialEq, Eq)]
 pub struct Domain {
-    axes: [Axis; 4],
+    axes: [Axis; MOST_AXES],
     count: u32,
 }
 
@@ -44,8 +47,8 @@ impl Model for Domain {
 }
 
 /// The place of the first axis that is not good.
-fn bad_place(axes: &[Axis]) -> Option<usize>
-    ensures { result ≡ bad_place axes.now }
+fn bad_axis(axes: &[Axis]) -> Option<usize>
+    ensures { result ≡ bad_axis axes.now }
 {
     axes.iter().position(|axis| !good_axis(axis))
 }
@@ -123,7 +126,7 @@ impl Domain {
         requires { (0 < length axes.now) × (length axes.now ≤ 4) }
         ensures { result ≡ domain_of axes.now }
     {
-        if let Some(place) = bad_place(axes) {
+        if let Some(place) = bad_axis(axes) {
             return Err(DomainFault::BadAxis(place as u32));
         }
         if !few_points(axes) {

@@ -8,7 +8,7 @@ use Rattle.ivp_domain.specs.declared.axis.Axis.{Axis}
 use Rattle.ivp_domain.specs.declared.boxes.Point.{Point}
 use Rattle.ivp_domain.specs.Domains.{is_point}
 use Rattle.ivp_func.specs.declared.piece.Piece.{Piece}
-use Rattle.ivp_func.specs.Pieces.{are_pieces_of, count_at, holds, is_piece_of, value_at, value_of, value_in}
+use Rattle.ivp_func.specs.Pieces.{are_pieces_of, count_at, holds, is_piece_of, value_at, piece_value, value_in}
 use Rattle.ivp_func.proofs.Facts.{blank, passes_at, piece_point}
 
 -- one for a piece that holds the point
@@ -44,7 +44,7 @@ find_only (y ∷ ys) (suc k) x p one e h =
       | false ↦ λ first. let counts : one_if (holds p y) ≡ 0 = ap one_if first in find_only ys k x p (omega (arith, count_at-cons y ys p, counts, one)) e h
     ] refl
 
-pub value_at-only : (xs : List Piece) (k : ℕ) (x : Piece) (p : Point) → count_at xs p ≡ 1 → slice_get xs k ≡ Some x → holds p x ≡ true → value_at xs p ≡ value_of x p
+pub value_at-only : (xs : List Piece) (k : ℕ) (x : Piece) (p : Point) → count_at xs p ≡ 1 → slice_get xs k ≡ Some x → holds p x ≡ true → value_at xs p ≡ piece_value x p
 value_at-only xs k x p one e h = ap (λ found. value_in found p) (find_only xs k x p one e h)
 
 -- where some piece holds the point, one is found
@@ -90,7 +90,7 @@ two xs i p within some h =
     omega (arith, count_at_more xs i blank p within, one, some, count_at-take xs (i + 1) p)
 
 -- the value that the pieces from a place on give
-pub value_at-here : (xs : List Piece) (i : ℕ) (p : Point) → i < length xs → holds p (get_or xs i blank) ≡ true → value_at (drop i xs) p ≡ value_of (get_or xs i blank) p
+pub value_at-here : (xs : List Piece) (i : ℕ) (p : Point) → i < length xs → holds p (get_or xs i blank) ≡ true → value_at (drop i xs) p ≡ piece_value (get_or xs i blank) p
 value_at-here xs i p within h = rw (drop-cons xs i blank) (rw h refl)
 
 pub value_at-later : (xs : List Piece) (i : ℕ) (p : Point) → i < length xs → holds p (get_or xs i blank) ≡ false → value_at (drop i xs) p ≡ value_at (drop (i + 1) xs) p
@@ -103,7 +103,7 @@ pub record FoundValue (xs : List Piece) (p : Point) : Type 0 where
   pub within : place < length xs
   pub stands : slice_get xs place ≡ Some piece
   pub holds_it : holds p piece ≡ true
-  pub value : value_at xs p ≡ value_of piece p
+  pub value : value_at xs p ≡ piece_value piece p
 
 pub find_at : (xs : List Piece) (p : Point) → count_at xs p ≡ 1 → FoundValue xs p
 find_at xs p one =

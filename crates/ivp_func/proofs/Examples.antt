@@ -6,14 +6,14 @@ use Rattle.std.proofs.lemmas.Bool.Decides.{nat_tests}
 use Rattle.std.proofs.lemmas.Int.{ints}
 use Rattle.ivp_domain.specs.declared.axis.Axis.{Axis}
 use Rattle.ivp_domain.specs.declared.boxes.BoxN.{BoxN}
-use Rattle.ivp_domain.specs.Boxes.{has_point, point_of}
+use Rattle.ivp_domain.specs.Boxes.{has_point, point_from}
 use Rattle.ivp_domain.specs.Domains.{whole}
 use Rattle.ivp_domain.proofs.BoxLemmas.{has_point-common}
 use Rattle.ivp_func.specs.declared.func.FuncFault.TheVariants.{NotPartition, ValueOut}
 use Rattle.ivp_func.specs.declared.piece.Piece.{Piece}
 use Rattle.ivp_func.specs.Covering.{covered_in, CutOn, SameOn, shared_with, Shorter}
 use Rattle.ivp_func.specs.Functions.{Function, has_values, is_partition, IsFunction, IsTop}
-use Rattle.ivp_func.specs.Making.{Made}
+use Rattle.ivp_func.specs.Making.{MadeFunction}
 use Rattle.ivp_func.specs.Pieces.{are_pieces_of, count_at, is_base, is_piece_of, is_value, value_at}
 use Rattle.ivp_func.proofs.PointTests.{passes_partition, passes_values}
 
@@ -32,7 +32,7 @@ good = piece 0 1 (pos 7) (pos 3) (pos 0) ∷ piece 2 2 (pos 0) (pos 50000) (pos 
 good_is_a_function : (are_pieces_of three good ≡ true) × (is_partition three good ≡ true) × (has_values three good ≡ true)
 good_is_a_function = (refl, refl, refl)
 
-values : (value_at good (point_of 0 0 0 0) ≡ pos 7) × (value_at good (point_of 1 0 0 0) ≡ pos 10) × (value_at good (point_of 2 0 0 0) ≡ pos 100000)
+values : (value_at good (point_from 0 0 0 0) ≡ pos 7) × (value_at good (point_from 1 0 0 0) ≡ pos 10) × (value_at good (point_from 2 0 0 0) ≡ pos 100000)
 values = (refl, refl, refl)
 
 -- what no piece may be: past the axis, empty, of too great a slope, of a slope on an axis that there isn't, of too great a base
@@ -43,14 +43,14 @@ no_pieces = (refl, refl, refl, refl, refl)
 abbrev bad : List Piece
 bad = piece 0 1 (pos 0) (pos 0) (pos 0) ∷ piece 1 1 (pos 0) (pos 0) (pos 0) ∷ []
 
-counts : (count_at bad (point_of 0 0 0 0) ≡ 1) × (count_at bad (point_of 1 0 0 0) ≡ 2) × (count_at bad (point_of 2 0 0 0) ≡ 0) × (is_partition three bad ≡ false)
+counts : (count_at bad (point_from 0 0 0 0) ≡ 1) × (count_at bad (point_from 1 0 0 0) ≡ 2) × (count_at bad (point_from 2 0 0 0) ≡ 0) × (is_partition three bad ≡ false)
 counts = (refl, refl, refl, refl)
 
 -- so the pieces have as many points as the domain, and don't cover it
 covered : (covered_in (whole three) bad ≡ 3) × (shared_with (whole three) (piece 1 1 (pos 0) (pos 0) (pos 0)) ≡ 1) × (shared_with (record { low = 2 ∷ 0 ∷ 0 ∷ 0 ∷ []; high = 2 ∷ 0 ∷ 0 ∷ 0 ∷ [] }) (piece 0 1 (pos 0) (pos 0) (pos 0)) ≡ 0)
 covered = (refl, refl, refl)
 
-refused : Made three bad (Err (NotPartition (point_of 2 0 0 0) 0))
+refused : MadeFunction three bad (Err (NotPartition (point_from 2 0 0 0) 0))
 refused = (omega arith, refl, refl, λ one. absurd (cc))
 
 -- a value of 100,001, and one below 0
@@ -94,7 +94,7 @@ not_the_lower : Shorter short (span 0 2) (span 0 1) → ⊥
 not_the_lower is = omega (arith, is.short)
 
 not_outside : Shorter short (span 0 2) (span 3 3) → ⊥
-not_outside is = let outside : false ≡ true = is.inside (point_of 3 0 0 0) refl in absurd (cc)
+not_outside is = let outside : false ≡ true = is.inside (point_from 3 0 0 0) refl in absurd (cc)
 
 not_the_whole : Shorter short (span 0 2) (span 0 2) → ⊥
 not_the_whole is = omega (arith, is.smaller)
@@ -107,10 +107,10 @@ good_function : IsFunction (on_three good)
 good_function = record { domain = refl; few = omega arith; pieces = refl; partition = passes_partition three good refl; values = passes_values three good refl }
 
 bad_function : IsFunction (on_three bad) → ⊥
-bad_function is = omega (arith, is.partition (point_of 1 0 0 0) refl)
+bad_function is = omega (arith, is.partition (point_from 1 0 0 0) refl)
 
 high_function : IsFunction (on_three high) → ⊥
-high_function is = let value : false ≡ true = is.values (point_of 2 0 0 0) refl in absurd (cc)
+high_function is = let value : false ≡ true = is.values (point_from 2 0 0 0) refl in absurd (cc)
 
 no_domain : IsFunction (record { axes = []; pieces = good }) → ⊥
 no_domain is = let domain : false ≡ true = is.domain in absurd (cc)
@@ -123,26 +123,26 @@ at_most : (value : ℤ) → is_value value ≡ true → value ≤ℤ pos 100000
 at_most value is = grind (arith, nat_tests, ints)
 
 top_of_good : IsTop three good (pos 100000)
-top_of_good = record { attained = (point_of 2 0 0 0, refl, refl); greatest = λ p inside. at_most (value_at good p) (passes_values three good refl p inside) }
+top_of_good = record { attained = (point_from 2 0 0 0, refl, refl); greatest = λ p inside. at_most (value_at good p) (passes_values three good refl p inside) }
 
 lesser_top : IsTop three good (pos 10) → ⊥
-lesser_top is = absurd (omega (arith, ints, is.greatest (point_of 2 0 0 0) refl))
+lesser_top is = absurd (omega (arith, ints, is.greatest (point_from 2 0 0 0) refl))
 
 greater_top : IsTop three good (pos 100001) → ⊥
 greater_top is = let at = is.attained in let value : false ≡ true = sym (ap is_value at.2) ∙ passes_values three good refl at.0 at.1 in absurd (cc)
 
 -- making a function answers with it, or why there is none: these pieces are refused for no other count and for no point that one piece holds, and not made; the good ones are made, and not refused for a value in range
-made : Made three good (Ok (on_three good))
+made : MadeFunction three good (Ok (on_three good))
 made = (omega arith, passes_partition three good refl, passes_values three good refl, refl)
 
-other_count : Made three bad (Err (NotPartition (point_of 2 0 0 0) 2)) → ⊥
+other_count : MadeFunction three bad (Err (NotPartition (point_from 2 0 0 0) 2)) → ⊥
 other_count is = omega (arith, is.2)
 
-held_once : Made three bad (Err (NotPartition (point_of 0 0 0 0) 1)) → ⊥
+held_once : MadeFunction three bad (Err (NotPartition (point_from 0 0 0 0) 1)) → ⊥
 held_once is = is.3 refl
 
-made_of_bad : Made three bad (Ok (on_three bad)) → ⊥
-made_of_bad is = omega (arith, is.1 (point_of 1 0 0 0) refl)
+made_of_bad : MadeFunction three bad (Ok (on_three bad)) → ⊥
+made_of_bad is = omega (arith, is.1 (point_from 1 0 0 0) refl)
 
-value_in_range : Made three good (Err (ValueOut (point_of 2 0 0 0) (pos 100000))) → ⊥
+value_in_range : MadeFunction three good (Err (ValueOut (point_from 2 0 0 0) (pos 100000))) → ⊥
 value_in_range is = let out : true ≡ false = is.4 in cc

@@ -4,7 +4,7 @@ use Rattle.std.specs.Prelude.{find, Option, None, slice_index}
 use Rattle.std.specs.List.{list_all}
 use Rattle.ivp_domain.specs.declared.axis.Axis.{Axis}
 use Rattle.ivp_domain.specs.declared.boxes.Point.{Point}
-use Rattle.ivp_domain.specs.Boxes.{point_of}
+use Rattle.ivp_domain.specs.Boxes.{point_from}
 use Rattle.ivp_domain.specs.Domains.{is_point, points_of, whole}
 use Rattle.ivp_domain.proofs.BoxLemmas.{listed_point, point_listed}
 use Rattle.ivp_func.specs.declared.piece.Piece.{Piece}
@@ -14,7 +14,7 @@ use Rattle.ivp_func.proofs.Facts.{passes_at, passes_each}
 
 -- the point with the same places that is listed
 abbrev same_places : Point → Point
-same_places p = point_of (slice_index p.at 0) (slice_index p.at 1) (slice_index p.at 2) (slice_index p.at 3)
+same_places p = point_from (slice_index p.at 0) (slice_index p.at 1) (slice_index p.at 2) (slice_index p.at 3)
 
 -- a test of places that all listed points pass holds at each point of the domain
 at_each : (test : Point → Bool) (axes : List Axis) → ((p : Point) → test (same_places p) ≡ test p) → list_all test (points_of axes) ≡ true → (p : Point) → is_point axes p ≡ true → test p ≡ true

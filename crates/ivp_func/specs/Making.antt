@@ -9,9 +9,9 @@ use Rattle.ivp_func.specs.Pieces.{count_at, is_value, value_at}
 use Rattle.ivp_func.specs.Functions.{Function, HasValues, IsPartition}
 
 -- each answer says when it comes, so each comes exactly there: these cases exclude each other
-abbrev pub Made : List Axis → List Piece → Result Function FuncFault → Type 0
-Made axes pieces (Ok func) = (length pieces ≤ 4096) × IsPartition axes pieces × HasValues axes pieces × (func ≡ record { axes = axes; pieces = pieces })
-Made axes pieces (Err TooMany) = 4096 < length pieces
-Made axes pieces (Err (NotPartition point count)) = (length pieces ≤ 4096) × IsTrue (is_point axes point) × (count ≡ count_at pieces point) × (count ≢ 1)
-Made axes pieces (Err (ValueOut point value)) = (length pieces ≤ 4096) × IsPartition axes pieces × IsTrue (is_point axes point) × (value ≡ value_at pieces point) × (is_value value ≡ false)
-Made axes pieces (Err NoMemory) = ⊥
+abbrev pub MadeFunction : List Axis → List Piece → Result Function FuncFault → Type 0
+MadeFunction axes pieces (Ok func) = (length pieces ≤ 4096) × IsPartition axes pieces × HasValues axes pieces × (func ≡ record { axes = axes; pieces = pieces })
+MadeFunction axes pieces (Err TooMany) = 4096 < length pieces
+MadeFunction axes pieces (Err (NotPartition point count)) = (length pieces ≤ 4096) × IsTrue (is_point axes point) × (count ≡ count_at pieces point) × (count ≢ 1)
+MadeFunction axes pieces (Err (ValueOut point value)) = (length pieces ≤ 4096) × IsPartition axes pieces × IsTrue (is_point axes point) × (value ≡ value_at pieces point) × (is_value value ≡ false)
+MadeFunction axes pieces (Err NoMemory) = ⊥

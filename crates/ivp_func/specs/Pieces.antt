@@ -17,8 +17,8 @@ abbrev pub rise_on : ℕ → Piece → Point → ℤ
 rise_on axis piece point = slope_on axis piece *ℤ pos (slice_index point.at axis)
 
 -- base plus slopes times places
-abbrev pub value_of : Piece → Point → ℤ
-value_of piece point = piece.base +ℤ rise_on 0 piece point +ℤ rise_on 1 piece point +ℤ rise_on 2 piece point +ℤ rise_on 3 piece point
+abbrev pub piece_value : Piece → Point → ℤ
+piece_value piece point = piece.base +ℤ rise_on 0 piece point +ℤ rise_on 1 piece point +ℤ rise_on 2 piece point +ℤ rise_on 3 piece point
 
 -- the piece's box has the point
 abbrev pub holds : Point → Piece → Bool
@@ -31,7 +31,7 @@ count_at pieces point = count_by (holds point) pieces
 -- the value of this piece, where there is one
 abbrev pub value_in : Option Piece → Point → ℤ
 value_in None point = pos 0
-value_in (Some piece) point = value_of piece point
+value_in (Some piece) point = piece_value piece point
 
 -- the value at a point: that of the first piece that holds it, in a partition the only one
 abbrev pub value_at : List Piece → Point → ℤ

@@ -6,10 +6,10 @@ use crate::piece::Piece;
 use ivp_domain::{BoxN, Domain, is_proper};
 
 /// The greatest base, either way.
-const MOST_BASE: i64 = 1_000_000_000_000;
+pub const MOST_BASE: i64 = 1_000_000_000_000;
 
 /// The greatest slope, either way.
-const MOST_SLOPE: i64 = 100_000;
+pub const MOST_SLOPE: i64 = 100_000;
 
 /// The domain has the place on this axis; past the last axis it has the place 0 alone.
 fn has_place(domain: &Domain, axis: u32, place: u32) -> bool

@@ -1,7 +1,7 @@
 ghost use Rattle.std.specs.Prelude.{◌≡◌, ◌+◌, ◌<◌, length, Some, IsTrue, slice_get};
 ghost use Rattle.ivp_domain.specs.Domains.{is_point};
 ghost use Rattle.ivp_func.specs.Functions.{IsFunction, IsTop};
-ghost use Rattle.ivp_func.specs.Making.{Made};
+ghost use Rattle.ivp_func.specs.Making.{MadeFunction};
 ghost use Rattle.ivp_func.specs.Pieces.{are_pieces_of, is_piece_of, is_value, value_at};
 
 use crate::partition::{count, misfit};
@@ -13,7 +13,7 @@ use std::marker::Model;
 use std::sync::ledger::Ledger;
 
 /// The most pieces that a function may have.
-const MOST_PIECES: usize = 4096;
+pub const MOST_PIECES: usize = 4096;
 
 /// Why pieces make no function: `NotPartition` with a point of the domain and how many pieces hold
 /// it, `ValueOut` with a point and its value.
@@ -43,6 +43,13 @@ impl Model for Func {
     ghost invariant = { λ f. IsFunction (record { axes = f.domain; pieces = f.pieces.items }) × IsTop f.domain f.pieces.items f.top };
 }
 
+/// What holds of every function. It does nothing.
+pub fn func_law(func: &Func)
+    ensures { IsFunction func.now }
+{
+    let _ = func.pieces.len();
+}
+
 impl Func {
     /// The function of these pieces over the domain, or the first refusal: `TooMany` above 4,096
     /// pieces; `NotPartition` where some point lies in no piece or in several; `ValueOut` where a
@@ -50,7 +57,7 @@ impl Func {
     /// and `NoMemory` never comes.
     pub fn make(_alloc: Global, domain: &Domain, pieces: Vec<Piece>) -> Result<Func, FuncFault>
         requires { IsTrue (are_pieces_of domain.now pieces.items) }
-        ensures { Made domain.now pieces.items result }
+        ensures { MadeFunction domain.now pieces.items result }
     {
         if pieces.len() > MOST_PIECES {
             return Err(FuncFault::TooMany);

@@ -14,8 +14,8 @@ mod partition;
 mod piece;
 mod values;
 
-pub use fit::{are_pieces_of, is_piece_of};
-pub use func::{Func, FuncFault};
+pub use fit::{MOST_BASE, MOST_SLOPE, are_pieces_of, is_piece_of};
+pub use func::{Func, FuncFault, MOST_PIECES, func_law};
 pub use law::tests_law;
 pub use piece::Piece;
 

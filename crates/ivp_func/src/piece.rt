@@ -1,6 +1,6 @@
 ghost use Rattle.std.specs.Prelude.{◌≡◌, ◌<◌, ◌≤ℤ◌, neg_ℤ, pos, ◌*◌, ◌^◌, IsTrue};
 ghost use Rattle.ivp_domain.specs.Boxes.{has_place};
-ghost use Rattle.ivp_func.specs.Pieces.{holds, is_slope, is_small, rise_on, slope_on, value_of};
+ghost use Rattle.ivp_func.specs.Pieces.{holds, is_slope, is_small, rise_on, slope_on, piece_value};
 
 use ivp_domain::{BoxN, Point};
 
@@ -44,7 +44,7 @@ fn rise(piece: &Piece, point: &Point, axis: usize) -> i64
 /// The value of a piece at a point.
 pub(crate) fn value(piece: &Piece, point: &Point) -> i64
     requires { IsTrue (is_small piece.now) }
-    ensures { result ≡ value_of piece.now point.now }
+    ensures { result ≡ piece_value piece.now point.now }
 {
     piece.base
         + rise(piece, point, 0)

@@ -7,7 +7,7 @@ use Rattle.std.proofs.lemmas.Int.{ints}
 use Rattle.atomic_table.specs.Seated.{TableId}
 use Rattle.atomic_table.specs.Table.{Me}
 use Rattle.best_word.specs.declared.best.View.{View}
-use Rattle.ivp_domain.specs.Boxes.{has_point, point_of}
+use Rattle.ivp_domain.specs.Boxes.{has_point, point_from}
 use Rattle.ivp_domain.specs.Domains.{is_point}
 use Rattle.ivp_problem.specs.declared.node.Node.{Node}
 use Rattle.ivp_problem.specs.Keys.{key_of}
@@ -16,11 +16,11 @@ use Rattle.ivp_problem.proofs.Examples.{first, left, right, twelve, two, two_is_
 use Rattle.ivp_problem.proofs.KeyOrder.{best_most}
 use Rattle.ivp_pool.specs.declared.team.Worker.{Worker}
 use Rattle.ivp_pool.specs.Closing.{AreCovered, Closed, Passed, Pushed}
-use Rattle.ivp_pool.specs.Solving.{AreClosed, IsNew, IsSearched, IsWorker, low_of, share_of, total_of, WentOn}
+use Rattle.ivp_pool.specs.Solving.{AreClosed, IsNew, IsSearched, IsWorker, low_of, worker_share, total_of, WentOn}
 use Rattle.ivp_pool.proofs.Gluing.{whole}
 use Rattle.ivp_pool.proofs.Growing.{closed_covers}
 use Rattle.ivp_pool.proofs.Teams.{closed_one, searched}
-use Rattle.ivp_pool.specs.Tallies.{AreLinked, IsTally, IsWhole, Tally}
+use Rattle.ivp_pool.specs.Tallies.{AreLinked, IsTally, IsWholeTree, Tally}
 use Rattle.ivp_pool.specs.Parts.{Done, Handed, handed_in, handed_of, IsPart, Part, Pruned, size_of, Split, Then}
 
 -- the root and its child are split, and both leaves are pruned: the first has the best point, of sum 75 at index 2
@@ -69,7 +69,7 @@ handed_itself : IsTally two (key_of 75 2) (record { node = left; part = Handed }
 handed_itself is = is.here refl
 
 -- so the part that they make together has the four nodes of the tree
-calls_have_four : IsWhole two (key_of 75 2) calls → (whole : Part) × (size_of whole ≡ 4)
+calls_have_four : IsWholeTree two (key_of 75 2) calls → (whole : Part) × (size_of whole ≡ 4)
 calls_have_four whole = let size = whole.size in (whole.part, omega arith)
 
 -- a search of the whole tree closes four nodes
@@ -100,7 +100,7 @@ always_four : (count : ℕ) → IsSearched two (key_of 75 2) count → count ≡
 always_four count is = omega (arith, is.size, root_has_four is.part is.is is.none)
 
 -- of three nodes the first of two workers gets the first and the last
-shares : (share_of 2 0 (left ∷ root_of two ∷ left ∷ []) ≡ left ∷ left ∷ []) × (share_of 2 1 (left ∷ root_of two ∷ left ∷ []) ≡ root_of two ∷ [])
+shares : (worker_share 2 0 (left ∷ root_of two ∷ left ∷ []) ≡ left ∷ left ∷ []) × (worker_share 2 1 (left ∷ root_of two ∷ left ∷ []) ≡ root_of two ∷ [])
 shares = (refl, refl)
 
 -- a node that a tray took, and one that came back
@@ -151,9 +151,9 @@ left_covered = (left ∷ [], refl, λ p here. inr (rw here refl))
 -- but not where less than the best key is known, and nothing was handed on
 less_known : (low : ℕ) → low < key_of 75 2 → AreCovered two low [] [] (is_point twelve) → ⊥
 less_known low less is =
-    elim (is.2 (point_of 0 1 0 0) refl) [
+    elim (is.2 (point_from 0 1 0 0) refl) [
       | inl known ↦ omega arith
-      | inr handed ↦ let taken : is.0 ≡ [] = sym is.1 in let none : false ≡ true = subst (λ nodes. IsTrue (has_in nodes (point_of 0 1 0 0))) taken handed in cc
+      | inr handed ↦ let taken : is.0 ≡ [] = sym is.1 in let none : false ≡ true = subst (λ nodes. IsTrue (has_in nodes (point_from 0 1 0 0))) taken handed in cc
     ]
 
 -- so no call closes the root with all below it so early, and no search does
@@ -180,11 +180,11 @@ searched_early is = less_known (key_of 75 3) (omega arith) (closed_covers two (k
 second_call : IsTally two (key_of 75 2) (record { node = left; part = Pruned })
 second_call = record { node = record { path = 0 ∷ 0 ∷ []; reached = refl }; is = omega arith; here = λ same. absurd (cc) }
 
-calls_are_whole : IsWhole two (key_of 75 2) calls
+calls_are_whole : IsWholeTree two (key_of 75 2) calls
 calls_are_whole = whole two two_is_lawful (key_of 75 2) calls (first_call, (second_call, tt)) calls_are_linked
 
-whole_early : IsWhole two (key_of 75 3) calls → ⊥
-whole_early is = omega (arith, is.most (point_of 0 1 0 0) refl)
+whole_early : IsWholeTree two (key_of 75 3) calls → ⊥
+whole_early is = omega (arith, is.most (point_from 0 1 0 0) refl)
 
 -- one call, which hands the first leaf on, and so closed three nodes
 called_once : AreClosed two (key_of 55 10) (root_of two ∷ []) (left ∷ []) 3
@@ -219,7 +219,7 @@ closed_nothing key is = at_least is.tallies (is.called (λ node. 1)) is.size
 all_closed_early : AreClosed two (key_of 75 3) (root_of two ∷ []) [] 4 → ⊥
 all_closed_early is =
     let searched = searched two two_is_lawful (key_of 75 3) (root_of two ∷ []) [] 4 (λ weigh. omega arith) is in
-    omega (arith, searched.most (point_of 0 1 0 0) refl)
+    omega (arith, searched.most (point_from 0 1 0 0) refl)
 
 -- a worker at this word by what it knows, its calls, and the nodes that they closed
 abbrev word : TableId

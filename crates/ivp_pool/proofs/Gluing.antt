@@ -10,7 +10,7 @@ use Rattle.ivp_problem.specs.Problems.{IsProblem, WeightedSum}
 use Rattle.ivp_problem.specs.Sums.{key_at}
 use Rattle.ivp_problem.specs.Trees.{children_of, has_in, IsNode, root_of}
 use Rattle.ivp_pool.specs.Parts.{AreParts, Done, Handed, handed_in, handed_of, IsPart, Part, Parts, Pruned, size_in, size_of, Split, Then}
-use Rattle.ivp_pool.specs.Tallies.{AreLinked, handed_by, IsTally, IsWhole, Tally}
+use Rattle.ivp_pool.specs.Tallies.{AreLinked, handed_by, IsTally, IsWholeTree, Tally}
 use Rattle.ivp_pool.proofs.Growing.{covered}
 use Rattle.ivp_pool.proofs.SameNodes.{is_same, is_same-self, is_same-true}
 use Rattle.ivp_pool.proofs.Standing.{children_stand, standing, Stands}
@@ -223,13 +223,13 @@ glue problem h key (suc count) (node ∷ nodes) tallies e each linked =
     subst (Glued problem key (node ∷ nodes)) (sym p.split) (glued_with problem key node nodes p.front p.tally p.behind p.same both.0 rest)
 
 -- all tallies together are the whole tree
-pub whole : (problem : WeightedSum) → IsProblem problem → (key : ℕ) (tallies : List Tally) → Each (IsTally problem key) tallies → AreLinked problem (root_of problem ∷ []) tallies → IsWhole problem key tallies
+pub whole : (problem : WeightedSum) → IsProblem problem → (key : ℕ) (tallies : List Tally) → Each (IsTally problem key) tallies → AreLinked problem (root_of problem ∷ []) tallies → IsWholeTree problem key tallies
 whole problem h key tallies each linked = by (glue problem h key (length tallies) (root_of problem ∷ []) tallies refl each linked)
   where
     root : IsNode problem (root_of problem)
     root = record { path = []; reached = refl }
 
-    first : (parts : Parts) → AreParts problem key (root_of problem ∷ []) parts → handed_in problem (root_of problem ∷ []) parts ≡ [] → size_in parts + sum_by (λ tally. length (handed_by problem tally)) tallies ≡ sum_by (λ tally. size_of tally.part) tallies → IsWhole problem key tallies
+    first : (parts : Parts) → AreParts problem key (root_of problem ∷ []) parts → handed_in problem (root_of problem ∷ []) parts ≡ [] → size_in parts + sum_by (λ tally. length (handed_by problem tally)) tallies ≡ sum_by (λ tally. size_of tally.part) tallies → IsWholeTree problem key tallies
     first Done are none size = absurd are
     first (Then part (Then one more)) are none size = absurd are.1
     first (Then part Done) are none size =
@@ -246,5 +246,5 @@ whole problem h key tallies each linked = by (glue problem h key (length tallies
         known p (inl less) empty = less
         known p (inr there) empty = let no = subst (λ ns. has_in ns p ≡ true) empty there in absurd (cc)
 
-    by : Glued problem key (root_of problem ∷ []) tallies → IsWhole problem key tallies
+    by : Glued problem key (root_of problem ∷ []) tallies → IsWholeTree problem key tallies
     by glued = first glued.parts glued.are glued.none glued.size

@@ -6,7 +6,7 @@ use Rattle.std.proofs.lemmas.List.{append-nil, length-take-le, take_more}
 use Rattle.std.proofs.lemmas.Bool.Decides.{nat_tests}
 use Rattle.std.proofs.lemmas.List.Sums.{sum_by-append, sum_by-cons}
 use Rattle.ivp_problem.specs.declared.node.Node.{Node}
-use Rattle.ivp_pool.specs.Solving.{dealt_from, share_of}
+use Rattle.ivp_pool.specs.Solving.{dealt_from, worker_share}
 
 -- a share isn't longer
 pub dealt_few : (place workers number : ℕ) (nodes : List Node) → length (dealt_from place workers number nodes) ≤ length nodes
@@ -29,20 +29,20 @@ dealt_append place workers number (node ∷ nodes) more = by (place % workers ==
     by false rest = rest ∙ moved
 
 -- the share with the next node: it is the worker's own, or another's
-pub share_more : (workers number place : ℕ) (nodes : List Node) (d : Node) → place < length nodes → share_of workers number (take (place + 1) nodes) ≡ share_of workers number (take place nodes) ++ (if place % workers == number then get_or nodes place d ∷ [] else [])
+pub share_more : (workers number place : ℕ) (nodes : List Node) (d : Node) → place < length nodes → worker_share workers number (take (place + 1) nodes) ≡ worker_share workers number (take place nodes) ++ (if place % workers == number then get_or nodes place d ∷ [] else [])
 share_more workers number place nodes d within =
     let len : length (take place nodes) ≡ place = length-take-le place nodes (omega (arith, within)) in
-    ap (share_of workers number) (take_more nodes place d within) ∙ (dealt_append 0 workers number (take place nodes) (get_or nodes place d ∷ []) ∙ ap (λ p. share_of workers number (take place nodes) ++ dealt_from p workers number (get_or nodes place d ∷ [])) (zero-add (length (take place nodes)) ∙ len))
+    ap (worker_share workers number) (take_more nodes place d within) ∙ (dealt_append 0 workers number (take place nodes) (get_or nodes place d ∷ []) ∙ ap (λ p. worker_share workers number (take place nodes) ++ dealt_from p workers number (get_or nodes place d ∷ [])) (zero-add (length (take place nodes)) ∙ len))
 
-pub share_mine : (workers number place : ℕ) (nodes : List Node) (d : Node) → place < length nodes → place % workers ≡ number → share_of workers number (take (place + 1) nodes) ≡ share_of workers number (take place nodes) ++ get_or nodes place d ∷ []
+pub share_mine : (workers number place : ℕ) (nodes : List Node) (d : Node) → place < length nodes → place % workers ≡ number → worker_share workers number (take (place + 1) nodes) ≡ worker_share workers number (take place nodes) ++ get_or nodes place d ∷ []
 share_mine workers number place nodes d within mine =
-    share_more workers number place nodes d within ∙ ap (λ b. share_of workers number (take place nodes) ++ (if b then get_or nodes place d ∷ [] else [])) (eq-eqb (place % workers) number mine)
+    share_more workers number place nodes d within ∙ ap (λ b. worker_share workers number (take place nodes) ++ (if b then get_or nodes place d ∷ [] else [])) (eq-eqb (place % workers) number mine)
 
-pub share_same : (workers number place : ℕ) (nodes : List Node) → place < length nodes → place % workers ≢ number → share_of workers number (take (place + 1) nodes) ≡ share_of workers number (take place nodes)
+pub share_same : (workers number place : ℕ) (nodes : List Node) → place < length nodes → place % workers ≢ number → worker_share workers number (take (place + 1) nodes) ≡ worker_share workers number (take place nodes)
 share_same workers number place [] within other = absurd (omega (arith, within))
 share_same workers number place (node ∷ nodes) within other =
     let not_mine : (place % workers == number) ≡ false = grind (arith, nat_tests, other) in
-    share_more workers number place (node ∷ nodes) node within ∙ (ap (λ b. share_of workers number (take place (node ∷ nodes)) ++ (if b then get_or (node ∷ nodes) place node ∷ [] else [])) not_mine ∙ append-nil (share_of workers number (take place (node ∷ nodes))))
+    share_more workers number place (node ∷ nodes) node within ∙ (ap (λ b. worker_share workers number (take place (node ∷ nodes)) ++ (if b then get_or (node ∷ nodes) place node ∷ [] else [])) not_mine ∙ append-nil (worker_share workers number (take place (node ∷ nodes))))
 
 -- the numbers that a function gives from one place on, so many of them, added up
 abbrev pub sum_from : (ℕ → ℕ) → ℕ → ℕ → ℕ
@@ -97,12 +97,12 @@ each_once weigh place workers (node ∷ nodes) some =
 -- the shares of so many workers, from this number on, one behind the other
 abbrev pub shares_from : ℕ → List Node → ℕ → ℕ → List Node
 shares_from workers nodes from zero = []
-shares_from workers nodes from (suc count) = share_of workers from nodes ++ shares_from workers nodes (suc from) count
+shares_from workers nodes from (suc count) = worker_share workers from nodes ++ shares_from workers nodes (suc from) count
 
-shares_weigh : (weigh : Node → ℕ) (workers : ℕ) (nodes : List Node) (from count : ℕ) → sum_by weigh (shares_from workers nodes from count) ≡ sum_from (λ number. sum_by weigh (share_of workers number nodes)) from count
+shares_weigh : (weigh : Node → ℕ) (workers : ℕ) (nodes : List Node) (from count : ℕ) → sum_by weigh (shares_from workers nodes from count) ≡ sum_from (λ number. sum_by weigh (worker_share workers number nodes)) from count
 shares_weigh weigh workers nodes from zero = refl
 shares_weigh weigh workers nodes from (suc count) =
-    omega (arith, sum_by-append weigh (share_of workers from nodes) (shares_from workers nodes (suc from) count), shares_weigh weigh workers nodes (suc from) count)
+    omega (arith, sum_by-append weigh (worker_share workers from nodes) (shares_from workers nodes (suc from) count), shares_weigh weigh workers nodes (suc from) count)
 
 -- together they are all nodes
 pub all_shares : (weigh : Node → ℕ) (workers : ℕ) (nodes : List Node) → 0 < workers → sum_by weigh (shares_from workers nodes 0 workers) ≡ sum_by weigh nodes

@@ -13,10 +13,10 @@ use Rattle.ivp_problem.specs.Sums.{key_at}
 use Rattle.ivp_problem.specs.Trees.{IsNode, root_of}
 use Rattle.ivp_pool.specs.Closing.{Closed}
 use Rattle.ivp_pool.specs.Parts.{handed_of, size_of}
-use Rattle.ivp_pool.specs.Solving.{AreClosed, IsSearched, low_of, share_of, total_of, WentOn}
+use Rattle.ivp_pool.specs.Solving.{AreClosed, IsSearched, low_of, worker_share, total_of, WentOn}
 use Rattle.ivp_pool.specs.declared.team.Worker.{Worker}
 use Rattle.ivp_pool.specs.declared.work.Work.{Work}
-use Rattle.ivp_pool.specs.Tallies.{handed_by, IsTally, IsWhole, Tally}
+use Rattle.ivp_pool.specs.Tallies.{handed_by, IsTally, IsWholeTree, Tally}
 use Rattle.ivp_pool.proofs.Gluing.{whole}
 use Rattle.ivp_pool.proofs.Growing.{handed_deeper, IsBelow, raised}
 use Rattle.ivp_pool.proofs.Shares.{shares_from}
@@ -122,7 +122,7 @@ pub searched : (problem : WeightedSum) → IsProblem problem → (key : ℕ) (no
 searched problem h key nodes handed count linked closed =
     by (whole problem h key closed.tallies (each_from (IsTally problem key) closed.tallies closed.each) (λ weigh. closed.called weigh ∙ (linked weigh ∙ ap (λ n. sum_by weigh (root_of problem ∷ []) + n) (sym (closed.passed weigh)))))
   where
-    by : IsWhole problem key closed.tallies → Searched problem key count
+    by : IsWholeTree problem key closed.tallies → Searched problem key count
     by whole =
         record {
           all = record { part = whole.part; is = whole.is; none = whole.none; size = omega (arith, whole.size, closed.size, closed.passed (λ n. 1), ones handed, handed_ones problem closed.tallies) };
@@ -142,17 +142,17 @@ pub record TeamClosed (problem : WeightedSum) (key : ℕ) (nodes : List Node) (o
   pub counted : closed_by new ≡ closed_by old + count
   pub closed : AreClosed problem key nodes [] count
 
-pub team_closed : (problem : WeightedSum) (key workers : ℕ) (nodes : List Node) (from : ℕ) (old new : List Worker) → length new ≡ length old → ((i : ℕ) (d : Worker) → i < length old → WentOn problem (share_of workers (from + i) nodes) [] (get_or old i d) (get_or new i d)) → All (λ worker. low_of worker ≤ key) new → TeamClosed problem key (shares_from workers nodes from (length old)) old new
+pub team_closed : (problem : WeightedSum) (key workers : ℕ) (nodes : List Node) (from : ℕ) (old new : List Worker) → length new ≡ length old → ((i : ℕ) (d : Worker) → i < length old → WentOn problem (worker_share workers (from + i) nodes) [] (get_or old i d) (get_or new i d)) → All (λ worker. low_of worker ≤ key) new → TeamClosed problem key (shares_from workers nodes from (length old)) old new
 team_closed problem key workers nodes from [] [] same went known = record { count = 0; counted = refl; closed = closed_none problem key }
 team_closed problem key workers nodes from [] (x ∷ xs) same went known = absurd (cc)
 team_closed problem key workers nodes from (x ∷ xs) [] same went known = absurd (cc)
 team_closed problem key workers nodes from (old ∷ olds) (new ∷ news) same went known =
-    let first : WentOn problem (share_of workers from nodes) [] old new = subst (λ k. WentOn problem (share_of workers k nodes) [] old new) (add-zero from) (went 0 old (omega arith)) in
-    let later = team_closed problem key workers nodes (suc from) olds news (omega (arith, same)) (λ i d within. subst (λ k. WentOn problem (share_of workers k nodes) [] (get_or olds i d) (get_or news i d)) (moved i) (went (suc i) d (omega (arith, within)))) (All-tail (λ (worker : Worker). low_of worker ≤ key) new news known) in
+    let first : WentOn problem (worker_share workers from nodes) [] old new = subst (λ k. WentOn problem (worker_share workers k nodes) [] old new) (add-zero from) (went 0 old (omega arith)) in
+    let later = team_closed problem key workers nodes (suc from) olds news (omega (arith, same)) (λ i d within. subst (λ k. WentOn problem (worker_share workers k nodes) [] (get_or olds i d) (get_or news i d)) (moved i) (went (suc i) d (omega (arith, within)))) (All-tail (λ (worker : Worker). low_of worker ≤ key) new news known) in
     record {
       count = first.count + later.count;
       counted = omega (arith, first.counted, later.counted, closed_by-cons old olds, closed_by-cons new news);
-      closed = closed_more problem (low_of new) key key (share_of workers from nodes) [] (shares_from workers nodes (suc from) (length olds)) [] first.count later.count (All-head (λ (worker : Worker). low_of worker ≤ key) new news known) (omega arith) first.closed later.closed;
+      closed = closed_more problem (low_of new) key key (worker_share workers from nodes) [] (shares_from workers nodes (suc from) (length olds)) [] first.count later.count (All-head (λ (worker : Worker). low_of worker ≤ key) new news known) (omega arith) first.closed later.closed;
     }
   where
     moved : (i : ℕ) → from + suc i ≡ suc from + i

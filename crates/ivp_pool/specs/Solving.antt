@@ -1,7 +1,7 @@
 -- What several workers make of a problem: their shares, what their calls closed, and the whole search.
 use Rattle.std.specs.Prelude.{◌≡◌, ℕ, suc, ◌+◌, ◌%◌, ◌≤◌, ◌==◌, if◌then◌else◌, Some, List, [], ◌∷◌, length, slice_get}
 use Rattle.std.specs.List.{sum_by}
-use Rattle.best_word.specs.Known.{first_of}
+use Rattle.best_word.specs.Known.{first_scout}
 use Rattle.atomic_table.specs.Seated.{TableId}
 use Rattle.ivp_problem.specs.declared.node.Node.{Node}
 use Rattle.ivp_problem.specs.Problems.{WeightedSum}
@@ -29,8 +29,8 @@ dealt_from place workers number (node ∷ nodes) =
     if place % workers == number then node ∷ dealt_from (suc place) workers number nodes else dealt_from (suc place) workers number nodes
 
 -- a worker's share of these nodes
-abbrev pub share_of : ℕ → ℕ → List Node → List Node
-share_of workers number nodes = dealt_from 0 workers number nodes
+abbrev pub worker_share : ℕ → ℕ → List Node → List Node
+worker_share workers number nodes = dealt_from 0 workers number nodes
 
 -- calls closed these nodes, each once, while this key was known, handed those to others, and closed so many in all
 pub record AreClosed (problem : WeightedSum) (key : ℕ) (nodes handed : List Node) (count : ℕ) : Type 0 where
@@ -53,7 +53,7 @@ pub record IsWorker (problem : WeightedSum) (word : TableId) (worker : Worker) :
 -- a worker that has made no call yet
 pub record IsNew (problem : WeightedSum) (word : TableId) (worker : Worker) : Type 0 where
   pub at_word : worker.scout.table_id ≡ word
-  pub scout : worker.scout.me ≡ (first_of problem, [])
+  pub scout : worker.scout.me ≡ (first_scout problem, [])
   pub calls : worker.calls ≡ 0
   pub closed : worker.work.closed ≡ 0
 

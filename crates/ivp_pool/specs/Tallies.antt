@@ -29,7 +29,7 @@ abbrev pub AreLinked : WeightedSum → List Node → List Tally → Type 0
 AreLinked problem nodes tallies = (weigh : Node → ℕ) → sum_by (λ tally. weigh tally.node) tallies ≡ sum_by weigh nodes + sum_by (λ tally. sum_by weigh (handed_by problem tally)) tallies
 
 -- together they are one part of the whole tree with nothing handed to others, and as many nodes as all parts without the handed ones; so no point has a greater key
-pub record IsWhole (problem : WeightedSum) (key : ℕ) (tallies : List Tally) : Type 0 where
+pub record IsWholeTree (problem : WeightedSum) (key : ℕ) (tallies : List Tally) : Type 0 where
   pub part : Part
   pub is : IsPart problem key (root_of problem) part
   pub none : handed_of problem (root_of problem) part ≡ []

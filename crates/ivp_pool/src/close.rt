@@ -1,7 +1,7 @@
 ghost use Rattle.std.specs.Prelude.{◌≡◌, ◌<◌, ◌≤◌, length, Some, IfSome};
 ghost use Rattle.ivp_domain.specs.Boxes.{has_point};
 ghost use Rattle.ivp_problem.specs.Trees.{bound_of, IsNode, next_of};
-ghost use Rattle.best_word.specs.Known.{IsKnown};
+ghost use Rattle.best_word.specs.Known.{IsKnownKey};
 ghost use Rattle.ivp_pool.specs.Closing.{AreCovered, Closed, Passed};
 
 use crate::tray::Tray;
@@ -63,7 +63,7 @@ pub fn close_one<T: Tray>(
     ensures closed { Closed problem.now scout.new.me.0.low (T.took tray.old) (T.took tray.new) node result }
     ensures covered { AreCovered problem.now scout.new.me.0.low (T.took tray.old) (T.took tray.new) (has_point node.area) }
     ensures dropped { bound_of problem.now node ≤ scout.old.me.0.low → (result ≡ 1) × (T.took tray.new ≡ T.took tray.old) }
-    ensures known { IsKnown problem.now scout.new.me.0.low }
+    ensures known { IsKnownKey problem.now scout.new.me.0.low }
     ensures later { scout.old.me.0.low ≤ scout.new.me.0.low }
     ensures scout { (scout.new.table_id ≡ scout.old.table_id) × (scout.new.me ≡ (record scout.old.me.0 { low = scout.new.me.0.low }, scout.old.me.1)) }
     ensures tray { T.problem tray.new ≡ T.problem tray.old }

@@ -6,9 +6,9 @@ ghost use Rattle.ivp_problem.specs.Problems.{IsProblem, WeightedSum};
 ghost use Rattle.ivp_problem.specs.Sums.{key_at};
 ghost use Rattle.ivp_problem.specs.Trees.{has_in, IsNode, root_of};
 ghost use Rattle.ivp_pool.specs.Parts.{Handed, handed_of, IsPart, Part, size_of};
-ghost use Rattle.ivp_pool.specs.Tallies.{AreLinked, IsTally, IsWhole, Tally};
+ghost use Rattle.ivp_pool.specs.Tallies.{AreLinked, IsTally, IsWholeTree, Tally};
 
-use ivp_problem::{Node, Problem};
+use ivp_problem::{Node, Problem, problem_law};
 
 /// What holds of the parts of a node: one stays a part where more is known; it has each point of the node whose key isn't
 /// known in a node that was handed to others; where the node itself wasn't handed, these are deeper nodes of the tree; and
@@ -20,11 +20,11 @@ pub fn parts_law(problem: &Problem, node: &Node)
     ensures deeper { (low : ℕ) (part : Part) → IsPart problem.now low node.now part → part ≢ Handed → (place : ℕ) (child : Node) → slice_get (handed_of problem.now node.now part) place ≡ Some child → IsNode problem.now child × (node.now.depth < child.depth) }
     ensures few { (low : ℕ) (part : Part) → IsPart problem.now low node.now part → size_of part ≤ 65 * 2 ^ 22 }
 {
-    let _ = problem.len();
+    problem_law(problem);
 }
 
 /// What holds of the calls that closed nodes, whoever made them: where their nodes are the root and all handed nodes, each
 /// once, and each call's part is one for this key, they are together one part of the whole tree. It does nothing.
 pub fn tally_law()
-    ensures { (problem : WeightedSum) (key : ℕ) (tallies : List Tally) → IsProblem problem → ((place : ℕ) (tally : Tally) → slice_get tallies place ≡ Some tally → IsTally problem key tally) → AreLinked problem (root_of problem ∷ []) tallies → IsWhole problem key tallies }
+    ensures { (problem : WeightedSum) (key : ℕ) (tallies : List Tally) → IsProblem problem → ((place : ℕ) (tally : Tally) → slice_get tallies place ≡ Some tally → IsTally problem key tally) → AreLinked problem (root_of problem ∷ []) tallies → IsWholeTree problem key tallies }
 {}

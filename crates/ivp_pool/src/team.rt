@@ -2,18 +2,18 @@
 ghost use Rattle.std.specs.Prelude.{◌≡◌, ℕ, ◌+◌, ◌*◌, ◌^◌, ◌<◌, ◌≤◌, ◌++◌, ◌∷◌, [], length, map, IfOk, IsTrue, Some, All, List, slice_index_or};
 ghost use Rattle.ivp_domain.specs.declared.boxes.Point.{Point};
 ghost use Rattle.ivp_domain.specs.Domains.{is_point};
-ghost use Rattle.best_word.specs.Known.{first_of};
+ghost use Rattle.best_word.specs.Known.{first_scout};
 ghost use Rattle.ivp_problem.specs.declared.node.Node.{Node};
 ghost use Rattle.ivp_problem.specs.Sums.{key_at};
 ghost use Rattle.ivp_problem.specs.Trees.{IsNode, root_of};
 ghost use Rattle.ivp_pool.specs.declared.team.Worker.{Worker};
-ghost use Rattle.ivp_pool.specs.Solving.{IsNew, IsSearched, IsWorker, low_of, share_of, total_of, WentOn};
+ghost use Rattle.ivp_pool.specs.Solving.{IsNew, IsSearched, IsWorker, low_of, worker_share, total_of, WentOn};
 
 use crate::close::close_one;
 use crate::tray::Tray;
 use crate::work::{Work, Works};
 use best_word::{Best, Scout};
-use ivp_problem::{Node, Problem};
+use ivp_problem::{Node, Problem, problem_law};
 use moos_io::{Gate, NoMemory};
 use std::alloc::{AllocError, Global};
 use std::thread::{Threads, for_each_mut};
@@ -73,7 +73,7 @@ pub(crate) fn team_of(
     workers: u32,
 ) -> Result<Vec<Worker>, NoMemory>
     requires word { scout.old.table_id ≡ best.now }
-    requires scout { scout.old.me ≡ (first_of problem.now, []) }
+    requires scout { scout.old.me ≡ (first_scout problem.now, []) }
     ensures scout { (scout.new.table_id ≡ scout.old.table_id) × (scout.new.me ≡ scout.old.me) }
     ensures len { IfOk result (λ team. length team.items ≡ workers) }
     ensures new { IfOk result (λ team. All (IsNew problem.now best.now) team.items) }
@@ -107,7 +107,7 @@ fn close_next<T: Tray, G: Gate>(
     ensures went { (since : List Node) × (T.took tray.new ≡ T.took tray.old ++ since) × WentOn problem.now (node ∷ []) since worker.old worker.new × All (IsNode problem.now) since }
     ensures tray { T.problem tray.new ≡ T.problem tray.old }
 {
-    let _ = problem.len();
+    problem_law(problem);
     gate.at_node(number, worker.calls);
     worker.calls += 1;
     worker.work.closed += close_one(problem, best, &mut worker.scout, node, tray);
@@ -127,7 +127,7 @@ fn close_root<G: Gate>(
     ensures few { length result.items ≤ 65 * 2 ^ 22 }
     ensures closed { worker.new.work.closed ≤ 65 * 2 ^ 22 }
 {
-    let _ = problem.len();
+    problem_law(problem);
     let nodes = Vec::new(alloc);
     let mut tray = Children { problem, nodes };
     close_next(problem, best, gate, 0, worker, problem.root(), &mut tray);
@@ -151,9 +151,9 @@ fn close_share<G: Gate>(
     requires closed { worker.old.work.closed ≤ 65 * 2 ^ 22 }
     requires number { number < workers }
     requires workers { workers ≤ 16 }
-    ensures { WentOn problem.now (share_of workers number nodes.now) [] worker.old worker.new }
+    ensures { WentOn problem.now (worker_share workers number nodes.now) [] worker.old worker.new }
 {
-    let _ = problem.len();
+    problem_law(problem);
     let mut tray = NoTray { problem };
     for (place, node) in nodes.iter().enumerate() {
         if place % workers == number {
@@ -179,12 +179,12 @@ fn close_shares<R: Threads + Sync, G: Gate>(
     requires some { 0 < length team.old }
     requires workers { length team.old ≤ 16 }
     ensures len { length team.new ≡ length team.old }
-    ensures went { (number : ℕ) (d : Worker) → number < length team.old → WentOn problem.now (share_of (length team.old) number nodes.now) [] (slice_index_or team.old number d) (slice_index_or team.new number d) }
+    ensures went { (number : ℕ) (d : Worker) → number < length team.old → WentOn problem.now (worker_share (length team.old) number nodes.now) [] (slice_index_or team.old number d) (slice_index_or team.new number d) }
 {
     let workers = team.len();
     let close = |number: usize, worker: &mut Worker|
         requires { IsWorker problem.now best.now worker.now × All (IsNode problem.now) nodes.now × (length nodes.now ≤ 65 * 2 ^ 22) × (worker.now.calls ≤ 1) × (worker.now.work.closed ≤ 65 * 2 ^ 22) × (number < workers) × (workers ≤ 16) }
-        ensures { WentOn problem.entry.now (share_of workers number nodes.entry.now) [] worker.entry.now worker.exit.now }
+        ensures { WentOn problem.entry.now (worker_share workers number nodes.entry.now) [] worker.entry.now worker.exit.now }
     { close_share(problem, best, gate, nodes, workers, number, worker) };
     for_each_mut(rt, team, workers, &close);
 }
@@ -209,7 +209,7 @@ pub(crate) fn search<R: Threads + Sync, G: Gate>(
     ensures searched { (key : ℕ) → All (λ worker. low_of worker ≤ key) team.new → IsSearched problem.now key (total_of (map (λ worker. worker.work) team.new)) }
     ensures most { (key : ℕ) → All (λ worker. low_of worker ≤ key) team.new → (p : Point) → IsTrue (is_point problem.now.axes p) → key_at problem.now p ≤ key }
 {
-    let _ = problem.len();
+    problem_law(problem);
     let nodes = close_root(alloc, problem, best, gate, &mut team[0]);
     close_shares(rt, problem, best, gate, &nodes, team);
 }

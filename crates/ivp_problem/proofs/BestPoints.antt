@@ -5,7 +5,7 @@ use Rattle.std.specs.List.{fold}
 use Rattle.std.proofs.lemmas.Option.{slice_get_within}
 use Rattle.ivp_domain.specs.declared.axis.Axis.{Axis}
 use Rattle.ivp_domain.specs.declared.boxes.Point.{Point}
-use Rattle.ivp_domain.specs.Boxes.{point_of}
+use Rattle.ivp_domain.specs.Boxes.{point_from}
 use Rattle.ivp_domain.specs.Domains.{index_of, is_domain, is_point, points_of}
 use Rattle.ivp_domain.proofs.Sizes.{IsPointAt, point_in_list_at, point_of_index}
 use Rattle.ivp_problem.specs.Keys.{index_of_key, key_of, sum_of}
@@ -46,12 +46,12 @@ listed_index axes n p h e = by _ (point_of_index axes n h (slice_get_within (poi
         ap (slice_get (points_of axes)) index ∙ e
 
 pub best_listed : (problem : WeightedSum) → IsProblem problem → slice_get (points_of problem.axes) (index_of problem.axes (best_of problem)) ≡ Some (best_of problem)
-best_listed problem h = by (best_one problem (point_of 0 0 0 0) (points_of problem.axes))
+best_listed problem h = by (best_one problem (point_from 0 0 0 0) (points_of problem.axes))
   where
-    by : Chosen (best_of problem) (point_of 0 0 0 0) (points_of problem.axes) → slice_get (points_of problem.axes) (index_of problem.axes (best_of problem)) ≡ Some (best_of problem)
+    by : Chosen (best_of problem) (point_from 0 0 0 0) (points_of problem.axes) → slice_get (points_of problem.axes) (index_of problem.axes (best_of problem)) ≡ Some (best_of problem)
     by (inl first) =
-        let inside : is_point problem.axes (point_of 0 0 0 0) ≡ true = ap (is_point problem.axes) (sym first) ∙ best_point problem in
-        subst (λ (p : Point). slice_get (points_of problem.axes) (index_of problem.axes p) ≡ Some p) (sym first) (point_in_list_at problem.axes (point_of 0 0 0 0) h.domain inside refl)
+        let inside : is_point problem.axes (point_from 0 0 0 0) ≡ true = ap (is_point problem.axes) (sym first) ∙ best_point problem in
+        subst (λ (p : Point). slice_get (points_of problem.axes) (index_of problem.axes p) ≡ Some p) (sym first) (point_in_list_at problem.axes (point_from 0 0 0 0) h.domain inside refl)
     by (inr found) = listed_index problem.axes found.0 (best_of problem) h.domain found.1
 
 -- its key gives its sum and its index

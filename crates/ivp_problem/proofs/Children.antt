@@ -16,7 +16,7 @@ use Rattle.ivp_func.proofs.Counting.{count_at-cons, one_if}
 use Rattle.ivp_problem.specs.declared.node.Node.{Node}
 use Rattle.ivp_problem.specs.declared.term.Term.{Term}
 use Rattle.ivp_problem.specs.Problems.{IsProblem, WeightedSum}
-use Rattle.ivp_problem.specs.Trees.{child_with, children_in, children_of, with_piece}
+use Rattle.ivp_problem.specs.Trees.{child_with, children_in, children_of, with_chosen}
 use Rattle.ivp_problem.proofs.Nodes.{inside_point, Keeps}
 
 -- a list over the numbers of a list's elements is one over the elements
@@ -39,8 +39,8 @@ count_one : (weight : ℕ) (node : Node) (piece : Piece) (p : Point) → count_b
 count_one weight node piece p =
     by (is_box (common node.area piece.area)) refl
   where
-    by : (b : Bool) → is_box (common node.area piece.area) ≡ b → count_by (has p) (option_to_list (option_map (with_piece weight piece node) (cond b (Some (common node.area piece.area)) None))) ≡ one_if (has_point node.area p && holds p piece)
-    by true e = sum_by-cons (λ (y : Node). one_if (has p y)) (with_piece weight piece node (common node.area piece.area)) [] ∙ (let none : one_if (has_point (common node.area piece.area) p) + 0 ≡ one_if (has_point (common node.area piece.area) p) = omega arith in none ∙ ap one_if (has_point-common node.area piece.area p))
+    by : (b : Bool) → is_box (common node.area piece.area) ≡ b → count_by (has p) (option_to_list (option_map (with_chosen weight piece node) (cond b (Some (common node.area piece.area)) None))) ≡ one_if (has_point node.area p && holds p piece)
+    by true e = sum_by-cons (λ (y : Node). one_if (has p y)) (with_chosen weight piece node (common node.area piece.area)) [] ∙ (let none : one_if (has_point (common node.area piece.area) p) + 0 ≡ one_if (has_point (common node.area piece.area) p) = omega arith in none ∙ ap one_if (has_point-common node.area piece.area p))
     by false e = ap one_if (none (has_point node.area p && holds p piece) (λ both. sym e ∙ is_box-from_point (common node.area piece.area) p (has_point-common node.area piece.area p ∙ both)))
       where
         none : (t : Bool) → (t ≡ true → false ≡ true) → false ≡ t

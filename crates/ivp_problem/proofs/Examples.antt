@@ -3,7 +3,7 @@ use Rattle.std.proofs.Common.{◌≡◌, ℕ, zero, suc, true, false, inl, inr, 
 use Rattle.std.specs.Prelude.{codes, slice_get}
 use Rattle.std.proofs.lemmas.Int.{ints}
 use Rattle.ivp_domain.specs.declared.axis.Axis.{Axis}
-use Rattle.ivp_domain.specs.Boxes.{point_of}
+use Rattle.ivp_domain.specs.Boxes.{point_from}
 use Rattle.ivp_func.specs.declared.piece.Piece.{Piece}
 use Rattle.ivp_func.proofs.PointTests.{passes_partition, passes_values}
 use Rattle.ivp_problem.specs.declared.term.Term.{Term}
@@ -11,7 +11,7 @@ use Rattle.ivp_problem.specs.declared.term.ProblemFault.TheVariants.{NoFunction,
 use Rattle.ivp_problem.specs.declared.node.Node.{Node}
 use Rattle.ivp_problem.specs.Corners.{Beats, IsSmall}
 use Rattle.ivp_problem.specs.Keys.{index_of_key, key_of, sum_of}
-use Rattle.ivp_problem.specs.Problems.{IsProblem, IsTermOf, problem_of, WeightedSum}
+use Rattle.ivp_problem.specs.Problems.{IsProblem, IsTermOf, problem_from, WeightedSum}
 use Rattle.ivp_problem.specs.Sums.{best_of, key_at, sum_at}
 use Rattle.ivp_problem.specs.Nodes.{nodes_of, tree_size}
 use Rattle.ivp_problem.proofs.Nodes.{node_keeps}
@@ -45,11 +45,11 @@ split = term twelve 3 (piece 0 0 0 1 0 1 (pos 20) (pos 0) (pos 5) (pos 0) ∷ pi
 abbrev pub two : WeightedSum
 two = record { axes = twelve; terms = rising ∷ split ∷ [] }
 
-two_is_a_problem : problem_of twelve (rising ∷ split ∷ []) ≡ Ok two
+two_is_a_problem : problem_from twelve (rising ∷ split ∷ []) ≡ Ok two
 two_is_a_problem = refl
 
 -- the greatest sum, 75, is that of index 2 first
-best_of_two : (best_of two ≡ point_of 0 1 0 0) × (sum_at two (point_of 0 1 0 0) ≡ 75) × (key_at two (point_of 0 1 0 0) ≡ key_of 75 2)
+best_of_two : (best_of two ≡ point_from 0 1 0 0) × (sum_at two (point_from 0 1 0 0) ≡ 75) × (key_at two (point_from 0 1 0 0) ≡ key_of 75 2)
 best_of_two = (refl, refl, refl)
 
 -- the root's bound: nothing is chosen, and the tops are 2 * 20 and 3 * 25
@@ -90,7 +90,7 @@ leaves : (children_of two first ≡ left ∷ right ∷ []) × (node_of two (0 �
 leaves = (refl, refl, refl)
 
 -- the pieces of the second leaf add 20 and 15 at this point, which the leaf has
-second_leaf : (chosen_at right (point_of 1 1 0 0) ≡ pos 35) × (has_in (left ∷ right ∷ []) (point_of 1 1 0 0) ≡ true) × (has_in (left ∷ []) (point_of 1 1 0 0) ≡ false)
+second_leaf : (chosen_at right (point_from 1 1 0 0) ≡ pos 35) × (has_in (left ∷ right ∷ []) (point_from 1 1 0 0) ≡ true) × (has_in (left ∷ []) (point_from 1 1 0 0) ≡ false)
 second_leaf = (refl, refl, refl)
 
 -- along no slope the lesser place beats the greater
@@ -138,7 +138,7 @@ course = axis (codes "course") 359000 360 ∷ []
 abbrev most : Term
 most = term course 10000 (piece 0 359 0 0 0 0 (pos 100000) (pos 0) (pos 0) (pos 0) ∷ [])
 
-sum_of_most : sum_at (record { axes = course; terms = replicate 64 most }) (point_of 0 0 0 0) ≡ 64000000000
+sum_of_most : sum_at (record { axes = course; terms = replicate 64 most }) (point_from 0 0 0 0) ≡ 64000000000
 sum_of_most = refl
 
 -- a node a level, and the root
@@ -150,16 +150,16 @@ read_off : (sum_of (key_of 64000000000 4194303) ≡ 64000000000) × (index_of_ke
 read_off = (refl, refl)
 
 -- no function, then too many, then a bad weight, then another domain
-none : problem_of twelve [] ≡ Err NoFunction
+none : problem_from twelve [] ≡ Err NoFunction
 none = refl
 
-many : problem_of twelve (replicate 65 most) ≡ Err TooMany
+many : problem_from twelve (replicate 65 most) ≡ Err TooMany
 many = refl
 
-heavy : problem_of twelve (most ∷ rising ∷ term twelve 10001 [] ∷ []) ≡ Err (BadWeight 2)
+heavy : problem_from twelve (most ∷ rising ∷ term twelve 10001 [] ∷ []) ≡ Err (BadWeight 2)
 heavy = refl
 
-other : problem_of twelve (rising ∷ most ∷ []) ≡ Err (OtherDomain 1)
+other : problem_from twelve (rising ∷ most ∷ []) ≡ Err (OtherDomain 1)
 other = refl
 
 -- both terms keep what each term does, so the two are a problem
@@ -206,7 +206,7 @@ third_piece : IsNode two (record left { depth = 3 }) → ⊥
 third_piece is = let keeps = node_keeps two (record left { depth = 3 }) two_is_lawful is in omega (arith, keeps.depth)
 
 other_base : IsNode two (record left { base = pos 61 }) → ⊥
-other_base is = let keeps = node_keeps two (record left { base = pos 61 }) two_is_lawful is in absurd (omega (arith, ints, keeps.sum (point_of 0 0 0 0) refl))
+other_base is = let keeps = node_keeps two (record left { base = pos 61 }) two_is_lawful is in absurd (omega (arith, ints, keeps.sum (point_from 0 0 0 0) refl))
 
 -- no term has the weight 0, is over a domain with other axes, or has pieces that leave out a point
 weightless : IsTermOf twelve (term twelve 0 rising.func.pieces) → ⊥
@@ -216,7 +216,7 @@ elsewhere : IsTermOf twelve most → ⊥
 elsewhere is = absurd (omega (arith, ap length is.domain))
 
 left_out : IsTermOf twelve (term twelve 3 (piece 0 0 0 1 0 1 (pos 20) (pos 0) (pos 5) (pos 0) ∷ [])) → ⊥
-left_out is = omega (arith, is.func.partition (point_of 1 0 0 0) refl)
+left_out is = omega (arith, is.func.partition (point_from 1 0 0 0) refl)
 
 -- so these are no problems: without a function, of 65, and of one whose weight is too great
 without_terms : IsProblem (record { axes = twelve; terms = [] }) → ⊥

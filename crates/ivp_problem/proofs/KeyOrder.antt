@@ -7,7 +7,7 @@ use Rattle.std.proofs.lemmas.Bool.{cases_lt}
 use Rattle.std.proofs.lemmas.Bool.Decides.{nat_tests}
 use Rattle.ivp_domain.specs.declared.axis.Axis.{Axis}
 use Rattle.ivp_domain.specs.declared.boxes.Point.{Point}
-use Rattle.ivp_domain.specs.Boxes.{point_of}
+use Rattle.ivp_domain.specs.Boxes.{point_from}
 use Rattle.ivp_domain.specs.Domains.{index_of, is_domain, is_point, points_of, size_on, whole}
 use Rattle.ivp_domain.proofs.BoxLemmas.{listed_point}
 use Rattle.ivp_domain.proofs.Sizes.{few, places_below, point_in_list_at, radix}
@@ -123,11 +123,11 @@ best_in axes problem a (p ∷ ps) start each = best_in axes problem (better prob
 
 -- the best point is one of the domain
 pub best_point : (problem : WeightedSum) → is_point problem.axes (best_of problem) ≡ true
-best_point problem = best_in problem.axes problem (point_of 0 0 0 0) (points_of problem.axes) (grind (arith, nat_tests)) (λ n p e. listed_point (whole problem.axes) n p e)
+best_point problem = best_in problem.axes problem (point_from 0 0 0 0) (points_of problem.axes) (grind (arith, nat_tests)) (λ n p e. listed_point (whole problem.axes) n p e)
 
 -- and no point has a greater key
 pub best_most : (problem : WeightedSum) (p : Point) → is_point problem.axes p ≡ true → key_at problem p ≤ key_at problem (best_of problem)
 best_most problem p inside =
     let at = listed_at (whole problem.axes) p inside in
-    let most = best_each problem (point_of 0 0 0 0) (points_of problem.axes) at.0 (at_places p) at.1 in
+    let most = best_each problem (point_from 0 0 0 0) (points_of problem.axes) at.0 (at_places p) at.1 in
     omega (arith, key_places problem p)

@@ -16,7 +16,7 @@ use Rattle.ivp_domain.proofs.BoxLemmas.{has_point-common}
 use Rattle.ivp_domain.proofs.Sizes.{few_on, is_point-from, places_below, positive}
 use Rattle.ivp_func.specs.declared.piece.Piece.{Piece}
 use Rattle.ivp_func.specs.Functions.{IsPartition}
-use Rattle.ivp_func.specs.Pieces.{are_pieces_of, is_box_of, is_piece_of, is_slope, is_small, slope_on, value_at, value_of}
+use Rattle.ivp_func.specs.Pieces.{are_pieces_of, is_box_of, is_piece_of, is_slope, is_small, slope_on, value_at, piece_value}
 use Rattle.ivp_func.proofs.Counting.{value_at-only}
 use Rattle.ivp_func.proofs.Facts.{box_parts, passes_at, piece_parts, place_in}
 use Rattle.ivp_func.proofs.Rises.{base_within, slope_within, small_parts}
@@ -25,7 +25,7 @@ use Rattle.ivp_problem.specs.declared.term.Term.{Term}
 use Rattle.ivp_problem.specs.Problems.{is_weight, IsProblem, IsTermOf, WeightedSum}
 use Rattle.ivp_problem.specs.Sums.{weighted_at, weighted_sum}
 use Rattle.ivp_problem.specs.Corners.{IsSmall}
-use Rattle.ivp_problem.specs.Trees.{child_in, child_of, child_with, chosen_at, IsNode, node_below, root_of, slope_at, slope_with, with_piece}
+use Rattle.ivp_problem.specs.Trees.{child_in, child_of, child_with, chosen_at, IsNode, node_below, root_of, slope_at, slope_with, with_chosen}
 use Rattle.ivp_problem.proofs.Linear.{both}
 use Rattle.ivp_problem.proofs.Slopes.{weight_most, Within, within_product}
 use Rattle.ivp_problem.proofs.Terms.{weighted_signed}
@@ -55,10 +55,10 @@ pub record IsChild (term : Term) (node : Node) (number : ℕ) (child : Node) : T
   pub piece : Piece
   pub stands : slice_get term.func.pieces number ≡ Some piece
   pub proper : is_box (common node.area piece.area) ≡ true
-  pub same : with_piece term.weight piece node (common node.area piece.area) ≡ child
+  pub same : with_chosen term.weight piece node (common node.area piece.area) ≡ child
 
-met : (weight : ℕ) (piece : Piece) (node child : Node) (b : Bool) → option_map (with_piece weight piece node) (cond b (Some (common node.area piece.area)) None) ≡ Some child → (b ≡ true) × (with_piece weight piece node (common node.area piece.area) ≡ child)
-met weight piece node child true e = (refl, let same : with_piece weight piece node (common node.area piece.area) ≡ child = cc in same)
+met : (weight : ℕ) (piece : Piece) (node child : Node) (b : Bool) → option_map (with_chosen weight piece node) (cond b (Some (common node.area piece.area)) None) ≡ Some child → (b ≡ true) × (with_chosen weight piece node (common node.area piece.area) ≡ child)
+met weight piece node child true e = (refl, let same : with_chosen weight piece node (common node.area piece.area) ≡ child = cc in same)
 met weight piece node child false e = absurd (cc)
 
 pub child_parts : (term : Term) (node : Node) (number : ℕ) (child : Node) → child_in term node number ≡ Some child → IsChild term node number child
@@ -105,7 +105,7 @@ root_keeps problem h =
 grown : (d : ℕ) (a z : ℤ) (m : ℕ) → (neg_ℤ (pos (d * m)) ≤ℤ a) × (a ≤ℤ pos (d * m)) → Within m z → (neg_ℤ (pos ((d + 1) * m)) ≤ℤ (a +ℤ z)) × ((a +ℤ z) ≤ℤ pos ((d + 1) * m))
 grown d a z m h w = let above = w.above in let below = w.below in (omega (arith, ints), omega (arith, ints))
 
-pub child_small : (term : Term) (piece : Piece) (node : Node) (area : BoxN) → is_weight term.weight ≡ true → is_small piece ≡ true → IsSmall node.depth node → IsSmall (node.depth + 1) (with_piece term.weight piece node area)
+pub child_small : (term : Term) (piece : Piece) (node : Node) (area : BoxN) → is_weight term.weight ≡ true → is_small piece ≡ true → IsSmall node.depth node → IsSmall (node.depth + 1) (with_chosen term.weight piece node area)
 child_small term piece node area weight small h =
     let most = (weight_most term.weight weight).1 in
     let bound : (axis : ℕ) → axis < 4 → (neg_ℤ (pos ((node.depth + 1) * 10 ^ 9)) ≤ℤ slope_with term.weight piece node axis) × (slope_with term.weight piece node axis ≤ℤ pos ((node.depth + 1) * 10 ^ 9)) = λ axis within. grown node.depth (slope_at node axis) (pos term.weight *ℤ slope_on axis piece) (10 ^ 9) (h.slope axis within) (within_product term.weight (slope_on axis piece) 10000 100000 most (small_slope piece small axis within)) in
@@ -114,7 +114,7 @@ child_small term piece node area weight small h =
       slope = each bound;
     }
   where
-    each : ((axis : ℕ) → axis < 4 → (neg_ℤ (pos ((node.depth + 1) * 10 ^ 9)) ≤ℤ slope_with term.weight piece node axis) × (slope_with term.weight piece node axis ≤ℤ pos ((node.depth + 1) * 10 ^ 9))) → (axis : ℕ) → axis < 4 → (neg_ℤ (pos ((node.depth + 1) * 10 ^ 9)) ≤ℤ slope_at (with_piece term.weight piece node area) axis) × (slope_at (with_piece term.weight piece node area) axis ≤ℤ pos ((node.depth + 1) * 10 ^ 9))
+    each : ((axis : ℕ) → axis < 4 → (neg_ℤ (pos ((node.depth + 1) * 10 ^ 9)) ≤ℤ slope_with term.weight piece node axis) × (slope_with term.weight piece node axis ≤ℤ pos ((node.depth + 1) * 10 ^ 9))) → (axis : ℕ) → axis < 4 → (neg_ℤ (pos ((node.depth + 1) * 10 ^ 9)) ≤ℤ slope_at (with_chosen term.weight piece node area) axis) × (slope_at (with_chosen term.weight piece node area) axis ≤ℤ pos ((node.depth + 1) * 10 ^ 9))
     each bound zero p = bound 0 p
     each bound (suc zero) p = bound 1 p
     each bound (suc (suc zero)) p = bound 2 p
@@ -122,7 +122,7 @@ child_small term piece node area weight small h =
     each bound (suc (suc (suc (suc axis)))) p = absurd (omega arith)
 
 -- the piece that holds a point has the value there
-pub value_here : (axes : List Axis) (term : Term) (number : ℕ) (piece : Piece) (p : Point) → IsTermOf axes term → slice_get term.func.pieces number ≡ Some piece → is_point axes p ≡ true → has_point piece.area p ≡ true → value_at term.func.pieces p ≡ value_of piece p
+pub value_here : (axes : List Axis) (term : Term) (number : ℕ) (piece : Piece) (p : Point) → IsTermOf axes term → slice_get term.func.pieces number ≡ Some piece → is_point axes p ≡ true → has_point piece.area p ≡ true → value_at term.func.pieces p ≡ piece_value piece p
 value_here axes term number piece p h stands inside holds =
     let partition = subst (λ (a : List Axis). IsPartition a term.func.pieces) h.domain h.func.partition in
     value_at-only term.func.pieces number piece p (partition p inside) stands holds
@@ -148,18 +148,18 @@ weighted_sums_more terms n term p e =
     more ∙ ap (λ t. weighted_sum (take n terms) p + weighted_at p t) same
 
 -- the chosen sum of a child
-child_sum : (problem : WeightedSum) → IsProblem problem → (node : Node) (term : Term) (number : ℕ) (piece : Piece) → Keeps problem node → slice_get problem.terms node.depth ≡ Some term → slice_get term.func.pieces number ≡ Some piece → (p : Point) → has_point (common node.area piece.area) p ≡ true → chosen_at (with_piece term.weight piece node (common node.area piece.area)) p ≡ pos (weighted_sum (take (node.depth + 1) problem.terms) p)
+child_sum : (problem : WeightedSum) → IsProblem problem → (node : Node) (term : Term) (number : ℕ) (piece : Piece) → Keeps problem node → slice_get problem.terms node.depth ≡ Some term → slice_get term.func.pieces number ≡ Some piece → (p : Point) → has_point (common node.area piece.area) p ≡ true → chosen_at (with_chosen term.weight piece node (common node.area piece.area)) p ≡ pos (weighted_sum (take (node.depth + 1) problem.terms) p)
 child_sum problem h node term number piece keeps stands in_term p inside =
     let axes = problem.axes in
     let in_both = and_parts (has_point node.area p) (has_point piece.area p) (sym (has_point-common node.area piece.area p) ∙ inside) in
     let in_domain = inside_point axes node.area p keeps.inside in_both.0 in
     let of_term = h.terms node.depth term stands in
     let value = value_here axes term number piece p of_term in_term in_domain in_both.1 in
-    let one : (pos term.weight *ℤ value_of piece p) ≡ pos (weighted_at p term) = ap (λ z. pos term.weight *ℤ z) (sym value) ∙ weighted_signed axes term p of_term in_domain in
+    let one : (pos term.weight *ℤ piece_value piece p) ≡ pos (weighted_at p term) = ap (λ z. pos term.weight *ℤ z) (sym value) ∙ weighted_signed axes term p of_term in_domain in
     let sum = both term.weight node.base piece.base (slope_at node 0) (slope_at node 1) (slope_at node 2) (slope_at node 3) (slope_on 0 piece) (slope_on 1 piece) (slope_on 2 piece) (slope_on 3 piece) (slice_index p.at 0) (slice_index p.at 1) (slice_index p.at 2) (slice_index p.at 3) in
     let old = keeps.sum p in_both.0 in
     let more = weighted_sums_more problem.terms node.depth term p stands in
-    sum ∙ joined (chosen_at node p) (pos term.weight *ℤ value_of piece p) (weighted_sum (take node.depth problem.terms) p) (weighted_at p term) (weighted_sum (take (node.depth + 1) problem.terms) p) old one more
+    sum ∙ joined (chosen_at node p) (pos term.weight *ℤ piece_value piece p) (weighted_sum (take node.depth problem.terms) p) (weighted_at p term) (weighted_sum (take (node.depth + 1) problem.terms) p) old one more
   where
     joined : (a b : ℤ) (m n k : ℕ) → a ≡ pos m → b ≡ pos n → k ≡ m + n → (a +ℤ b) ≡ pos k
     joined a b m n k p q r = omega (arith, ints)
@@ -251,7 +251,7 @@ place_small problem node p h keeps inside k within =
     by (suc (suc (suc (suc k)))) w few a b c d = absurd (omega arith)
 
 -- the child by a piece, where the boxes meet, and where they do not
-pub child_met : (problem : WeightedSum) (node : Node) (term : Term) (number : ℕ) (piece : Piece) (area : BoxN) → slice_get problem.terms node.depth ≡ Some term → slice_get term.func.pieces number ≡ Some piece → meet_of node.area piece.area ≡ Some area → child_in term node number ≡ Some (with_piece term.weight piece node area)
+pub child_met : (problem : WeightedSum) (node : Node) (term : Term) (number : ℕ) (piece : Piece) (area : BoxN) → slice_get problem.terms node.depth ≡ Some term → slice_get term.func.pieces number ≡ Some piece → meet_of node.area piece.area ≡ Some area → child_in term node number ≡ Some (with_chosen term.weight piece node area)
 child_met problem node term number piece area stands in_term e = rw (in_term, e) refl
 
 pub child_apart : (problem : WeightedSum) (node : Node) (term : Term) (number : ℕ) (piece : Piece) → slice_get problem.terms node.depth ≡ Some term → slice_get term.func.pieces number ≡ Some piece → meet_of node.area piece.area ≡ None → child_of problem node number ≡ None

@@ -16,7 +16,7 @@ use Rattle.ivp_func.proofs.Counting.{one_if}
 use Rattle.ivp_problem.specs.declared.node.Node.{Node}
 use Rattle.ivp_problem.specs.declared.term.Term.{Term}
 use Rattle.ivp_problem.specs.Problems.{WeightedSum}
-use Rattle.ivp_problem.specs.Trees.{child_in, child_of, child_with, children_in, children_of, has_in, next_of, with_piece}
+use Rattle.ivp_problem.specs.Trees.{child_in, child_of, child_with, children_in, children_of, has_in, next_of, with_chosen}
 use Rattle.ivp_problem.proofs.Nodes.{blank_term}
 
 -- the children by the first pieces
@@ -38,9 +38,9 @@ children_more problem node count =
 pub no_child : (problem : WeightedSum) (node : Node) (count : ℕ) → child_of problem node count ≡ None → children_to problem node (count + 1) ≡ children_to problem node count
 no_child problem node count is = children_more problem node count ∙ (ap (λ o. children_to problem node count ++ option_to_list o) is ∙ append-nil (children_to problem node count))
 
-with_depth : (weight : ℕ) (node : Node) (piece : Piece) (child : Node) (area : Option BoxN) → option_map (with_piece weight piece node) area ≡ Some child → child.depth ≡ node.depth + 1
+with_depth : (weight : ℕ) (node : Node) (piece : Piece) (child : Node) (area : Option BoxN) → option_map (with_chosen weight piece node) area ≡ Some child → child.depth ≡ node.depth + 1
 with_depth weight node piece child None e = absurd (cc)
-with_depth weight node piece child (Some area) e = let same : child ≡ with_piece weight piece node area = cc in ap (λ (n : Node). n.depth) same
+with_depth weight node piece child (Some area) e = let same : child ≡ with_chosen weight piece node area = cc in ap (λ (n : Node). n.depth) same
 
 -- a child is one deeper
 pub child_depth : (problem : WeightedSum) (node child : Node) (number : ℕ) → child_of problem node number ≡ Some child → child.depth ≡ node.depth + 1

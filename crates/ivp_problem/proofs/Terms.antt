@@ -9,7 +9,7 @@ use Rattle.std.proofs.lemmas.List.Sums.{sum_by-cons}
 use Rattle.ivp_domain.specs.declared.axis.Axis.{Axis}
 use Rattle.ivp_domain.specs.declared.boxes.BoxN.{BoxN}
 use Rattle.ivp_domain.specs.declared.boxes.Point.{Point}
-use Rattle.ivp_domain.specs.Boxes.{has_point, point_of, points_in}
+use Rattle.ivp_domain.specs.Boxes.{has_point, point_from, points_in}
 use Rattle.ivp_domain.specs.Domains.{is_point, points_of, whole}
 use Rattle.ivp_domain.proofs.BoxLemmas.{listed_point, point_listed}
 use Rattle.ivp_func.specs.declared.piece.Piece.{Piece}
@@ -39,7 +39,7 @@ each_take axes (suc n) (t ∷ ts) h (suc k) u e = each_take axes n ts (λ j. h (
 
 -- the point at the places of this one, and no others
 abbrev pub at_places : Point → Point
-at_places p = point_of (slice_index p.at 0) (slice_index p.at 1) (slice_index p.at 2) (slice_index p.at 3)
+at_places p = point_from (slice_index p.at 0) (slice_index p.at 1) (slice_index p.at 2) (slice_index p.at 3)
 
 -- it stands in the list of a box that has the point
 pub listed_at : (area : BoxN) (p : Point) → has_point area p ≡ true → (n : ℕ) × (slice_get (points_in area) n ≡ Some (at_places p))

@@ -38,15 +38,15 @@ abbrev pub other_domain : List Axis → List Term → Option ℕ
 other_domain axes terms = position (λ term. not (same_domain axes term.func.axes)) terms
 
 -- the weighted sum itself, or the refusal of a bad weight, or of another domain
-abbrev pub judged : List Axis → List Term → Option ℕ → Option ℕ → Result WeightedSum ProblemFault
-judged axes terms (Some place) other = Err (BadWeight place)
-judged axes terms None (Some place) = Err (OtherDomain place)
-judged axes terms None None = Ok (record { axes = axes; terms = terms })
+abbrev pub judged_terms : List Axis → List Term → Option ℕ → Option ℕ → Result WeightedSum ProblemFault
+judged_terms axes terms (Some place) other = Err (BadWeight place)
+judged_terms axes terms None (Some place) = Err (OtherDomain place)
+judged_terms axes terms None None = Ok (record { axes = axes; terms = terms })
 
 -- the problem that these terms make, or the first refusal: no function, too many, a bad weight, another domain
-abbrev pub problem_of : List Axis → List Term → Result WeightedSum ProblemFault
-problem_of axes terms =
-    if length terms == 0 then Err NoFunction else if nat_lt 64 (length terms) then Err TooMany else judged axes terms (bad_weight terms) (other_domain axes terms)
+abbrev pub problem_from : List Axis → List Term → Result WeightedSum ProblemFault
+problem_from axes terms =
+    if length terms == 0 then Err NoFunction else if nat_lt 64 (length terms) then Err TooMany else judged_terms axes terms (bad_weight terms) (other_domain axes terms)
 
 -- what each term of a problem keeps
 pub record IsTermOf (axes : List Axis) (term : Term) : Type 0 where

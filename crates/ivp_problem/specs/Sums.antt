@@ -2,7 +2,7 @@
 use Rattle.std.specs.Prelude.{ℕ, ◌*◌, nat_abs, max, min, nat_lt, if◌then◌else◌, List, [], ◌∷◌}
 use Rattle.std.specs.List.{fold, sum_by}
 use Rattle.ivp_domain.specs.declared.boxes.Point.{Point}
-use Rattle.ivp_domain.specs.Boxes.{point_of}
+use Rattle.ivp_domain.specs.Boxes.{point_from}
 use Rattle.ivp_domain.specs.Domains.{index_of, points_of}
 use Rattle.ivp_func.specs.Pieces.{value_at}
 use Rattle.ivp_problem.specs.declared.term.Term.{Term}
@@ -40,4 +40,4 @@ better problem one other = if nat_lt (key_at problem one) (key_at problem other)
 
 -- the best point: the one of greatest key among all points of the domain
 abbrev pub best_of : WeightedSum → Point
-best_of problem = fold (better problem) (point_of 0 0 0 0) (points_of problem.axes)
+best_of problem = fold (better problem) (point_from 0 0 0 0) (points_of problem.axes)

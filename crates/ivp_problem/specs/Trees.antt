@@ -8,7 +8,7 @@ use Rattle.ivp_domain.specs.declared.boxes.Point.{Point}
 use Rattle.ivp_domain.specs.Boxes.{has_point, meet_of, numbers_from, points_in}
 use Rattle.ivp_domain.specs.Domains.{index_of, points_of, whole}
 use Rattle.ivp_func.specs.declared.piece.Piece.{Piece}
-use Rattle.ivp_func.specs.Pieces.{slope_on, value_at, value_of}
+use Rattle.ivp_func.specs.Pieces.{slope_on, value_at, piece_value}
 use Rattle.ivp_problem.specs.declared.term.Term.{Term}
 use Rattle.ivp_problem.specs.declared.node.Node.{Node}
 use Rattle.ivp_problem.specs.Keys.{key_of}
@@ -28,8 +28,8 @@ abbrev pub slope_with : ℕ → Piece → Node → ℕ → ℤ
 slope_with weight piece node axis = slope_at node axis +ℤ pos weight *ℤ slope_on axis piece
 
 -- a node with one more piece chosen, which leaves this box: the weighted base and slopes are added
-abbrev pub with_piece : ℕ → Piece → Node → BoxN → Node
-with_piece weight piece node area =
+abbrev pub with_chosen : ℕ → Piece → Node → BoxN → Node
+with_chosen weight piece node area =
     record {
       depth = node.depth + 1;
       area = area;
@@ -39,7 +39,7 @@ with_piece weight piece node area =
 
 -- the node with this piece chosen too, where the boxes share a point
 abbrev pub child_with : ℕ → Node → Piece → Option Node
-child_with weight node piece = option_map (with_piece weight piece node) (meet_of node.area piece.area)
+child_with weight node piece = option_map (with_chosen weight piece node) (meet_of node.area piece.area)
 
 -- the node with the piece of this number of a term chosen too
 abbrev pub child_in : Term → Node → ℕ → Option Node
@@ -67,7 +67,7 @@ has_in nodes point = list_any (λ node. has_point node.area point) nodes
 
 -- what the chosen pieces add at a point of the box: base plus slopes times places
 abbrev pub chosen_at : Node → Point → ℤ
-chosen_at node point = value_of (record { area = node.area; base = node.base; slope = node.slope }) point
+chosen_at node point = piece_value (record { area = node.area; base = node.base; slope = node.slope }) point
 
 -- the node below this one that chooses the pieces of these numbers, one from each of these terms in turn
 abbrev pub node_below : List Term → List ℕ → Node → Option Node

@@ -6,6 +6,9 @@ ghost use Rattle.ivp_problem.specs.Keys.{index_of_key, key_of, sum_of};
 /// 0 and is below 2^60.
 pub type Key = u64;
 
+/// The greatest sum of a problem: 64 functions of weight 10,000 and value 100,000.
+pub const MOST_SUM: u64 = 64_000_000_000;
+
 /// What a sum counts in a key: 2^24.
 const UNIT: u64 = 16_777_216;
 

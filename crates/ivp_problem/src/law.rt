@@ -6,7 +6,7 @@ ghost use Rattle.ivp_problem.specs.Sums.{best_of, key_at, sum_at};
 ghost use Rattle.ivp_problem.specs.Trees.{bound_of, children_of, IsNode};
 
 use crate::node::Node;
-use crate::problem::Problem;
+use crate::problem::{Problem, problem_law};
 use ivp_domain::Point;
 
 /// What holds of the keys of a problem's points: none is 0, each is below 2^60, different points
@@ -18,7 +18,7 @@ pub fn keys_law(problem: &Problem)
     ensures point { IsTrue (is_point problem.now.axes (best_of problem.now)) }
     ensures best { (p : Point) → IsTrue (is_point problem.now.axes p) → key_at problem.now p ≤ key_at problem.now (best_of problem.now) }
 {
-    let _ = problem.len();
+    problem_law(problem);
 }
 
 /// What holds of the children of a node below full depth: each point of the node lies in exactly one
@@ -28,7 +28,7 @@ pub fn children_law(problem: &Problem, node: &Node)
     requires depth { node.now.depth < length problem.now.terms }
     ensures { (p : Point) → count_by (λ child. has_point child.area p) (children_of problem.now node.now) ≡ (if has_point node.now.area p then 1 else 0) }
 {
-    let _ = problem.len();
+    problem_law(problem);
 }
 
 /// What holds of the bound of a node at full depth: it is the key of a point of the node. It does
@@ -38,7 +38,7 @@ pub fn bound_law(problem: &Problem, node: &Node)
     requires full { length problem.now.terms ≤ node.now.depth }
     ensures { (p : Point) × IsTrue (has_point node.now.area p) × (key_at problem.now p ≡ bound_of problem.now node.now) }
 {
-    let _ = problem.len();
+    problem_law(problem);
 }
 
 /// What holds of the best point: each other point has a lesser sum, or the same and no lesser index.
@@ -50,5 +50,5 @@ pub fn best_law(problem: &Problem)
     ensures sum { sum_of (key_at problem.now (best_of problem.now)) ≡ sum_at problem.now (best_of problem.now) }
     ensures index { index_of_key (key_at problem.now (best_of problem.now)) ≡ index_of problem.now.axes (best_of problem.now) }
 {
-    let _ = problem.len();
+    problem_law(problem);
 }

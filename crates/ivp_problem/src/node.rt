@@ -5,10 +5,10 @@ ghost use Rattle.ivp_func.specs.Pieces.{is_small};
 ghost use Rattle.ivp_problem.specs.Problems.{is_weight};
 ghost use Rattle.ivp_problem.specs.Sums.{key_at, weighted_sum};
 ghost use Rattle.ivp_problem.specs.Corners.{Beats, IsSmall};
-ghost use Rattle.ivp_problem.specs.Trees.{bound_of, child_of, chosen_at, IsNode, next_of, root_of, slope_at, slope_with, with_piece};
+ghost use Rattle.ivp_problem.specs.Trees.{bound_of, child_of, chosen_at, IsNode, next_of, root_of, slope_at, slope_with, with_chosen};
 
 use crate::key::{Key, key_of};
-use crate::problem::Problem;
+use crate::problem::{Problem, problem_law};
 use ivp_domain::{BoxN, Point, Steps, meet};
 use ivp_func::Piece;
 use std::sync::ledger::Ledger;
@@ -35,12 +35,12 @@ fn slope_with(weight: u32, piece: &Piece, node: &Node, axis: usize) -> i64
 }
 
 /// A node with one more piece chosen, which leaves this box.
-fn with_piece(weight: u32, piece: &Piece, node: &Node, area: BoxN) -> Node
+fn with_chosen(weight: u32, piece: &Piece, node: &Node, area: BoxN) -> Node
     requires weight { IsTrue (is_weight weight) }
     requires piece { IsTrue (is_small piece.now) }
     requires node { IsSmall 63 node.now }
     requires depth { node.now.depth < 64 }
-    ensures { result ≡ with_piece weight piece.now node.now area }
+    ensures { result ≡ with_chosen weight piece.now node.now area }
 {
     Node {
         depth: node.depth + 1,
@@ -136,11 +136,11 @@ impl Problem {
         ensures node { IfSome result (IsNode self.now) }
         ensures none { IfSome (next_of self.now node.now) (λ term. IfSome (slice_get term.func.pieces piece) (λ chosen. IsNone result ↔ ((p : Point) → (has_point node.now.area p && has_point chosen.area p) ≡ false))) }
     {
-        let _ = self.len();
+        problem_law(self);
         let weight = self.weight(node.depth);
         let piece = self.func(node.depth).piece(piece);
         match meet(&node.area, &piece.area) {
-            Some(area) => Some(with_piece(weight, &piece, node, area)),
+            Some(area) => Some(with_chosen(weight, &piece, node, area)),
             None => None,
         }
     }
@@ -152,7 +152,7 @@ impl Problem {
         ensures sum { result ≡ weighted_sum (take node.now.depth self.now.terms) point.now }
         ensures range { result ≤ 10 ^ 9 * node.now.depth }
     {
-        let _ = self.len();
+        problem_law(self);
         chosen(node, point) as u64
     }
 
@@ -182,7 +182,7 @@ impl Problem {
         ensures point { IsTrue (is_point self.now.axes result) }
         ensures best { key_at self.now result ≡ bound_of self.now node.now }
     {
-        let _ = self.len();
+        problem_law(self);
         high_corner(node)
     }
 

@@ -2,22 +2,22 @@ ghost use Rattle.std.specs.Prelude.{◌≡◌, ℕ, ◌+◌, ◌*◌, ◌^◌, �
 ghost use Rattle.std.specs.List.{sum_by};
 ghost use Rattle.ivp_domain.specs.Domains.{is_point};
 ghost use Rattle.ivp_func.specs.Functions.{IsFunction};
-ghost use Rattle.ivp_problem.specs.Problems.{bad_weight, IsProblem, is_weight, other_domain, problem_of, same_domain};
+ghost use Rattle.ivp_problem.specs.Problems.{bad_weight, IsProblem, is_weight, other_domain, problem_from, same_domain};
 ghost use Rattle.ivp_problem.specs.Sums.{sum_at, weighted_at};
 ghost use Rattle.ivp_problem.specs.Trees.{AreTops, top_of};
 
 use crate::same::same_domain;
 use crate::term::{ProblemFault, Term};
 use ivp_domain::{Domain, Point, Steps};
-use ivp_func::Func;
+use ivp_func::{Func, func_law};
 use std::marker::{Brand, Model};
 use std::sync::ledger::{Blank, Ledger};
 
 /// The most functions that a problem may have.
-const MOST_FUNCTIONS: usize = 64;
+pub const MOST_FUNCTIONS: usize = 64;
 
 /// The greatest weight.
-const MOST_WEIGHT: u32 = 10_000;
+pub const MOST_WEIGHT: u32 = 10_000;
 
 /// A problem: what is maximized over a domain is the weighted sum of 1 to 64 functions.
 #[derive(Debug, Drop)]
@@ -58,7 +58,7 @@ fn is_over(domain: &Domain, func: &Func) -> bool
     ensures same { result ≡ same_domain domain.now func.now.axes }
     ensures function { IsFunction func.now }
 {
-    let _ = func.len();
+    func_law(func);
     same_domain(domain, &func.domain())
 }
 
@@ -110,12 +110,19 @@ fn tops_of(terms: &[Term]) -> [u64; MOST_FUNCTIONS + 1]
     tops
 }
 
+/// What holds of every problem. It does nothing.
+pub fn problem_law(problem: &Problem)
+    ensures { IsProblem problem.now }
+{
+    let _ = problem.terms.len();
+}
+
 impl Problem {
     /// The problem of these terms over the domain, or the first refusal: `NoFunction` where there is
     /// none; `TooMany` above 64; `BadWeight` at the first weight outside 1 to 10,000; `OtherDomain`
     /// at the first function over another domain. No memory is taken.
     pub fn make(domain: Domain, terms: Vec<Term>) -> Result<Problem, ProblemFault>
-        ensures { result ≡ problem_of domain terms.items }
+        ensures { result ≡ problem_from domain terms.items }
     {
         if terms.len() == 0 {
             return Err(ProblemFault::NoFunction);

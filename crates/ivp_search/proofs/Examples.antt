@@ -3,7 +3,7 @@ use Rattle.std.proofs.Common.{Bool, false, inl, inr, pos, List, [], ◌∷◌, r
 use Rattle.std.specs.Prelude.{codes}
 use Rattle.ivp_domain.specs.declared.axis.Axis.{Axis}
 use Rattle.ivp_domain.specs.declared.boxes.Point.{Point}
-use Rattle.ivp_domain.specs.Boxes.{point_of}
+use Rattle.ivp_domain.specs.Boxes.{point_from}
 use Rattle.ivp_domain.specs.Domains.{is_point}
 use Rattle.ivp_func.specs.declared.piece.Piece.{Piece}
 use Rattle.ivp_problem.specs.Keys.{key_of}
@@ -38,14 +38,14 @@ one = record { axes = axes; terms = record { weight = 1; func = record { axes = 
 
 -- the greatest key is the last point's, unless the incumbent is greater
 last_is_best : IsBest one (is_point axes) 0 (key_of 6 1)
-last_is_best = record { kept = omega arith; above = λ p inside. best_most one p inside; found = inr (point_of 1 0 0 0, refl, refl) }
+last_is_best = record { kept = omega arith; above = λ p inside. best_most one p inside; found = inr (point_from 1 0 0 0, refl, refl) }
 
 incumbent_is_best : IsBest one (is_point axes) (key_of 7 0) (key_of 7 0)
 incumbent_is_best = record { kept = omega arith; above = λ p inside. omega (arith, best_most one p inside); found = inl refl }
 
 -- not the first point's, which is less, nor a key that no point has; and no greater incumbent is given up
 lesser_key : IsBest one (is_point axes) 0 (key_of 5 0) → ⊥
-lesser_key is = omega (arith, is.above (point_of 1 0 0 0) refl)
+lesser_key is = omega (arith, is.above (point_from 1 0 0 0) refl)
 
 key_of_no_point : IsBest one (is_point axes) 0 (key_of 7 0) → ⊥
 key_of_no_point is =

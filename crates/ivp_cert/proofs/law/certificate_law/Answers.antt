@@ -2,4 +2,4 @@ use Rattle.ivp_cert.proofs.Accepting.{certificate_accepted}
 use Rattle.ivp_cert.proofs.law.certificate_law.Goals as goal
 
 pub returns : goal.returns
-returns c = λ claim best sum. certificate_accepted c.args.problem.now claim c.len.ensures.problem best sum
+returns c = λ claim best sum. certificate_accepted c.args.problem.now claim c.problem_law.ensures best sum

@@ -2,7 +2,7 @@ use Rattle.std.proofs.Common.{sym, ◌∙◌, arith}
 use Rattle.std.proofs.lemmas.Result.{err_from_is_err_and}
 use Rattle.ivp_cert.specs.declared.stage.Stage.TheVariants.{Start}
 use Rattle.ivp_cert.specs.Problems.{last_line, problem_of}
-use Rattle.ivp_cert.specs.Stages.{after_words, whole_problem}
+use Rattle.ivp_cert.specs.Stages.{stage_after, whole_problem}
 use Rattle.ivp_cert.proofs.Bounded.{problem_whole}
 use Rattle.ivp_cert.proofs.Following.{problem_read}
 use Rattle.ivp_cert.proofs.Reading.{IsNext, one_read, one_refused, told_fault, told_value}
@@ -12,14 +12,14 @@ pub loop-line-preserved : goal.loop-line-preserved
 loop-line-preserved c =
     let next : IsNext c.loop-line.left.now c.in-Some.line.now c.in-Some.rest.now =
     record { text = c.in-Some.ensures.line; lines = c.in-Some.ensures.lines; shorter = omega (arith, c.in-Some.ensures.shorter) } in
-    one_read after_words Start c.args.bytes.now c.loop-line.lines c.loop-line.stage c.in_ok-stage.stage c.loop-line.left.now c.in-Some.line.now c.in-Some.rest.now c.loop-line.invariant
+    one_read stage_after Start c.args.bytes.now c.loop-line.lines c.loop-line.stage c.in_ok-stage.stage c.loop-line.left.now c.in-Some.line.now c.in-Some.rest.now c.loop-line.invariant
     next c.in_ok-stage.ensures.read
 
 pub returns-in_err-stage-clause-refused : goal.returns-in_err-stage-clause-refused
 returns-in_err-stage-clause-refused c =
     let next : IsNext c.loop-line.left.now c.in-Some.line.now c.in-Some.rest.now =
     record { text = c.in-Some.ensures.line; lines = c.in-Some.ensures.lines; shorter = omega (arith, c.in-Some.ensures.shorter) } in
-    let first = one_refused after_words Start (whole_problem (last_line c.args.bytes.now)) (problem_of c.args.bytes.now) c.args.bytes.now c.loop-line.lines c.loop-line.stage c.loop-line.left.now c.in-Some.line.now c.in-Some.rest.now
+    let first = one_refused stage_after Start (whole_problem (last_line c.args.bytes.now)) (problem_of c.args.bytes.now) c.args.bytes.now c.loop-line.lines c.loop-line.stage c.loop-line.left.now c.in-Some.line.now c.in-Some.rest.now
     c.in_err-stage.field-0.0 (problem_read c.args.bytes.now) c.loop-line.invariant next c.in_err-stage.ensures.refused in
     let p = err_from_is_err_and c.from_residual.result c.from_residual.ensures.1 in
     rw (p.1, p.2) first

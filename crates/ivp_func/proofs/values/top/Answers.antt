@@ -2,7 +2,7 @@ use Rattle.std.proofs.Common.{◌≡◌, ◌+◌, ◌⊎◌, [], ◌∷◌, get_
 use Rattle.std.specs.Prelude.{◌≤ℤ◌}
 use Rattle.std.proofs.lemmas.Int.{ints}
 use Rattle.ivp_domain.specs.declared.boxes.Point.{Point}
-use Rattle.ivp_func.specs.Pieces.{value_of}
+use Rattle.ivp_func.specs.Pieces.{piece_value}
 use Rattle.ivp_func.proofs.Facts.{blank, piece_at}
 use Rattle.ivp_func.proofs.Tops.{max_either, top_at_first, top_more, top_of_all, TopSoFar}
 use Rattle.ivp_func.proofs.values.top.Goals as goal
@@ -20,7 +20,7 @@ pub loop-piece-preserved : goal.loop-piece-preserved
 loop-piece-preserved c =
     let pieces = c.args.pieces.now in
     let corner = c.high_corner.result in
-    let value = value_of (get_or pieces c.loop-piece.piece-index blank) corner in
+    let value = piece_value (get_or pieces c.loop-piece.piece-index blank) corner in
     let kept : to_z w64 (of_z w64 c.max-top.result) ≡ c.max-top.result = omega (arith, ints) in
     let same : to_z w64 (of_z w64 c.value.result) ≡ value = let fits : to_z w64 (of_z w64 c.value.result) ≡ c.value.result = omega (arith, ints) in fits ∙ c.value.ensures in
     subst (TopSoFar c.args.domain.now pieces (c.loop-piece.piece-index + 1)) (sym kept)

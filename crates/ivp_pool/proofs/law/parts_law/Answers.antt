@@ -13,7 +13,7 @@ pub returns-clause-covered : goal.returns-clause-covered
 returns-clause-covered c = λ low part is p inside.
     let problem = c.args.problem.now in
     let node = c.args.node.now in
-    covered problem c.len.ensures.problem low node.depth (length problem.terms) node part (standing problem node c.requires.node) is p inside
+    covered problem c.problem_law.ensures low node.depth (length problem.terms) node part (standing problem node c.requires.node) is p inside
 
 pub returns-clause-deeper : goal.returns-clause-deeper
 returns-clause-deeper c = λ low part is here place child at.
@@ -27,5 +27,5 @@ pub returns-clause-few : goal.returns-clause-few
 returns-clause-few c = λ low part is.
     let problem = c.args.problem.now in
     let node = c.args.node.now in
-    let stands : Stands problem node.depth 64 node = record { is = c.requires.node; deep = omega arith; most = omega (arith, c.len.ensures.problem.few) } in
-    omega (arith, size_most problem c.len.ensures.problem low node.depth 64 node part stands is, few_weight problem node c.len.ensures.problem)
+    let stands : Stands problem node.depth 64 node = record { is = c.requires.node; deep = omega arith; most = omega (arith, c.problem_law.ensures.few) } in
+    omega (arith, size_most problem c.problem_law.ensures low node.depth 64 node part stands is, few_weight problem node c.problem_law.ensures)

@@ -6,7 +6,7 @@ use Rattle.ivp_pool.proofs.team.close_next.Goals as goal
 pub overflow_add-worker-2 : goal.overflow_add-worker-2
 overflow_add-worker-2 g c =
     let problem = c.args.problem.now in
-    let few = call_few problem c.len.ensures.problem c.close_one.new.scout.me.0.low (g.T.Tray.took c.args.tray.now) (g.T.Tray.took c.close_one.new.tray) c.args.node c.close_one.result c.requires.node c.close_one.ensures.closed in
+    let few = call_few problem c.problem_law.ensures c.close_one.new.scout.me.0.low (g.T.Tray.took c.args.tray.now) (g.T.Tray.took c.close_one.new.tray) c.args.node c.close_one.result c.requires.node c.close_one.ensures.closed in
     omega (arith, few, c.requires.closed)
 
 pub returns-clause-went : goal.returns-clause-went

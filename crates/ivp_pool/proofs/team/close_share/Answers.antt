@@ -1,6 +1,6 @@
 use Rattle.std.proofs.Common.{[], take, arith, sym, subst, ◌∙◌}
 use Rattle.std.proofs.lemmas.List.{length-take-le}
-use Rattle.ivp_pool.specs.Solving.{share_of, WentOn}
+use Rattle.ivp_pool.specs.Solving.{worker_share, WentOn}
 use Rattle.ivp_pool.proofs.Shares.{dealt_few, share_mine, share_same}
 use Rattle.ivp_pool.proofs.Teams.{closed_few, went_more}
 use Rattle.ivp_pool.proofs.team.close_share.Goals as goal
@@ -21,7 +21,7 @@ close_next-requires-clause-closed g c =
     let went = c.loop-place.invariant.went in
     let few = dealt_few 0 c.args.workers c.args.number (take place nodes) in
     let len = length-take-le place nodes (omega (arith, c.loop-place-test.true)) in
-    let count = closed_few c.args.problem.now c.len.ensures.problem c.loop-place.worker.scout.me.0.low (share_of c.args.workers c.args.number (take place nodes)) [] went.count went.closed in
+    let count = closed_few c.args.problem.now c.problem_law.ensures c.loop-place.worker.scout.me.0.low (worker_share c.args.workers c.args.number (take place nodes)) [] went.count went.closed in
     omega (arith, few, len, count, went.counted, c.requires.closed, c.requires.few, c.loop-place-test.true)
 
 pub loop-place-preserved : goal.loop-place-preserved
@@ -30,7 +30,7 @@ loop-place-preserved g c =
     let nodes = c.args.nodes.now in
     let place = c.loop-place.place in
     let went = c.loop-place.invariant.went in
-    let mine = share_of c.args.workers c.args.number (take place nodes) in
+    let mine = worker_share c.args.workers c.args.number (take place nodes) in
     elim c.if-place-workers.branch [
       | then-place-workers w ↦
           let next = w.close_next.ensures.went in

@@ -6,5 +6,5 @@ pub returns : goal.returns
 returns c =
     let problem = c.args.problem.now in
     let node = c.args.node.now in
-    let h = c.len.ensures.problem in
+    let h = c.problem_law.ensures in
     bound_attained problem node h (node_keeps problem node h c.requires.node) c.requires.full

@@ -8,5 +8,5 @@ pub returns : goal.returns
 returns c = λ p.
     let problem = c.args.problem.now in
     let node = c.args.node.now in
-    let h = c.len.ensures.problem in
+    let h = c.problem_law.ensures in
     count_children problem node (get_or problem.terms node.depth blank_term) p h (node_keeps problem node h c.requires.node) (slice_get-get_or problem.terms node.depth blank_term c.requires.depth)

@@ -6,15 +6,15 @@ use Rattle.ivp_problem.proofs.law.keys_law.Goals as goal
 pub returns-clause-some : goal.returns-clause-some
 returns-clause-some c = λ p inside.
     let problem = c.args.problem.now in
-    key_some (sum_at problem p) (index_of problem.axes p) (index_small problem.axes p c.len.ensures.problem.domain inside)
+    key_some (sum_at problem p) (index_of problem.axes p) (index_small problem.axes p c.problem_law.ensures.domain inside)
 
 pub returns-clause-small : goal.returns-clause-small
 returns-clause-small c = λ p inside.
     let problem = c.args.problem.now in
-    key_small (sum_at problem p) (index_of problem.axes p) (sum_most problem p c.len.ensures.problem inside)
+    key_small (sum_at problem p) (index_of problem.axes p) (sum_most problem p c.problem_law.ensures inside)
 
 pub returns-clause-distinct : goal.returns-clause-distinct
-returns-clause-distinct c = λ p q in_p in_q four four' e. key_distinct c.args.problem.now p q c.len.ensures.problem in_p in_q four four' e
+returns-clause-distinct c = λ p q in_p in_q four four' e. key_distinct c.args.problem.now p q c.problem_law.ensures in_p in_q four four' e
 
 pub returns-clause-point : goal.returns-clause-point
 returns-clause-point c = best_point c.args.problem.now

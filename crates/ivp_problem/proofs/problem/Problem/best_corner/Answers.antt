@@ -12,13 +12,13 @@ use Rattle.ivp_problem.proofs.problem.Problem.best_corner.Goals as goal
 pub high_corner-requires : goal.high_corner-requires
 high_corner-requires c =
     let problem = c.args.self.now in
-    let keeps = node_keeps problem c.args.node.now c.len.ensures.problem c.requires.node in
+    let keeps = node_keeps problem c.args.node.now c.problem_law.ensures c.requires.node in
     (box_parts problem.axes c.args.node.now.area keeps.inside).0
 
 pub returns-clause-point : goal.returns-clause-point
 returns-clause-point c =
     let problem = c.args.self.now in
-    let keeps = node_keeps problem c.args.node.now c.len.ensures.problem c.requires.node in
+    let keeps = node_keeps problem c.args.node.now c.problem_law.ensures c.requires.node in
     inside_point problem.axes c.args.node.now.area c.high_corner.result keeps.inside c.high_corner.ensures.inside
 
 pub returns-clause-best : goal.returns-clause-best
@@ -26,6 +26,6 @@ returns-clause-best c =
     let problem = c.args.self.now in
     let node = c.args.node.now in
     let corner = c.high_corner.result in
-    let keeps = node_keeps problem node c.len.ensures.problem c.requires.node in
+    let keeps = node_keeps problem node c.problem_law.ensures c.requires.node in
     let high : IsHighCorner node corner = record { inside = c.high_corner.ensures.inside; most = c.high_corner.ensures.most } in
     subst (λ terms. key_of (weighted_sum terms corner) (index_of problem.axes corner) ≡ bound_of problem node) (take_all node.depth problem.terms c.requires.full) (bound_full problem node corner keeps high c.requires.full)

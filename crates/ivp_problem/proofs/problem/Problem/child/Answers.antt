@@ -5,21 +5,21 @@ use Rattle.std.proofs.lemmas.Option.{slice_get-get_or}
 use Rattle.ivp_domain.specs.Boxes.{meet_of}
 use Rattle.ivp_func.specs.Functions.{Function}
 use Rattle.ivp_func.proofs.Facts.{piece_parts}
-use Rattle.ivp_problem.specs.Trees.{with_piece}
+use Rattle.ivp_problem.specs.Trees.{with_chosen}
 use Rattle.ivp_problem.proofs.Nodes.{blank_term, child_apart, child_met, child_node, child_of_in, node_keeps, small_more}
 use Rattle.ivp_problem.proofs.problem.Problem.child.Goals as goal
 
-pub with_piece-requires-clause-piece : goal.with_piece-requires-clause-piece
-with_piece-requires-clause-piece c = (piece_parts c.func.result.now.axes c.piece-piece.result c.piece-piece.ensures.fits).1
+pub with_chosen-requires-clause-piece : goal.with_chosen-requires-clause-piece
+with_chosen-requires-clause-piece c = (piece_parts c.func.result.now.axes c.piece-piece.result c.piece-piece.ensures.fits).1
 
-pub with_piece-requires-clause-node : goal.with_piece-requires-clause-node
-with_piece-requires-clause-node c =
-    let h = c.len.ensures.problem in
+pub with_chosen-requires-clause-node : goal.with_chosen-requires-clause-node
+with_chosen-requires-clause-node c =
+    let h = c.problem_law.ensures in
     let keeps = node_keeps c.args.self.now c.args.node.now h c.requires.node in
     small_more c.args.node.now.depth 63 c.args.node.now (omega (arith, c.requires.depth, h.few)) keeps.small
 
-pub with_piece-requires-clause-depth : goal.with_piece-requires-clause-depth
-with_piece-requires-clause-depth c = let h = c.len.ensures.problem in omega (arith, c.requires.depth, h.few)
+pub with_chosen-requires-clause-depth : goal.with_chosen-requires-clause-depth
+with_chosen-requires-clause-depth c = let h = c.problem_law.ensures in omega (arith, c.requires.depth, h.few)
 
 pub returns-in-Some-clause-child : goal.returns-in-Some-clause-child
 returns-in-Some-clause-child c =
@@ -32,7 +32,7 @@ returns-in-Some-clause-child c =
     let piece = c.piece-piece.result in
     let in_term : slice_get term.func.pieces c.args.piece ≡ Some piece = subst (λ (f : Function). slice_get f.pieces c.args.piece ≡ Some piece) func c.piece-piece.ensures.piece in
     let met : meet_of node.area piece.area ≡ Some c.in-Some.area = sym c.meet.ensures.exact ∙ c.in-Some.is in
-    let same = c.with_piece.ensures ∙ ap (λ w. with_piece w piece node c.in-Some.area) weight in
+    let same = c.with_chosen.ensures ∙ ap (λ w. with_chosen w piece node c.in-Some.area) weight in
     ap Some same ∙ (sym (child_met problem node term c.args.piece piece c.in-Some.area stands in_term met) ∙ sym (child_of_in problem node term c.args.piece stands))
 
 pub returns-in-Some-clause-node : goal.returns-in-Some-clause-node
@@ -46,8 +46,8 @@ returns-in-Some-clause-node c =
     let piece = c.piece-piece.result in
     let in_term : slice_get term.func.pieces c.args.piece ≡ Some piece = subst (λ (f : Function). slice_get f.pieces c.args.piece ≡ Some piece) func c.piece-piece.ensures.piece in
     let met : meet_of node.area piece.area ≡ Some c.in-Some.area = sym c.meet.ensures.exact ∙ c.in-Some.is in
-    let same = c.with_piece.ensures ∙ ap (λ w. with_piece w piece node c.in-Some.area) weight in
-    child_node problem node c.with_piece.result term c.args.piece c.requires.node stands (child_met problem node term c.args.piece piece c.in-Some.area stands in_term met ∙ ap Some (sym same))
+    let same = c.with_chosen.ensures ∙ ap (λ w. with_chosen w piece node c.in-Some.area) weight in
+    child_node problem node c.with_chosen.result term c.args.piece c.requires.node stands (child_met problem node term c.args.piece piece c.in-Some.area stands in_term met ∙ ap Some (sym same))
 
 pub returns-in-Some-clause-none : goal.returns-in-Some-clause-none
 returns-in-Some-clause-none c =

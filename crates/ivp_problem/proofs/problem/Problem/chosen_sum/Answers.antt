@@ -6,18 +6,18 @@ use Rattle.ivp_problem.proofs.problem.Problem.chosen_sum.Goals as goal
 
 pub chosen-requires-clause-node : goal.chosen-requires-clause-node
 chosen-requires-clause-node c =
-    let h = c.len.ensures.problem in
+    let h = c.problem_law.ensures in
     let keeps = node_keeps c.args.self.now c.args.node.now h c.requires.node in
     small_more c.args.node.now.depth 64 c.args.node.now (omega (arith, keeps.depth, h.few)) keeps.small
 
 pub chosen-requires-clause-places : goal.chosen-requires-clause-places
 chosen-requires-clause-places c =
-    let h = c.len.ensures.problem in
+    let h = c.problem_law.ensures in
     place_small c.args.self.now c.args.node.now c.args.point.now h (node_keeps c.args.self.now c.args.node.now h c.requires.node) c.requires.point
 
 pub overflow_cast-result : goal.overflow_cast-result
 overflow_cast-result c =
-    let h = c.len.ensures.problem in
+    let h = c.problem_law.ensures in
     let problem = c.args.self.now in
     let node = c.args.node.now in
     let keeps = node_keeps problem node h c.requires.node in
@@ -29,14 +29,14 @@ overflow_cast-result c =
 
 pub returns-clause-sum : goal.returns-clause-sum
 returns-clause-sum c =
-    let h = c.len.ensures.problem in
+    let h = c.problem_law.ensures in
     let keeps = node_keeps c.args.self.now c.args.node.now h c.requires.node in
     let kept : to_z w64 (of_z w64 c.chosen.result) ≡ c.chosen.result = omega (arith, ints) in
     rw (kept ∙ (c.chosen.ensures ∙ keeps.sum c.args.point.now c.requires.point)) refl
 
 pub returns-clause-range : goal.returns-clause-range
 returns-clause-range c =
-    let h = c.len.ensures.problem in
+    let h = c.problem_law.ensures in
     let problem = c.args.self.now in
     let node = c.args.node.now in
     let keeps = node_keeps problem node h c.requires.node in

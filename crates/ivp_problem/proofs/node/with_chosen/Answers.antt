@@ -2,7 +2,7 @@ use Rattle.std.proofs.Common.{◌≡◌, pos, ◌+ℤ◌, ◌*ℤ◌, ◌*◌, �
 use Rattle.std.proofs.lemmas.Int.{ints}
 use Rattle.ivp_problem.proofs.Slopes.{cast_product, fits, weight_most, within_more, within_product}
 use Rattle.ivp_problem.proofs.Nodes.{small_base}
-use Rattle.ivp_problem.proofs.node.with_piece.Goals as goal
+use Rattle.ivp_problem.proofs.node.with_chosen.Goals as goal
 
 pub overflow_mul-result : goal.overflow_mul-result
 overflow_mul-result c =
