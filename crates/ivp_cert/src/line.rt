@@ -6,9 +6,9 @@ ghost use Rattle.ivp_cert.specs.Decisions.{bound_with, in_form, line_from};
 use crate::cert::Line;
 use crate::claim::sum_word;
 use crate::path::Path;
-use ivp_problem::MOST_FUNCTIONS;
 use crate::trail::Trail;
 use crate::words::place_of;
+use ivp_problem::MOST_FUNCTIONS;
 use moos_text::{Cause, LineFault, next_word};
 use std::alloc::Global;
 
