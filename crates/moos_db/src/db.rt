@@ -10,7 +10,7 @@ use crate::inbox::Inbox;
 use crate::latest::Latest;
 use crate::log::Log;
 use crate::mail::{Letter, Mail, Origin};
-use moos_post::{Batch, Call, Entry, Name, Names, NoMemory, Pair, Pattern, Post, Regs};
+use moos_post::{Batch, Call, Copied, Entry, Name, Names, NoMemory, Pair, Pattern, Post, Regs};
 use std::alloc::Global;
 use std::marker::Model;
 

@@ -2,7 +2,7 @@ ghost use Rattle.std.specs.Prelude.{◌≡◌, ◌&&◌, bytes_eq, IfOk};
 ghost use Rattle.moos_db.specs.Kept.{picks, has_patterns, held_of_reg, with_stamp, is_due_held, passed, is_new_held, caught};
 
 use crate::table::Table;
-use moos_post::{Name, NoMemory, Pattern, Reg};
+use moos_post::{Copied, Name, NoMemory, Pattern, Reg};
 use moos_reg::{due, matches};
 use std::alloc::Global;
 use std::marker::Model;

@@ -6,16 +6,18 @@
 //
 // `delivery_law` says the delivery rule over again, in sentences about the places of a history.
 //
-// Reading order: `numbers` is the list that a fetch takes, `mailbox` the rest, `law` the sentences.
+// Reading order: `mailbox`, then `law`, the sentences.
 #![tactic(auto)]
 
 mod law;
 mod mailbox;
-mod numbers;
 
 pub use law::delivery_law;
 pub use mailbox::Mailbox;
-pub use numbers::Numbers;
+use moos_post::List;
+
+/// The numbers of posts, in order.
+pub type Numbers = List<u64>;
 
 #[cfg(test)]
 mod tests;

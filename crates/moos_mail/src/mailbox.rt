@@ -1,7 +1,7 @@
 ghost use Rattle.std.specs.Prelude.{◌≡◌, ◌≤◌, ◌+◌, ◌++◌, ◌∷◌, [], false, OnOk, OnErr};
 ghost use Rattle.moos_mail.specs.Mailboxes.{is_one_of};
 
-use crate::numbers::Numbers;
+use crate::Numbers;
 use indexmap::IndexSet;
 use moos_post::NoMemory;
 use std::alloc::Global;

@@ -1,5 +1,5 @@
 // What each call answers with ample memory.
-use crate::{Mailbox, Numbers, delivery_law};
+use crate::{Mailbox, delivery_law};
 use std::test::Fail;
 
 // Numbers wait until they are taken, in the order of mailing, and stay mailed for good.
@@ -20,17 +20,6 @@ fn numbers_wait_until_taken(rt: HostRuntime) -> Result<(), Fail> {
         assert_eq!(rt; mailbox.mailed(number), was_mailed);
     }
     assert_eq!(rt; mailbox.take_all(alloc).all(), [u64::MAX].as_slice());
-    Ok(())
-}
-
-#[test]
-fn numbers_are_a_list(rt: HostRuntime) -> Result<(), Fail> {
-    let mut numbers = Numbers::new(rt.alloc());
-    numbers.push(9).ok().ok_or("no memory")?;
-    numbers.push(0).ok().ok_or("no memory")?;
-    assert_eq!(rt; numbers.len(), 2);
-    assert_eq!(rt; numbers.get(1), 0);
-    assert_eq!(rt; numbers.all(), [9, 0].as_slice());
     Ok(())
 }
 

@@ -5,7 +5,7 @@ ghost use Rattle.moos_play.specs.Rounds.{HasEnded, HasPlayed};
 
 use moos_client::{Lock, Seat, fetch, post, register, unregister};
 use moos_io::Gate;
-use moos_post::{Call, Entry, NoMemory};
+use moos_post::{Call, Copied, Entry, NoMemory};
 use std::alloc::Global;
 use std::sync::Wait;
 

@@ -10,7 +10,7 @@ use crate::round::play_round;
 use moos_client::{Lock, Seat};
 use moos_db::Db;
 use moos_io::Gate;
-use moos_post::{Entry, Names, NoMemory};
+use moos_post::{Copied, Entry, NoMemory};
 use script_reader::{Order, Script};
 use std::alloc::{AllocError, Global};
 use std::sync::Wait;
@@ -39,7 +39,7 @@ pub fn play<R: Threads + Wait + Sync, G: Gate>(
     ensures lawful { IfOk result (λ ran. IsLawful order script.now ran.db.history) }
 {
     let clients = script.names.len() as u32;
-    let db = Db::make(alloc, copy_names(alloc, &script.names)?)?;
+    let db = Db::make(alloc, script.names.copy(alloc)?)?;
     if clients == 0 {
         return Ok(Ran { db });
     }
@@ -51,19 +51,6 @@ pub fn play<R: Threads + Wait + Sync, G: Gate>(
     let first = play_rounds(rt, alloc, &lock, first, clients, lines, order, gate)?;
     let (db, _) = lock.close(first);
     Ok(Ran { db })
-}
-
-// The same names in the same order.
-fn copy_names(alloc: Global, names: &Names) -> Result<Names, NoMemory>
-    ensures { IfOk result (λ copy. copy ≡ names.now) }
-{
-    let mut copy = Names::new(alloc);
-    for name in names.all() {
-        if copy.push(name.copy(alloc)?).is_err() {
-            return Err(AllocError);
-        }
-    }
-    Ok(copy)
 }
 
 // Splits off the seats of all other clients from that of the first, which takes them in.

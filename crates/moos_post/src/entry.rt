@@ -1,6 +1,5 @@
-use crate::batch::Batch;
 use crate::pattern::Pattern;
-use crate::regs::Regs;
+use crate::{Batch, Regs};
 
 /// What a client asks of the database.
 #[derive(Debug, Drop)]

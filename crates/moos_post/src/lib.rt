@@ -2,36 +2,40 @@
 // database's history, each seen by contracts as its bytes or its number, and each list as a list. The delivery rule
 // itself stands in specs/: which posts are mailed to which client under any history.
 //
-// Read `milli`, `name`, `txt` and `pattern` first, then `value` and `registration` with the lists `names`, `batch` and
-// `regs`, and `entry` last. Of specs/ read
-// `Words`, `Patterns`, `History`, `Delivery`.
+// Read `copied` and `list` first, one list for all, then `milli`, `name`, `txt` and `pattern`, then `value` and
+// `registration`, and `entry` last. Of specs/ read `Words`, `Patterns`, `History`, `Delivery`.
 #![tactic(auto)]
 
-mod batch;
+mod copied;
 mod entry;
+mod list;
 mod milli;
 mod name;
-mod names;
 mod pattern;
 mod registration;
-mod regs;
 mod txt;
 mod value;
 
-pub use batch::Batch;
+pub use copied::Copied;
 pub use entry::{Call, Entry};
+pub use list::List;
 pub use milli::Milli;
 pub use name::{Name, NameFault};
-pub use names::Names;
 pub use pattern::{Pattern, PatternFault};
 pub use registration::Reg;
-pub use regs::Regs;
 use std::alloc::AllocError;
 pub use txt::{Txt, TxtFault};
 pub use value::{Pair, Post, Value};
 
 /// The answer of a call that found no memory. It says nothing else of what was asked.
 pub type NoMemory = AllocError;
+
+/// Names, in order.
+pub type Names = List<Name>;
+/// The pairs that one call posts together, in order.
+pub type Batch = List<Pair>;
+/// The registrations that one call makes together, in order.
+pub type Regs = List<Reg>;
 
 #[cfg(test)]
 mod tests;

@@ -8,6 +8,7 @@ ghost use Rattle.std.specs.List.{list_all};
 ghost use Rattle.moos_post.specs.Words.{is_letter, begins_name, is_name_byte, is_name};
 
 use crate::NoMemory;
+use crate::copied::Copied;
 use std::alloc::{AllocError, Global};
 use std::hash::{Hash, Hasher};
 use std::marker::Model;
@@ -103,11 +104,10 @@ impl Name {
     {
         self.bytes.as_slice()
     }
+}
 
-    /// An equal name, which shares the bytes.
-    pub fn copy(&self, _alloc: Global) -> Result<Name, NoMemory>
-        ensures { IfOk result (λ name. name ≡ self.now) }
-    {
+impl Copied for Name {
+    fn copy(&self, _alloc: Global) -> Result<Name, NoMemory> {
         let bytes = self.bytes.clone()?;
         Ok(Name { bytes })
     }

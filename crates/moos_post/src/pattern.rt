@@ -3,6 +3,7 @@ ghost use Rattle.std.specs.List.{list_all};
 ghost use Rattle.moos_post.specs.Words.{is_pattern_byte, is_pattern};
 
 use crate::NoMemory;
+use crate::copied::Copied;
 use crate::name::is_name_byte;
 use std::alloc::{AllocError, Global};
 use std::marker::Model;
@@ -70,11 +71,10 @@ impl Pattern {
     {
         self.bytes.as_slice()
     }
+}
 
-    /// An equal pattern.
-    pub fn copy(&self, alloc: Global) -> Result<Pattern, NoMemory>
-        ensures { IfOk result (λ pattern. pattern ≡ self.now) }
-    {
+impl Copied for Pattern {
+    fn copy(&self, alloc: Global) -> Result<Pattern, NoMemory> {
         let bytes = Vec::from_slice(alloc, self.bytes.as_slice())?;
         Ok(Pattern { bytes })
     }

@@ -1,6 +1,5 @@
-ghost use Rattle.std.specs.Prelude.{◌≡◌, IfOk};
-
 use crate::NoMemory;
+use crate::copied::Copied;
 use crate::pattern::Pattern;
 use std::alloc::Global;
 
@@ -13,11 +12,8 @@ pub struct Reg {
     pub interval: u64,
 }
 
-impl Reg {
-    // An equal registration.
-    pub(crate) fn copy(&self, alloc: Global) -> Result<Reg, NoMemory>
-        ensures { IfOk result (λ reg. reg ≡ self.now) }
-    {
+impl Copied for Reg {
+    fn copy(&self, alloc: Global) -> Result<Reg, NoMemory> {
         let var = self.var.copy(alloc)?;
         let source = self.source.copy(alloc)?;
         Ok(Reg {

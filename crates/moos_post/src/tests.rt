@@ -1,7 +1,7 @@
 // What each call gives where memory is left.
 use crate::{
-    Batch, Milli, Name, NameFault, Names, Pair, Pattern, PatternFault, Reg, Regs, Txt, TxtFault,
-    Value,
+    Batch, Copied, Milli, Name, NameFault, Names, Pair, Pattern, PatternFault, Reg, Regs, Txt,
+    TxtFault, Value,
 };
 use std::alloc::Global;
 use std::collections::HashSet;

@@ -2,6 +2,7 @@ ghost use Rattle.std.specs.Prelude.{◌≡◌, ◌↔◌, ◌<◌, ◌≤◌, �
 ghost use Rattle.moos_post.specs.Words.{is_control, bad_place, is_text};
 
 use crate::NoMemory;
+use crate::copied::Copied;
 use std::alloc::{AllocError, Global};
 use std::marker::Model;
 use thiserror::Error;
@@ -76,11 +77,10 @@ impl Txt {
     {
         self.bytes.as_slice()
     }
+}
 
-    /// An equal text.
-    pub fn copy(&self, alloc: Global) -> Result<Txt, NoMemory>
-        ensures { IfOk result (λ text. text ≡ self.now) }
-    {
+impl Copied for Txt {
+    fn copy(&self, alloc: Global) -> Result<Txt, NoMemory> {
         let bytes = Vec::from_slice(alloc, self.bytes.as_slice())?;
         Ok(Txt { bytes })
     }

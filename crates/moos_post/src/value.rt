@@ -1,6 +1,5 @@
-ghost use Rattle.std.specs.Prelude.{◌≡◌, IfOk};
-
 use crate::NoMemory;
+use crate::copied::Copied;
 use crate::milli::Milli;
 use crate::name::Name;
 use crate::txt::Txt;
@@ -32,11 +31,8 @@ pub struct Post {
     pub value: Value,
 }
 
-impl Value {
-    /// An equal value.
-    pub fn copy(&self, alloc: Global) -> Result<Value, NoMemory>
-        ensures { IfOk result (λ value. value ≡ self.now) }
-    {
+impl Copied for Value {
+    fn copy(&self, alloc: Global) -> Result<Value, NoMemory> {
         match self {
             Value::Num(number) => Ok(Value::Num(*number)),
             Value::Text(text) => Ok(Value::Text(text.copy(alloc)?)),
@@ -44,11 +40,8 @@ impl Value {
     }
 }
 
-impl Pair {
-    /// An equal pair.
-    pub fn copy(&self, alloc: Global) -> Result<Pair, NoMemory>
-        ensures { IfOk result (λ pair. pair ≡ self.now) }
-    {
+impl Copied for Pair {
+    fn copy(&self, alloc: Global) -> Result<Pair, NoMemory> {
         let var = self.var.copy(alloc)?;
         let value = self.value.copy(alloc)?;
         Ok(Pair { var, value })

@@ -4,7 +4,7 @@ ghost use Rattle.script_reader.specs.Script.{with_variable, with_known};
 ghost use Rattle.moos_text.specs.Refusals.{IsLineFault};
 
 use indexmap::IndexSet;
-use moos_post::{Name, NoMemory};
+use moos_post::{Copied, Name, NoMemory};
 use moos_text::{Cause, Limit, LineFault};
 use std::alloc::Global;
 use std::marker::Model;
