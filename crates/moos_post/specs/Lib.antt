@@ -1,4 +1,5 @@
 pub mod Delivery
+pub mod Entries
 pub mod History
 pub mod Patterns
 pub mod Words

@@ -9,7 +9,8 @@ use Rattle.moos_post.specs.declared.entry.Entry.{Entry}
 use Rattle.moos_post.specs.declared.value.Value.TheVariants.{Num, Text}
 use Rattle.moos_post.specs.Words.{is_name}
 use Rattle.std.proofs.lemmas.Bool.{false≢true}
-use Rattle.moos_report.specs.Community.{HaveOwnNames, IsCall, IsCommunity, IsEntry, IsPair, IsReg, IsValue}
+use Rattle.moos_post.specs.Entries.{IsEntry, IsPair, IsReg}
+use Rattle.moos_report.specs.Community.{HaveOwnNames, IsCommunity}
 use Rattle.moos_report.specs.Report.{report_text}
 
 abbrev first_lines : List Entry
@@ -48,6 +49,7 @@ Named name = IsTrue (is_name name)
 first_community : IsCommunity (codes "pA" ∷ []) first_lines
 first_community = record {
   named = All-cons Named (codes "pA") [] refl (All-nil Named);
+  own = λ one other first second same. omega (arith, first, second);
   entries = each (record { stamp = omega arith; call = All-cons IsReg (record { var = codes "X"; source = codes "*"; interval = 0 }) [] (record { var = refl; source = refl; interval = omega arith }) (All-nil IsReg) })
       (record { stamp = omega arith; call = (omega arith, All-cons IsPair (record { var = codes "X"; value = Num (pos 5000) }) [] (record { var = refl; value = (grind arith, grind arith) }) (All-nil IsPair)) })
       (record { stamp = omega arith; call = tt }) (record { stamp = omega arith; call = tt });
@@ -71,31 +73,6 @@ other_client community = omega (arith, community.clients 0 (record { stamp = 0; 
 
 no_name : IsCommunity (codes "1A" ∷ []) first_lines → ⊥
 no_name community = false≢true (community.named 0 [] (omega arith))
-
--- values, registrations and calls that their types don't let be
-great_number : IsValue (Num (pos 1000000000001)) → ⊥
-great_number value = grind (arith, value.1)
-
-text_of_two_lines : IsValue (Text (codes "a\nb")) → ⊥
-text_of_two_lines value = false≢true value
-
-empty_pattern : IsReg (record { var = []; source = codes "*"; interval = 0 }) → ⊥
-empty_pattern reg = false≢true reg.var
-
-long_interval : IsReg (record { var = codes "X"; source = codes "*"; interval = 18446744073709551616 }) → ⊥
-long_interval reg = omega (arith, reg.interval)
-
-pattern_as_name : IsPair (record { var = codes "X*"; value = Num (pos 0) }) → ⊥
-pattern_as_name pair = false≢true pair.var
-
-withdrawal : IsCall (Unregister (codes "X*") (codes "?"))
-withdrawal = (refl, refl)
-
-two_words : IsCall (Unregister (codes "X Y") (codes "?")) → ⊥
-two_words call = false≢true call.0
-
-late_entry : IsEntry (record { stamp = 18446744073709551616; client = 0; call = Fetch }) → ⊥
-late_entry entry = omega (arith, entry.stamp)
 
 -- two clients of one name are not told apart
 same_names : HaveOwnNames (codes "pA" ∷ codes "pA" ∷ []) → ⊥

@@ -1,5 +1,4 @@
 pub mod Cuts
-pub mod EachPart
 pub mod Escapes
 pub mod Examples
 pub mod PrintedCalls

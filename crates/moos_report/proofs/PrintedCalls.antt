@@ -12,9 +12,9 @@ use Rattle.moos_post.specs.declared.registration.Reg.{Reg}
 use Rattle.moos_post.specs.declared.value.Pair.{Pair}
 use Rattle.moos_post.specs.Delivery.{mail_after}
 use Rattle.moos_post.specs.History.{History, name_of, posts_of}
+use Rattle.moos_post.specs.Entries.{IsCall, IsPair, IsReg}
 use Rattle.moos_post.specs.Words.{begins_name, is_name, is_name_byte, is_pattern, is_pattern_byte}
 use Rattle.moos_text.specs.Numbers.{unsigned_text}
-use Rattle.moos_report.specs.Community.{IsCall, IsPair, IsReg}
 use Rattle.moos_report.specs.Report.{call_text, letters_text, reg_text, said_text, value_text}
 use Rattle.moos_report.proofs.Cuts.{cut_at, Lacks, lacks_all}
 use Rattle.moos_report.proofs.PrintedValues.{decimal_lacks, unsigned_lacks, unsigned_same, value_lacks, value_same}

@@ -10,7 +10,8 @@ use Rattle.moos_post.specs.declared.entry.Entry.{Entry}
 use Rattle.moos_post.specs.History.{History, name_of}
 use Rattle.moos_post.specs.Words.{is_name}
 use Rattle.moos_text.specs.Numbers.{unsigned_text}
-use Rattle.moos_report.specs.Community.{HaveClients, HaveOwnNames, IsCommunity, IsEntry}
+use Rattle.moos_post.specs.Entries.{IsEntry}
+use Rattle.moos_report.specs.Community.{HaveClients, HaveOwnNames, IsCommunity}
 use Rattle.moos_report.specs.Report.{call_text, client_text, clients_text, end_text, entries_text, entry_text, report_text}
 use Rattle.moos_report.proofs.Cuts.{cut_at, Lacks}
 use Rattle.moos_report.proofs.PrintedCalls.{call_cut, Follows, name_lacks}
@@ -104,14 +105,14 @@ end_is : (history : History) → Ends (end_text history)
 end_is history = (_, refl)
 
 -- clients and histories of which one report is printed
-pub report_same : (names others : List (List ℕ)) (history other : History) → HaveOwnNames names → IsCommunity names history → IsCommunity others other
+pub report_same : (names others : List (List ℕ)) (history other : History) → IsCommunity names history → IsCommunity others other
     → report_text others other ≡ report_text names history → (others ≡ names) × (other ≡ history)
-report_same names others history other own h k e =
+report_same names others history other h k e =
     let clients = clients_cut 0 others names (entries_text others [] other ++ end_text other) (entries_text names [] history ++ end_text history) k.named h.named
     (entries_follow others [] other (end_text other) (end_is other)) (entries_follow names [] history (end_text history) (end_is history))
     (append_cancel_left (codes "%% moosdb play 1\n") _ _ e) in
     let entries : entries_text names [] other ++ end_text other ≡ entries_text names [] history ++ end_text history = ap (λ ns. entries_text ns [] other ++ end_text other) (sym clients.0) ∙ clients.1 in (
       clients.0,
-      entries_cut names [] other history (end_text other) (end_text history) h.named own k.entries h.entries
+      entries_cut names [] other history (end_text other) (end_text history) h.named h.own k.entries h.entries
           (subst (λ ns. HaveClients (length ns) other) clients.0 k.clients) h.clients (end_is other) (end_is history) entries,
     )

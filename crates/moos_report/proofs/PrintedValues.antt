@@ -9,11 +9,11 @@ use Rattle.std.proofs.lemmas.List.{append_cancel_right}
 use Rattle.moos_io.proofs.Lists.{each_append}
 use Rattle.moos_post.specs.declared.value.Value.{Value}
 use Rattle.moos_post.specs.declared.value.Value.TheVariants.{Num, Text}
+use Rattle.moos_post.specs.Entries.{IsValue}
 use Rattle.moos_post.specs.Words.{bad_place, is_control, is_digit, is_text, IsMilli}
 use Rattle.moos_text.specs.Numbers.{decimals_text, digits_value, milli_of, milli_text, unsigned_text}
 use Rattle.moos_text.proofs.PrintedDigits.{decimal_digits, decimals_shape, milli_bytes, Shape, unsigned_bytes}
 use Rattle.moos_text.proofs.RoundTrip.{milli_back}
-use Rattle.moos_report.specs.Community.{IsValue}
 use Rattle.moos_report.specs.Report.{escaped, is_sign, value_text}
 use Rattle.moos_report.proofs.Cuts.{cut_at, is_other, Lacks, lacks_all}
 

@@ -1,7 +1,9 @@
 -- Jobs and their steps worked by hand: what is to be done, what may be written of it, and how it ends.
-use Rattle.std.proofs.Common.{◌≡◌, ℕ, inl, inr, true, false, List, [], ◌∷◌, ◌++◌, length, take, refl, ap, subst, arith}
+use Rattle.std.proofs.Common.{◌≡◌, ℕ, inl, inr, true, false, List, [], ◌∷◌, ◌++◌, length, take, cond, nat_eq, refl, ap, sym, ◌∙◌, subst, arith}
 use Rattle.std.specs.Prelude.{codes, Some, Ok, Err, pos}
 use Rattle.std.specs.Fmt.{digits}
+use Rattle.std.specs.List.{All}
+use Rattle.std.proofs.lemmas.List.Elements.{All-cons, All-filter, All-head, All-nil, All-tail}
 use Rattle.clap.specs.Simple.{new_app, new_shape, with_rule, with_subcommand}
 use Rattle.ivp_cert.specs.declared.claim.Decision.{Decision}
 use Rattle.ivp_cert.specs.Texts.{decision_lines}
@@ -9,6 +11,8 @@ use Rattle.ivp_cert.proofs.Accepting.{walked_accepts}
 use Rattle.ivp_problem.specs.Problems.{WeightedSum}
 use Rattle.moos_post.specs.declared.entry.Call.TheVariants.{Fetch}
 use Rattle.moos_post.specs.declared.entry.Entry.{Entry}
+use Rattle.moos_client.specs.Calls.{entries_of}
+use Rattle.moos_play.specs.Lawful.{IsLawful}
 use Rattle.script_reader.specs.declared.script.Order.TheVariants.{Stamp, Race}
 use Rattle.script_reader.specs.declared.script.Script.{Script}
 use Rattle.moos_text.specs.declared.cause.Cause.TheVariants.{P1, P9}
@@ -21,6 +25,7 @@ use Rattle.moos_top.specs.Exit.{code_of}
 use Rattle.moos_top.specs.Jobs.Task.{Checking, Playing, Solving}
 use Rattle.moos_top.specs.Jobs.{decision_on, file_of, HasEnded, HasFewWorkers, IsAccepted, IsOutput, kind_of, task_of}
 use Rattle.moos_top.specs.Steps.{CannotLoad, Ended, sinking, status_of}
+use Rattle.moos_top.proofs.Playing.{all_entries}
 
 -- one function over two points, of value 5 and 6
 abbrev pub problem : WeightedSum
@@ -158,9 +163,24 @@ script = record { names = codes "a" ∷ []; lines = fetches; stop = 0 }
 played : task_of (Play (codes "s") Stamp) (codes "0 a fetch\n") ≡ Ok (Playing Stamp script)
 played = refl
 
+-- it leaves no other history
+abbrev IsFirst : Entry → Type 0
+IsFirst entry = nat_eq entry.client 0 ≡ true
+
+by_first : (history : List Entry) → All IsFirst history → entries_of 0 history ≡ history
+by_first [] all = refl
+by_first (entry ∷ later) all =
+    let first = All-head IsFirst entry later all in
+    ap (λ own. cond own (entry ∷ entries_of 0 later) (entries_of 0 later)) first ∙ ap (λ rest. entry ∷ rest) (by_first later (All-tail IsFirst entry later all))
+
+pub no_other : (other : List Entry) → IsLawful Stamp script other → other ≡ fetches
+no_other other is =
+    sym (by_first other (all_entries IsFirst other (λ client. subst (All IsFirst) (sym (is.own client)) (All-filter (λ entry. nat_eq entry.client client) IsFirst fetches (All-cons IsFirst _ [] refl (All-nil IsFirst))))))
+    ∙ is.own 0
+
 reported : IsOutput (Playing Stamp script) Done (codes "%% moosdb play 1\n%% client 0 a\n%% entry 0 0 a fetch\n%% end 1 0\n")
 unfolding digits
-reported = record { history = fetches; lawful = record { own = λ client. refl; stamps = refl }; printed = refl }
+reported = record { history = fetches; lawful = record { own = λ client. refl; stamps = refl }; printed = refl; listed = λ other is text. no_other other is }
 
 nothing_reported : IsOutput (Playing Stamp script) Done [] → ⊥
 nothing_reported is = let printed = is.printed in cc

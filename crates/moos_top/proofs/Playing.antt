@@ -1,29 +1,98 @@
--- From a lawful history to its report, and which bytes are no text of a command line.
-use Rattle.std.proofs.Common.{◌≡◌, ℕ, ◌<◌, ◌≤◌, List, refl, ap, length}
-use Rattle.std.specs.Prelude.{Some, None}
-use Rattle.std.proofs.lemmas.Bool.{lt-leb}
-use Rattle.std.proofs.Math.Bool.{and-false}
-use Rattle.moos_post.specs.History.{History}
-use Rattle.moos_post.specs.Words.{bad_place}
-use Rattle.script_reader.specs.declared.script.Script.{Script}
-use Rattle.moos_report.specs.Report.{report_text}
-use Rattle.moos_top.specs.Commands.{text_of}
-use Rattle.moos_top.specs.Jobs.{IsReport}
+-- From a lawful history to its report.
+use Rattle.std.proofs.Common.{◌≡◌, ℕ, zero, suc, ◌<◌, Bool, true, false, cond, not, ◌&&◌, nat_lt, nat_le, nat_eq, List, [], ◌∷◌, length, bytes_eq, codes, refl, ap, sym, ◌∙◌, subst, arith}
+use Rattle.std.specs.List.{All, list_any}
+use Rattle.std.proofs.lemmas.Bool.{and_parts, eq-eqb, ltb-true}
+use Rattle.std.proofs.lemmas.List.Elements.{All-cons, All-filter, All-head, All-nil, All-tail}
+use Rattle.std.proofs.lemmas.List.Folds.{list_any_at}
+use Rattle.std.proofs.lemmas.Slice.Eq.{bytes_eq-Decides}
+use Rattle.moos_post.specs.declared.entry.Entry.{Entry}
+use Rattle.moos_post.specs.Entries.{IsEntry}
+use Rattle.moos_post.specs.History.{History, name_of}
+use Rattle.moos_client.specs.Calls.{entries_of}
 use Rattle.moos_play.specs.Lawful.{IsLawful}
+use Rattle.moos_report.specs.Community.{HaveOwnNames, IsCommunity}
+use Rattle.moos_report.specs.Report.{report_text}
+use Rattle.moos_top.specs.Jobs.{IsReport}
 use Rattle.script_reader.specs.declared.script.Order.{Order}
+use Rattle.script_reader.specs.declared.script.Script.{Script}
+use Rattle.script_reader.specs.Validity.{are_clients, are_lines, keeps_limits, IsValid}
+
+-- a name isn't that of a later client
+first_is_own : (name : List ℕ) (names : List (List ℕ)) (other : ℕ) → are_clients (name ∷ names) ≡ true → other < length names → name_of names other ≡ name → ⊥
+first_is_own name names other good within same =
+    let front = (and_parts (not (bytes_eq name (codes "pHelmIvP")) && not (list_any (λ one. bytes_eq one name) names)) (are_clients names) good).0 in
+    let none = (and_parts (not (bytes_eq name (codes "pHelmIvP"))) (not (list_any (λ one. bytes_eq one name) names)) front).1 in
+    let there : list_any (λ one. bytes_eq one name) names ≡ true = list_any_at (λ one. bytes_eq one name) names other [] within ((bytes_eq-Decides (name_of names other) name).1 same) in
+    let both : false ≡ true = ap not (sym there) ∙ none in
+    cc
+
+own_names : (names : List (List ℕ)) → are_clients names ≡ true → HaveOwnNames names
+own_names [] good one other first second same = absurd (omega (arith, first))
+own_names (name ∷ names) good zero zero first second same = refl
+own_names (name ∷ names) good zero (suc other) first second same = absurd (first_is_own name names other good (omega (arith, second)) (sym same))
+own_names (name ∷ names) good (suc one) zero first second same = absurd (first_is_own name names one good (omega (arith, first)) same)
+own_names (name ∷ names) good (suc one) (suc other) first second same =
+    ap suc (own_names names (and_parts (not (bytes_eq name (codes "pHelmIvP")) && not (list_any (λ one. bytes_eq one name) names)) (are_clients names) good).1 one other (omega (arith, first)) (omega (arith, second)) same)
+
+-- an entry as its type lets it be, by one of so many clients
+abbrev IsBy : ℕ → Entry → Type 0
+IsBy clients entry = IsEntry entry × (entry.client < clients)
+
+lines_by : (clients last stop : ℕ) (lines : List Entry) → are_lines clients last stop lines ≡ true → All IsEntry lines → All (IsBy clients) lines
+lines_by clients last stop [] good entries = All-nil (IsBy clients)
+lines_by clients last stop (line ∷ lines) good entries =
+    let three = and_parts (nat_lt line.client clients && nat_le last line.stamp && keeps_limits line.call) (are_lines clients line.stamp stop lines) good in
+    let two = and_parts (nat_lt line.client clients && nat_le last line.stamp) (keeps_limits line.call) three.0 in
+    let one = and_parts (nat_lt line.client clients) (nat_le last line.stamp) two.0 in
+    All-cons (IsBy clients) line lines (All-head IsEntry line lines entries, ltb-true line.client clients one.0) (lines_by clients line.stamp stop lines three.1 (All-tail IsEntry line lines entries))
+
+-- what holds of each client's entries holds of all
+pub all_entries : (P : Entry → Type 0) (history : History) → ((client : ℕ) → All P (entries_of client history)) → All P history
+all_entries P [] each = All-nil P
+all_entries P (entry ∷ later) each = All-cons P entry later first (all_entries P later (λ client. rest client (nat_eq entry.client client) (each client)))
+  where
+    own : (same : Bool) → nat_eq entry.client entry.client ≡ same → All P (cond same (entry ∷ entries_of entry.client later) (entries_of entry.client later)) → P entry
+    own true is all = All-head P entry (entries_of entry.client later) all
+    own false is all = let both : true ≡ false = sym (eq-eqb entry.client entry.client refl) ∙ is in cc
+
+    first : P entry
+    first = own (nat_eq entry.client entry.client) refl (each entry.client)
+
+    rest : (client : ℕ) (same : Bool) → All P (cond same (entry ∷ entries_of client later) (entries_of client later)) → All P (entries_of client later)
+    rest client true all = All-tail P entry (entries_of client later) all
+    rest client false all = all
+
+-- what a lawful history of a valid script is
+lawful_community : (order : Order) (script : Script) (history : History) → IsValid script → IsLawful order script history → IsCommunity script.names history
+lawful_community order script history valid lawful = record {
+  named = valid.named;
+  own = own_names script.names valid.clients;
+  entries = λ k d within. (all k d within).0;
+  clients = λ k d within. (all k d within).1;
+}
+  where
+    all : All (IsBy (length script.names)) history
+    all =
+        all_entries (IsBy (length script.names)) history
+        (λ client. subst (All (IsBy (length script.names))) (sym (lawful.own client))
+        (All-filter (λ entry. nat_eq entry.client client) (IsBy (length script.names)) script.lines (lines_by (length script.names) 0 script.stop script.lines valid.lines valid.entries)))
+
+-- what is known of reports
+abbrev ReportsTell : Type 0
+ReportsTell =
+    (names others : List (List ℕ)) (history other : History) → IsCommunity names history → IsCommunity others other → report_text others other ≡ report_text names history
+    → (others ≡ names) × (other ≡ history)
 
 -- the report of a lawful history of the script
-pub reported : (order : Order) (script : Script) (names : List (List ℕ)) (history : History) → names ≡ script.names → IsLawful order script history
+pub reported : (order : Order) (script : Script) (names : List (List ℕ)) (history : History) → ReportsTell → IsValid script → names ≡ script.names → IsLawful order script history
     → IsReport order script (report_text names history)
-reported order script names history same lawful = record {
+reported order script names history tell valid same lawful = record {
   history = history;
   lawful = lawful;
-  printed = ap (λ names. report_text names history) same;
+  printed = printed;
+  listed = λ other is text.
+      (tell script.names script.names history other (lawful_community order script history valid lawful) (lawful_community order script other valid is) (sym text ∙ printed)).1;
 }
-
--- more bytes than a text can hold are no text, nor are bytes with one that it can't hold
-pub long_no_text : (bytes : List ℕ) → 4096 < length bytes → None ≡ text_of bytes
-long_no_text bytes long = rw (lt-leb (length bytes) 4096 long) refl
-
-pub bad_no_text : (bytes : List ℕ) (place : ℕ) → length bytes ≤ 4096 → bad_place bytes ≡ Some place → None ≡ text_of bytes
-bad_no_text bytes place short bad = rw (bad, and-false) refl
+  where
+    printed : report_text names history ≡ report_text script.names history
+    printed = ap (λ names. report_text names history) same

@@ -18,7 +18,7 @@ use Rattle.moos_top.specs.Jobs.{decision_on, file_of, IsOutput}
 use Rattle.moos_top.specs.Run.{Completes, HasBytes, IsServed, IsWritten, Ran, Refuses, Surroundings, surroundings}
 use Rattle.moos_top.proofs.Endings.{completes, refuses, written_output}
 use Rattle.moos_top.proofs.Examples.{checks, plays, solves_by_one}
-use Rattle.moos_top.proofs.JobExamples.{accepted, decision, decision_bytes, not_accepted, poor, poor_bytes, printed, problem, problem_bytes, script}
+use Rattle.moos_top.proofs.JobExamples.{accepted, decision, decision_bytes, no_other, not_accepted, poor, poor_bytes, printed, problem, problem_bytes, script}
 
 -- a run that solves the problem in its file, by what the file holds, what the sink has taken, and how often it failed; the folder tells its files and is sure of this one
 abbrev folder : List ℕ → List ℕ → List ℕ → Option (List ℕ)
@@ -236,7 +236,7 @@ played =
             file = record { named = plays; content = refl };
             task = Playing Stamp script;
             read = refl;
-            output = record { history = script.lines; lawful = record { own = λ client. refl; stamps = refl }; printed = refl };
+            output = record { history = script.lines; lawful = record { own = λ client. refl; stamps = refl }; printed = refl; listed = λ other is text. no_other other is };
           };
       took = refl;
     }

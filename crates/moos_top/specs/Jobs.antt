@@ -89,11 +89,12 @@ task_of (Play script order) bytes = task_with (Playing order) (script_of bytes)
 task_of (Solve problem workers) bytes = task_with Solving (problem_of bytes)
 task_of (Check decision) bytes = task_with Checking (decision_of bytes)
 
--- the text is the report of a lawful history of the script
+-- the text is the report of a lawful history of the script, the one that it lists: no other lawful history has this text
 pub record IsReport (order : Order) (script : Script) (text : List ℕ) : Type 0 where
   pub history : History
   pub lawful : IsLawful order script history
   pub printed : text ≡ report_text script.names history
+  pub listed : (other : History) → IsLawful order script other → text ≡ report_text script.names other → other ≡ history
 
 -- the decision on a problem: its best point, the sum there, and its certificate
 abbrev pub decision_on : WeightedSum → Decision

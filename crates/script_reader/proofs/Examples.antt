@@ -1,15 +1,19 @@
 -- Scripts and refusals worked by hand.
 use Rattle.std.proofs.Common.{◌≡◌, ℕ, zero, suc, ◌<◌, ◌==◌, ◌&&◌, true, false, List, [], ◌∷◌, length, map, replicate, refl, sym, ap, ◌∙◌, arith}
-use Rattle.std.specs.Prelude.{codes, Ok, Err, pos, slice_index, slice_index_or}
+use Rattle.std.specs.Prelude.{codes, Ok, Err, pos, slice_index, slice_index_or, IsTrue}
+use Rattle.std.specs.List.{All}
 use Rattle.std.proofs.lemmas.Bool.{false≢true}
 use Rattle.std.proofs.lemmas.Bool.Decides.{nat_tests}
 use Rattle.std.proofs.lemmas.List.{get_or-replicate}
+use Rattle.std.proofs.lemmas.List.Elements.{All-cons, All-nil}
 use Rattle.std.proofs.lemmas.List.Sums.{count_by-le-length}
 use Rattle.moos_post.specs.declared.entry.Call.TheVariants.{Register, Unregister, Post as Posts, Fetch}
 use Rattle.moos_post.specs.declared.entry.Entry.{Entry}
 use Rattle.moos_post.specs.declared.registration.Reg.{Reg}
 use Rattle.moos_post.specs.declared.value.Pair.{Pair}
 use Rattle.moos_post.specs.declared.value.Value.TheVariants.{Num, Text}
+use Rattle.moos_post.specs.Entries.{IsEntry, IsPair, IsReg}
+use Rattle.moos_post.specs.Words.{is_name}
 use Rattle.moos_text.specs.declared.cause.Cause.TheVariants.{S1, S2, S3, S4, S5, S6, S7, S9}
 use Rattle.moos_text.specs.declared.cause.ReadFault.TheVariants.{At}
 use Rattle.script_reader.specs.declared.script.Script.{Script}
@@ -131,11 +135,27 @@ two = record {
 two_is_read : script_of (codes "0 a register X 0.5\n0.499 b post X=2 # Y=1\n2 until") ≡ Ok two
 two_is_read = refl
 
+abbrev Named : List ℕ → Type 0
+Named name = IsTrue (is_name name)
+
+entries_of_two : All IsEntry two.lines
+entries_of_two =
+    All-cons IsEntry (registers 0 0 (codes "X") 500 (codes "*")) (posts 499 1 (says (codes "X") 2000 ∷ says (codes "Y") 1000 ∷ []) ∷ [])
+    (record { stamp = omega arith; call = All-cons IsReg (record { var = codes "X"; source = codes "*"; interval = 500 }) [] (record { var = refl; source = refl; interval = omega arith }) (All-nil IsReg) })
+    (All-cons IsEntry (posts 499 1 (says (codes "X") 2000 ∷ says (codes "Y") 1000 ∷ [])) [] (record { stamp = omega arith; call = (omega arith, pairs) }) (All-nil IsEntry))
+  where
+    pairs : All IsPair (says (codes "X") 2000 ∷ says (codes "Y") 1000 ∷ [])
+    pairs =
+        All-cons IsPair (says (codes "X") 2000) (says (codes "Y") 1000 ∷ []) (record { var = refl; value = (grind arith, grind arith) })
+        (All-cons IsPair (says (codes "Y") 1000) [] (record { var = refl; value = (grind arith, grind arith) }) (All-nil IsPair))
+
 is_valid : IsValid two
 is_valid = record {
+  named = All-cons Named (codes "a") (codes "b" ∷ []) refl (All-cons Named (codes "b") [] refl (All-nil Named));
   clients = refl;
   few_clients = omega arith;
   lines = refl;
+  entries = entries_of_two;
   early = omega arith;
   few_lines = omega arith;
   few_registrations = λ client. omega (arith, count_by-le-length (λ line. line.client == client && is_register line.call) two.lines);

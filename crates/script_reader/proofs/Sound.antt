@@ -1,13 +1,15 @@
 -- Every script that is read is valid.
 use Rattle.std.proofs.Common.{◌≡◌, ℕ, suc, ◌+◌, ◌<◌, ◌≤◌, Bool, true, false, ◌&&◌, ◌||◌, cond, not, nat_lt, nat_le, nat_eq, drop, List, [], ◌∷◌, ◌++◌, length, refl, sym, ap, subst, ◌∙◌, arith, length-append, codes, bytes_eq, Some, None}
-use Rattle.std.specs.Prelude.{Option, ok_or, Result, Ok, Err, IfOk, IfSome}
-use Rattle.std.specs.List.{list_any}
+use Rattle.std.specs.Prelude.{Option, ok_or, Result, Ok, Err, IfOk, IfSome, IsTrue}
+use Rattle.std.specs.List.{All, list_any}
 use Rattle.std.proofs.Math.Numerals.{one-add}
 use Rattle.std.proofs.Math.ListN.{drop_of_length-le}
 use Rattle.std.proofs.lemmas.Bool.{and_from, and_parts, le-leb, leb-true, leb-false, lt-ltb, ltb-true, ltb-false, eqb-true}
+use Rattle.std.proofs.lemmas.List.Elements.{All-append, All-cons, All-nil}
 use Rattle.std.proofs.lemmas.List.Folds.{list_any-append}
 use Rattle.moos_post.specs.declared.entry.Call.{Call}
 use Rattle.moos_post.specs.declared.entry.Entry.{Entry}
+use Rattle.moos_post.specs.Entries.{IsEntry}
 use Rattle.moos_post.specs.Words.{is_name}
 use Rattle.moos_post.proofs.Texts.{bytes_eq_comm}
 use Rattle.moos_text.specs.declared.cause.Cause.{Cause}
@@ -92,11 +94,16 @@ clients_more (name ∷ names) client good own new = at (bytes_eq name client) re
         (and_parts (not (bytes_eq name (codes "pHelmIvP"))) (not (list_any (λ other. bytes_eq other name) names)) here).1 (bytes_eq_comm client name ∙ is)))
         (rest later own (omega (arith, first_place false name client names is)))
 
+abbrev Named : List ℕ → Type 0
+Named name = IsTrue (is_name name)
+
 -- what a script so far keeps
 record IsSound (script : Script) : Type 0 where
+  named : All Named script.names
   clients : are_clients script.names ≡ true
   few_clients : length script.names ≤ 64
   lines : are_lines (length script.names) 0 script.stop script.lines ≡ true
+  entries : All IsEntry script.lines
   early : script.stop ≤ 1000000000
   few_registrations : (client : ℕ) → registrations_of client script.lines ≤ 256
   few_variables : length (variables_of script.lines) ≤ 4096
@@ -108,6 +115,7 @@ record IsNext (count : ℕ) (script : Script) : Type 0 where
 
 -- a client is one of the first 64, and not the helm
 record IsClient (names : List (List ℕ)) (name : List ℕ) (number : ℕ) : Type 0 where
+  named : Named name
   own : not (bytes_eq name (codes "pHelmIvP")) ≡ true
   among : number < 64
   number_is : number ≡ number_of names name
@@ -115,10 +123,14 @@ record IsClient (names : List (List ℕ)) (name : List ℕ) (number : ℕ) : Typ
 client_good : (names : List (List ℕ)) (word : List ℕ) → IfOk (client_of names word) (IsClient names word)
 client_good names word =
     cond_good (IsClient names word) (not (is_name word)) (Err S4) named (λ _. tt)
-    (λ _. cond_good (IsClient names word) (bytes_eq word (codes "pHelmIvP")) (Err S9) placed (λ _. tt)
+    (λ good. cond_good (IsClient names word) (bytes_eq word (codes "pHelmIvP")) (Err S9) placed (λ _. tt)
     (λ other. cond_good (IsClient names word) (nat_le 64 (number_of names word)) (Err (S8 Clients)) (Ok (number_of names word)) (λ _. tt)
-    (λ room. record { own = ap not other; among = leb-false 64 (number_of names word) room; number_is = refl })))
+    (λ room. record { named = no_other (is_name word) good; own = ap not other; among = leb-false 64 (number_of names word) room; number_is = refl })))
   where
+    no_other : (b : Bool) → not b ≡ false → b ≡ true
+    no_other true good = refl
+    no_other false good = absurd cc
+
     placed : Result ℕ Cause
     placed = cond (nat_le 64 (number_of names word)) (Err (S8 Clients)) (Ok (number_of names word))
 
@@ -127,20 +139,21 @@ client_good names word =
 
 -- the names with a client's, of which the client is one
 record AreJoined (names joined : List (List ℕ)) (name : List ℕ) : Type 0 where
+  named : All Named joined
   clients : are_clients joined ≡ true
   wider : length names ≤ length joined
   among : number_of names name < length joined
 
-names_joined : (names : List (List ℕ)) (name : List ℕ) → are_clients names ≡ true → not (bytes_eq name (codes "pHelmIvP")) ≡ true → AreJoined names (with_client names name) name
-names_joined names name good own = at (nat_lt (number_of names name) (length names)) refl
+names_joined : (names : List (List ℕ)) (name : List ℕ) → All Named names → Named name → are_clients names ≡ true → not (bytes_eq name (codes "pHelmIvP")) ≡ true → AreJoined names (with_client names name) name
+names_joined names name named one good own = at (nat_lt (number_of names name) (length names)) refl
   where
     at : (known : Bool) → nat_lt (number_of names name) (length names) ≡ known → AreJoined names (cond known names (names ++ name ∷ [])) name
-    at true is = record { clients = good; wider = omega arith; among = ltb-true (number_of names name) (length names) is }
+    at true is = record { named = named; clients = good; wider = omega arith; among = ltb-true (number_of names name) (length names) is }
     at false is =
         let past = ltb-false (number_of names name) (length names) is in
         let place : number_of names name ≤ length names = position_or_len-le-length (λ other. bytes_eq other name) names in
         let longer : length (names ++ name ∷ []) ≡ length names + 1 = length-append names (name ∷ []) in
-        record { clients = clients_more names name good own past; wider = omega (arith, longer); among = omega (arith, longer) }
+        record { named = All-append Named names (name ∷ []) named (All-cons Named name [] one (All-nil Named)); clients = clients_more names name good own past; wider = omega (arith, longer); among = omega (arith, longer) }
 
 registrations_few : (lines : List Entry) (line : Entry) → ((client : ℕ) → registrations_of client lines ≤ 256) → (is_register line.call ≡ true → registrations_of line.client lines < 256)
     → (client : ℕ) → registrations_of client (lines ++ line ∷ []) ≤ 256
@@ -157,11 +170,13 @@ call_sound : (script : Script) (stamp : ℕ) (name : List ℕ) (call : Call) →
     → IsFine (registrations_of (number_of script.names name) script.lines) (variables_of script.lines) call → IsNext (length script.lines) (with_call script stamp name call)
 call_sound script stamp name call sound client rises early fine = record {
   sound = record {
+    named = joined.named;
     clients = joined.clients;
     few_clients = client_length script.names name sound.few_clients client.among;
     lines = lines_more (length (with_client script.names name)) 0 script.stop script.lines line
         (lines_wider (length script.names) (length (with_client script.names name)) 0 script.stop script.stop script.lines joined.wider (omega arith) sound.lines)
         joined.among rises fine.limits;
+    entries = All-append IsEntry script.lines (line ∷ []) sound.entries (All-cons IsEntry line [] (record { stamp = omega (arith, early); call = fine.parts }) (All-nil IsEntry));
     early = early;
     few_registrations = registrations_few script.lines line sound.few_registrations fine.room;
     few_variables = let few = fine.variables sound.few_variables in omega (arith, ap length (variables_more script.lines line));
@@ -173,14 +188,16 @@ call_sound script stamp name call sound client rises early fine = record {
     line = record { stamp = stamp; client = number_of script.names name; call = call }
 
     joined : AreJoined script.names (with_client script.names name) name
-    joined = names_joined script.names name sound.clients client.own
+    joined = names_joined script.names name sound.named client.named sound.clients client.own
 
 until_sound : (script : Script) (stamp : ℕ) → IsSound script → script.stop ≤ stamp → stamp ≤ 1000000000 → IsNext (length script.lines) (record script { stop = stamp })
 until_sound script stamp sound rises early = record {
   sound = record {
+    named = sound.named;
     clients = sound.clients;
     few_clients = sound.few_clients;
     lines = lines_wider (length script.names) (length script.names) 0 script.stop stamp script.lines (omega arith) rises sound.lines;
+    entries = sound.entries;
     early = early;
     few_registrations = sound.few_registrations;
     few_variables = sound.few_variables;
@@ -262,9 +279,11 @@ read_good number read (raw ∷ raws) good =
 nothing_good : IsGood nothing_read
 nothing_good = record {
   sound = record {
+    named = All-nil Named;
     clients = refl;
     few_clients = omega arith;
     lines = refl;
+    entries = All-nil IsEntry;
     early = omega arith;
     few_registrations = λ client. omega arith;
     few_variables = omega arith;
@@ -275,9 +294,11 @@ nothing_good = record {
 
 good_valid : (read : Progress) → IsGood read → IsValid read.script
 good_valid read good = record {
+  named = good.sound.named;
   clients = good.sound.clients;
   few_clients = good.sound.few_clients;
   lines = good.sound.lines;
+  entries = good.sound.entries;
   early = good.sound.early;
   few_lines = let fewer = good.fewer in omega (arith, good.few);
   few_registrations = good.sound.few_registrations;

@@ -1,9 +1,11 @@
 -- What every script keeps that was read.
 use Rattle.std.specs.Prelude.{ℕ, ◌≤◌, Bool, true, false, ◌&&◌, not, nat_lt, nat_le, List, [], ◌∷◌, length, codes, bytes_eq, IsTrue}
-use Rattle.std.specs.List.{list_any}
+use Rattle.std.specs.List.{All, list_any}
 use Rattle.moos_post.specs.declared.entry.Call.{Call}
 use Rattle.moos_post.specs.declared.entry.Call.TheVariants.{Register, Unregister, Post as Posts, Fetch}
 use Rattle.moos_post.specs.declared.entry.Entry.{Entry}
+use Rattle.moos_post.specs.Entries.{IsEntry}
+use Rattle.moos_post.specs.Words.{is_name}
 use Rattle.script_reader.specs.declared.script.Script.{Script}
 use Rattle.script_reader.specs.Script.{registrations_of, variables_of}
 
@@ -29,13 +31,15 @@ are_lines clients last stop [] = nat_le last stop
 are_lines clients last stop (line ∷ lines) =
     nat_lt line.client clients && nat_le last line.stamp && keeps_limits line.call && are_lines clients line.stamp stop lines
 
--- Its clients have names of their own, none the helm's. Each line is one of theirs, and stamps don't go back. Every limit
--- is kept: stamps and intervals of 1,000,000 seconds, 64 clients, 100,000 lines, 256 registrations of a client, 64 pairs
--- of a post, which has one at least, 4,096 variables.
+-- Its clients have names of their own, none the helm's. Each line is an entry by one of them, and stamps don't go back.
+-- Every limit is kept: stamps and intervals of 1,000,000 seconds, 64 clients, 100,000 lines, 256 registrations of a client,
+-- 64 pairs of a post, which has one at least, 4,096 variables.
 pub record IsValid (script : Script) : Type 0 where
+  pub named : All (λ name. IsTrue (is_name name)) script.names
   pub clients : IsTrue (are_clients script.names)
   pub few_clients : length script.names ≤ 64
   pub lines : IsTrue (are_lines (length script.names) 0 script.stop script.lines)
+  pub entries : All IsEntry script.lines
   pub early : script.stop ≤ 1000000000
   pub few_lines : length script.lines ≤ 100000
   pub few_registrations : (client : ℕ) → registrations_of client script.lines ≤ 256

@@ -1,6 +1,6 @@
 -- What `Txt::new` refuses is no text.
 use Rattle.std.proofs.Common.{ap, arith, Err}
-use Rattle.moos_top.proofs.Playing.{long_no_text, bad_no_text}
+use Rattle.moos_top.proofs.Finding.{long_no_text, bad_no_text}
 use Rattle.moos_top.proofs.commands.text_of.Goals as goal
 
 pub returns-in-Err-TooLong : goal.returns-in-Err-TooLong
