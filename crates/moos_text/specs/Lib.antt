@@ -3,3 +3,5 @@ pub mod Numbers
 pub mod Pairs
 pub mod Reading
 pub mod Refusals
+pub mod Sections
+pub mod Standing

@@ -1,5 +1,5 @@
 -- The lines of a file, what of a line counts, and the words that stand in it.
-use Rattle.std.specs.Prelude.{ℕ, Bool, false, not, ◌&&◌, ◌||◌, ◌==◌, if◌then◌else◌, List, [], ◌∷◌, drop, fold, reverse}
+use Rattle.std.specs.Prelude.{ℕ, max, Bool, false, not, ◌&&◌, ◌||◌, ◌==◌, if◌then◌else◌, List, [], ◌∷◌, length, drop, fold, reverse}
 use Rattle.std.specs.List.{before_first, position_or_len}
 
 -- the byte in front of the first of these lines, or as a line of its own where there is none
@@ -11,6 +11,10 @@ onto_first byte (line ∷ lines) = (byte ∷ line) ∷ lines
 abbrev pub raw_lines : List ℕ → List (List ℕ)
 raw_lines [] = []
 raw_lines (byte ∷ bytes) = if byte == 10 then [] ∷ raw_lines bytes else onto_first byte (raw_lines bytes)
+
+-- the last of the lines, which is line 1 in an empty file
+abbrev pub last_line : List ℕ → ℕ
+last_line bytes = max 1 (length (raw_lines bytes))
 
 -- the first of the lines: the bytes before the first line feed
 abbrev pub first_line : List ℕ → List ℕ

@@ -1,5 +1,5 @@
 -- The numbers of every file and of the report: what a text stands for, and what a number prints as, in thousandths.
-use Rattle.std.specs.Prelude.{ℕ, suc, ◌+◌, ◌-◌, ◌*◌, ◌/◌, ◌%◌, ◌^◌, ℤ, pos, negsuc, neg_ℤ, Bool, ◌&&◌, ◌==◌, nat_le, if◌then◌else◌, List, [], ◌∷◌, ◌++◌, length, take, drop, fold, codes, decimal, Option, Some, None, option_map}
+use Rattle.std.specs.Prelude.{ℕ, suc, ◌+◌, ◌-◌, ◌*◌, ◌/◌, ◌%◌, ◌^◌, ℤ, pos, negsuc, neg_ℤ, Bool, ◌&&◌, ◌==◌, nat_le, if◌then◌else◌, List, [], ◌∷◌, ◌++◌, length, take, drop, fold, codes, decimal, Option, Some, None, option_map, option_and_then}
 use Rattle.std.specs.List.{list_all, position_or_len}
 use Rattle.moos_post.specs.Words.{is_digit}
 
@@ -35,6 +35,15 @@ milli_of (first ∷ rest) =
     if first == 43 then option_map pos (unsigned_of rest)
     else if first == 45 then option_map (λ n. neg_ℤ (pos n)) (unsigned_of rest)
     else option_map pos (unsigned_of (first ∷ rest))
+
+-- thousandths that are a whole number, not below zero
+abbrev pub whole_part : ℤ → Option ℕ
+whole_part (pos n) = if n % 1000 == 0 then Some (n / 1000) else None
+whole_part (negsuc n) = None
+
+-- the whole number, not below zero, that a text stands for: a number without thousandths
+abbrev pub whole_of : List ℕ → Option ℕ
+whole_of text = option_and_then whole_part (milli_of text)
 
 -- a digit as its byte
 abbrev pub digit_text : ℕ → List ℕ

@@ -14,6 +14,18 @@ use Rattle.moos_text.specs.Numbers.{milli_of}
 abbrev pub is_equals : ℕ → Bool
 is_equals byte = byte == 61
 
+-- what stands before the first `=` of a text and behind it, without blanks at the ends
+pub record Sides : Type 0 where
+  pub name : List ℕ
+  pub value : List ℕ
+
+-- both sides of the first `=`, where there is one
+abbrev pub sides_of : List ℕ → Option Sides
+sides_of text =
+    if nat_lt (position_or_len is_equals text) (length text)
+    then Some (record { name = trimmed (before_first is_equals text); value = trimmed (after_first is_equals text) })
+    else None
+
 -- `"`
 abbrev pub is_quote : ℕ → Bool
 is_quote byte = byte == 34

@@ -25,3 +25,8 @@ fault_at line OutOfMemory = NoMemory
 abbrev pub and_then : {A B E : Type 0} → (A → Result B E) → Result A E → Result B E
 and_then next (Ok value) = next value
 and_then next (Err fault) = Err fault
+
+-- what comes of a line, or its refusal as that of the file
+abbrev pub at_line : {A : Type 0} → ℕ → Result A Cause → Result A ReadFault
+at_line line (Ok value) = Ok value
+at_line line (Err cause) = Err (At line cause)

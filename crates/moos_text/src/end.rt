@@ -1,16 +1,17 @@
 ghost use Rattle.std.specs.Prelude.{◌≡◌, ◌≤◌, length, take};
 ghost use Rattle.moos_text.specs.Lines.{ends_with, without_last};
 
+/// Whether the bytes end with this one.
 #[tactic(auto, using(crate::proofs::Ends::ends_with_last))]
-pub(crate) fn ends_with(bytes: &[u8], last: u8) -> bool
+pub fn ends_with(bytes: &[u8], last: u8) -> bool
     ensures { result ≡ ends_with last bytes.now }
 {
     bytes.len() > 0 && bytes[bytes.len() - 1] == last
 }
 
-// The bytes, without this one where they end with it.
+/// The bytes, without this one where they end with it.
 #[tactic(auto, using(crate::proofs::Ends::with_last, crate::proofs::Ends::no_last))]
-pub(crate) fn without_last(bytes: &[u8], last: u8) -> &[u8]
+pub fn without_last(bytes: &[u8], last: u8) -> &[u8]
     ensures value { result.now ≡ without_last last bytes.now }
     ensures front { result.now ≡ take (length result.now) bytes.now }
     ensures within { length result.now ≤ length bytes.now }

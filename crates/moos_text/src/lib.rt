@@ -19,13 +19,14 @@ mod trim;
 mod word;
 
 pub use cause::{Cause, Limit, LineFault, ReadFault};
-pub use line::{Line, next_line, next_whole_line};
+pub use end::{ends_with, without_last};
+pub use line::{Line, Said, next_line, next_said, next_whole_line};
 pub use milli_text::{MilliText, print_milli, print_seconds};
-pub use number::read_milli;
-pub use pair::{PairFault, read_pair};
+pub use number::{read_milli, read_whole};
+pub use pair::{PairFault, cut_at_equals, read_pair};
 pub use part::{Part, next_part};
 pub use trim::trimmed;
-pub use word::next_word;
+pub use word::{is_named, next_word};
 
 #[cfg(test)]
 mod tests;

@@ -1,8 +1,9 @@
 ghost use Rattle.std.specs.Prelude.{◌≡◌, ◌+◌, ◌<◌, ◌≤◌, ◌==◌, [], ◌∷◌, IfNone, IfSome, false, length, take, drop, slice_range, position};
 ghost use Rattle.std.specs.List.{position_or_len};
-ghost use Rattle.moos_text.specs.Lines.{raw_lines, first_line, begins_comment, is_quoted_after, uncommented, content_of, is_unclosed, without_return};
+ghost use Rattle.moos_text.specs.Lines.{raw_lines, first_line, begins_comment, is_quoted_after, uncommented, content_of, is_unclosed, trimmed, without_return};
 
 use crate::end::without_last;
+use crate::trim::trimmed;
 
 /// One line of a file.
 #[derive(Clone, Copy, Debug, PartialEq, Eq)]
@@ -59,6 +60,37 @@ pub fn next_whole_line(text: &[u8]) -> Option<(&[u8], &[u8])>
     }
     let line = first_line(text, 0);
     Some((without_last(line, b'\r'), behind_first(text, line.len())))
+}
+
+/// What the first line of a text says, and what stands behind it.
+#[derive(Clone, Copy)]
+pub struct Said<'a> {
+    /// What counts of the line, without blanks at its ends; empty where it says nothing.
+    pub text: &'a [u8],
+    /// Whether it leaves a quote open.
+    pub unclosed: bool,
+    /// The lines behind it.
+    pub rest: &'a [u8],
+}
+
+/// What the first line of a text says; `None` exactly where the text is empty.
+#[tactic(auto, using(crate::proofs::Quotes::trimmed_quotes))]
+pub fn next_said(text: &[u8]) -> Option<Said<'_>>
+    ensures none { IfNone result (text.now ≡ []) }
+    ensures said { IfSome result (λ said. said.text.now ≡ trimmed (content_of (first_line text.now))) }
+    ensures unclosed { IfSome result (λ said. said.unclosed ≡ is_unclosed said.text.now) }
+    ensures lines { IfSome result (λ said. raw_lines text.now ≡ first_line text.now ∷ raw_lines said.rest.now) }
+    ensures shorter { IfSome result (λ said. length said.rest.now < length text.now) }
+{
+    if text.len() == 0 {
+        return None;
+    }
+    let line = next_line(text, 0);
+    Some(Said {
+        text: trimmed(&text[..line.to]),
+        unclosed: line.unclosed,
+        rest: &text[line.next..],
+    })
 }
 
 // What stands behind the first line, which has so many bytes without its end.

@@ -1,7 +1,7 @@
 ghost use Rattle.std.specs.Prelude.{◌≡◌, ◌<◌, ◌≤◌, ◌-◌, ◌^◌, ◌++◌, min, take, codes, true, IsTrue, IfSome, IfNone, Some, None, pos, neg_ℤ, if◌then◌else◌};
 ghost use Rattle.std.specs.List.{list_all};
 ghost use Rattle.moos_post.specs.Words.{is_digit};
-ghost use Rattle.moos_text.specs.Numbers.{digits_value, unsigned_of, milli_of};
+ghost use Rattle.moos_text.specs.Numbers.{digits_value, unsigned_of, milli_of, whole_of, whole_part};
 ghost use Rattle.moos_text.specs.Reading.{IsFront, IsParted};
 
 use moos_post::Milli;
@@ -17,6 +17,24 @@ pub fn read_milli(text: &[u8]) -> Option<Milli>
         [b'+', rest @ ..] => signed(false, read_unsigned(rest)?),
         [b'-', rest @ ..] => signed(true, read_unsigned(rest)?),
         _ => signed(false, read_unsigned(text)?),
+    }
+}
+
+/// The whole number, not below zero, that a text stands for: a number without thousandths. None exactly where it is none.
+pub fn read_whole(text: &[u8]) -> Option<u32>
+    ensures { result ≡ whole_of text.now }
+{
+    whole_part(read_milli(text)?)
+}
+
+fn whole_part(thousandths: Milli) -> Option<u32>
+    ensures { result ≡ whole_part thousandths }
+{
+    let thousandths = thousandths.get();
+    if 0 <= thousandths && thousandths % 1000 == 0 {
+        Some((thousandths / 1000) as u32)
+    } else {
+        None
     }
 }
 

@@ -1,8 +1,8 @@
-ghost use Rattle.std.specs.Prelude.{◌≡◌, ◌≢◌, true, false, Ok, Err, IfOk, IfErr, position};
+ghost use Rattle.std.specs.Prelude.{◌≡◌, ◌≢◌, true, false, Ok, Err, IfOk, IfErr, MatchOption, None, Some, position};
 ghost use Rattle.moos_post.specs.Words.{is_name, is_control, bad_place};
 ghost use Rattle.moos_text.specs.declared.pair.PairFault.TheVariants.{BadName, NoMemory};
 ghost use Rattle.moos_text.specs.Numbers.{milli_of};
-ghost use Rattle.moos_text.specs.Pairs.{is_equals, is_quote, text_value, quoted_value, plain_value, value_of, sides_pair, pair_of};
+ghost use Rattle.moos_text.specs.Pairs.{is_equals, is_quote, sides_of, text_value, quoted_value, plain_value, value_of, sides_pair, pair_of};
 
 use crate::end::{ends_with, without_last};
 use crate::number::read_milli;
@@ -47,6 +47,16 @@ pub fn read_pair(alloc: Global, text: &[u8]) -> Result<Pair, PairFault>
             read_sides(alloc, var, ends_with(side, b':'), value)
         }
         None => Err(PairFault::NoEquals),
+    }
+}
+
+/// What stands before the first `=` of a text and behind it, without blanks at the ends; None exactly where there is none.
+pub fn cut_at_equals(text: &[u8]) -> Option<(&[u8], &[u8])>
+    ensures { MatchOption result (sides_of text.now ≡ None) (λ cut. sides_of text.now ≡ Some (record { name = cut.0.now; value = cut.1.now })) }
+{
+    match equals_at(text) {
+        Some(equals) => Some((trimmed(&text[..equals]), trimmed(&text[equals + 1..]))),
+        None => None,
     }
 }
 

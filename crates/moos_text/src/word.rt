@@ -1,5 +1,6 @@
 ghost use Rattle.std.specs.Prelude.{◌≡◌, ◌==◌, ◌||◌, [], ◌∷◌, MatchOption, IfNone, IfSome};
 ghost use Rattle.std.specs.List.{position, position_or_len};
+ghost use Rattle.std.specs.Str.{str_eq_ignore_ascii_case};
 ghost use Rattle.moos_text.specs.Lines.{is_blank, words_of, first_word, behind_word};
 
 use crate::trim::without_front_blanks;
@@ -38,6 +39,13 @@ pub fn next_word(text: &[u8]) -> Option<(&[u8], &[u8])>
         return None;
     }
     Some(found.split_at(bytes_before_blank(found)))
+}
+
+/// Whether a word is this name, in letters of either case.
+pub fn is_named(word: &[u8], name: &[u8]) -> bool
+    ensures { result ≡ str_eq_ignore_ascii_case word.now name.now }
+{
+    word.eq_ignore_ascii_case(name)
 }
 
 #[cfg(test)]

@@ -1,0 +1,5 @@
+pub mod Examples
+mod Following
+mod Lines
+mod Names
+mod Valid

@@ -1,0 +1,3 @@
+pub mod Missions
+pub mod Places
+pub mod Validity

@@ -1,0 +1,15 @@
+-- What every mission keeps that was read.
+use Rattle.std.specs.Prelude.{◌≤◌, ◌<◌, length, IsTrue}
+use Rattle.moos_post.specs.Words.{is_text}
+use Rattle.ivp_domain.specs.Domains.{is_domain}
+use Rattle.mission_reader.specs.declared.mission.Mission.{Mission}
+
+-- Its period is 1 to 1,000,000 milliseconds, its behaviour file has a name that isn't empty, its axes make a domain, and
+-- it has a last line.
+pub record IsValid (mission : Mission) : Type 0 where
+  pub ticks : 1 ≤ mission.period
+  pub slowest : mission.period ≤ 1000000
+  pub named : 0 < length mission.behaviors
+  pub text : IsTrue (is_text mission.behaviors)
+  pub domain : IsTrue (is_domain mission.domain)
+  pub lines : 1 ≤ mission.lines
