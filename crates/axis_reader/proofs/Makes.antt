@@ -4,14 +4,14 @@ use Rattle.std.specs.Prelude.{IfOk}
 use Rattle.std.proofs.lemmas.Iterator.Adapters.{position_from-zero}
 use Rattle.ivp_domain.specs.declared.axis.Axis.{Axis}
 use Rattle.ivp_domain.specs.Axes.{is_good_axis}
-use Rattle.ivp_domain.specs.Domains.{bad_place, domain_of, is_domain, judged, repeated_place, size_of}
+use Rattle.ivp_domain.specs.Domains.{bad_axis, domain_of, is_domain, judged_axes, repeated_place, size_of}
 use Rattle.ivp_domain.proofs.Padding.{none_fails}
 use Rattle.ivp_domain.proofs.Sizes.{is_domain-from}
 
 pub domain_good : (axes : List Axis) → 0 < length axes → length axes ≤ 4 → IfOk (domain_of axes) (λ all. is_domain all ≡ true)
-domain_good axes some most = at (bad_place axes) (nat_le (size_of axes) (2 ^ 22)) (repeated_place axes) refl refl refl
+domain_good axes some most = at (bad_axis axes) (nat_le (size_of axes) (2 ^ 22)) (repeated_place axes) refl refl refl
   where
-    at : (place : Option ℕ) (fits : Bool) (same : Option ℕ) → bad_place axes ≡ place → nat_le (size_of axes) (2 ^ 22) ≡ fits → repeated_place axes ≡ same → IfOk (judged axes place fits same) (λ all. is_domain all ≡ true)
+    at : (place : Option ℕ) (fits : Bool) (same : Option ℕ) → bad_axis axes ≡ place → nat_le (size_of axes) (2 ^ 22) ≡ fits → repeated_place axes ≡ same → IfOk (judged_axes axes place fits same) (λ all. is_domain all ≡ true)
     at (Some place) fits same e f g = tt
     at None false same e f g = tt
     at None true (Some place) e f g = tt

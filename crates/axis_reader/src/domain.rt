@@ -1,10 +1,7 @@
 ghost use Rattle.std.specs.Prelude.{◌≡◌, ◌<◌, ◌+◌, [], ◌∷◌, ◌++◌, length, take};
 ghost use Rattle.ivp_domain.specs.Domains.{domain_of};
 
-use ivp_domain::{Axis, Domain, DomainFault};
-
-// The most axes of a domain.
-const MOST_AXES: usize = 4;
+use ivp_domain::{Axis, Domain, DomainFault, MOST_AXES};
 
 /// The domain of a few axes and one more behind them, or why they make none.
 pub fn extended(axes: &[Axis], axis: Axis) -> Result<Domain, DomainFault>

@@ -11,13 +11,10 @@ ghost use Rattle.mission_reader.specs.Missions.{axes_in, axis_byte, axis_set, no
 
 use crate::mission::Mission;
 use axis_reader::{Fields, axis_of, extended, four_fields};
-use ivp_domain::{Axis, Domain, DomainFault};
+use ivp_domain::{Axis, Domain, DomainFault, MOST_AXES};
 use moos_post::{Milli, NoMemory, Txt, TxtFault};
 use moos_text::{Cause, LineFault, ReadFault, cut_at_equals, is_named, read_milli, trimmed};
 use std::alloc::{AllocError, Global};
-
-/// The most axes of a domain.
-const MOST_AXES: usize = 4;
 
 /// What the lines of a mission have set so far.
 #[derive(Drop)]
