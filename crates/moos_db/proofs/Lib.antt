@@ -4,6 +4,7 @@ pub mod Growth
 pub mod Keeping
 pub mod Lasts
 pub mod Latests
+pub mod Listing
 pub mod Rows
 pub mod Runs
 pub mod Sorting

@@ -10,6 +10,7 @@ use crate::inbox::Inbox;
 use crate::latest::Latest;
 use crate::log::Log;
 use crate::mail::{Letter, Mail, Origin};
+use crate::variables::Variables;
 use moos_post::{Batch, Call, Copied, Entry, Name, Names, NoMemory, Pair, Pattern, Post, Regs};
 use std::alloc::Global;
 use std::marker::Model;
@@ -22,6 +23,7 @@ pub struct Db {
     names: Names,
     log: Log,
     latest: Latest,
+    variables: Variables,
     inboxes: Vec<Inbox>,
 }
 
@@ -48,7 +50,14 @@ fn empty_inboxes(alloc: Global, clients: usize) -> Result<Vec<Inbox>, NoMemory>
 }
 
 // Each inbox sees the entry that was made last.
-fn deliver(alloc: Global, names: &Names, log: &Log, latest: &Latest, inboxes: &mut Vec<Inbox>)
+fn deliver(
+    alloc: Global,
+    names: &Names,
+    log: &Log,
+    latest: &Latest,
+    variables: &Variables,
+    inboxes: &mut Vec<Inbox>,
+)
     requires few { length inboxes.old.items < 2 ^ 32 }
     requires latest { IsLatest (posts_of log.now.entries) latest.now }
     requires inboxes { AreInboxes names.now log.now.entries inboxes.old.items }
@@ -56,7 +65,7 @@ fn deliver(alloc: Global, names: &Names, log: &Log, latest: &Latest, inboxes: &m
     ensures inboxes { AreInboxes names.now log.now.entries inboxes.new.items }
 {
     for client in 0..inboxes.len() {
-        inboxes[client].follow(alloc, names, log, latest, client as u32);
+        inboxes[client].follow(alloc, names, log, latest, variables, client as u32);
     }
 }
 
@@ -95,6 +104,7 @@ fn fetch(
     alloc: Global,
     names: &Names,
     log: &mut Log,
+    variables: &Variables,
     inboxes: &mut Vec<Inbox>,
     client: u32,
     stamp: u64,
@@ -112,7 +122,7 @@ fn fetch(
     ensures inboxes { AreInboxes names.now log.new.entries inboxes.new.items }
 {
     let inbox = &mut inboxes[client as usize];
-    inbox.follow_all(alloc, names, log, client)?;
+    inbox.follow_all(alloc, names, log, variables, client)?;
     let mail = letters_of(alloc, log, inbox.waits())?;
     let call = Call::Fetch;
     inbox.fetch(
@@ -141,6 +151,7 @@ impl Db {
             names,
             log: Log::new(alloc),
             latest: Latest::new(alloc),
+            variables: Variables::new(alloc),
             inboxes,
         })
     }
@@ -153,11 +164,13 @@ impl Db {
     {
         self.latest.see_posts(alloc, &self.log, self.log.posts())?;
         self.log.append(alloc, entry)?;
+        self.variables.see_posts(alloc, &self.log);
         deliver(
             alloc,
             &self.names,
             &self.log,
             &self.latest,
+            &self.variables,
             &mut self.inboxes,
         );
         Ok(())
@@ -262,6 +275,7 @@ impl Db {
             alloc,
             &self.names,
             &mut self.log,
+            &self.variables,
             &mut self.inboxes,
             client,
             stamp,
@@ -271,6 +285,7 @@ impl Db {
             &self.names,
             &self.log,
             &self.latest,
+            &self.variables,
             &mut self.inboxes,
         );
         Ok(mail)

@@ -5,14 +5,13 @@ ghost use Rattle.moos_db.specs.Kept.{IsInbox, is_new_held};
 ghost use Rattle.moos_db.specs.Tables.{IsLatest, rows_of};
 
 use crate::latest::Latest;
-use crate::live::Live;
-use crate::lives::{any_due, any_new, pass_due, pass_new, with_lives, without};
+use crate::lives::Lives;
 use crate::log::Log;
+use crate::variables::Variables;
 use moos_mail::Mailbox;
 use moos_post::{Call, Entry, Name, Names, NoMemory, Pair};
 use std::alloc::Global;
 use std::marker::Model;
-use std::mem;
 
 // What is kept of one client: how many entries its inbox has seen, how many posts there were in these, its live
 // registrations in the order in which they were made, and its mailbox.
@@ -24,7 +23,7 @@ use std::mem;
 pub(crate) struct Inbox {
     seen: u64,
     posts: u64,
-    lives: Vec<Live>,
+    lives: Lives,
     mailbox: Mailbox,
 }
 
@@ -36,7 +35,7 @@ impl Model for Inbox {
     ghost view = { λ inbox. record {
       seen = inbox.seen;
       posts = inbox.posts;
-      lives = inbox.lives.items;
+      lives = inbox.lives;
       mailed = inbox.mailbox.mailed;
       waits = inbox.mailbox.waiting;
     } };
@@ -63,7 +62,7 @@ impl Inbox {
         Inbox {
             seen: 0,
             posts: 0,
-            lives: Vec::new(alloc),
+            lives: Lives::new(alloc),
             mailbox: Mailbox::make(alloc),
         }
     }
@@ -115,10 +114,12 @@ impl Inbox {
         Ok(())
     }
 
-    // A post of this stamp and variable from the client with this name is mailed where it is due.
+    // A post of this stamp and variable from the client with this name is mailed where it is due. The list of the variable
+    // is kept under this number.
     fn mail_due(
         &mut self,
         alloc: Global,
+        number: usize,
         stamp: u64,
         source: &[u8],
         var: &Name,
@@ -126,9 +127,8 @@ impl Inbox {
         requires { IsFresh self.old }
         ensures { IfOk result (λ _. self.new ≡ with_due stamp source.now self.old var.now) }
     {
-        if any_due(&self.lives, stamp, var, source) {
+        if self.lives.pass_due(alloc, number, stamp, var, source)? {
             self.mail(self.posts)?;
-            pass_due(alloc, &mut self.lives, stamp, var, source)?;
         }
         Ok(())
     }
@@ -137,6 +137,7 @@ impl Inbox {
     fn see_post(
         &mut self,
         alloc: Global,
+        number: usize,
         stamp: u64,
         source: &[u8],
         var: &Name,
@@ -146,7 +147,7 @@ impl Inbox {
         ensures now { IfOk result (λ _. self.new ≡ kept_post stamp source.now self.old var.now) }
         ensures fresh { IfOk result (λ _. IsFresh self.new) }
     {
-        self.mail_due(alloc, stamp, source, var)?;
+        self.mail_due(alloc, number, stamp, source, var)?;
         self.posts += 1;
         Ok(())
     }
@@ -154,6 +155,7 @@ impl Inbox {
     fn see_batch(
         &mut self,
         alloc: Global,
+        variables: &Variables,
         stamp: u64,
         source: &[u8],
         pairs: &[Pair],
@@ -163,7 +165,8 @@ impl Inbox {
         ensures { IfOk result (λ _. self.new ≡ kept_batch stamp source.now self.old pairs.now) }
     {
         for pair in pairs {
-            self.see_post(alloc, stamp, source, &pair.var)?;
+            let number = variables.of_post(self.posts);
+            self.see_post(alloc, number, stamp, source, &pair.var)?;
         }
         Ok(())
     }
@@ -174,7 +177,7 @@ impl Inbox {
         ensures { result ≡ (list_any (is_new_held self.now.seen var.now source.now) self.now.lives
             && not (list_any (λ one. one == number) self.now.mailed)) }
     {
-        any_new(&self.lives, self.seen, var, source) && !self.mailbox.mailed(number)
+        self.lives.any_new(self.seen, var, source) && !self.mailbox.mailed(number)
     }
 
     // The post with this number, of this stamp and variable and from the client with this name, catches up.
@@ -190,7 +193,7 @@ impl Inbox {
         ensures { IfOk result (λ _. self.new ≡ with_missed number stamp source.now self.old var.now) }
     {
         self.mail(number)?;
-        pass_new(alloc, &mut self.lives, self.seen, stamp, var, source)
+        self.lives.pass_new(alloc, self.seen, stamp, var, source)
     }
 
     // The post with this number, the latest of its variable, catches up where it may.
@@ -250,13 +253,11 @@ impl Inbox {
     {
         match call {
             Call::Register(regs) => {
-                let lives = mem::replace(&mut self.lives, Vec::new(alloc));
-                self.lives = with_lives(alloc, lives, self.seen, regs.all())?;
+                self.lives.register(alloc, self.seen, regs.all())?;
                 self.catch_up(alloc, names, log, latest)?;
             }
             Call::Unregister(var, source) => {
-                let lives = mem::replace(&mut self.lives, Vec::new(alloc));
-                self.lives = without(alloc, lives, var, source)?;
+                self.lives.withdraw(alloc, var, source)?;
             }
             Call::Post(_) => {}
             Call::Fetch => {
@@ -290,7 +291,13 @@ impl Inbox {
     }
 
     // What the posts of anybody's entry change.
-    fn see_posts(&mut self, alloc: Global, names: &Names, entry: &Entry) -> Result<(), NoMemory>
+    fn see_posts(
+        &mut self,
+        alloc: Global,
+        names: &Names,
+        variables: &Variables,
+        entry: &Entry,
+    ) -> Result<(), NoMemory>
         requires fits { self.old.posts + length (posts_of_entry entry.now) < 2 ^ 64 }
         requires fresh { IsFresh self.old }
         ensures { IfOk result (λ _.
@@ -299,6 +306,7 @@ impl Inbox {
         match &entry.call {
             Call::Post(batch) => self.see_batch(
                 alloc,
+                variables,
                 entry.stamp,
                 source_of(names, entry.client),
                 batch.all(),
@@ -315,6 +323,7 @@ impl Inbox {
         names: &Names,
         log: &Log,
         latest: &Latest,
+        variables: &Variables,
         client: u32,
     ) -> Result<(), NoMemory>
         requires inbox { IsInbox names.now log.now.entries client self.old }
@@ -327,20 +336,29 @@ impl Inbox {
         let seen = self.seen;
         let entry = log.entry(seen as usize);
         self.see_call(alloc, names, log, latest, client, entry)?;
-        self.see_posts(alloc, names, entry)?;
+        self.see_posts(alloc, names, variables, entry)?;
         self.seen = seen + 1;
         Ok(())
     }
 
     // The next entry, where there is one and the table of latest posts has seen the same posts. Without memory the
     // inbox begins anew.
-    pub fn follow(&mut self, alloc: Global, names: &Names, log: &Log, latest: &Latest, client: u32)
+    pub fn follow(
+        &mut self,
+        alloc: Global,
+        names: &Names,
+        log: &Log,
+        latest: &Latest,
+        variables: &Variables,
+        client: u32,
+    )
         requires inbox { IsInbox names.now log.now.entries client self.old }
         requires latest { IsLatest (posts_of log.now.entries) latest.now }
         ensures { IsInbox names.now log.now.entries client self.new }
     {
         if self.seen < log.len() as u64 && self.posts == latest.posts() as u64 {
-            if self.see_entry(alloc, names, log, latest, client).is_err() {
+            let seen = self.see_entry(alloc, names, log, latest, variables, client);
+            if seen.is_err() {
                 *self = Inbox::new(alloc);
             }
         }
@@ -352,6 +370,7 @@ impl Inbox {
         alloc: Global,
         names: &Names,
         log: &Log,
+        variables: &Variables,
         client: u32,
     ) -> Result<(), NoMemory>
         requires { IsInbox names.now log.now.entries client self.old }
@@ -360,14 +379,20 @@ impl Inbox {
         ensures few { OnOk result (self.new.seen < 2 ^ 64 - 1) }
     {
         if self.seen < log.len() as u64 {
-            *self = made_anew(alloc, names, log, client)?;
+            *self = made_anew(alloc, names, log, variables, client)?;
         }
         Ok(())
     }
 }
 
 // The client's inbox after the whole history, made from the history alone.
-fn made_anew(alloc: Global, names: &Names, log: &Log, client: u32) -> Result<Inbox, NoMemory>
+fn made_anew(
+    alloc: Global,
+    names: &Names,
+    log: &Log,
+    variables: &Variables,
+    client: u32,
+) -> Result<Inbox, NoMemory>
     ensures inbox { IfOk result (λ now. IsInbox names.now log.now.entries client now) }
     ensures all { IfOk result (λ now. now.seen ≡ length log.now.entries) }
     ensures few { IfOk result (λ now. now.seen < 2 ^ 64 - 1) }
@@ -376,7 +401,7 @@ fn made_anew(alloc: Global, names: &Names, log: &Log, client: u32) -> Result<Inb
     let mut latest = Latest::new(alloc);
     'entries: while inbox.seen() < log.len() as u64 {
         latest.see_posts(alloc, log, inbox.posts() as usize)?;
-        inbox.see_entry(alloc, names, log, &latest, client)?;
+        inbox.see_entry(alloc, names, log, &latest, variables, client)?;
     }
     Ok(inbox)
 }

@@ -11,6 +11,7 @@
 
 mod db;
 mod inbox;
+mod index;
 mod journal;
 mod latest;
 mod live;
@@ -19,6 +20,7 @@ mod log;
 mod mail;
 mod run;
 mod table;
+mod variables;
 
 pub use db::Db;
 pub use mail::{Letter, Mail, Origin};

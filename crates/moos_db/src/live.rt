@@ -1,4 +1,5 @@
 ghost use Rattle.std.specs.Prelude.{◌≡◌, ◌&&◌, bytes_eq, IfOk};
+ghost use Rattle.moos_post.specs.Patterns.{matches};
 ghost use Rattle.moos_db.specs.Kept.{picks, has_patterns, held_of_reg, with_stamp, is_due_held, passed, is_new_held, caught};
 
 use crate::table::Table;
@@ -31,7 +32,7 @@ fn picks(reg: &Reg, var: &Name, source: &[u8]) -> bool
     matches(&reg.var, var.bytes()) && matches(&reg.source, source)
 }
 
-fn is_same(left: &[u8], right: &[u8]) -> bool
+pub(crate) fn is_same(left: &[u8], right: &[u8]) -> bool
     ensures { result ≡ bytes_eq left.now right.now }
 {
     left == right
@@ -87,20 +88,29 @@ impl Live {
         self.lasts.set(alloc, var, stamp)
     }
 
-    // The post comes through where it is due.
+    // Whether its pattern matches the variable.
+    pub fn matches_var(&self, var: &Name) -> bool
+        ensures { result ≡ matches self.now.reg.var var.now }
+    {
+        matches(&self.reg.var, var.bytes())
+    }
+
+    // The post comes through where it is due. Tells whether it is.
     pub fn pass_if_due(
         &mut self,
         alloc: Global,
         stamp: u64,
         var: &Name,
         source: &[u8],
-    ) -> Result<(), NoMemory>
-        ensures { IfOk result (λ _. self.new ≡ passed stamp var.now source.now self.old) }
+    ) -> Result<bool, NoMemory>
+        ensures due { IfOk result (λ due. due ≡ is_due_held stamp var.now source.now self.old) }
+        ensures passed { IfOk result (λ _. self.new ≡ passed stamp var.now source.now self.old) }
     {
-        if self.is_due(stamp, var, source) {
+        let due = self.is_due(stamp, var, source);
+        if due {
             self.pass(alloc, stamp, var)?;
         }
-        Ok(())
+        Ok(due)
     }
 
     // The post comes through where the registration is new and selects it.

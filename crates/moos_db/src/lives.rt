@@ -1,43 +1,129 @@
-ghost use Rattle.std.specs.Prelude.{◌≡◌, map, fold, IfOk};
+ghost use Rattle.std.specs.Prelude.{◌≡◌, [], map, fold, IfOk};
 ghost use Rattle.std.specs.List.{list_any};
 ghost use Rattle.moos_db.specs.Kept.{is_due_held, passed, is_new_held, caught, without_held, with_held};
 
+use crate::index::{Listed, list_var, pass_places, places_at};
 use crate::live::Live;
 use moos_post::{Name, NoMemory, Pattern, Reg};
 use std::alloc::Global;
+use std::marker::Model;
+use std::mem;
 
-// Whether a post of this stamp and variable, from the client with this name, is due at some registration.
-pub(crate) fn any_due(lives: &[Live], stamp: u64, var: &Name, source: &[u8]) -> bool
-    ensures { result ≡ list_any (is_due_held stamp var.now source.now) lives.now }
-{
-    lives.iter().any(|live| live.is_due(stamp, var, source))
+// A client's live registrations in the order in which they were made, and of each variable that was posted since they
+// last changed a list of those whose pattern matches it.
+#[derive(Drop)]
+pub(crate) struct Lives {
+    lives: Vec<Live>,
+    lists: Vec<Option<Listed>>,
 }
 
-// It comes through each registration at which it is due.
-pub(crate) fn pass_due(
-    alloc: Global,
-    lives: &mut [Live],
-    stamp: u64,
-    var: &Name,
-    source: &[u8],
-) -> Result<(), NoMemory>
-    ensures { IfOk result (λ _. lives.new ≡ map (passed stamp var.now source.now) lives.old) }
-{
-    for live in lives.iter_mut() {
-        live.pass_if_due(alloc, stamp, var, source)?;
+impl Model for Lives {
+    ghost use Rattle.std.specs.Prelude.{List};
+    ghost use Rattle.moos_db.specs.Index.{AreListed};
+    ghost use Rattle.moos_db.specs.Kept.{KeptLive};
+
+    ghost Value = { List KeptLive };
+
+    ghost view = { λ all. all.lives.items };
+
+    ghost invariant = { λ all. AreListed all.lives.items all.lists.items };
+}
+
+impl Lives {
+    ghost use Rattle.moos_db.specs.Kept.{is_due_held, passed, is_new_held, caught, without_held, with_held};
+
+    // No registrations.
+    pub fn new(alloc: Global) -> Lives
+        ensures { result ≡ [] }
+    {
+        Lives {
+            lives: Vec::new(alloc),
+            lists: Vec::new(alloc),
+        }
     }
-    Ok(())
+
+    // A post of this stamp and variable, from the client with this name, comes through each registration at which it is
+    // due. Tells whether there is one. The number is the one under which the variable's list is kept. Where memory ends on
+    // the way there are no lists.
+    pub fn pass_due(
+        &mut self,
+        alloc: Global,
+        number: usize,
+        stamp: u64,
+        var: &Name,
+        source: &[u8],
+    ) -> Result<bool, NoMemory>
+        ensures due { IfOk result (λ due. due ≡ list_any (is_due_held stamp var.now source.now) self.old) }
+        ensures passed { IfOk result (λ _. self.new ≡ map (passed stamp var.now source.now) self.old) }
+    {
+        list_var(alloc, &mut self.lists, number, var, self.lives.as_slice())?;
+        let places = places_at(self.lists.as_slice(), number);
+        match pass_places(alloc, &mut self.lives, places, stamp, var, source) {
+            Ok(due) => Ok(due),
+            Err(no_memory) => {
+                self.lists.clear();
+                Err(no_memory)
+            }
+        }
+    }
+
+    // Whether some registration that was made at this entry selects the post.
+    pub fn any_new(&self, made: u64, var: &Name, source: &[u8]) -> bool
+        ensures { result ≡ list_any (is_new_held made var.now source.now) self.now }
+    {
+        any_new(self.lives.as_slice(), made, var, source)
+    }
+
+    // It comes through each of those.
+    pub fn pass_new(
+        &mut self,
+        alloc: Global,
+        made: u64,
+        stamp: u64,
+        var: &Name,
+        source: &[u8],
+    ) -> Result<(), NoMemory>
+        ensures { IfOk result (λ _. self.new ≡ map (caught made stamp var.now source.now) self.old) }
+    {
+        self.lists.clear();
+        pass_new(alloc, self.lives.as_mut_slice(), made, stamp, var, source)
+    }
+
+    // This entry makes these registrations, one after another, each of which withdraws one with the same patterns.
+    pub fn register(&mut self, alloc: Global, made: u64, regs: &[Reg]) -> Result<(), NoMemory>
+        ensures { IfOk result (λ _. self.new ≡ fold (with_held made) self.old regs.now) }
+    {
+        self.lists.clear();
+        let lives = mem::replace(&mut self.lives, Vec::new(alloc));
+        self.lives = with_lives(alloc, lives, made, regs)?;
+        Ok(())
+    }
+
+    // The registration that has both these patterns is withdrawn.
+    pub fn withdraw(
+        &mut self,
+        alloc: Global,
+        var: &Pattern,
+        source: &Pattern,
+    ) -> Result<(), NoMemory>
+        ensures { IfOk result (λ _. self.new ≡ without_held var.now source.now self.old) }
+    {
+        self.lists.clear();
+        let lives = mem::replace(&mut self.lives, Vec::new(alloc));
+        self.lives = without(alloc, lives, var, source)?;
+        Ok(())
+    }
 }
 
 // Whether some registration that was made at this entry selects the post.
-pub(crate) fn any_new(lives: &[Live], made: u64, var: &Name, source: &[u8]) -> bool
+fn any_new(lives: &[Live], made: u64, var: &Name, source: &[u8]) -> bool
     ensures { result ≡ list_any (is_new_held made var.now source.now) lives.now }
 {
     lives.iter().any(|live| live.is_new_for(made, var, source))
 }
 
 // It comes through each of those.
-pub(crate) fn pass_new(
+fn pass_new(
     alloc: Global,
     lives: &mut [Live],
     made: u64,
@@ -54,7 +140,7 @@ pub(crate) fn pass_new(
 }
 
 // The registrations without the one that has both these patterns.
-pub(crate) fn without(
+fn without(
     alloc: Global,
     lives: Vec<Live>,
     var: &Pattern,
@@ -81,7 +167,7 @@ fn with_live(alloc: Global, lives: Vec<Live>, made: u64, reg: &Reg) -> Result<Ve
 }
 
 // The registrations after this entry made these, one after another.
-pub(crate) fn with_lives(
+fn with_lives(
     alloc: Global,
     lives: Vec<Live>,
     made: u64,

@@ -1,0 +1,14 @@
+use Rattle.std.proofs.Common.{◌≡◌, ◌∙◌, ap, sym}
+use Rattle.moos_db.proofs.Listing.{matching-next, matching-skip}
+use Rattle.moos_db.proofs.index.matching.Goals as goal
+use Rattle.moos_db.proofs.index.matching.Goals.{then-matches_var+in_ok-push, else-matches_var}
+
+pub loop-place-preserved : goal.loop-place-preserved
+loop-place-preserved c = elim c.if-matches_var.branch [
+  | then-matches_var+in_ok-push w ↦
+      ap (λ v. v.items) w.places-is ∙ w.in_ok-push.ensures.items
+      ∙ matching-next c.args.var.now c.args.lives.now c.loop-place.place c.index-lives-place.result _ c.loop-place-test.true c.index-lives-place.is c.loop-place.invariant (sym c.matches_var.ensures ∙ w.if-matches_var.true)
+  | else-matches_var w ↦
+      ap (λ v. v.items) w.places-is
+      ∙ matching-skip c.args.var.now c.args.lives.now c.loop-place.place c.index-lives-place.result _ c.loop-place-test.true c.index-lives-place.is c.loop-place.invariant (sym c.matches_var.ensures ∙ w.if-matches_var.false)
+]

@@ -1,6 +1,0 @@
-use Rattle.std.proofs.Common.{◌≡◌, ◌++◌, map, take, drop}
-use Rattle.moos_db.specs.Kept.{passed}
-use Rattle.moos_db.proofs.lives.pass_due.Given as goal
-
-abbrev pub invariant-loop-live : goal.invariant-loop-live
-invariant-loop-live l = l.lives ≡ map (passed l.stamp l.var l.source) (take l.live-index l.initial.lives) ++ drop l.live-index l.initial.lives
