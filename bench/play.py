@@ -1,10 +1,14 @@
 #!/usr/bin/env python3
-"""Plays scripts of growing length, and prints seconds and peak memory of each.
+"""Plays scripts, and prints seconds and peak memory of each.
 
-    bench/play.py [LINES..]        1,000, 10,000 and 100,000 lines where none are given
+    bench/play.py [LINES..]            scripts of growing length; 1,000, 10,000 and 100,000 lines where none are given
+    bench/play.py --wide [PROGRAM..]   scripts of many clients, by this program and by turns by each other one named,
+                                       which takes the same words
 
 For each length: one client that only posts; one that registers first and posts; and one that registers, posts, and
-fetches at every tenth line. The report goes to a file. Nothing here is part of the gate, and no figure is promised.
+fetches at every tenth line. Of many clients: 64 of 256 registrations each that hear none of 80,000 posts; 63 that hear
+each of 90,000; 8 of 256 registrations each, of which one selects each of 90,000 posts; 64 that make their calls at
+stamps of their own; and 64 in a race. Reports go to a file. Nothing here is part of the gate, and no figure is promised.
 """
 import os
 import subprocess
@@ -12,6 +16,7 @@ import sys
 import tempfile
 
 TOP = os.path.dirname(os.path.dirname(os.path.abspath(__file__)))
+MOOS = os.path.join(TOP, "moos")
 
 
 def posts(lines):
@@ -27,31 +32,72 @@ def fetched(lines):
     return ["0 pA register X"] + body
 
 
-def measure(script, report):
-    """Runs the program once: its exit status, seconds of wall clock and of processor time, and peak memory in MB."""
+def unheard():
+    asked = [f"0 p{client} register V{k}" for client in range(64) for k in range(256)]
+    return asked + [f"{1 + k * 0.001:.3f} p0 post X={k}" for k in range(80_000)]
+
+
+def heard():
+    asked = [f"0 p{client} register X" for client in range(1, 64)]
+    return asked + [f"{1 + k * 0.001:.3f} p0 post X={k}" for k in range(90_000)]
+
+
+def chosen():
+    asked = [f"0 p{client} register V{k}" for client in range(8) for k in range(256)]
+    return asked + [f"{1 + k * 0.001:.3f} p0 post V{k % 256}={k}" for k in range(90_000)]
+
+
+def apart():
+    return [f"{k * 0.001:.3f} p{k % 64} post X={k}" for k in range(90_000)]
+
+
+def race():
+    return [f"0 p{k % 64} post X={k}" for k in range(20_000)]
+
+
+# The scripts of many clients, and the words behind each.
+WIDE = [(unheard, []), (heard, []), (chosen, []), (apart, []), (race, ["--race"])]
+
+
+def measure(program, script, words, report):
+    """Runs a program once: its exit status, seconds of wall clock and of processor time, and peak memory in MB."""
     with open(report, "wb") as out:
         start = os.times()
-        child = subprocess.Popen([os.path.join(TOP, "moos"), "play", script], stdout=out)
+        child = subprocess.Popen([program, "play", script] + words, stdout=out)
         _, status, usage = os.wait4(child.pid, 0)
         end = os.times()
     return os.waitstatus_to_exitcode(status), end.elapsed - start.elapsed, usage.ru_utime + usage.ru_stime, usage.ru_maxrss / 1024
 
 
+def show(name, program, script, words, report):
+    """Runs a program once, and prints a line of figures under this name."""
+    status, seconds, cpu, peak = measure(program, script, words, report)
+    size = os.path.getsize(report) / 1e6
+    note = "" if status == 0 else f"  exit status {status}"
+    print(f"{name:<20} {seconds:>8.3f} {cpu:>7.3f} {peak:>8.1f} {size:>10.2f}{note}", flush=True)
+
+
 def main():
-    lengths = [int(word) for word in sys.argv[1:]] or [1_000, 10_000, 100_000]
     # Builds the program where it is stale, so that no run pays for that.
-    subprocess.run([os.path.join(TOP, "moos"), "play"], stderr=subprocess.DEVNULL)
-    print(f"{'lines':>8}  {'script':<10} {'seconds':>8} {'cpu':>7} {'peak MB':>8} {'report MB':>10}")
+    subprocess.run([MOOS, "play"], stderr=subprocess.DEVNULL)
+    print(f"{'script':<20} {'seconds':>8} {'cpu':>7} {'peak MB':>8} {'report MB':>10}")
     with tempfile.TemporaryDirectory() as folder:
-        for lines in lengths:
+        script, report = os.path.join(folder, "script.txt"), os.path.join(folder, "report.txt")
+
+        def write(lines):
+            with open(script, "w") as out:
+                out.write("\n".join(lines) + "\n")
+
+        if sys.argv[1:2] == ["--wide"]:
+            for make, words in WIDE:
+                write(make())
+                for program in [MOOS] + sys.argv[2:]:
+                    show(f"{make.__name__} {os.path.basename(program)}", program, script, words, report)
+            return
+        for lines in [int(word) for word in sys.argv[1:]] or [1_000, 10_000, 100_000]:
             for make in (posts, registered, fetched):
-                script, report = os.path.join(folder, "script.txt"), os.path.join(folder, "report.txt")
-                with open(script, "w") as out:
-                    out.write("\n".join(make(lines)) + "\n")
-                status, seconds, cpu, peak = measure(script, report)
-                size = os.path.getsize(report) / 1e6
-                note = "" if status == 0 else f"  exit status {status}"
-                print(f"{lines:>8}  {make.__name__:<10} {seconds:>8.3f} {cpu:>7.3f} {peak:>8.1f} {size:>10.2f}{note}")
+                write(make(lines))
+                show(f"{make.__name__} {lines}", MOOS, script, [], report)
 
 
 if __name__ == "__main__":

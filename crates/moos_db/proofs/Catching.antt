@@ -1,6 +1,6 @@
 -- What a call changes in what is kept of a client: the posts that catch up are found by the table of latest posts, and no
 -- number is mailed that was mailed before.
-use Rattle.std.proofs.Common.{◌≡◌, ℕ, suc, ◌+◌, ◌<◌, ◌≤◌, Bool, true, false, ◌||◌, ◌&&◌, ◌==◌, not, List, [], ◌∷◌, ◌++◌, length, map, fold, take, drop, get_or, slice_get, Some, All, append_assoc, refl, ap, sym, ◌∙◌, arith, subst, if◌then◌else◌}
+use Rattle.std.proofs.Common.{◌≡◌, ℕ, suc, ◌+◌, ◌<◌, ◌≤◌, Bool, true, false, ◌||◌, ◌&&◌, ◌==◌, not, List, [], ◌∷◌, ◌++◌, length, fold, take, drop, get_or, slice_get, Some, All, append_assoc, refl, ap, sym, ◌∙◌, arith, subst, if◌then◌else◌}
 use Rattle.std.proofs.lemmas.Bool.{ne_eqb}
 use Rattle.std.specs.List.{list_any, AllByRecursion}
 use Rattle.std.proofs.lemmas.List.{length-take, take-append-drop}
@@ -12,25 +12,10 @@ use Rattle.moos_post.specs.declared.entry.Call.TheVariants.{Register, Unregister
 use Rattle.moos_post.specs.declared.value.Post.{Post}
 use Rattle.moos_post.specs.Delivery.{is_latest}
 use Rattle.moos_post.specs.History.{name_of}
-use Rattle.moos_db.specs.Kept.{Kept, KeptLive, is_due_held, is_new_held, with_stamp, passed, with_mailed, with_due, catch_post, catch_found, catch_number, catches_kept, with_caught, kept_catching, kept_own, IsFresh}
+use Rattle.moos_db.specs.Kept.{Kept, is_new_held, catch_post, catch_found, catch_number, catches_kept, with_caught, kept_catching, kept_own, IsFresh}
 use Rattle.moos_db.specs.Tables.{latest_from}
 use Rattle.moos_mail.proofs.Lists.{found-below, length-push, list_any-push}
 use Rattle.moos_db.proofs.Standing.{slice_get-seam}
-
--- a post that is due nowhere changes no registration
-passed-none : (stamp : ℕ) (var source : List ℕ) (lives : List KeptLive) → list_any (is_due_held stamp var source) lives ≡ false → map (passed stamp var source) lives ≡ lives
-passed-none stamp var source [] none = refl
-passed-none stamp var source (live ∷ lives) none = through (is_due_held stamp var source live) none (passed-none stamp var source lives)
-  where
-    through : (due : Bool) → (due || list_any (is_due_held stamp var source) lives) ≡ false → (list_any (is_due_held stamp var source) lives ≡ false → map (passed stamp var source) lives ≡ lives) →
-        (if due then with_stamp stamp var live else live) ∷ map (passed stamp var source) lives ≡ live ∷ lives
-    through true e rest = absurd (let e' : true ≡ false = e in cc)
-    through false e rest = ap (λ more. live ∷ more) (rest e)
-
-pub with_due-none : (stamp : ℕ) (source : List ℕ) (kept : Kept) (var : List ℕ) → false ≡ list_any (is_due_held stamp var source) kept.lives → kept ≡ with_due stamp source kept var
-with_due-none stamp source kept var none =
-    sym (ap (λ lives. record kept { lives = lives }) (passed-none stamp var source kept.lives (sym none)))
-    ∙ ap (λ due. record (if due then with_mailed kept.posts kept else kept) { lives = map (passed stamp var source) kept.lives }) none
 
 -- only the latest post of a variable catches up, so the others can be left out
 catching-latest : (names : List (List ℕ)) (all front : List Post) (kept : Kept) (posts rest : List Post) → all ≡ front ++ (posts ++ rest) →

@@ -93,9 +93,9 @@ impl Lives {
     pub fn register(&mut self, alloc: Global, made: u64, regs: &[Reg]) -> Result<(), NoMemory>
         ensures { IfOk result (λ _. self.new ≡ fold (with_held made) self.old regs.now) }
     {
-        self.lists.clear();
-        let lives = mem::replace(&mut self.lives, Vec::new(alloc));
-        self.lives = with_lives(alloc, lives, made, regs)?;
+        self.lists = Vec::new(alloc);
+        let before = mem::replace(&mut self.lives, Vec::new(alloc));
+        self.lives = with_lives(alloc, before, made, regs)?;
         Ok(())
     }
 
@@ -108,9 +108,9 @@ impl Lives {
     ) -> Result<(), NoMemory>
         ensures { IfOk result (λ _. self.new ≡ without_held var.now source.now self.old) }
     {
-        self.lists.clear();
-        let lives = mem::replace(&mut self.lives, Vec::new(alloc));
-        self.lives = without(alloc, lives, var, source)?;
+        self.lists.truncate(0);
+        let before = mem::replace(&mut self.lives, Vec::new(alloc));
+        self.lives = without(alloc, before, var, source)?;
         Ok(())
     }
 }

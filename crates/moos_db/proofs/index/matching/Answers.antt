@@ -1,4 +1,4 @@
-use Rattle.std.proofs.Common.{◌≡◌, ◌∙◌, ap, sym}
+use Rattle.std.proofs.Common.{◌∙◌, ap, sym}
 use Rattle.moos_db.proofs.Listing.{matching-next, matching-skip}
 use Rattle.moos_db.proofs.index.matching.Goals as goal
 use Rattle.moos_db.proofs.index.matching.Goals.{then-matches_var+in_ok-push, else-matches_var}
