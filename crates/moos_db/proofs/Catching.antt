@@ -12,13 +12,13 @@ use Rattle.moos_post.specs.declared.entry.Call.TheVariants.{Register, Unregister
 use Rattle.moos_post.specs.declared.value.Post.{Post}
 use Rattle.moos_post.specs.Delivery.{is_latest}
 use Rattle.moos_post.specs.History.{name_of}
-use Rattle.moos_db.specs.Kept.{Kept, is_new_held, catch_post, catch_found, catch_number, catches_kept, with_caught, kept_catching, kept_own, IsFresh}
+use Rattle.moos_db.specs.Subscribers.{SubscriberState, is_new_held, catch_post, catch_found, catch_number, catches_kept, with_caught, kept_catching, kept_own, IsFresh}
 use Rattle.moos_db.specs.Tables.{latest_from}
 use Rattle.moos_mail.proofs.Lists.{found-below, length-push, list_any-push}
 use Rattle.moos_db.proofs.Standing.{slice_get-seam}
 
 -- only the latest post of a variable catches up, so the others can be left out
-catching-latest : (names : List (List ℕ)) (all front : List Post) (kept : Kept) (posts rest : List Post) → all ≡ front ++ (posts ++ rest) →
+catching-latest : (names : List (List ℕ)) (all front : List Post) (kept : SubscriberState) (posts rest : List Post) → all ≡ front ++ (posts ++ rest) →
     kept_catching names (length front) kept posts ≡ fold (catch_number names all) kept (latest_from (length front) posts)
 catching-latest names all front kept [] rest is = refl
 catching-latest names all front kept (post ∷ later) rest is =
@@ -29,7 +29,7 @@ catching-latest names all front kept (post ∷ later) rest is =
     (catching-latest names all (front ++ post ∷ []) now later rest (is ∙ sym (append_assoc front (post ∷ []) (later ++ rest)))))
     there
   where
-    through : (newest : Bool) → ((now : Kept) → kept_catching names (suc (length front)) now later ≡ fold (catch_number names all) now (latest_from (suc (length front)) later)) →
+    through : (newest : Bool) → ((now : SubscriberState) → kept_catching names (suc (length front)) now later ≡ fold (catch_number names all) now (latest_from (suc (length front)) later)) →
         slice_get all (length front) ≡ Some post →
         kept_catching names (suc (length front)) (if newest && list_any (is_new_held kept.seen post.var (name_of names post.source)) kept.lives && not (list_any (λ one. one == length front) kept.mailed) then with_caught names kept (length front) post else kept) later
         ≡ fold (catch_number names all) kept (if newest then length front ∷ latest_from (suc (length front)) later else latest_from (suc (length front)) later)
@@ -37,7 +37,7 @@ catching-latest names all front kept (post ∷ later) rest is =
     through false go there = go kept
 
 -- The first posts catch up, as many as these.
-pub catching-numbers : (names : List (List ℕ)) (kept : Kept) (posts : List Post) (count : ℕ) →
+pub catching-numbers : (names : List (List ℕ)) (kept : SubscriberState) (posts : List Post) (count : ℕ) →
     kept_catching names 0 kept (take count posts) ≡ fold (catch_number names posts) kept (latest_from 0 (take count posts))
 catching-numbers names kept posts count = catching-latest names posts [] kept (take count posts) (drop count posts) (sym (take-append-drop count posts))
 
@@ -58,7 +58,7 @@ latest-posts posts count numbers place number are below is =
     omega (arith, here, is, length-take count posts)
 
 -- one of the latest posts catches up after those before it
-pub catching-next : (names : List (List ℕ)) (posts : List Post) (start old new : Kept) (numbers : List ℕ) (place number : ℕ) → number < length posts → place < length numbers → number ≡ get_or numbers place 0 →
+pub catching-next : (names : List (List ℕ)) (posts : List Post) (start old new : SubscriberState) (numbers : List ℕ) (place number : ℕ) → number < length posts → place < length numbers → number ≡ get_or numbers place 0 →
     ((post : Post) → slice_get posts number ≡ Some post → new ≡ catch_post names number old post) → old ≡ fold (catch_number names posts) start (take place numbers) →
     new ≡ fold (catch_number names posts) start (take (place + 1) numbers)
 catching-next names posts start old new numbers place number within below is step before =
@@ -70,7 +70,7 @@ catching-next names posts start old new numbers place number within below is ste
     ∙ sym (fold-append (catch_number names posts) start (take place numbers) (number ∷ []))
     ∙ ap (fold (catch_number names posts) start) (sym (ap (λ n. take n numbers) next ∙ take-suc numbers place 0 below ∙ ap (λ n. take place numbers ++ n ∷ []) (sym is)))
 
-posts-catching : (names : List (List ℕ)) (number : ℕ) (kept : Kept) (posts : List Post) → (kept_catching names number kept posts).posts ≡ kept.posts
+posts-catching : (names : List (List ℕ)) (number : ℕ) (kept : SubscriberState) (posts : List Post) → (kept_catching names number kept posts).posts ≡ kept.posts
 posts-catching names number kept [] = refl
 posts-catching names number kept (post ∷ later) = posts-catching names (suc number) _ later ∙ through (catches_kept names kept number post later)
   where
@@ -79,7 +79,7 @@ posts-catching names number kept (post ∷ later) = posts-catching names (suc nu
     through false = refl
 
 -- a client's own call counts no posts
-pub kept_posts-own : (names : List (List ℕ)) (posts : List Post) (kept : Kept) (own : Bool) (call : Call) → (if own then kept_own names posts kept call else kept).posts ≡ kept.posts
+pub kept_posts-own : (names : List (List ℕ)) (posts : List Post) (kept : SubscriberState) (own : Bool) (call : Call) → (if own then kept_own names posts kept call else kept).posts ≡ kept.posts
 kept_posts-own names posts kept false call = refl
 kept_posts-own names posts kept true (Register regs) = posts-catching names 0 _ posts
 kept_posts-own names posts kept true (Unregister var source) = refl
@@ -94,17 +94,17 @@ fresh-push posts number mailed below fresh n from =
     ∙ ap (λ b. b || (number == n)) (fresh n from)
     ∙ ne_eqb number n (λ same. omega arith)
 
-fresh-catching : (names : List (List ℕ)) (number : ℕ) (kept : Kept) (posts : List Post) → number + length posts ≤ kept.posts → IsFresh kept → IsFresh (kept_catching names number kept posts)
+fresh-catching : (names : List (List ℕ)) (number : ℕ) (kept : SubscriberState) (posts : List Post) → number + length posts ≤ kept.posts → IsFresh kept → IsFresh (kept_catching names number kept posts)
 fresh-catching names number kept [] within fresh = fresh
 fresh-catching names number kept (post ∷ later) within fresh =
     through (catches_kept names kept number post later) (λ now same now_fresh. fresh-catching names (suc number) now later (omega (arith, same)) now_fresh)
   where
-    through : (catches : Bool) → ((now : Kept) → now.posts ≡ kept.posts → IsFresh now → IsFresh (kept_catching names (suc number) now later)) →
+    through : (catches : Bool) → ((now : SubscriberState) → now.posts ≡ kept.posts → IsFresh now → IsFresh (kept_catching names (suc number) now later)) →
         IsFresh (kept_catching names (suc number) (if catches then with_caught names kept number post else kept) later)
     through true rest = rest (with_caught names kept number post) refl (fresh-push kept.posts number kept.mailed (omega arith) fresh)
     through false rest = rest kept refl fresh
 
-pub fresh-own : (names : List (List ℕ)) (posts : List Post) (kept : Kept) (own : Bool) (call : Call) → length posts ≤ kept.posts → IsFresh kept → IsFresh (if own then kept_own names posts kept call else kept)
+pub fresh-own : (names : List (List ℕ)) (posts : List Post) (kept : SubscriberState) (own : Bool) (call : Call) → length posts ≤ kept.posts → IsFresh kept → IsFresh (if own then kept_own names posts kept call else kept)
 fresh-own names posts kept false call within fresh = fresh
 fresh-own names posts kept true (Register regs) within fresh = fresh-catching names 0 _ posts (omega arith) fresh
 fresh-own names posts kept true (Unregister var source) within fresh = fresh

@@ -10,11 +10,11 @@ use Rattle.moos_post.specs.declared.value.Post.{Post}
 use Rattle.moos_post.specs.declared.value.Value.TheVariants.{Num}
 use Rattle.moos_post.specs.Delivery.{inbox_of, mail_at}
 use Rattle.moos_post.specs.History.{History, posts_of}
-use Rattle.moos_db.specs.Database.{after_entry, AreLetters, AreMails, Database, letter_at, letter_of, origin_of, pair_of}
+use Rattle.moos_db.specs.Database.{after_entry, AreLetters, AreMails, Database, letter_at, letter_of, origin_of, pair_posted}
 use Rattle.moos_db.specs.declared.mail.Letter.{Letter}
-use Rattle.moos_db.specs.Kept.{catch_found, catch_number, catch_post, empty_kept, held_of_reg, IsFresh, IsInbox, Kept, kept_entry, kept_of}
-use Rattle.moos_db.specs.Places.{AreInboxes, IsDb, IsLog, Journal, place_at, post_in}
-use Rattle.moos_db.specs.Tables.{IsLatest, Latest, Row, rows_of, number_of, latest_from, lasts_of}
+use Rattle.moos_db.specs.Subscribers.{catch_found, catch_number, catch_post, empty_kept, held_of_reg, IsFresh, IsSubscriber, SubscriberState, kept_entry, kept_of}
+use Rattle.moos_db.specs.Places.{AreSubscribers, IsDb, IsLog, Journal, place_at, post_in}
+use Rattle.moos_db.specs.Tables.{IsLatest, LatestState, Row, rows_of, number_of, latest_from, lasts_of}
 
 abbrev post : List ℕ → ℕ → Post
 post var stamp = record { stamp = stamp; source = 0; var = var; value = Num (pos 0) }
@@ -32,7 +32,7 @@ table_of_latest_posts : rows_of posts ≡ row (codes "C") 3 ∷ row (codes "B") 
 table_of_latest_posts = refl
 
 -- The table of all four posts, and one that has seen three. Post 0 is not the latest of C among four.
-abbrev table : ℕ → ℕ → Latest
+abbrev table : ℕ → ℕ → LatestState
 table seen latest_of_c = record { posts = seen; rows = row (codes "C") latest_of_c ∷ row (codes "B") 1 ∷ row (codes "A") 2 ∷ [] }
 
 is_latest_of_all : IsLatest posts (table 4 3)
@@ -60,7 +60,7 @@ letter = refl
 no_letter : letter_at posts 4 ≡ None
 no_letter = refl
 
-said : pair_of (post (codes "B") 20) ≡ record { var = codes "B"; value = Num (pos 0) }
+said : pair_posted (post (codes "B") 20) ≡ record { var = codes "B"; value = Num (pos 0) }
 said = refl
 
 made : origin_of (post (codes "B") 20) ≡ record { stamp = 20; client = 0 }
@@ -83,7 +83,7 @@ history = says 10 ∷ at 10 0 (Register (all ∷ [])) ∷ says 50 ∷ says 110 �
 abbrev names : List (List ℕ)
 names = codes "a" ∷ codes "b" ∷ []
 
-abbrev kept : Kept
+abbrev kept : SubscriberState
 kept = record { seen = 4; posts = 3; lives = record { reg = all; made = 1; lasts = row (codes "A") 110 ∷ [] } ∷ []; mailed = 0 ∷ 2 ∷ []; waits = 0 ∷ 2 ∷ [] }
 
 kept_then : kept_of (inbox_of names 0 history) ≡ kept
@@ -106,14 +106,14 @@ misplaced : post_in history (place_at 3 1) ≡ None
 misplaced = refl
 
 -- That is where client 0 stands after all four entries; after three it had one post less, and client 1 has no mail.
-is_inbox : IsInbox names history 0 kept
+is_inbox : IsSubscriber names history 0 kept
 is_inbox = record { within = omega arith; same = refl }
 
-earlier_inbox : IsInbox names history 0 (record kept { seen = 3 }) → ⊥
-earlier_inbox inbox = omega (arith, ap (λ (one : Kept). one.posts) inbox.same)
+earlier_inbox : IsSubscriber names history 0 (record kept { seen = 3 }) → ⊥
+earlier_inbox inbox = omega (arith, ap (λ (one : SubscriberState). one.posts) inbox.same)
 
-others_inbox : IsInbox names history 1 kept → ⊥
-others_inbox inbox = omega (arith, ap (λ (one : Kept). length one.mailed) inbox.same)
+others_inbox : IsSubscriber names history 1 kept → ⊥
+others_inbox inbox = omega (arith, ap (λ (one : SubscriberState). length one.mailed) inbox.same)
 
 -- Numbers from 3 on, of posts to come, were not mailed; from 2 on one was.
 fresh : IsFresh kept
@@ -124,10 +124,10 @@ not_fresh fresh = let mailed : true ≡ false = fresh 2 (omega arith) in cc
 
 -- At entry 1, when the registration is made, post 0 catches up, and comes through it. There is no post 1, and a post that
 -- was mailed doesn't catch up again, nor one where no registration was made at this entry.
-abbrev registered : Kept
+abbrev registered : SubscriberState
 registered = record { seen = 1; posts = 1; lives = held_of_reg 1 all ∷ []; mailed = []; waits = [] }
 
-abbrev caught : Kept
+abbrev caught : SubscriberState
 caught = record { seen = 1; posts = 1; lives = record { reg = all; made = 1; lasts = row (codes "A") 10 ∷ [] } ∷ []; mailed = 0 ∷ []; waits = 0 ∷ [] }
 
 abbrev a_at : ℕ → Post
@@ -199,16 +199,16 @@ one_mail_less : AreMails names fetched ([] ∷ [] ∷ [] ∷ [] ∷ []) → ⊥
 one_mail_less mails = omega (arith, mails.each)
 
 -- What is kept of both clients after the first four entries, each in its place.
-abbrev kept_of_other : Kept
+abbrev kept_of_other : SubscriberState
 kept_of_other = record { seen = 4; posts = 3; lives = []; mailed = []; waits = [] }
 
-are_inboxes : AreInboxes names fetched (kept ∷ kept_of_other ∷ [])
-are_inboxes = each_of (IsInbox names fetched) kept (kept_of_other ∷ []) (record { within = omega arith; same = refl })
-    (each_of (λ k. IsInbox names fetched (suc k)) kept_of_other [] (record { within = omega arith; same = refl })
-    (each_of_none (λ k. IsInbox names fetched (suc (suc k)))))
+are_subscribers : AreSubscribers names fetched (kept ∷ kept_of_other ∷ [])
+are_subscribers = each_of (IsSubscriber names fetched) kept (kept_of_other ∷ []) (record { within = omega arith; same = refl })
+    (each_of (λ k. IsSubscriber names fetched (suc k)) kept_of_other [] (record { within = omega arith; same = refl })
+    (each_of_none (λ k. IsSubscriber names fetched (suc (suc k)))))
 
-swapped : AreInboxes names fetched (kept_of_other ∷ kept ∷ []) → ⊥
-swapped inboxes = omega (arith, ap (λ (one : Kept). length one.mailed) ((inboxes 0 kept_of_other refl).same))
+swapped : AreSubscribers names fetched (kept_of_other ∷ kept ∷ []) → ⊥
+swapped subscribers = omega (arith, ap (λ (one : SubscriberState). length one.mailed) ((subscribers 0 kept_of_other refl).same))
 
 -- Where its posts stand, and what each entry gave.
 abbrev letters : List (List ℕ)
@@ -235,16 +235,16 @@ given (suc (suc (suc (suc zero)))) below = refl
 given (suc (suc (suc (suc (suc k))))) below = absurd (omega (arith, below))
 
 is_db : IsDb names journal (record { posts = 3; rows = row (codes "A") 2 ∷ [] }) (kept ∷ kept_of_other ∷ [])
-is_db = record { few = omega arith; each = refl; lettered = refl; latest = record { within = omega arith; same = refl }; kept = are_inboxes; given = given }
+is_db = record { few = omega arith; each = refl; lettered = refl; latest = record { within = omega arith; same = refl }; kept = are_subscribers; given = given }
 
--- The table and the inboxes may stand behind the history: here they have seen nothing of it yet.
+-- The table and the subscribers may stand behind the history: here they have seen nothing of it yet.
 behind : IsDb names journal (record { posts = 0; rows = [] }) (empty_kept ∷ empty_kept ∷ [])
 behind = record { few = omega arith; each = refl; lettered = refl; latest = record { within = omega arith; same = refl }; kept = nothing_seen; given = given }
   where
-    nothing_seen : AreInboxes names fetched (empty_kept ∷ empty_kept ∷ [])
-    nothing_seen = each_of (IsInbox names fetched) empty_kept (empty_kept ∷ []) (record { within = omega arith; same = refl })
-        (each_of (λ k. IsInbox names fetched (suc k)) empty_kept [] (record { within = omega arith; same = refl })
-        (each_of_none (λ k. IsInbox names fetched (suc (suc k)))))
+    nothing_seen : AreSubscribers names fetched (empty_kept ∷ empty_kept ∷ [])
+    nothing_seen = each_of (IsSubscriber names fetched) empty_kept (empty_kept ∷ []) (record { within = omega arith; same = refl })
+        (each_of (λ k. IsSubscriber names fetched (suc k)) empty_kept [] (record { within = omega arith; same = refl })
+        (each_of_none (λ k. IsSubscriber names fetched (suc (suc k)))))
 
 -- It is no such database where the fetch's letters lack one, or a client has no inbox.
 letter_lost : IsDb names (record journal { letters = [] ∷ [] ∷ [] ∷ [] ∷ (2 ∷ []) ∷ [] }) (record { posts = 3; rows = row (codes "A") 2 ∷ [] }) (kept ∷ kept_of_other ∷ []) → ⊥

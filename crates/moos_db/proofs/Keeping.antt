@@ -11,9 +11,9 @@ use Rattle.moos_post.specs.declared.entry.Entry.{Entry}
 use Rattle.moos_post.specs.declared.registration.Reg.{Reg}
 use Rattle.moos_post.specs.declared.value.Pair.{Pair}
 use Rattle.moos_post.specs.declared.value.Post.{Post}
-use Rattle.moos_post.specs.Delivery.{Live, Mailing, Inbox, is_due, is_past, selects, with_came, with_post, without, with_reg, with_regs, is_new_for, is_latest, was_mailed, catches_up, with_caught_up, after_catching_up, with_own, with_entry, waiting, mailing}
+use Rattle.moos_post.specs.Delivery.{Live, Mailing, Inbox, is_due, is_past, selects, with_came, with_post, without_patterns, with_reg, with_regs, is_new_for, is_latest, was_mailed, catches_up, with_caught_up, after_catching_up, with_own, with_entry, waiting, mailing}
 use Rattle.moos_post.specs.History.{name_of, post_of, posts_of_call}
-use Rattle.moos_db.specs.Kept.{Kept, held_of, kept_of, held_of_reg, is_due_held, with_stamp, passed, is_new_held, caught, has_patterns, without_held, with_held, with_mailed, kept_post, kept_batch, catches_kept, with_caught, kept_catching, kept_regs, kept_own, kept_posts, kept_entry}
+use Rattle.moos_db.specs.Subscribers.{SubscriberState, held_of, kept_of, held_of_reg, is_due_held, with_stamp, passed, is_new_held, caught, has_patterns, without_held, with_held, with_mailed, kept_post, kept_batch, catches_kept, with_caught, kept_catching, kept_regs, kept_own, kept_posts, kept_entry}
 use Rattle.moos_db.proofs.Lasts.{last_in-lasts_of}
 use Rattle.moos_mail.proofs.Lists.{filter-map, filter-none, length-push, list_any-alike, list_any-map}
 use Rattle.moos_mail.proofs.Orderly.{IsOrderly, IsPast}
@@ -54,11 +54,11 @@ held-caught names entry post live =
     cond-through held_of (is_new_for names entry post live) (with_came post live) live
     ∙ ap (λ held. if is_new_for names entry post live then held else held_of live) (held-with_came post live)
 
-held-without : (var source : List ℕ) (lives : List Live) → map held_of (without var source lives) ≡ without_held var source (map held_of lives)
+held-without : (var source : List ℕ) (lives : List Live) → map held_of (without_patterns var source lives) ≡ without_held var source (map held_of lives)
 held-without var source lives = sym (filter-map (λ held. not (has_patterns var source held)) held_of lives)
 
 held-with_reg : (entry : ℕ) (lives : List Live) (reg : Reg) → map held_of (with_reg entry lives reg) ≡ with_held entry (map held_of lives) reg
-held-with_reg entry lives reg = map-append held_of (without reg.var reg.source lives) (record { reg = reg; made = entry; came = [] } ∷ []) ∙ ap (λ helds. helds ++ held_of_reg entry reg ∷ []) (held-without reg.var reg.source lives)
+held-with_reg entry lives reg = map-append held_of (without_patterns reg.var reg.source lives) (record { reg = reg; made = entry; came = [] } ∷ []) ∙ ap (λ helds. helds ++ held_of_reg entry reg ∷ []) (held-without reg.var reg.source lives)
 
 held-with_regs : (entry : ℕ) (lives : List Live) (regs : List Reg) → map held_of (fold (with_reg entry) lives regs) ≡ fold (with_held entry) (map held_of lives) regs
 held-with_regs entry lives [] = refl
@@ -85,7 +85,7 @@ kept-mailed inbox lives number before =
     (map-append _ inbox.mailed (mailing number inbox.entries ∷ []))
 
 -- an inbox after a post that is mailed or not, by this test
-abbrev kept_by : Bool → Inbox → Kept
+abbrev kept_by : Bool → Inbox → SubscriberState
 kept_by due inbox = if due then with_mailed (length inbox.posts) (kept_of inbox) else kept_of inbox
 
 kept-by : (due : Bool) (inbox : Inbox) (post : Post) (lives : List Live) → inbox.fetched ≤ inbox.entries →
@@ -93,7 +93,7 @@ kept-by : (due : Bool) (inbox : Inbox) (post : Post) (lives : List Live) → inb
     ≡ record (kept_by due inbox) { posts = suc (length inbox.posts); lives = map held_of lives }
 kept-by true inbox post lives before =
     ap (λ posts. record (kept_of (record inbox { lives = lives; mailed = inbox.mailed ++ mailing (length inbox.posts) inbox.entries ∷ [] })) { posts = posts }) (length-push inbox.posts post)
-    ∙ ap (λ (kept : Kept). record kept { posts = suc (length inbox.posts) }) (kept-mailed inbox lives (length inbox.posts) before)
+    ∙ ap (λ (kept : SubscriberState). record kept { posts = suc (length inbox.posts) }) (kept-mailed inbox lives (length inbox.posts) before)
 kept-by false inbox post lives before = ap (λ posts. record (kept_of (record inbox { lives = lives })) { posts = posts }) (length-push inbox.posts post)
 
 kept-post : (names : List (List ℕ)) (inbox : Inbox) (post : Post) → inbox.fetched ≤ inbox.entries →
@@ -163,12 +163,12 @@ none-after inbox orderly =
 kept-call : (names : List (List ℕ)) (inbox : Inbox) (own : Bool) (stamp source : ℕ) (call : Call) → IsOrderly inbox →
     kept_of (record (fold (with_post names) (if own then with_own names inbox call else inbox) (posts_of_call stamp source call)) { entries = suc inbox.entries })
     ≡ record (kept_posts names stamp source (if own then kept_own names inbox.posts (kept_of inbox) call else kept_of inbox) call) { seen = suc inbox.entries }
-kept-call names inbox true stamp source (Register regs) orderly = ap (λ (kept : Kept). record kept { seen = suc inbox.entries }) (kept-regs names inbox regs orderly.fetched)
+kept-call names inbox true stamp source (Register regs) orderly = ap (λ (kept : SubscriberState). record kept { seen = suc inbox.entries }) (kept-regs names inbox regs orderly.fetched)
 kept-call names inbox false stamp source (Register regs) orderly = refl
 kept-call names inbox true stamp source (Unregister var from) orderly = ap (λ lives. record (kept_of inbox) { seen = suc inbox.entries; lives = lives }) (held-without var from inbox.lives)
 kept-call names inbox false stamp source (Unregister var from) orderly = refl
-kept-call names inbox true stamp source (Posts batch) orderly = ap (λ (kept : Kept). record kept { seen = suc inbox.entries }) (kept-batch names stamp source inbox batch orderly.fetched)
-kept-call names inbox false stamp source (Posts batch) orderly = ap (λ (kept : Kept). record kept { seen = suc inbox.entries }) (kept-batch names stamp source inbox batch orderly.fetched)
+kept-call names inbox true stamp source (Posts batch) orderly = ap (λ (kept : SubscriberState). record kept { seen = suc inbox.entries }) (kept-batch names stamp source inbox batch orderly.fetched)
+kept-call names inbox false stamp source (Posts batch) orderly = ap (λ (kept : SubscriberState). record kept { seen = suc inbox.entries }) (kept-batch names stamp source inbox batch orderly.fetched)
 kept-call names inbox true stamp source Fetch orderly =
     ap (λ mailed. record (kept_of inbox) { seen = suc inbox.entries; waits = map (λ (one : Mailing). one.number) mailed }) (none-after inbox orderly)
 kept-call names inbox false stamp source Fetch orderly = refl

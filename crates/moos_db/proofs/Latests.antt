@@ -11,8 +11,8 @@ use Rattle.moos_post.specs.declared.value.Pair.{Pair}
 use Rattle.moos_post.specs.declared.value.Post.{Post}
 use Rattle.moos_post.specs.Delivery.{is_latest}
 use Rattle.moos_post.proofs.Texts.{bytes_eq_comm}
-use Rattle.moos_db.specs.Database.{pair_of}
-use Rattle.moos_db.specs.Tables.{Row, Latest, IsLatest, is_of, with_row, rows_from, rows_of, latest_from}
+use Rattle.moos_db.specs.Database.{pair_posted}
+use Rattle.moos_db.specs.Tables.{Row, LatestState, IsLatest, is_of, with_row, rows_from, rows_of, latest_from}
 use Rattle.moos_mail.proofs.Lists.{list_any-push}
 use Rattle.moos_db.proofs.Sorting.{total, total-permutation, IsFrom, IsRising, from-lower, same_rising, rising-sorted}
 
@@ -172,15 +172,15 @@ sorted-latest rows numbers same up posts is =
     ∙ sym (numbers-latest f 0 posts))
 
 -- The table after the next post.
-pub IsLatest-next : (posts : List Post) (latest : Latest) (pair : Pair) → IsLatest posts latest → latest.posts < length posts → option_map pair_of (slice_get posts latest.posts) ≡ Some pair →
+pub IsLatest-next : (posts : List Post) (latest : LatestState) (pair : Pair) → IsLatest posts latest → latest.posts < length posts → option_map pair_posted (slice_get posts latest.posts) ≡ Some pair →
     IsLatest posts (record { posts = latest.posts + 1; rows = with_row pair.var latest.posts latest.rows })
 IsLatest-next posts latest pair table below there = through (slice_get posts latest.posts) refl there
   where
-    through : (found : Option Post) → slice_get posts latest.posts ≡ found → option_map pair_of found ≡ Some pair →
+    through : (found : Option Post) → slice_get posts latest.posts ≡ found → option_map pair_posted found ≡ Some pair →
         IsLatest posts (record { posts = latest.posts + 1; rows = with_row pair.var latest.posts latest.rows })
     through None is e = absurd (let e' : None ≡ Some pair = e in cc)
     through (Some post) is e =
-        let var : pair.var ≡ post.var = (let e' : pair_of post ≡ pair = cc in ap (λ (p : Pair). p.var) (sym e')) in
+        let var : pair.var ≡ post.var = (let e' : pair_posted post ≡ pair = cc in ap (λ (p : Pair). p.var) (sym e')) in
         let next : latest.posts + 1 ≡ suc latest.posts = omega arith in
         let length_is : 0 + length (take latest.posts posts) ≡ latest.posts = omega (arith, length-take-le latest.posts posts (omega arith)) in
         record {

@@ -8,7 +8,7 @@ use Rattle.std.proofs.lemmas.List.Sums.{fold-append}
 use Rattle.moos_post.specs.Patterns.{matches}
 use Rattle.std.proofs.lemmas.Option.{slice_get-get_or}
 use Rattle.moos_post.specs.Delivery.{is_past}
-use Rattle.moos_db.specs.Kept.{KeptLive, is_due_held, passed, with_stamp}
+use Rattle.moos_db.specs.Subscribers.{SubscriptionState, is_due_held, passed, with_stamp}
 use Rattle.moos_db.specs.Tables.{number_of}
 use Rattle.moos_db.specs.Index.{matching_from, pass_found, pass_place, Passing}
 
@@ -22,14 +22,14 @@ front-all P true x xs here rest = All-cons P x xs here rest
 front-all P false x xs here rest = rest
 
 -- one registration more goes last where its pattern matches
-matching-push : (place : ℕ) (var : List ℕ) (helds : List KeptLive) (held : KeptLive) →
+matching-push : (place : ℕ) (var : List ℕ) (helds : List SubscriptionState) (held : SubscriptionState) →
     matching_from place var (helds ++ held ∷ []) ≡ matching_from place var helds ++ cond (matches held.reg.var var) ((place + length helds) ∷ []) []
 matching-push place var [] held = ap (λ n. cond (matches held.reg.var var) (n ∷ []) []) (omega arith)
 matching-push place var (first ∷ helds) held =
     front-append (matches first.reg.var var) place _ _ _
     (matching-push (suc place) var helds held ∙ ap (λ n. matching_from (suc place) var helds ++ cond (matches held.reg.var var) (n ∷ []) []) (omega arith))
 
-matching-more : (var : List ℕ) (helds : List KeptLive) (place : ℕ) (held : KeptLive) → place < length helds → held ≡ get_or helds place held →
+matching-more : (var : List ℕ) (helds : List SubscriptionState) (place : ℕ) (held : SubscriptionState) → place < length helds → held ≡ get_or helds place held →
     matching_from 0 var (take (place + 1) helds) ≡ matching_from 0 var (take place helds) ++ cond (matches held.reg.var var) (place ∷ []) []
 matching-more var helds place held below is =
     let next : place + 1 ≡ suc place = omega arith in
@@ -39,14 +39,14 @@ matching-more var helds place held below is =
     ∙ matching-push 0 var (take place helds) held
     ∙ ap (λ n. matching_from 0 var (take place helds) ++ cond (matches held.reg.var var) (n ∷ []) []) counted
 
-pub matching-next : (var : List ℕ) (helds : List KeptLive) (place : ℕ) (held : KeptLive) (places : List ℕ) → place < length helds → held ≡ get_or helds place held →
+pub matching-next : (var : List ℕ) (helds : List SubscriptionState) (place : ℕ) (held : SubscriptionState) (places : List ℕ) → place < length helds → held ≡ get_or helds place held →
     places ≡ matching_from 0 var (take place helds) → matches held.reg.var var ≡ true → places ++ place ∷ [] ≡ matching_from 0 var (take (place + 1) helds)
 matching-next var helds place held places below is so matched =
     ap (λ all. all ++ place ∷ []) so
     ∙ ap (λ b. matching_from 0 var (take place helds) ++ cond b (place ∷ []) []) (sym matched)
     ∙ sym (matching-more var helds place held below is)
 
-pub matching-skip : (var : List ℕ) (helds : List KeptLive) (place : ℕ) (held : KeptLive) (places : List ℕ) → place < length helds → held ≡ get_or helds place held →
+pub matching-skip : (var : List ℕ) (helds : List SubscriptionState) (place : ℕ) (held : SubscriptionState) (places : List ℕ) → place < length helds → held ≡ get_or helds place held →
     places ≡ matching_from 0 var (take place helds) → matches held.reg.var var ≡ false → places ≡ matching_from 0 var (take (place + 1) helds)
 matching-skip var helds place held places below is so unmatched =
     so ∙ sym (append-nil (matching_from 0 var (take place helds)))
@@ -54,20 +54,20 @@ matching-skip var helds place held places below is so unmatched =
     ∙ sym (matching-more var helds place held below is)
 
 -- each place is one of a registration
-pub matching-within : (place end : ℕ) (var : List ℕ) (helds : List KeptLive) → place + length helds ≡ end → All (λ n. n < end) (matching_from place var helds)
+pub matching-within : (place end : ℕ) (var : List ℕ) (helds : List SubscriptionState) → place + length helds ≡ end → All (λ n. n < end) (matching_from place var helds)
 matching-within place end var [] same = All-nil (λ n. n < end)
 matching-within place end var (held ∷ helds) same =
     front-all (λ n. n < end) (matches held.reg.var var) place (matching_from (suc place) var helds) (omega (arith, same)) (matching-within (suc place) end var helds (omega (arith, same)))
 
 -- a post changes no pattern
-reg-passed : (stamp : ℕ) (var source : List ℕ) (held : KeptLive) → (passed stamp var source held).reg ≡ held.reg
+reg-passed : (stamp : ℕ) (var source : List ℕ) (held : SubscriptionState) → (passed stamp var source held).reg ≡ held.reg
 reg-passed stamp var source held = by (is_due_held stamp var source held)
   where
     by : (b : Bool) → (cond b (with_stamp stamp var held) held).reg ≡ held.reg
     by true = refl
     by false = refl
 
-pub matching-passed : (stamp : ℕ) (var source other : List ℕ) (place : ℕ) (helds : List KeptLive) → matching_from place other (map (passed stamp var source) helds) ≡ matching_from place other helds
+pub matching-passed : (stamp : ℕ) (var source other : List ℕ) (place : ℕ) (helds : List SubscriptionState) → matching_from place other (map (passed stamp var source) helds) ≡ matching_from place other helds
 matching-passed stamp var source other place [] = refl
 matching-passed stamp var source other place (held ∷ helds) =
     let rest : matching_from (suc place) other (map (passed stamp var source) helds) ≡ matching_from (suc place) other helds = matching-passed stamp var source other (suc place) helds in
@@ -85,10 +85,10 @@ set-here (first ∷ before) one other after = ap (λ rest. first ∷ rest) (set-
 -- A post that comes through the registrations that match its variable, where it is due, has come through all at which it
 -- is due.
 module _ (stamp : ℕ) (var source : List ℕ) where
-  abbrev passing : List KeptLive → Bool → Passing
+  abbrev passing : List SubscriptionState → Bool → Passing
   passing helds due = record { helds = helds; due = due }
 
-  counted : (before : List KeptLive) (one : KeptLive) → suc (length before) ≡ length (before ++ one ∷ [])
+  counted : (before : List SubscriptionState) (one : SubscriptionState) → suc (length before) ≡ length (before ++ one ∷ [])
   counted before one = omega (arith, length-append before (one ∷ []))
 
   or-later : (a b c : Bool) → (a || b) || c ≡ a || (b || c)
@@ -100,7 +100,7 @@ module _ (stamp : ℕ) (var source : List ℕ) where
   or-none false = refl
 
   -- the first of these registrations, by whether its pattern matches, where the rest is so
-  passes-first : (before helds : List KeptLive) (held : KeptLive) (due : Bool) (rest : (one : KeptLive) (at : Bool) →
+  passes-first : (before helds : List SubscriptionState) (held : SubscriptionState) (due : Bool) (rest : (one : SubscriptionState) (at : Bool) →
       fold (pass_place stamp var source) (passing (before ++ one ∷ helds) at) (matching_from (suc (length before)) var helds)
       ≡ passing (before ++ one ∷ map (passed stamp var source) helds) (at || list_any (is_due_held stamp var source) helds)) (b : Bool) → matches held.reg.var var ≡ b →
       fold (pass_place stamp var source) (passing (before ++ held ∷ helds) due) (cond b (length before ∷ matching_from (suc (length before)) var helds) (matching_from (suc (length before)) var helds))
@@ -116,7 +116,7 @@ module _ (stamp : ℕ) (var source : List ℕ) where
       rest held due
       ∙ (λ i. passing (before ++ cond (sym never i) (with_stamp stamp var held) held ∷ map (passed stamp var source) helds) (due || (sym never i || list_any (is_due_held stamp var source) helds)))
 
-  passes-from : (before helds : List KeptLive) (due : Bool) → fold (pass_place stamp var source) (passing (before ++ helds) due) (matching_from (length before) var helds)
+  passes-from : (before helds : List SubscriptionState) (due : Bool) → fold (pass_place stamp var source) (passing (before ++ helds) due) (matching_from (length before) var helds)
       ≡ passing (before ++ map (passed stamp var source) helds) (due || list_any (is_due_held stamp var source) helds)
   passes-from before [] due = ap (passing (before ++ [])) (or-none due)
   passes-from before (held ∷ helds) due =
@@ -127,7 +127,7 @@ module _ (stamp : ℕ) (var source : List ℕ) where
       (matches held.reg.var var) refl
 
   -- the post after one place more
-  pub passes-next : (start : Passing) (places : List ℕ) (i : ℕ) (helds : List KeptLive) (due passes now : Bool) (held after : KeptLive) → now ≡ due || passes → i < length places → get_or places i 0 < length helds → held ≡ get_or helds (get_or places i 0) held →
+  pub passes-next : (start : Passing) (places : List ℕ) (i : ℕ) (helds : List SubscriptionState) (due passes now : Bool) (held after : SubscriptionState) → now ≡ due || passes → i < length places → get_or places i 0 < length helds → held ≡ get_or helds (get_or places i 0) held →
       passes ≡ is_due_held stamp var source held → after ≡ passed stamp var source held → passing helds due ≡ fold (pass_place stamp var source) start (take i places) →
       passing (set helds (get_or places i 0) after) now ≡ fold (pass_place stamp var source) start (take (i + 1) places)
   passes-next start places i helds due passes now held after now_is below within is due_is after_is so =
@@ -140,6 +140,6 @@ module _ (stamp : ℕ) (var source : List ℕ) where
       ∙ sym (fold-append (pass_place stamp var source) start (take i places) (place ∷ []))
       ∙ ap (fold (pass_place stamp var source) start) (sym (ap (λ n. take n places) next ∙ take-suc places i 0 below))
 
-  pub passes-matching : (helds : List KeptLive) → fold (pass_place stamp var source) (passing helds false) (matching_from 0 var helds)
+  pub passes-matching : (helds : List SubscriptionState) → fold (pass_place stamp var source) (passing helds false) (matching_from 0 var helds)
       ≡ passing (map (passed stamp var source) helds) (list_any (is_due_held stamp var source) helds)
   passes-matching helds = passes-from [] helds false

@@ -7,11 +7,11 @@ use Rattle.std.proofs.Math.Seq.{take-append_seam, get_or-append_seam}
 use Rattle.moos_post.specs.declared.entry.Entry.{Entry}
 use Rattle.moos_post.specs.Delivery.{is_fetch, mail_of_entry, mail_at}
 use Rattle.moos_post.specs.History.{History, posts_of, posts_of_entry}
-use Rattle.moos_db.specs.Kept.{Kept, IsInbox, empty_kept}
-use Rattle.moos_db.specs.Places.{Journal, AreInboxes, IsDb}
-use Rattle.moos_db.specs.Tables.{Latest, IsLatest, rows_of}
+use Rattle.moos_db.specs.Subscribers.{SubscriberState, IsSubscriber, empty_kept}
+use Rattle.moos_db.specs.Places.{Journal, AreSubscribers, IsDb}
+use Rattle.moos_db.specs.Tables.{LatestState, IsLatest, rows_of}
 use Rattle.std.proofs.lemmas.List.Concat.{flat_map-append}
-use Rattle.moos_db.proofs.Growth.{IsInbox-stays, IsInbox-empty}
+use Rattle.moos_db.proofs.Growth.{IsSubscriber-stays, IsSubscriber-empty}
 use Rattle.moos_mail.proofs.Lists.{found-below, length-push, slice_get-front}
 use Rattle.moos_db.proofs.Standing.{slice_get-seam}
 
@@ -24,14 +24,14 @@ slice_get-set (y ∷ xs) (suc i) zero v x P new old there = old zero x there
 slice_get-set (y ∷ xs) (suc i) (suc j) v x P new old there = slice_get-set xs i j v x (λ k z. P (suc k) z) new (λ k z h. old (suc k) z h) there
 
 -- an inbox is put in its place
-pub AreInboxes-set : (names : List (List ℕ)) (history : History) (inboxes : List Kept) (client : ℕ) (kept : Kept) → IsInbox names history client kept →
-    AreInboxes names history inboxes → AreInboxes names history (set inboxes client kept)
-AreInboxes-set names history inboxes client kept inbox all other there h = slice_get-set inboxes client other kept there (λ k one. IsInbox names history k one) inbox all h
+pub AreSubscribers-set : (names : List (List ℕ)) (history : History) (subscribers : List SubscriberState) (client : ℕ) (kept : SubscriberState) → IsSubscriber names history client kept →
+    AreSubscribers names history subscribers → AreSubscribers names history (set subscribers client kept)
+AreSubscribers-set names history subscribers client kept inbox all other there h = slice_get-set subscribers client other kept there (λ k one. IsSubscriber names history k one) inbox all h
 
-pub AreInboxes-stay : (names : List (List ℕ)) (history : History) (inboxes : List Kept) (entry : Entry) → AreInboxes names history inboxes → AreInboxes names (history ++ entry ∷ []) inboxes
-AreInboxes-stay names history inboxes entry all client kept there = IsInbox-stays names history client kept entry (all client kept there)
+pub AreSubscribers-stay : (names : List (List ℕ)) (history : History) (subscribers : List SubscriberState) (entry : Entry) → AreSubscribers names history subscribers → AreSubscribers names (history ++ entry ∷ []) subscribers
+AreSubscribers-stay names history subscribers entry all client kept there = IsSubscriber-stays names history client kept entry (all client kept there)
 
-pub IsLatest-stays : (history : History) (table : Latest) (entry : Entry) → IsLatest (posts_of history) table → IsLatest (posts_of (history ++ entry ∷ [])) table
+pub IsLatest-stays : (history : History) (table : LatestState) (entry : Entry) → IsLatest (posts_of history) table → IsLatest (posts_of (history ++ entry ∷ [])) table
 IsLatest-stays history table entry latest =
     let more : posts_of (history ++ entry ∷ []) ≡ posts_of history ++ posts_of (entry ∷ []) = flat_map-append posts_of_entry history (entry ∷ []) in
     record {
@@ -40,18 +40,18 @@ IsLatest-stays history table entry latest =
     }
 
 -- the inbox that stands in a place
-pub AreInboxes-at : (names : List (List ℕ)) (history : History) (inboxes : List Kept) (client : ℕ) (d : Kept) → client < length inboxes → AreInboxes names history inboxes → IsInbox names history client (get_or inboxes client d)
-AreInboxes-at names history inboxes client d below all = all client (get_or inboxes client d) (slice_get-get_or inboxes client d below)
+pub AreSubscribers-at : (names : List (List ℕ)) (history : History) (subscribers : List SubscriberState) (client : ℕ) (d : SubscriberState) → client < length subscribers → AreSubscribers names history subscribers → IsSubscriber names history client (get_or subscribers client d)
+AreSubscribers-at names history subscribers client d below all = all client (get_or subscribers client d) (slice_get-get_or subscribers client d below)
 
--- the database with other inboxes, or with another table
-pub IsDb-inboxes : (names : List (List ℕ)) (journal : Journal) (table : Latest) (inboxes other : List Kept) → length other ≡ length inboxes → AreInboxes names journal.entries other →
-    IsDb names journal table inboxes → IsDb names journal table other
-IsDb-inboxes names journal table inboxes other each all db =
+-- the database with other subscribers, or with another table
+pub IsDb-subscribers : (names : List (List ℕ)) (journal : Journal) (table : LatestState) (subscribers other : List SubscriberState) → length other ≡ length subscribers → AreSubscribers names journal.entries other →
+    IsDb names journal table subscribers → IsDb names journal table other
+IsDb-subscribers names journal table subscribers other each all db =
     record { few = db.few; each = each ∙ db.each; lettered = db.lettered; latest = db.latest; kept = all; given = db.given }
 
-pub IsDb-table : (names : List (List ℕ)) (journal : Journal) (table other : Latest) (inboxes : List Kept) → IsLatest (posts_of journal.entries) other →
-    IsDb names journal table inboxes → IsDb names journal other inboxes
-IsDb-table names journal table other inboxes latest db =
+pub IsDb-table : (names : List (List ℕ)) (journal : Journal) (table other : LatestState) (subscribers : List SubscriberState) → IsLatest (posts_of journal.entries) other →
+    IsDb names journal table subscribers → IsDb names journal other subscribers
+IsDb-table names journal table other subscribers latest db =
     record { few = db.few; each = db.each; lettered = db.lettered; latest = latest; kept = db.kept; given = db.given }
 
 pub mail_at-stays : (names : List (List ℕ)) (history : History) (entry : Entry) (k : ℕ) → k < length history → mail_at names (history ++ entry ∷ []) k ≡ mail_at names history k
@@ -66,15 +66,15 @@ mail_at-seam names history entry =
     ∙ ap (mail_of_entry names history) (slice_get-seam history entry [])
 
 -- One entry more, with its letters.
-pub IsDb-push : (names : List (List ℕ)) (journal : Journal) (table : Latest) (inboxes : List Kept) (entry : Entry) (numbers : List ℕ) → numbers ≡ mail_of_entry names journal.entries (Some entry) →
-    IsDb names journal table inboxes → IsDb names (record { entries = journal.entries ++ entry ∷ []; letters = journal.letters ++ numbers ∷ [] }) table inboxes
-IsDb-push names journal table inboxes entry numbers mail db =
+pub IsDb-push : (names : List (List ℕ)) (journal : Journal) (table : LatestState) (subscribers : List SubscriberState) (entry : Entry) (numbers : List ℕ) → numbers ≡ mail_of_entry names journal.entries (Some entry) →
+    IsDb names journal table subscribers → IsDb names (record { entries = journal.entries ++ entry ∷ []; letters = journal.letters ++ numbers ∷ [] }) table subscribers
+IsDb-push names journal table subscribers entry numbers mail db =
     record {
       few = db.few;
       each = db.each;
       lettered = length-push journal.letters numbers ∙ ap suc db.lettered ∙ sym (length-push journal.entries entry);
       latest = IsLatest-stays journal.entries table entry db.latest;
-      kept = AreInboxes-stay names journal.entries inboxes entry db.kept;
+      kept = AreSubscribers-stay names journal.entries subscribers entry db.kept;
       given = λ k below. elim (cases_lt k (length journal.entries)) [
         | inl before ↦
             let h : length journal.letters ≡ length journal.entries = db.lettered in
@@ -88,17 +88,17 @@ IsDb-push names journal table inboxes entry numbers mail db =
     }
 
 -- An entry that is no fetch gives nothing.
-pub IsDb-add : (names : List (List ℕ)) (journal : Journal) (table : Latest) (inboxes : List Kept) (entry : Entry) → is_fetch entry.call ≡ false →
-    IsDb names journal table inboxes → IsDb names (record { entries = journal.entries ++ entry ∷ []; letters = journal.letters ++ [] ∷ [] }) table inboxes
-IsDb-add names journal table inboxes entry other db = IsDb-push names journal table inboxes entry [] (sym (cond-false (is_fetch entry.call) _ _ other)) db
+pub IsDb-add : (names : List (List ℕ)) (journal : Journal) (table : LatestState) (subscribers : List SubscriberState) (entry : Entry) → is_fetch entry.call ≡ false →
+    IsDb names journal table subscribers → IsDb names (record { entries = journal.entries ++ entry ∷ []; letters = journal.letters ++ [] ∷ [] }) table subscribers
+IsDb-add names journal table subscribers entry other db = IsDb-push names journal table subscribers entry [] (sym (cond-false (is_fetch entry.call) _ _ other)) db
 
 -- Where nothing has happened, each inbox is empty.
-empty-kept : (clients client : ℕ) (kept : Kept) → slice_get (replicate clients empty_kept) client ≡ Some kept → kept ≡ empty_kept
+empty-kept : (clients client : ℕ) (kept : SubscriberState) → slice_get (replicate clients empty_kept) client ≡ Some kept → kept ≡ empty_kept
 empty-kept zero client kept there = absurd (let e : None ≡ Some kept = there in cc)
 empty-kept (suc clients) zero kept there = cc
 empty-kept (suc clients) (suc client) kept there = empty-kept clients client kept there
 
-pub IsDb-new : (names : List (List ℕ)) (clients : ℕ) (table : Latest) → length names < 2 ^ 32 → clients ≡ length names → table.posts ≡ 0 → table.rows ≡ [] →
+pub IsDb-new : (names : List (List ℕ)) (clients : ℕ) (table : LatestState) → length names < 2 ^ 32 → clients ≡ length names → table.posts ≡ 0 → table.rows ≡ [] →
     IsDb names (record { entries = []; letters = [] }) table (replicate clients empty_kept)
 IsDb-new names clients table few all none empty =
     record {
@@ -106,6 +106,6 @@ IsDb-new names clients table few all none empty =
       each = length-replicate clients empty_kept ∙ all;
       lettered = refl;
       latest = record { within = omega (arith, none); same = empty ∙ ap rows_of (sym (ap (λ n. take n []) none)) };
-      kept = λ client kept there. subst (IsInbox names [] client) (sym (empty-kept clients client kept there)) (IsInbox-empty names [] client);
+      kept = λ client kept there. subst (IsSubscriber names [] client) (sym (empty-kept clients client kept there)) (IsSubscriber-empty names [] client);
       given = λ k below. absurd (omega arith);
     }

@@ -18,8 +18,8 @@ abbrev pub after_entry : Database → Entry → Database
 after_entry database entry = record database { history = database.history ++ entry ∷ [] }
 
 -- what a post says, without when and by whom
-abbrev pub pair_of : Post → Pair
-pair_of post = record { var = post.var; value = post.value }
+abbrev pub pair_posted : Post → Pair
+pair_posted post = record { var = post.var; value = post.value }
 
 -- when a post was made, and by which client
 abbrev pub origin_of : Post → Origin

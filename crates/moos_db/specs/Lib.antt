@@ -1,5 +1,5 @@
 pub mod Database
 pub mod Index
-pub mod Kept
+pub mod Subscribers
 pub mod Places
 pub mod Tables

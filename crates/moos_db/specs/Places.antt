@@ -4,8 +4,8 @@ use Rattle.moos_post.specs.declared.value.Post.{Post}
 use Rattle.moos_post.specs.History.{History, posts_of, posts_of_entry}
 use Rattle.moos_post.specs.Delivery.{mail_at}
 use Rattle.moos_db.specs.declared.log.Place.{Place}
-use Rattle.moos_db.specs.Kept.{Kept, IsInbox}
-use Rattle.moos_db.specs.Tables.{Latest, IsLatest}
+use Rattle.moos_db.specs.Subscribers.{SubscriberState, IsSubscriber}
+use Rattle.moos_db.specs.Tables.{LatestState, IsLatest}
 
 -- the entries, and what each of them gave
 pub record Journal : Type 0 where
@@ -27,16 +27,16 @@ pub record IsLog (entries : History) (letters : List (List ℕ)) (places : List 
   pub placed : map (post_in entries) places ≡ map (λ post. Some post) (posts_of entries)
 
 -- each of these stands where the history's first entries have brought the inbox of the client with its number
-abbrev pub AreInboxes : List (List ℕ) → History → List Kept → Type 0
-AreInboxes names history inboxes = (client : ℕ) (kept : Kept) → slice_get inboxes client ≡ Some kept →
-    IsInbox names history client kept
+abbrev pub AreSubscribers : List (List ℕ) → History → List SubscriberState → Type 0
+AreSubscribers names history subscribers = (client : ℕ) (kept : SubscriberState) → slice_get subscribers client ≡ Some kept →
+    IsSubscriber names history client kept
 
 -- each client has an inbox, the table has latest posts, and each entry's letters are its mail
-pub record IsDb (names : List (List ℕ)) (journal : Journal) (table : Latest) (inboxes : List Kept) : Type 0 where
+pub record IsDb (names : List (List ℕ)) (journal : Journal) (table : LatestState) (subscribers : List SubscriberState) : Type 0 where
   pub few : length names < 2 ^ 32
-  pub each : length inboxes ≡ length names
+  pub each : length subscribers ≡ length names
   pub lettered : length journal.letters ≡ length journal.entries
   pub latest : IsLatest (posts_of journal.entries) table
-  pub kept : AreInboxes names journal.entries inboxes
+  pub kept : AreSubscribers names journal.entries subscribers
   pub given : (k : ℕ) → k < length journal.entries →
       slice_index_or journal.letters k [] ≡ mail_at names journal.entries k

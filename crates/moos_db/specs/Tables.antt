@@ -43,11 +43,11 @@ latest_from number (post ∷ later) =
     if is_latest post later then number ∷ latest_from (suc number) later else latest_from (suc number) later
 
 -- a table of latest posts, and how many posts it has seen
-pub record Latest : Type 0 where
+pub record LatestState : Type 0 where
   pub posts : ℕ
   pub rows : List Row
 
 -- it has the latest of the first posts, as many as it has seen
-pub record IsLatest (posts : List Post) (latest : Latest) : Type 0 where
+pub record IsLatest (posts : List Post) (latest : LatestState) : Type 0 where
   pub within : latest.posts ≤ length posts
   pub same : latest.rows ≡ rows_of (take latest.posts posts)

@@ -1,15 +1,15 @@
 ghost use Rattle.std.specs.Prelude.{◌≡◌, ◌^◌, ◌<◌, [], ◌∷◌, ◌++◌, length, take, replicate, All, false, IfOk, OnOk, OnErr, Some, option_map, slice_get};
 ghost use Rattle.moos_post.specs.Delivery.{mail_after, mail_at, is_fetch};
 ghost use Rattle.moos_post.specs.History.{posts_of};
-ghost use Rattle.moos_db.specs.Kept.{empty_kept};
+ghost use Rattle.moos_db.specs.Subscribers.{empty_kept};
 ghost use Rattle.moos_db.specs.Database.{letter_at, AreLetters};
-ghost use Rattle.moos_db.specs.Places.{AreInboxes};
+ghost use Rattle.moos_db.specs.Places.{AreSubscribers};
 ghost use Rattle.moos_db.specs.Tables.{IsLatest};
 
-use crate::inbox::Inbox;
 use crate::latest::Latest;
 use crate::log::Log;
 use crate::mail::{Letter, Mail, Origin};
+use crate::subscriber::Subscriber;
 use crate::variables::Variables;
 use moos_post::{Batch, Call, Copied, Entry, Name, Names, NoMemory, Pair, Pattern, Post, Regs};
 use std::alloc::Global;
@@ -24,7 +24,7 @@ pub struct Db {
     log: Log,
     latest: Latest,
     variables: Variables,
-    inboxes: Vec<Inbox>,
+    subscribers: Vec<Subscriber>,
 }
 
 impl Model for Db {
@@ -35,37 +35,37 @@ impl Model for Db {
 
     ghost view = { λ db. record { names = db.names; history = db.log.entries } };
 
-    ghost invariant = { λ db. IsDb db.names db.log db.latest db.inboxes.items };
+    ghost invariant = { λ db. IsDb db.names db.log db.latest db.subscribers.items };
 }
 
-// As many inboxes that have seen no entry.
-fn empty_inboxes(alloc: Global, clients: usize) -> Result<Vec<Inbox>, NoMemory>
-    ensures { IfOk result (λ inboxes. inboxes.items ≡ replicate clients empty_kept) }
+// As many clients for which no entry was seen.
+fn empty_subscribers(alloc: Global, clients: usize) -> Result<Vec<Subscriber>, NoMemory>
+    ensures { IfOk result (λ subscribers. subscribers.items ≡ replicate clients empty_kept) }
 {
-    let mut inboxes = Vec::with_capacity(alloc, clients)?;
+    let mut subscribers = Vec::with_capacity(alloc, clients)?;
     for client in 0..clients {
-        inboxes.push(Inbox::new(alloc))?;
+        subscribers.push(Subscriber::new(alloc))?;
     }
-    Ok(inboxes)
+    Ok(subscribers)
 }
 
-// Each inbox sees the entry that was made last.
+// The entry that was made last is seen for each client.
 fn deliver(
     alloc: Global,
     names: &Names,
     log: &Log,
     latest: &Latest,
     variables: &Variables,
-    inboxes: &mut Vec<Inbox>,
+    subscribers: &mut Vec<Subscriber>,
 )
-    requires few { length inboxes.old.items < 2 ^ 32 }
+    requires few { length subscribers.old.items < 2 ^ 32 }
     requires latest { IsLatest (posts_of log.now.entries) latest.now }
-    requires inboxes { AreInboxes names.now log.now.entries inboxes.old.items }
-    ensures each { length inboxes.new.items ≡ length inboxes.old.items }
-    ensures inboxes { AreInboxes names.now log.now.entries inboxes.new.items }
+    requires subscribers { AreSubscribers names.now log.now.entries subscribers.old.items }
+    ensures each { length subscribers.new.items ≡ length subscribers.old.items }
+    ensures subscribers { AreSubscribers names.now log.now.entries subscribers.new.items }
 {
-    for client in 0..inboxes.len() {
-        inboxes[client].follow(alloc, names, log, latest, variables, client as u32);
+    for client in 0..subscribers.len() {
+        subscribers[client].follow(alloc, names, log, latest, variables, client as u32);
     }
 }
 
@@ -105,12 +105,12 @@ fn fetch(
     names: &Names,
     log: &mut Log,
     variables: &Variables,
-    inboxes: &mut Vec<Inbox>,
+    subscribers: &mut Vec<Subscriber>,
     client: u32,
     stamp: u64,
 ) -> Result<Mail, NoMemory>
-    requires within { client < length inboxes.old.items }
-    requires inboxes { AreInboxes names.now log.old.entries inboxes.old.items }
+    requires within { client < length subscribers.old.items }
+    requires subscribers { AreSubscribers names.now log.old.entries subscribers.old.items }
     ensures mail { let numbers = mail_after names.now client log.old.entries
         in IfOk result (AreLetters (posts_of log.old.entries) numbers) }
     ensures given { OnOk result (log.new ≡ record {
@@ -118,14 +118,14 @@ fn fetch(
       letters = log.old.letters ++ mail_after names.now client log.old.entries ∷ [];
     }) }
     ensures same { OnErr result (log.new ≡ log.old) }
-    ensures each { length inboxes.new.items ≡ length inboxes.old.items }
-    ensures inboxes { AreInboxes names.now log.new.entries inboxes.new.items }
+    ensures each { length subscribers.new.items ≡ length subscribers.old.items }
+    ensures subscribers { AreSubscribers names.now log.new.entries subscribers.new.items }
 {
-    let inbox = &mut inboxes[client as usize];
-    inbox.follow_all(alloc, names, log, variables, client)?;
-    let mail = letters_of(alloc, log, inbox.waits())?;
+    let subscriber = &mut subscribers[client as usize];
+    subscriber.follow_all(alloc, names, log, variables, client)?;
+    let mail = letters_of(alloc, log, subscriber.waits())?;
     let call = Call::Fetch;
-    inbox.fetch(
+    subscriber.fetch(
         alloc,
         log,
         Entry {
@@ -138,7 +138,7 @@ fn fetch(
 }
 
 impl Db {
-    ghost use Rattle.moos_db.specs.Database.{after_entry, pair_of, origin_of, AreLetters};
+    ghost use Rattle.moos_db.specs.Database.{after_entry, pair_posted, origin_of, AreLetters};
 
     /// A database of clients with these names, where nothing has happened yet. A client goes by its number, so nothing
     /// here rests on names that differ.
@@ -146,13 +146,13 @@ impl Db {
         requires { length names < 2 ^ 32 }
         ensures { IfOk result (λ db. db ≡ record { names = names; history = [] }) }
     {
-        let inboxes = empty_inboxes(alloc, names.len())?;
+        let subscribers = empty_subscribers(alloc, names.len())?;
         Ok(Db {
             names,
             log: Log::new(alloc),
             latest: Latest::new(alloc),
             variables: Variables::new(alloc),
-            inboxes,
+            subscribers,
         })
     }
 
@@ -171,7 +171,7 @@ impl Db {
             &self.log,
             &self.latest,
             &self.variables,
-            &mut self.inboxes,
+            &mut self.subscribers,
         );
         Ok(())
     }
@@ -276,7 +276,7 @@ impl Db {
             &self.names,
             &mut self.log,
             &self.variables,
-            &mut self.inboxes,
+            &mut self.subscribers,
             client,
             stamp,
         )?;
@@ -286,7 +286,7 @@ impl Db {
             &self.log,
             &self.latest,
             &self.variables,
-            &mut self.inboxes,
+            &mut self.subscribers,
         );
         Ok(mail)
     }
@@ -316,7 +316,7 @@ impl Db {
     /// What the post with this number says. Posts are counted from 0, and those of a batch in its order.
     pub fn pair(&self, j: u64) -> &Pair
         requires { j < length (posts_of self.now.history) }
-        ensures { option_map pair_of (slice_get (posts_of self.now.history) j) ≡ Some result.now }
+        ensures { option_map pair_posted (slice_get (posts_of self.now.history) j) ≡ Some result.now }
     {
         self.log.pair(j as usize)
     }

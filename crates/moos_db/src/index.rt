@@ -1,8 +1,8 @@
 ghost use Rattle.std.specs.Prelude.{◌≡◌, ◌<◌, ℕ, List, length, fold, All, true, false, IfOk, OnOk};
-ghost use Rattle.moos_db.specs.Kept.{KeptLive};
+ghost use Rattle.moos_db.specs.Subscribers.{SubscriptionState};
 ghost use Rattle.moos_db.specs.Index.{AreListed, HasList, matching_from, pass_place};
 
-use crate::live::{Live, is_same};
+use crate::subscription::{Subscription, is_same};
 use moos_post::{Name, NoMemory};
 use std::alloc::Global;
 use std::marker::Model;
@@ -23,7 +23,7 @@ impl Model for Listed {
 }
 
 // The places of the registrations whose pattern matches the variable.
-fn matching(alloc: Global, var: &Name, lives: &[Live]) -> Result<Vec<usize>, NoMemory>
+fn matching(alloc: Global, var: &Name, lives: &[Subscription]) -> Result<Vec<usize>, NoMemory>
     ensures { IfOk result (λ places. places.items ≡ matching_from 0 var.now lives.now) }
 {
     let mut places = Vec::new(alloc);
@@ -36,7 +36,7 @@ fn matching(alloc: Global, var: &Name, lives: &[Live]) -> Result<Vec<usize>, NoM
 }
 
 // The variable's list.
-fn list_of(alloc: Global, var: &Name, lives: &[Live]) -> Result<Listed, NoMemory>
+fn list_of(alloc: Global, var: &Name, lives: &[Subscription]) -> Result<Listed, NoMemory>
     ensures { IfOk result (λ list. list ≡ record { var = var.now; places = matching_from 0 var.now lives.now }) }
 {
     let places = matching(alloc, var, lives)?;
@@ -60,7 +60,7 @@ pub(crate) fn list_var(
     lists: &mut Vec<Option<Listed>>,
     number: usize,
     var: &Name,
-    lives: &[Live],
+    lives: &[Subscription],
 ) -> Result<(), NoMemory>
     requires listed { AreListed lives.now lists.old.items }
     ensures listed { AreListed lives.now lists.new.items }
@@ -79,7 +79,7 @@ pub(crate) fn list_var(
 
 // The places in the variable's list, which stands under this number.
 pub(crate) fn places_at(lists: &[Option<Listed>], number: usize) -> &[usize]
-    ensures { (var : List ℕ) → HasList number var lists.now → (helds : List KeptLive) → AreListed helds lists.now → result.now ≡ matching_from 0 var helds }
+    ensures { (var : List ℕ) → HasList number var lists.now → (helds : List SubscriptionState) → AreListed helds lists.now → result.now ≡ matching_from 0 var helds }
 {
     match lists.get(number) {
         Some(Some(list)) => list.places.as_slice(),
@@ -91,7 +91,7 @@ pub(crate) fn places_at(lists: &[Option<Listed>], number: usize) -> &[usize]
 // which it is due. Tells whether there is one.
 pub(crate) fn pass_places(
     alloc: Global,
-    lives: &mut Vec<Live>,
+    lives: &mut Vec<Subscription>,
     places: &[usize],
     stamp: u64,
     var: &Name,

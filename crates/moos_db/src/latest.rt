@@ -17,9 +17,9 @@ pub(crate) struct Latest {
 }
 
 impl Model for Latest {
-    ghost use Rattle.moos_db.specs.Tables.{Latest as Seen};
+    ghost use Rattle.moos_db.specs.Tables.{LatestState};
 
-    ghost Value = { Seen };
+    ghost Value = { LatestState };
 
     ghost view = { λ latest. record { posts = latest.posts; rows = latest.table } };
 }

@@ -4,22 +4,22 @@
 // call adds its entry or finds no memory and changes nothing; what a fetch gives is the delivery rule's mail of the
 // history before it, the rule that stands in `moos_post`'s specs/Delivery. Nothing else tells what mail a client gets.
 //
-// Read `table` first, a number for each variable. Then `live`, `index`, `lives` and `inbox`, what is kept of one client,
-// where `index` has for each variable the registrations that may select it; `log`, what is kept of the history, `latest`,
-// the latest post of each variable, `variables`, which variable each post has, `mail`, `db`, and last `run`, which makes a
-// list of calls.
+// Read `table` first, a number for each variable. Then `subscription`, `index`, `subscriptions` and `subscriber`, what is
+// kept of one client, where `index` has for each variable the registrations that may select it; `log`, what is kept of the
+// history, `latest`, the latest post of each variable, `variables`, which variable each post has, `mail`, `db`, and last
+// `run`, which makes a list of calls.
 #![tactic(auto)]
 
 mod db;
-mod inbox;
 mod index;
 mod journal;
 mod latest;
-mod live;
-mod lives;
 mod log;
 mod mail;
 mod run;
+mod subscriber;
+mod subscription;
+mod subscriptions;
 mod table;
 mod variables;
 

@@ -2,7 +2,7 @@ ghost use Rattle.std.specs.Prelude.{◌≡◌, ◌<◌, ◌^◌, ◌-◌, ◌++�
 ghost use Rattle.std.specs.List.{range_with_len};
 ghost use Rattle.moos_post.specs.History.{posts_of, posts_of_call, posts_of_entry};
 ghost use Rattle.moos_db.specs.Places.{place_at};
-ghost use Rattle.moos_db.specs.Database.{pair_of, origin_of};
+ghost use Rattle.moos_db.specs.Database.{pair_posted, origin_of};
 
 use crate::mail::Origin;
 use moos_mail::{Mailbox, Numbers};
@@ -56,7 +56,7 @@ fn posts_in(call: &Call) -> usize
 // The pair at this place of an entry's batch.
 fn pair_in(entry: &Entry, place: usize) -> &Pair
     requires { place < length (posts_of_entry entry.now) }
-    ensures { option_map pair_of (slice_get (posts_of_entry entry.now) place) ≡ Some result.now }
+    ensures { option_map pair_posted (slice_get (posts_of_entry entry.now) place) ≡ Some result.now }
 {
     match &entry.call {
         Call::Post(batch) => batch.get(place),
@@ -118,7 +118,7 @@ impl Log {
     // What the post with this number says.
     pub fn pair(&self, number: usize) -> &Pair
         requires { number < length (posts_of self.now.entries) }
-        ensures { option_map pair_of (slice_get (posts_of self.now.entries) number) ≡ Some result.now }
+        ensures { option_map pair_posted (slice_get (posts_of self.now.entries) number) ≡ Some result.now }
     {
         let place = self.places[number];
         pair_in(&self.entries[place.entry], place.pair)

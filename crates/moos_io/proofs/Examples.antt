@@ -1,7 +1,7 @@
 -- Worked examples of the definitions.
 use Rattle.std.proofs.Common.{◌≡◌, ℕ, Option, Some, None, Ok, Err, inl, inr, true, false, [], ◌∷◌, length, length-append, length-take, refl, ap, codes, List, arith}
 use Rattle.std.specs.Prelude.{slice_index}
-use Rattle.moos_io.specs.Files.{CameFrom, File, Loaded, content_of, is_among, names_of}
+use Rattle.moos_io.specs.Files.{CameFrom, File, Loaded, file_content, is_among, names_of}
 use Rattle.moos_io.specs.Faults.{Rose, one_more}
 use Rattle.moos_io.specs.FolderState.{FolderState}
 use Rattle.moos_io.specs.Loads.{after_load}
@@ -18,13 +18,13 @@ files =
     ∷ record { name = codes "a"; bytes = codes "two" }
     ∷ []
 
-first_of_a_name : content_of files (codes "a") ≡ Some (codes "one")
+first_of_a_name : file_content files (codes "a") ≡ Some (codes "one")
 first_of_a_name = refl
 
-empty_file : content_of files (codes "b") ≡ Some []
+empty_file : file_content files (codes "b") ≡ Some []
 empty_file = refl
 
-absent_name : content_of files (codes "ab") ≡ None
+absent_name : file_content files (codes "ab") ≡ None
 absent_name = refl
 
 sure_name : is_among (names_of files) (codes "b") ≡ true
@@ -47,10 +47,10 @@ no_file : CameFrom None (codes "x") (codes "x") → ⊥
 no_file came = came
 
 -- a folder that tells its files loads the one of the name; of a folder that tells nothing a load says nothing
-named_file : Loaded (Some (content_of files)) (codes "b") (codes "x") (codes "x")
+named_file : Loaded (Some (file_content files)) (codes "b") (codes "x") (codes "x")
 named_file = refl
 
-other_file : Loaded (Some (content_of files)) (codes "b") (codes "x") (codes "xtwo") → ⊥
+other_file : Loaded (Some (file_content files)) (codes "b") (codes "x") (codes "xtwo") → ⊥
 other_file same = omega (arith, ap length same)
 
 silent_folder : Loaded None (codes "a") (codes "x") []

@@ -3,11 +3,11 @@ use Rattle.std.proofs.Common.{◌≡◌, ℕ, true, false, ◌||◌, Some, None,
 use Rattle.std.specs.List.{find}
 use Rattle.std.specs.Option.{option_map}
 use Rattle.std.specs.Str.{bytes_eq}
-use Rattle.moos_io.specs.Files.{File, names_of, content_of, is_among}
+use Rattle.moos_io.specs.Files.{File, names_of, file_content, is_among}
 
 -- a name under which there is no content is not among the names
 pub absent : (files : List File) (name : List ℕ)
-    → content_of files name ≡ None
+    → file_content files name ≡ None
     → is_among (names_of files) name ≡ false
 absent [] name = λ _. refl
 absent (file ∷ files) name =

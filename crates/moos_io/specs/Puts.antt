@@ -10,12 +10,12 @@ abbrev pub is_refused : SinkState → Bool
 is_refused sink = list_any (λ mark. mark == sink.puts) sink.marks || sink.room == 0
 
 -- how much of the piece the limit and the room allow
-abbrev pub share_of : SinkState → List ℕ → ℕ
-share_of sink piece = min sink.limit (min sink.room (length piece))
+abbrev pub put_share : SinkState → List ℕ → ℕ
+put_share sink piece = min sink.limit (min sink.room (length piece))
 
 -- the answer to a put of the piece
 abbrev pub put_answer : SinkState → List ℕ → Result ℕ Failed
-put_answer sink piece = if is_refused sink then Err (record {}) else Ok (share_of sink piece)
+put_answer sink piece = if is_refused sink then Err (record {}) else Ok (put_share sink piece)
 
 -- the sink after a put of the piece; the number of the next put stops at the greatest u64, as counts of faults do
 abbrev pub after_put : SinkState → List ℕ → SinkState
@@ -24,6 +24,6 @@ after_put sink piece =
     then record sink { puts = one_more sink.puts; faults = one_more sink.faults }
     else record sink {
       puts = one_more sink.puts;
-      taken = sink.taken ++ take (share_of sink piece) piece;
-      room = sink.room - share_of sink piece;
+      taken = sink.taken ++ take (put_share sink piece) piece;
+      room = sink.room - put_share sink piece;
     }

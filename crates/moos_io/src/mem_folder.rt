@@ -4,7 +4,7 @@ ghost use Rattle.std.specs.Option.{option_copied};
 ghost use Rattle.std.specs.Str.{bytes_eq};
 ghost use Rattle.moos_io.specs.Faults.{Rose};
 ghost use Rattle.moos_io.specs.Loads.{after_load};
-ghost use Rattle.moos_io.specs.Files.{Loaded, is_among, names_of, content_of};
+ghost use Rattle.moos_io.specs.Files.{Loaded, is_among, names_of, file_content};
 
 use crate::NoMemory;
 use crate::folder::{Folder, LoadFault};
@@ -88,7 +88,7 @@ impl MemFolder {
 }
 
 impl Folder for MemFolder {
-    ghost told = { λ folder. Some (content_of folder.files) };
+    ghost told = { λ folder. Some (file_content folder.files) };
 
     ghost faults = { λ folder. folder.faults };
 
@@ -97,14 +97,14 @@ impl Folder for MemFolder {
     // Fails exactly where no file has the name.
     #[tactic(auto, using(crate::proofs::Files::absent))]
     fn load(&mut self, name: &[u8], into: &mut Vec<u8>) -> Result<(), LoadFault>
-        ensures absent { content_of self.old.files name.now ≡ None → result ≡ Err LoadFault.Failed }
-        ensures present { IsSome (content_of self.old.files name.now) → IsOkUnless result LoadFault.NoMemory }
+        ensures absent { file_content self.old.files name.now ≡ None → result ≡ Err LoadFault.Failed }
+        ensures present { IsSome (file_content self.old.files name.now) → IsOkUnless result LoadFault.NoMemory }
         ensures state { self.new ≡ after_load self.old name.now }
         ensures content { OnOk result
-            (Loaded (Some (content_of self.old.files)) name.now into.old.items into.new.items) }
+            (Loaded (Some (file_content self.old.files)) name.now into.old.items into.new.items) }
         ensures short { OnOk result (length into.new.items < length into.old.items + 2 ^ 32) }
         ensures kept { OnErr result (into.new.items ≡ into.old.items) }
-        ensures same { Some (content_of self.new.files) ≡ Some (content_of self.old.files) }
+        ensures same { Some (file_content self.new.files) ≡ Some (file_content self.old.files) }
         ensures same_sure { names_of self.new.files ≡ names_of self.old.files }
         ensures later { self.old.faults ≤ self.new.faults }
         ensures rose { IsErrOf result LoadFault.Failed → Rose self.old.faults self.new.faults }
@@ -125,8 +125,8 @@ impl Folder for MemFolder {
 
 // The content of the first file of that name.
 fn content<'a>(files: &'a [MemFile], name: &[u8]) -> Option<&'a [u8]>
-    ensures first { MatchOption result (content_of files.now name.now ≡ None)
-        (λ bytes. content_of files.now name.now ≡ Some bytes.now) }
+    ensures first { MatchOption result (file_content files.now name.now ≡ None)
+        (λ bytes. file_content files.now name.now ≡ Some bytes.now) }
     ensures short { IfSome result (λ bytes. length bytes.now < 2 ^ 32) }
 {
     match first_of(files, name) {

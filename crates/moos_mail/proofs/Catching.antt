@@ -7,7 +7,7 @@ use Rattle.moos_post.specs.declared.value.Post.{Post}
 use Rattle.moos_post.specs.Delivery.{Live, Inbox, selects, with_came, mailed_to, is_new_for, is_latest, was_mailed, catches_up, with_caught_up, after_catching_up}
 use Rattle.moos_post.specs.History.{History, posts_of}
 use Rattle.moos_mail.specs.Sentences.{posts_before}
-use Rattle.moos_mail.specs.Registrations.{Made, is_mailed_at, live_with, came_through, live_at}
+use Rattle.moos_mail.specs.Registrations.{MadeReg, is_mailed_at, live_with, came_through, live_at}
 use Rattle.moos_mail.proofs.Coming.{mailed-own, mailed-other, was-other, StandFrom, stand-rest, stand-first}
 use Rattle.moos_mail.proofs.Lists.{list_any-alike, list_any-map}
 
@@ -90,15 +90,15 @@ module _ (names : List (List ℕ)) where
 
 -- What comes through the live registrations.
 module _ (names : List (List ℕ)) (client : ℕ) (history : History) (k : ℕ) where
-  abbrev pub catching_as : Bool → ℕ → Made → Live
+  abbrev pub catching_as : Bool → ℕ → MadeReg → Live
   catching_as own n made = if own then live_at names client history n made else live_at names client history (posts_before history k) made
 
   -- while posts catch up at entry k: its own registrations stand before post n, and all others before its first post
-  abbrev pub catching : ℕ → Made → Live
+  abbrev pub catching : ℕ → MadeReg → Live
   catching n made = catching_as (made.entry == k) n made
 
   -- the next post of a registration that was made later
-  came-next : (n : ℕ) (post : Post) (made : Made) → slice_get (posts_of history) n ≡ Some post → n < posts_before history made.entry →
+  came-next : (n : ℕ) (post : Post) (made : MadeReg) → slice_get (posts_of history) n ≡ Some post → n < posts_before history made.entry →
       live_at names client history (suc n) made ≡ (if is_mailed_at n made.entry (mailed_to names client history) && selects names made.reg post then with_came post (live_at names client history n made) else live_at names client history n made)
   came-next n post made there below = rw (there, lt-ltb n (posts_before history made.entry) below) (through (is_mailed_at n made.entry (mailed_to names client history) && selects names made.reg post))
     where
@@ -108,7 +108,7 @@ module _ (names : List (List ℕ)) (client : ℕ) (history : History) (k : ℕ) 
       through false = refl
 
   -- one post more, which is mailed at this entry or not
-  catching-through : (n : ℕ) (post : Post) (mailed : Bool) (made : Made) → slice_get (posts_of history) n ≡ Some post → n < posts_before history k → is_mailed_at n k (mailed_to names client history) ≡ mailed →
+  catching-through : (n : ℕ) (post : Post) (mailed : Bool) (made : MadeReg) → slice_get (posts_of history) n ≡ Some post → n < posts_before history k → is_mailed_at n k (mailed_to names client history) ≡ mailed →
       (if mailed && is_new_for names k post (catching n made) then with_came post (catching n made) else catching n made) ≡ catching (suc n) made
   catching-through n post mailed made there below is = through (made.entry == k) refl
     where
@@ -122,18 +122,18 @@ module _ (names : List (List ℕ)) (client : ℕ) (history : History) (k : ℕ) 
           ap (λ b. if mailed && (b && selects names made.reg post) then with_came post (live_at names client history (posts_before history k) made) else live_at names client history (posts_before history k) made) old
           ∙ ap (λ b. if b then with_came post (live_at names client history (posts_before history k) made) else live_at names client history (posts_before history k) made) (and_right mailed false refl)
 
-  lives-one : (n : ℕ) (post : Post) (inbox : Inbox) (catches : Bool) (mades : List Made) → slice_get (posts_of history) n ≡ Some post → n < posts_before history k → inbox.entries ≡ k →
+  lives-one : (n : ℕ) (post : Post) (inbox : Inbox) (catches : Bool) (mades : List MadeReg) → slice_get (posts_of history) n ≡ Some post → n < posts_before history k → inbox.entries ≡ k →
       is_mailed_at n k (mailed_to names client history) ≡ catches → inbox.lives ≡ map (catching n) mades → (after_one names inbox n post catches).lives ≡ map (catching (suc n)) mades
   lives-one n post inbox true mades there below at is lives =
       ap (λ entry. map (λ live. if is_new_for names entry post live then with_came post live else live) inbox.lives) at
       ∙ ap (map (λ live. if is_new_for names k post live then with_came post live else live)) lives
       ∙ map-map (λ live. if is_new_for names k post live then with_came post live else live) (catching n) mades
-      ∙ ap (λ (f : Made → Live). map f mades) (λ i made. catching-through n post true made there below is i)
+      ∙ ap (λ (f : MadeReg → Live). map f mades) (λ i made. catching-through n post true made there below is i)
   lives-one n post inbox false mades there below at is lives =
-      lives ∙ ap (λ (f : Made → Live). map f mades) (λ i made. catching-through n post false made there below is i)
+      lives ∙ ap (λ (f : MadeReg → Live). map f mades) (λ i made. catching-through n post false made there below is i)
 
   -- The live registrations after the posts that caught up, where what these mailed is what the history mails at the entry.
-  pub lives-caught : (n : ℕ) (later : List Post) (inbox : Inbox) (mades : List Made) → StandFrom names client history n later → n + length later ≡ posts_before history k → inbox.entries ≡ k →
+  pub lives-caught : (n : ℕ) (later : List Post) (inbox : Inbox) (mades : List MadeReg) → StandFrom names client history n later → n + length later ≡ posts_before history k → inbox.entries ≡ k →
       ((m : ℕ) → n ≤ m → is_mailed_at m k inbox.mailed ≡ false) → ((m : ℕ) → m < posts_before history k → is_mailed_at m k (after_catching_up names n inbox later).mailed ≡ is_mailed_at m k (mailed_to names client history)) →
       inbox.lives ≡ map (catching n) mades → (after_catching_up names n inbox later).lives ≡ map (catching (posts_before history k)) mades
   lives-caught n [] inbox mades there count at new final lives = lives ∙ (let e : n ≡ posts_before history k = omega (arith, count) in ap (λ m. map (catching m) mades) e)

@@ -8,15 +8,15 @@ use Rattle.moos_post.specs.declared.value.Post.{Post}
 use Rattle.moos_post.specs.Delivery.{Live, Mailing, Inbox, is_due, with_came, with_post, mailing, was_mailed}
 use Rattle.moos_post.specs.History.{History, posts_of}
 use Rattle.moos_mail.specs.Sentences.{posts_before}
-use Rattle.moos_mail.specs.Registrations.{Made, is_mailed_at, live_with, came_through, live_at}
+use Rattle.moos_mail.specs.Registrations.{MadeReg, is_mailed_at, live_with, came_through, live_at}
 use Rattle.moos_mail.proofs.Lists.{length-push, list_any-map, list_any-push}
 
 -- each of these was made at an entry of which, and of those before, this is so
-abbrev pub AllMade : (ℕ → Type 0) → List Made → Type 0
+abbrev pub AllMade : (ℕ → Type 0) → List MadeReg → Type 0
 AllMade P [] = Unit {0}
 AllMade P (made ∷ more) = P made.entry × AllMade P more
 
-pub map-made : {Y : Type 0} (P : ℕ → Type 0) (f g : Made → Y) (mades : List Made) → ((made : Made) → P made.entry → f made ≡ g made) → AllMade P mades → map f mades ≡ map g mades
+pub map-made : {Y : Type 0} (P : ℕ → Type 0) (f g : MadeReg → Y) (mades : List MadeReg) → ((made : MadeReg) → P made.entry → f made ≡ g made) → AllMade P mades → map f mades ≡ map g mades
 map-made P f g [] alike all = refl
 map-made P f g (made ∷ more) alike all = ap (λ y. y ∷ map f more) (alike made all.0) ∙ ap (λ rest. g made ∷ rest) (map-made P f g more alike all.1)
 
@@ -48,7 +48,7 @@ module _ (names : List (List ℕ)) (client : ℕ) (history : History) where
   stand-first p post posts there = (let e : p ≡ p + 0 = omega arith in ap (slice_get (posts_of history)) e) ∙ there 0 post refl
 
   -- a registration that was made before post p, after it
-  due-through : (p : ℕ) (post : Post) (made : Made) → slice_get (posts_of history) p ≡ Some post → posts_before history made.entry ≤ p →
+  due-through : (p : ℕ) (post : Post) (made : MadeReg) → slice_get (posts_of history) p ≡ Some post → posts_before history made.entry ≤ p →
       (if is_due names post (live_at names client history p made) then with_came post (live_at names client history p made) else live_at names client history p made) ≡ live_at names client history (suc p) made
   due-through p post made there before =
       rw (there, le-ltb p (posts_before history made.entry) before) (through (is_due names post (live_at names client history p made)))
@@ -61,11 +61,11 @@ module _ (names : List (List ℕ)) (client : ℕ) (history : History) where
   abbrev pub IsBy : ℕ → ℕ → Type 0
   IsBy p entry = posts_before history entry ≤ p
 
-  by-later : (p : ℕ) (mades : List Made) → AllMade (IsBy p) mades → AllMade (IsBy (suc p)) mades
+  by-later : (p : ℕ) (mades : List MadeReg) → AllMade (IsBy p) mades → AllMade (IsBy (suc p)) mades
   by-later p [] all = tt
   by-later p (made ∷ more) all = (let h : posts_before history made.entry ≤ p = all.0 in omega arith, by-later p more all.1)
 
-  lives-post : (p : ℕ) (post : Post) (inbox : Inbox) (mades : List Made) → slice_get (posts_of history) p ≡ Some post → AllMade (IsBy p) mades → inbox.lives ≡ map (live_at names client history p) mades →
+  lives-post : (p : ℕ) (post : Post) (inbox : Inbox) (mades : List MadeReg) → slice_get (posts_of history) p ≡ Some post → AllMade (IsBy p) mades → inbox.lives ≡ map (live_at names client history p) mades →
       (with_post names inbox post).lives ≡ map (live_at names client history (suc p)) mades
   lives-post p post inbox mades there all lives =
       let pass : Live → Live = λ live. if is_due names post live then with_came post live else live in
@@ -73,7 +73,7 @@ module _ (names : List (List ℕ)) (client : ℕ) (history : History) where
       ∙ map-made (IsBy p) _ (live_at names client history (suc p)) mades (λ made before. due-through p post made there before) all
 
   -- the live registrations after these posts
-  pub lives-posts : (p : ℕ) (posts : List Post) (inbox : Inbox) (mades : List Made) → StandFrom p posts → AllMade (IsBy p) mades → inbox.lives ≡ map (live_at names client history p) mades →
+  pub lives-posts : (p : ℕ) (posts : List Post) (inbox : Inbox) (mades : List MadeReg) → StandFrom p posts → AllMade (IsBy p) mades → inbox.lives ≡ map (live_at names client history p) mades →
       (fold (with_post names) inbox posts).lives ≡ map (live_at names client history (p + length posts)) mades
   lives-posts p [] inbox mades there all lives = lives ∙ (let e : p ≡ p + 0 = omega arith in ap (λ n. map (live_at names client history n) mades) e)
   lives-posts p (post ∷ posts) inbox mades there all lives =
@@ -94,7 +94,7 @@ module _ (names : List (List ℕ)) (client : ℕ) (history : History) where
       posted-before n entry (with_post names inbox post) posts (omega (arith, length-push inbox.posts post)) ∙ posted-other n inbox post entry (λ same. omega (arith, same))
 
   -- the post with number p + i is mailed where it is due at some of the registrations
-  pub posted-at : (p i : ℕ) (one : Post) (posts : List Post) (inbox : Inbox) (mades : List Made) → length inbox.posts ≡ p → slice_get posts i ≡ Some one → StandFrom p posts → AllMade (IsBy p) mades →
+  pub posted-at : (p i : ℕ) (one : Post) (posts : List Post) (inbox : Inbox) (mades : List MadeReg) → length inbox.posts ≡ p → slice_get posts i ≡ Some one → StandFrom p posts → AllMade (IsBy p) mades →
       inbox.lives ≡ map (live_at names client history p) mades → is_mailed_at (p + i) inbox.entries inbox.mailed ≡ false →
       is_mailed_at (p + i) inbox.entries (fold (with_post names) inbox posts).mailed ≡ list_any (λ made. is_due names one (live_at names client history (p + i) made)) mades
   posted-at p i one [] inbox mades count at there all lives new = absurd (let e : None ≡ Some one = at in cc)

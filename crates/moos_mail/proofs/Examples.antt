@@ -13,7 +13,7 @@ use Rattle.moos_post.specs.declared.value.Value.TheVariants.{Num}
 use Rattle.moos_post.specs.Delivery.{Mailing, mailed_to, mailing}
 use Rattle.moos_post.specs.History.{History}
 use Rattle.moos_mail.specs.Mailboxes.{MailboxState, is_one_of}
-use Rattle.moos_mail.specs.Registrations.{Made, made_at, live_before, came_through, is_to_mail, is_mailed_at, IsLive, regs_of}
+use Rattle.moos_mail.specs.Registrations.{MadeReg, made_at, live_before, came_through, is_to_mail, is_mailed_at, IsLive, regs_of}
 use Rattle.moos_mail.specs.Sentences.{given_at, mailed_between, posts_before, since, AreOnceEach, IsBefore, IsMadeBy}
 
 abbrev at : ℕ → ℕ → Call → Entry
@@ -177,7 +177,7 @@ other_interval live = nowhere live.place (ap (registered 0 live.place) live.at �
 
 -- What came through the registration of client 0 above: the latest of A and B at its own entry, then a post of A that is
 -- at least the interval later, and not the one that is made together with it.
-abbrev asked : Made
+abbrev asked : MadeReg
 asked = made_at 2 (record { var = codes "*"; source = codes "*"; interval = 500 })
 
 numbers : map (λ (post : Post). post.stamp) (came_through names 0 history asked 5) ≡ 0 ∷ 1000 ∷ 3000 ∷ []

@@ -18,7 +18,7 @@ use Rattle.moos_post.specs.declared.value.Post.{Post}
 use Rattle.moos_post.specs.Delivery.{Live, Mailing, Inbox, inbox_of, mailed_to, with_own, with_reg, with_entry}
 use Rattle.moos_post.specs.History.{History, posts_of, posts_of_entry}
 use Rattle.moos_mail.specs.Sentences.{posts_before}
-use Rattle.moos_mail.specs.Registrations.{Made, made_at, is_alike, is_ended_by, regs_of_call, last_of_each, live_from, live_before, is_mailed_at, live_at}
+use Rattle.moos_mail.specs.Registrations.{MadeReg, made_at, is_alike, is_ended_by, regs_of_call, last_of_each, live_from, live_before, is_mailed_at, live_at}
 use Rattle.moos_mail.proofs.Catching.{catching, catching_as, lives-caught}
 use Rattle.moos_mail.proofs.Coming.{AllMade, map-made, StandFrom, IsBy, lives-posts, posted-before}
 use Rattle.moos_mail.proofs.Inboxes.{ended, entries-inbox_of, posts-inbox_of, posts-own}
@@ -28,7 +28,7 @@ use Rattle.moos_mail.proofs.Standing.{live-next, lives-regs, new_live}
 
 -- entries that made registrations
 
-made-append : (P : ℕ → Type 0) (mades more : List Made) → AllMade P mades → AllMade P more → AllMade P (mades ++ more)
+made-append : (P : ℕ → Type 0) (mades more : List MadeReg) → AllMade P mades → AllMade P more → AllMade P (mades ++ more)
 made-append P [] more all all' = all'
 made-append P (made ∷ mades) more all all' = (all.0, made-append P mades more all.1 all')
 
@@ -36,11 +36,11 @@ made-map : (P : ℕ → Type 0) (entry : ℕ) (regs : List Reg) → P entry → 
 made-map P entry [] here = tt
 made-map P entry (reg ∷ regs) here = (here, made-map P entry regs here)
 
-made-weaker : (P Q : ℕ → Type 0) (mades : List Made) → ((entry : ℕ) → P entry → Q entry) → AllMade P mades → AllMade Q mades
+made-weaker : (P Q : ℕ → Type 0) (mades : List MadeReg) → ((entry : ℕ) → P entry → Q entry) → AllMade P mades → AllMade Q mades
 made-weaker P Q [] weaker all = tt
 made-weaker P Q (made ∷ mades) weaker all = (weaker made.entry all.0, made-weaker P Q mades weaker all.1)
 
-pub made-filter : (P : ℕ → Type 0) (p : Made → Bool) (mades : List Made) → AllMade P mades → AllMade P (filter p mades)
+pub made-filter : (P : ℕ → Type 0) (p : MadeReg → Bool) (mades : List MadeReg) → AllMade P mades → AllMade P (filter p mades)
 made-filter P p [] all = tt
 made-filter P p (made ∷ mades) all = through (p made) (made-filter P p mades all.1)
   where
@@ -151,11 +151,11 @@ module _ (names : List (List ℕ)) (client : ℕ) (history : History) (k : ℕ) 
       sym (mailed-here n ∙ posted-before names client history n k (own_part (entry.client == client) entry.call) (posts_of_entry entry)
       (omega (arith, ap length (posts-own names front (entry.client == client) entry.call), front-posts, below)))
 
-  abbrev f : Made → Live
+  abbrev f : MadeReg → Live
   f = live_at names client history (posts_before history k)
 
   -- the live registrations after a call
-  abbrev pub next_live : Bool → Call → List Made
+  abbrev pub next_live : Bool → Call → List MadeReg
   next_live own call =
       filter (λ made. not (own && is_ended_by made.reg call)) (live_before client history k) ++ map (made_at k) (last_of_each (if own then regs_of_call call else []))
 
@@ -170,7 +170,7 @@ module _ (names : List (List ℕ)) (client : ℕ) (history : History) (k : ℕ) 
       fold (with_reg front.entries) front.lives regs ≡ map (catching names client history k 0) (next_live true (Register regs))
   lives-new regs lives =
       let stays : Live → Bool = λ live. not (list_any (is_alike live.reg) regs) in
-      let old : List Made = filter (λ made. not (list_any (is_alike made.reg) regs)) (live_before client history k) in
+      let old : List MadeReg = filter (λ made. not (list_any (is_alike made.reg) regs)) (live_before client history k) in
       let kept : map f old ≡ map (catching names client history k 0) old
       = map-made (IsUnder k) f (catching names client history k 0) old (λ made below. ap (λ own. catching_as names client history k own 0 made) (sym (ne_eqb made.entry k (λ same. omega (arith, same, below)))))
       (made-filter (IsUnder k) _ (live_before client history k) (live-under client history k (omega (arith, within)))) in
@@ -198,9 +198,9 @@ module _ (names : List (List ℕ)) (client : ℕ) (history : History) (k : ℕ) 
       lives-caught names client history k 0 front.posts (record front { lives = fold (with_reg front.entries) front.lives regs }) (next_live true (Register regs))
       (λ i post is. (let e : 0 + i ≡ i = omega arith in ap (slice_get (posts_of history)) e) ∙ post-front history k i post (subst (λ posts. slice_get posts i ≡ Some post) (posts-inbox_of names client (take k history)) is))
       (omega (arith, front-posts)) front-entries (λ m above. none-before names client history m k (omega (arith, within))) final (lives-new regs lives)
-      ∙ ap (λ (g : Made → Live). map g (next_live true (Register regs))) (λ i made. either made (made.entry == k) i)
+      ∙ ap (λ (g : MadeReg → Live). map g (next_live true (Register regs))) (λ i made. either made (made.entry == k) i)
     where
-      either : (made : Made) (own : Bool) → catching_as names client history k own (posts_before history k) made ≡ f made
+      either : (made : MadeReg) (own : Bool) → catching_as names client history k own (posts_before history k) made ≡ f made
       either made true = refl
       either made false = refl
 

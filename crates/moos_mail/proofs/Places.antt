@@ -6,7 +6,7 @@ use Rattle.std.specs.List.{list_any}
 use Rattle.moos_post.specs.declared.entry.Entry.{Entry}
 use Rattle.moos_post.specs.declared.registration.Reg.{Reg}
 use Rattle.moos_post.specs.History.{History}
-use Rattle.moos_mail.specs.Registrations.{ends, is_alike, IsLive, last_of_each, live_before, live_from, Made, made_at, regs_of}
+use Rattle.moos_mail.specs.Registrations.{ends, is_alike, IsLive, last_of_each, live_before, live_from, MadeReg, made_at, regs_of}
 
 -- what a list contains
 
@@ -83,7 +83,7 @@ in-last (one ∷ regs) reg (suc place) there last = either (list_any (is_alike o
 -- places of entries
 
 -- the same of these entries, the first of which has this number
-record IsLiveFrom (client number : ℕ) (entries : History) (made : Made) : Type 0 where
+record IsLiveFrom (client number : ℕ) (entries : History) (made : MadeReg) : Type 0 where
   i : ℕ
   entry : Entry
   number_is : made.entry ≡ number + i
@@ -104,7 +104,7 @@ all-live client number (entry ∷ later) =
     (λ made is. record { i = suc is.i; entry = is.entry; number_is = (let e : made.entry ≡ suc number + is.i = is.number_is in omega (arith, e)); at = is.at; stands = is.stands; stays = is.stays })
     (live_from client (suc number) later) (all-live client (suc number) later))
 
-in-live : (client number : ℕ) (entries : History) (made : Made) (i : ℕ) (entry : Entry) (place : ℕ) → made.entry ≡ number + i → slice_get entries i ≡ Some entry →
+in-live : (client number : ℕ) (entries : History) (made : MadeReg) (i : ℕ) (entry : Entry) (place : ℕ) → made.entry ≡ number + i → slice_get entries i ≡ Some entry →
     slice_get (regs_of client entry) place ≡ Some made.reg → list_any (is_alike made.reg) (drop (suc place) (regs_of client entry)) ≡ false →
     list_any (ends client made.reg) (drop (suc i) entries) ≡ false → Contains (live_from client number entries) made
 in-live client number [] made i entry place is at there last stays = absurd (let e : None ≡ Some entry = at in cc)
@@ -123,7 +123,7 @@ in-live client number (one ∷ later) made (suc i) entry place is at there last 
     (in-live client (suc number) later made i entry place (let e : made.entry ≡ number + suc i = is in omega (arith, e)) at there last stays)
 
 -- What is live before entry k, by places.
-pub live-places : (client : ℕ) (history : History) (k : ℕ) (made : Made) → Contains (live_before client history k) made → IsLive client history k made
+pub live-places : (client : ℕ) (history : History) (k : ℕ) (made : MadeReg) → Contains (live_before client history k) made → IsLive client history k made
 live-places client history k made inside =
     let is : IsLiveFrom client 0 (take k history) made = All-contains (IsLiveFrom client 0 (take k history)) (live_before client history k) made (all-live client 0 (take k history)) inside in
     let same : is.i ≡ made.entry = omega (arith, is.number_is) in
@@ -136,5 +136,5 @@ live-places client history k made inside =
       stays = subst (λ n. list_any (ends client made.reg) (drop (suc n) (take k history)) ≡ false) same is.stays;
     }
 
-pub places-live : (client : ℕ) (history : History) (k : ℕ) (made : Made) → IsLive client history k made → Contains (live_before client history k) made
+pub places-live : (client : ℕ) (history : History) (k : ℕ) (made : MadeReg) → IsLive client history k made → Contains (live_before client history k) made
 places-live client history k made is = in-live client 0 (take k history) made made.entry is.entry is.place (omega arith) is.at is.there is.last is.stays

@@ -12,7 +12,7 @@ use Rattle.moos_post.specs.declared.value.Post.{Post}
 use Rattle.moos_post.specs.Delivery.{Mailing, Inbox, mailed_to, with_reg, after_catching_up, selects, is_due, is_latest, is_new_for, was_mailed}
 use Rattle.moos_post.specs.History.{History, posts_of, posts_of_call, posts_of_entry}
 use Rattle.moos_mail.specs.Sentences.{posts_before}
-use Rattle.moos_mail.specs.Registrations.{Made, live_before, is_mailed_at, live_at, is_due_at, is_wanted_anew, catches_up_at, is_to_mail}
+use Rattle.moos_mail.specs.Registrations.{MadeReg, live_before, is_mailed_at, live_at, is_due_at, is_wanted_anew, catches_up_at, is_to_mail}
 use Rattle.moos_mail.proofs.Catching.{caught-at, catching, catching_as}
 use Rattle.moos_mail.proofs.Coming.{AllMade, posted-at}
 use Rattle.moos_mail.proofs.Inboxes.{ended, entries-own, posts-own, posts-inbox_of, keeps-catching}
@@ -22,7 +22,7 @@ use Rattle.moos_mail.proofs.Mailed.{mailed-past}
 use Rattle.moos_mail.proofs.Orderly.{IsPast, IsOrderly, orderly-keeps, settled-inbox_of}
 
 -- none of these registrations was made at the entry
-none-new : (k : ℕ) (p : Made → Bool) (mades : List Made) → AllMade (IsUnder k) mades → list_any (λ made. made.entry == k && p made) mades ≡ false
+none-new : (k : ℕ) (p : MadeReg → Bool) (mades : List MadeReg) → AllMade (IsUnder k) mades → list_any (λ made. made.entry == k && p made) mades ≡ false
 none-new k p [] all = refl
 none-new k p (made ∷ mades) all =
     rw (ne_eqb made.entry k (λ same. (let h : made.entry < k = all.0 in omega (arith, h, same)))) (none-new k p mades all.1)
@@ -41,7 +41,7 @@ module _ (names : List (List ℕ)) (client : ℕ) (history : History) (k : ℕ) 
   abbrev part : Bool → Call → Inbox
   part own call = own_part names client history k entry there own call
 
-  abbrev next : Bool → Call → List Made
+  abbrev next : Bool → Call → List MadeReg
   next own call = next_live names client history k entry there own call
 
   lived : here.lives ≡ map (live_at names client history (posts_before history k)) (live_before client history k)
@@ -73,7 +73,7 @@ module _ (names : List (List ℕ)) (client : ℕ) (history : History) (k : ℕ) 
       ∙ list_any-alike _ (λ made. made.entry == k && selects names made.reg post) (next true (Register regs)) (λ made. through made (made.entry == k))
       ∙ ap (list_any (λ made. made.entry == k && selects names made.reg post)) (sym after)
     where
-      through : (made : Made) (own : Bool) → is_new_for names k post (catching_as names client history k own 0 made) ≡ (made.entry == k && selects names made.reg post)
+      through : (made : MadeReg) (own : Bool) → is_new_for names k post (catching_as names client history k own 0 made) ≡ (made.entry == k && selects names made.reg post)
       through made true = refl
       through made false = refl
 

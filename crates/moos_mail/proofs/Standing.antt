@@ -5,9 +5,9 @@ use Rattle.std.proofs.lemmas.List.Elements.{filter-append}
 use Rattle.std.specs.List.{list_any}
 use Rattle.moos_post.specs.declared.entry.Entry.{Entry}
 use Rattle.moos_post.specs.declared.registration.Reg.{Reg}
-use Rattle.moos_post.specs.Delivery.{Live, with_reg, without}
+use Rattle.moos_post.specs.Delivery.{Live, with_reg, without_patterns}
 use Rattle.moos_post.specs.History.{History}
-use Rattle.moos_mail.specs.Registrations.{Made, made_at, is_alike, regs_of, ends, last_of_each, live_from, live_before}
+use Rattle.moos_mail.specs.Registrations.{MadeReg, made_at, is_alike, regs_of, ends, last_of_each, live_from, live_before}
 use Rattle.moos_mail.proofs.Lists.{filter-all, filter-map, list_any-push, take-next}
 
 -- what neither test finds
@@ -32,8 +32,8 @@ live-push client number [] entry =
 live-push client number (one ∷ history) entry =
     let own : List Reg = last_of_each (regs_of client one) in
     let kept : List Reg = filter (λ reg. not (list_any (ends client reg) history)) own in
-    let new : List Made = map (made_at (suc number + length history)) (last_of_each (regs_of client entry)) in
-    let stays : Made → Bool = λ made. not (ends client made.reg entry) in
+    let new : List MadeReg = map (made_at (suc number + length history)) (last_of_each (regs_of client entry)) in
+    let stays : MadeReg → Bool = λ made. not (ends client made.reg entry) in
     ap (λ regs. map (made_at number) regs ++ live_from client (suc number) (history ++ entry ∷ []))
     (ap (λ (test : Reg → Bool). filter (λ reg. not (test reg)) own) (λ i reg. list_any-push (ends client reg) history entry i) ∙ filter-neither (λ reg. list_any (ends client reg) history) (λ reg. ends client reg entry) own)
     ∙ ap (λ mades. mades ++ live_from client (suc number) (history ++ entry ∷ [])) (sym (filter-map stays (made_at number) kept))
@@ -59,9 +59,9 @@ pub lives-regs : (entry : ℕ) (lives : List Live) (regs : List Reg) →
 lives-regs entry lives [] = sym (append-nil (filter (λ live. not false) lives) ∙ filter-all (λ live. not false) lives (λ live. refl))
 lives-regs entry lives (reg ∷ regs) =
     let later : Live → Bool = λ live. not (list_any (is_alike live.reg) regs) in
-    lives-regs entry (without reg.var reg.source lives ++ new_live entry reg ∷ []) regs
+    lives-regs entry (without_patterns reg.var reg.source lives ++ new_live entry reg ∷ []) regs
     ∙ ap (λ old. old ++ map (new_live entry) (last_of_each regs))
-    (filter-append later (without reg.var reg.source lives) (new_live entry reg ∷ [])
+    (filter-append later (without_patterns reg.var reg.source lives) (new_live entry reg ∷ [])
     ∙ ap (λ old. old ++ filter later (new_live entry reg ∷ [])) (sym (filter-neither (λ live. is_alike live.reg reg) (λ live. list_any (is_alike live.reg) regs) lives)))
     ∙ append_assoc (filter (λ live. not (list_any (is_alike live.reg) (reg ∷ regs))) lives) (filter later (new_live entry reg ∷ [])) (map (new_live entry) (last_of_each regs))
     ∙ ap (λ new. filter (λ live. not (list_any (is_alike live.reg) (reg ∷ regs))) lives ++ new) (through (list_any (is_alike reg) regs))

@@ -12,12 +12,12 @@ use Rattle.moos_post.specs.History.{History, posts_of}
 use Rattle.moos_mail.specs.Sentences.{posts_before}
 
 -- a registration, and the entry that made it
-pub record Made : Type 0 where
+pub record MadeReg : Type 0 where
   pub reg : Reg
   pub entry : ℕ
 
 -- the registration, made at this entry
-abbrev pub made_at : ℕ → Reg → Made
+abbrev pub made_at : ℕ → Reg → MadeReg
 made_at entry reg = record { reg = reg; entry = entry }
 
 -- both have the same two patterns
@@ -53,19 +53,19 @@ last_of_each (reg ∷ later) = if list_any (is_alike reg) later then last_of_eac
 
 -- The client's registrations that are live after these entries, the first of which has this number: each that no later
 -- place of its own entry and no later entry ends, in the order in which they were made.
-abbrev pub live_from : ℕ → ℕ → History → List Made
+abbrev pub live_from : ℕ → ℕ → History → List MadeReg
 live_from client number [] = []
 live_from client number (entry ∷ later) =
     map (made_at number) (filter (λ reg. not (list_any (ends client reg) later)) (last_of_each (regs_of client entry)))
     ++ live_from client (suc number) later
 
 -- the client's registrations that are live before entry k
-abbrev pub live_before : ℕ → History → ℕ → List Made
+abbrev pub live_before : ℕ → History → ℕ → List MadeReg
 live_before client history k = live_from client 0 (take k history)
 
 -- The registration stands at a place of the list of an entry before k, and no later place of that list and no entry
 -- between that one and k registers or unregisters the same patterns.
-pub record IsLive (client : ℕ) (history : History) (k : ℕ) (made : Made) : Type 0 where
+pub record IsLive (client : ℕ) (history : History) (k : ℕ) (made : MadeReg) : Type 0 where
   pub entry : Entry
   pub at : slice_get (take k history) made.entry ≡ Some entry
   pub place : ℕ
@@ -78,29 +78,29 @@ abbrev pub is_mailed_at : ℕ → ℕ → List Mailing → Bool
 is_mailed_at n e mailed = list_any (λ one. one.number == n && one.entry == e) mailed
 
 -- the registration, and the posts that came through it
-abbrev pub live_with : Made → List Post → Live
+abbrev pub live_with : MadeReg → List Post → Live
 live_with made came = record { reg = made.reg; made = made.entry; came = came }
 
 -- Post n comes through a registration through which these came before: a post that was made before the registration where
 -- it is mailed at the registration's own entry and selected, and a later one where it is due.
-abbrev pub comes_through : List (List ℕ) → ℕ → History → Made → ℕ → List Post → Post → Bool
+abbrev pub comes_through : List (List ℕ) → ℕ → History → MadeReg → ℕ → List Post → Post → Bool
 comes_through names client history made n came post =
     if nat_lt n (posts_before history made.entry)
     then is_mailed_at n made.entry (mailed_to names client history) && selects names made.reg post
     else is_due names post (live_with made came)
 
 -- what came through the registration, with post n too where there is one and it comes through
-abbrev pub with_next : List (List ℕ) → ℕ → History → Made → ℕ → List Post → Option Post → List Post
+abbrev pub with_next : List (List ℕ) → ℕ → History → MadeReg → ℕ → List Post → Option Post → List Post
 with_next names client history made n came None = came
 with_next names client history made n came (Some post) = if comes_through names client history made n came post then came ++ post ∷ [] else came
 
 -- the posts before post n that came through the registration while it was live
-abbrev pub came_through : List (List ℕ) → ℕ → History → Made → ℕ → List Post
+abbrev pub came_through : List (List ℕ) → ℕ → History → MadeReg → ℕ → List Post
 came_through names client history made zero = []
 came_through names client history made (suc n) = with_next names client history made n (came_through names client history made n) (slice_get (posts_of history) n)
 
 -- the registration as it stands before post n
-abbrev pub live_at : List (List ℕ) → ℕ → History → ℕ → Made → Live
+abbrev pub live_at : List (List ℕ) → ℕ → History → ℕ → MadeReg → Live
 live_at names client history n made = live_with made (came_through names client history made n)
 
 -- post n is due at some registration of the client that is live before entry e

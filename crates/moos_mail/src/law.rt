@@ -1,7 +1,7 @@
 ghost use Rattle.std.specs.Prelude.{◌≡◌, ◌↔◌, ℕ, ◌<◌, ◌≤◌, Contains, List, length, map, take};
 ghost use Rattle.moos_post.specs.Delivery.{inbox_of, mail_at, mailed_to};
 ghost use Rattle.moos_post.specs.History.{History};
-ghost use Rattle.moos_mail.specs.Registrations.{IsLive, Made, is_mailed_at, is_to_mail, live_at, live_before};
+ghost use Rattle.moos_mail.specs.Registrations.{IsLive, MadeReg, is_mailed_at, is_to_mail, live_at, live_before};
 ghost use Rattle.moos_mail.specs.Sentences.{AreOnceEach, given_at, posts_before};
 
 /// What holds of the delivery rule, which is told entry by entry, in sentences about the places of a history: each post is
@@ -13,5 +13,5 @@ pub fn delivery_law()
     ensures given { (names : List (List ℕ)) (history : History) (k : ℕ) → mail_at names history k ≡ given_at names history k }
     ensures mailed { (names : List (List ℕ)) (client : ℕ) (history : History) (n e : ℕ) → e < length history → is_mailed_at n e (mailed_to names client history) ≡ is_to_mail names client history n e }
     ensures live { (names : List (List ℕ)) (client : ℕ) (history : History) (k : ℕ) → k ≤ length history → (inbox_of names client (take k history)).lives ≡ map (live_at names client history (posts_before history k)) (live_before client history k) }
-    ensures places { (client : ℕ) (history : History) (k : ℕ) (made : Made) → (Contains (live_before client history k) made ↔ IsLive client history k made) }
+    ensures places { (client : ℕ) (history : History) (k : ℕ) (made : MadeReg) → (Contains (live_before client history k) made ↔ IsLive client history k made) }
 {}

@@ -10,7 +10,7 @@ use Rattle.moos_post.specs.declared.value.Value.TheVariants.{Num}
 use Rattle.moos_post.specs.Delivery.{mail_at}
 use Rattle.moos_post.specs.History.{History, name_of, posts_of}
 use Rattle.moos_post.specs.Patterns.{matches}
-use Rattle.moos_post.specs.Words.{bad_place, is_name, is_pattern, is_text, IsMilli}
+use Rattle.moos_post.specs.Words.{control_place, is_name, is_pattern, is_text, IsMilli}
 
 abbrev at : ℕ → ℕ → Call → Entry
 at stamp client call = record { stamp = stamp; client = client; call = call }
@@ -92,7 +92,7 @@ pattern : map is_pattern (codes "1?*" ∷ codes "" ∷ codes "a b" ∷ []) ≡ t
 pattern = refl
 
 -- Texts may be empty and hold a tab and any byte above 127, but neither a line's end nor byte 127.
-bad_first : bad_place (97 ∷ 9 ∷ 10 ∷ 0 ∷ []) ≡ Some 2
+bad_first : control_place (97 ∷ 9 ∷ 10 ∷ 0 ∷ []) ≡ Some 2
 bad_first = refl
 
 text : map is_text ([] ∷ (9 ∷ 32 ∷ 255 ∷ []) ∷ (127 ∷ []) ∷ (31 ∷ []) ∷ []) ≡ true ∷ true ∷ false ∷ false ∷ []

@@ -74,12 +74,12 @@ with_post names inbox post = record inbox {
 }
 
 -- the registrations without each that has both these patterns
-abbrev pub without : List ℕ → List ℕ → List Live → List Live
-without var source lives = filter (λ live. not (bytes_eq live.reg.var var && bytes_eq live.reg.source source)) lives
+abbrev pub without_patterns : List ℕ → List ℕ → List Live → List Live
+without_patterns var source lives = filter (λ live. not (bytes_eq live.reg.var var && bytes_eq live.reg.source source)) lives
 
 -- Registering withdraws a live registration with the same patterns, and the new one starts with nothing come through.
 abbrev pub with_reg : ℕ → List Live → Reg → List Live
-with_reg entry lives reg = without reg.var reg.source lives ++ record { reg = reg; made = entry; came = [] } ∷ []
+with_reg entry lives reg = without_patterns reg.var reg.source lives ++ record { reg = reg; made = entry; came = [] } ∷ []
 
 -- the registration was made at this entry and selects the post
 abbrev pub is_new_for : List (List ℕ) → ℕ → Post → Live → Bool
@@ -118,7 +118,7 @@ with_regs names inbox regs = after_catching_up names 0 (record inbox { lives = f
 -- what the client's own entries change beside the posts
 abbrev pub with_own : List (List ℕ) → Inbox → Call → Inbox
 with_own names inbox (Register regs) = with_regs names inbox regs
-with_own names inbox (Unregister var source) = record inbox { lives = without var source inbox.lives }
+with_own names inbox (Unregister var source) = record inbox { lives = without_patterns var source inbox.lives }
 with_own names inbox (Posts batch) = inbox
 with_own names inbox Fetch = record inbox { fetched = suc inbox.entries }
 

@@ -15,16 +15,16 @@ abbrev pub is_digit : ℕ → Bool
 is_digit byte = is_between 48 57 byte
 
 -- the byte is a letter, `A` to `Z` or `a` to `z`
-abbrev pub is_letter : ℕ → Bool
-is_letter byte = is_between 65 90 byte || is_between 97 122 byte
+abbrev pub is_alphabetic : ℕ → Bool
+is_alphabetic byte = is_between 65 90 byte || is_between 97 122 byte
 
 -- a name may begin with the byte: a letter or `_`
 abbrev pub begins_name : ℕ → Bool
-begins_name byte = is_letter byte || byte == 95
+begins_name byte = is_alphabetic byte || byte == 95
 
 -- the byte may stand in a name: a letter, a digit, `_`, `-` or `.`
 abbrev pub is_name_byte : ℕ → Bool
-is_name_byte byte = is_letter byte || is_digit byte || byte == 95 || byte == 45 || byte == 46
+is_name_byte byte = is_alphabetic byte || is_digit byte || byte == 95 || byte == 45 || byte == 46
 
 -- 1 to 64 bytes of a name, the first one that begins a name
 abbrev pub is_name : List ℕ → Bool
@@ -44,9 +44,9 @@ abbrev pub is_control : ℕ → Bool
 is_control byte = (nat_le byte 31 && not (byte == 9)) || byte == 127
 
 -- where the first byte stands that a text can't hold
-abbrev pub bad_place : List ℕ → Option ℕ
-bad_place bytes = position is_control bytes
+abbrev pub control_place : List ℕ → Option ℕ
+control_place bytes = position is_control bytes
 
 -- at most 4,096 bytes, each of which a text can hold
 abbrev pub is_text : List ℕ → Bool
-is_text bytes = nat_le (length bytes) 4096 && is_none (bad_place bytes)
+is_text bytes = nat_le (length bytes) 4096 && is_none (control_place bytes)

@@ -24,7 +24,7 @@ pub use name::{Name, NameFault};
 pub use pattern::{Pattern, PatternFault};
 pub use registration::Reg;
 use std::alloc::AllocError;
-pub use txt::{Txt, TxtFault};
+pub use txt::{Txt, TxtFault, control_place};
 pub use value::{Pair, Post, Value};
 
 /// The answer of a call that found no memory. It says nothing else of what was asked.

@@ -5,7 +5,7 @@ ghost use Rattle.std.specs.Cmp.Lexicographic.{nat_list_eq_equiv};
 ghost use Rattle.std.specs.Cmp.Rules.{hashing};
 ghost use Rattle.std.specs.Hash as fed;
 ghost use Rattle.std.specs.List.{list_all};
-ghost use Rattle.moos_post.specs.Words.{is_letter, begins_name, is_name_byte, is_name};
+ghost use Rattle.moos_post.specs.Words.{is_alphabetic, begins_name, is_name_byte, is_name};
 
 use crate::NoMemory;
 use crate::copied::Copied;
@@ -114,8 +114,8 @@ impl Copied for Name {
 }
 
 // Each is the definition of its name.
-fn is_letter(byte: u8) -> bool
-    ensures { result ≡ is_letter byte }
+fn is_alphabetic(byte: u8) -> bool
+    ensures { result ≡ is_alphabetic byte }
 {
     byte.is_ascii_alphabetic()
 }
@@ -123,13 +123,13 @@ fn is_letter(byte: u8) -> bool
 fn begins_name(byte: u8) -> bool
     ensures { result ≡ begins_name byte }
 {
-    is_letter(byte) || byte == b'_'
+    is_alphabetic(byte) || byte == b'_'
 }
 
 pub(crate) fn is_name_byte(byte: u8) -> bool
     ensures { result ≡ is_name_byte byte }
 {
-    is_letter(byte) || byte.is_ascii_digit() || byte == b'_' || byte == b'-' || byte == b'.'
+    is_alphabetic(byte) || byte.is_ascii_digit() || byte == b'_' || byte == b'-' || byte == b'.'
 }
 
 fn are_name_bytes(bytes: &[u8]) -> bool

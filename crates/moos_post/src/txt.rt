@@ -1,5 +1,5 @@
 ghost use Rattle.std.specs.Prelude.{◌≡◌, ◌↔◌, ◌<◌, ◌≤◌, ℕ, IsTrue, Some, IfOk, OnOk, IsErrOf, length};
-ghost use Rattle.moos_post.specs.Words.{is_control, bad_place, is_text};
+ghost use Rattle.moos_post.specs.Words.{is_control, control_place, is_text};
 
 use crate::NoMemory;
 use crate::copied::Copied;
@@ -58,12 +58,12 @@ impl Txt {
         ensures ok { IfOk result (λ text. text ≡ bytes.now) }
         ensures valid { OnOk result (IsTrue (is_text bytes.now)) }
         ensures long { (len : ℕ) → IsErrOf result (TxtFault.TooLong len) ↔ ((4096 < len) × (len ≡ length bytes.now)) }
-        ensures bad { (place : ℕ) → IsErrOf result (TxtFault.BadByte place) ↔ ((length bytes.now ≤ 4096) × (bad_place bytes.now ≡ Some place)) }
+        ensures bad { (place : ℕ) → IsErrOf result (TxtFault.BadByte place) ↔ ((length bytes.now ≤ 4096) × (control_place bytes.now ≡ Some place)) }
     {
         if bytes.len() > 4096 {
             return Err(TxtFault::TooLong(bytes.len()));
         }
-        if let Some(place) = bad_place(bytes) {
+        if let Some(place) = control_place(bytes) {
             return Err(TxtFault::BadByte(place));
         }
         let bytes = Vec::from_slice(alloc, bytes)?;
@@ -86,15 +86,15 @@ impl Copied for Txt {
     }
 }
 
-// Each is the definition of its name.
+/// Where the first byte stands that a text can't hold, counted from 0.
+pub fn control_place(bytes: &[u8]) -> Option<usize>
+    ensures { result ≡ control_place bytes.now }
+{
+    bytes.iter().position(|&byte| is_control(byte))
+}
+
 fn is_control(byte: u8) -> bool
     ensures { result ≡ is_control byte }
 {
     (byte <= 31 && byte != b'\t') || byte == 127
-}
-
-fn bad_place(bytes: &[u8]) -> Option<usize>
-    ensures { result ≡ bad_place bytes.now }
-{
-    bytes.iter().position(|&byte| is_control(byte))
 }

@@ -10,7 +10,7 @@ use Rattle.moos_io.proofs.Lists.{each_append}
 use Rattle.moos_post.specs.declared.value.Value.{Value}
 use Rattle.moos_post.specs.declared.value.Value.TheVariants.{Num, Text}
 use Rattle.moos_post.specs.Entries.{IsValue}
-use Rattle.moos_post.specs.Words.{bad_place, is_control, is_digit, is_text, IsMilli}
+use Rattle.moos_post.specs.Words.{control_place, is_control, is_digit, is_text, IsMilli}
 use Rattle.moos_text.specs.Numbers.{decimals_text, digits_value, milli_of, milli_text, unsigned_text}
 use Rattle.moos_text.proofs.PrintedDigits.{decimal_digits, decimals_shape, milli_bytes, Shape, unsigned_bytes}
 use Rattle.moos_text.proofs.RoundTrip.{milli_back}
@@ -84,7 +84,7 @@ clean_lacks (byte ∷ text) none = by (is_control byte) refl none (clean_lacks t
     by false e h later = (λ same. false≢true (sym e ∙ ap is_control same), later (omega (arith, h)))
 
 no_line_end : (text : List ℕ) → IsTrue (is_text text) → Lacks 10 text
-no_line_end text fine = clean_lacks text (past (nat_lt (position_or_len is_control text) (length text)) refl (and_parts (nat_le (length text) 4096) (is_none (bad_place text)) fine).1)
+no_line_end text fine = clean_lacks text (past (nat_lt (position_or_len is_control text) (length text)) refl (and_parts (nat_le (length text) 4096) (is_none (control_place text)) fine).1)
   where
     past : (b : Bool) → nat_lt (position_or_len is_control text) (length text) ≡ b → is_none (cond b (Some (position_or_len is_control text)) None) ≡ true → length text ≤ position_or_len is_control text
     past true e h = absurd (false≢true h)

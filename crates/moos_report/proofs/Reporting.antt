@@ -11,7 +11,7 @@ use Rattle.moos_post.specs.declared.value.Post.{Post}
 use Rattle.moos_post.specs.Delivery.{mail_at}
 use Rattle.moos_post.specs.History.{History, posts_of, post_of, name_of}
 use Rattle.moos_db.specs.declared.mail.Origin.{Origin}
-use Rattle.moos_db.specs.Database.{pair_of, origin_of}
+use Rattle.moos_db.specs.Database.{pair_posted, origin_of}
 use Rattle.moos_db.proofs.Growth.{posts-front}
 use Rattle.moos_report.specs.Report.{client_text, clients_text, entry_text, entries_text, said_text, post_text, letter_text, letters_text, call_text}
 
@@ -69,17 +69,17 @@ letter_none names posts first number past =
 
 -- a letter whose number one of the first posts has
 pub letter_is : (names : List (List ℕ)) (posts : List Post) (first number : ℕ) {origin : Origin} {pair : Pair} → number < first
-    → option_map origin_of (slice_get posts number) ≡ Some origin → option_map pair_of (slice_get posts number) ≡ Some pair
+    → option_map origin_of (slice_get posts number) ≡ Some origin → option_map pair_posted (slice_get posts number) ≡ Some pair
     → letter_text names number (slice_get (take first posts) number)
     ≡ concat (codes "%% mail " ∷ decimal number ∷ codes " " ∷ []) ++ said_text origin.stamp (name_of names origin.client) pair.var pair.value
 letter_is names posts first number {origin = origin} {pair = pair} below =
     rw (slice_get_take posts first number below)
     (elim (slice_get posts number)
-    as (λ post. option_map origin_of post ≡ Some origin → option_map pair_of post ≡ Some pair
+    as (λ post. option_map origin_of post ≡ Some origin → option_map pair_posted post ≡ Some pair
     → letter_text names number post ≡ concat (codes "%% mail " ∷ decimal number ∷ codes " " ∷ []) ++ said_text origin.stamp (name_of names origin.client) pair.var pair.value) [
       | None ↦ λ from said. cc
       | Some post ↦ λ from said.
           let same_origin : origin ≡ origin_of post = cc in
-          let same_pair : pair ≡ pair_of post = cc in
+          let same_pair : pair ≡ pair_posted post = cc in
           rw (same_origin, same_pair) refl
     ])

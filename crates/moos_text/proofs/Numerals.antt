@@ -5,7 +5,7 @@ use Rattle.std.specs.List.{list_all}
 use Rattle.std.proofs.lemmas.List.{take_all, length-drop}
 use Rattle.std.proofs.lemmas.List.Sums.{fold_more}
 use Rattle.moos_post.specs.Words.{is_digit}
-use Rattle.moos_text.specs.Numbers.{digits_value, point_of, unsigned_of}
+use Rattle.moos_text.specs.Numbers.{digits_value, point_place, unsigned_of}
 use Rattle.moos_text.specs.Reading.{IsFront, IsParted}
 
 -- one digit more
@@ -16,23 +16,23 @@ no_point : (byte : ℕ) → is_digit byte ≡ true → (byte == 46) ≡ false
 no_point byte digit = grind arith
 
 -- the point stands right behind the digits at the front
-pub point_behind : (count : ℕ) (text : List ℕ) → count ≤ length text → list_all is_digit (take count text) ≡ true → (count < length text → get_or text count 0 ≡ 46) → point_of text ≡ count
+pub point_behind : (count : ℕ) (text : List ℕ) → count ≤ length text → list_all is_digit (take count text) ≡ true → (count < length text → get_or text count 0 ≡ 46) → point_place text ≡ count
 point_behind zero [] within digits point = refl
 point_behind zero (byte ∷ text) within digits point = let here : byte ≡ 46 = point (omega arith) in grind arith
 point_behind (suc count) [] within digits point = absurd (omega arith)
 point_behind (suc count) (byte ∷ text) within digits point =
-    let further : point_of text ≡ count = point_behind count text (omega arith) (grind arith) (λ lt. point (omega arith)) in
+    let further : point_place text ≡ count = point_behind count text (omega arith) (grind arith) (λ lt. point (omega arith)) in
     let none : (byte == 46) ≡ false = no_point byte (grind arith) in grind arith
 
 -- where another byte stands behind them, not all that stands before the point are digits
-no_digits : (count : ℕ) (text : List ℕ) → count < length text → list_all is_digit (take count text) ≡ true → get_or text count 0 ≢ 46 → is_digit (get_or text count 0) ≡ false → list_all is_digit (take (point_of text) text) ≡ false
+no_digits : (count : ℕ) (text : List ℕ) → count < length text → list_all is_digit (take count text) ≡ true → get_or text count 0 ≢ 46 → is_digit (get_or text count 0) ≡ false → list_all is_digit (take (point_place text) text) ≡ false
 no_digits count [] within digits other none = absurd (omega arith)
 no_digits zero (byte ∷ text) within digits other none =
-    let here : point_of (byte ∷ text) ≡ suc (point_of text) = grind arith in rw here (rw none refl)
+    let here : point_place (byte ∷ text) ≡ suc (point_place text) = grind arith in rw here (rw none refl)
 no_digits (suc count) (byte ∷ text) within digits other none =
     let digit : is_digit byte ≡ true = grind arith in
-    let further : list_all is_digit (take (point_of text) text) ≡ false = no_digits count text (omega arith) (grind arith) other none in
-    let here : point_of (byte ∷ text) ≡ suc (point_of text) = grind (arith, no_point byte digit) in rw here (rw further (rw digit refl))
+    let further : list_all is_digit (take (point_place text) text) ≡ false = no_digits count text (omega arith) (grind arith) other none in
+    let here : point_place (byte ∷ text) ≡ suc (point_place text) = grind (arith, no_point byte digit) in rw here (rw further (rw digit refl))
 
 -- the parts on both sides of the point
 pub parted : (count : ℕ) (text decimals : List ℕ) → IsFront count text → (count < length text → get_or text count 0 ≡ 46) → drop (suc count) text ≡ decimals → IsParted text count decimals
@@ -41,7 +41,7 @@ parted count text decimals front point rest = record { point = point_behind coun
 -- another byte than a point behind the digits makes no number
 pub unparted : (count : ℕ) (text : List ℕ) → IsFront count text → count < length text → get_or text count 0 ≢ 46 → unsigned_of text ≡ None
 unparted count text front within other =
-    let none : list_all is_digit (take (point_of text) text) ≡ false = no_digits count text within front.digits other (front.ends within) in rw none refl
+    let none : list_all is_digit (take (point_place text) text) ≡ false = no_digits count text within front.digits other (front.ends within) in rw none refl
 
 -- what a slice from a place to the end holds
 pub from_place : (i : ℕ) (text : List ℕ) → drop i text ≡ take (length text - i) (drop i text)

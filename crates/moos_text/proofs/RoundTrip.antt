@@ -7,7 +7,7 @@ use Rattle.std.proofs.lemmas.Grind.{common_steps}
 use Rattle.std.proofs.Math.Seq.{take-append_seam, drop-append-add, take-length}
 use Rattle.std.proofs.Math.ListN.{drop_of_length-le}
 use Rattle.moos_post.specs.Words.{is_digit, IsMilli}
-use Rattle.moos_text.specs.Numbers.{digits_value, thousandths_of, is_numeral, point_of, unsigned_of, milli_of, decimals_text, unsigned_text, milli_text}
+use Rattle.moos_text.specs.Numbers.{digits_value, thousandths_of, is_numeral, point_place, unsigned_of, milli_of, decimals_text, unsigned_text, milli_text}
 use Rattle.moos_text.proofs.Numerals.{point_behind}
 use Rattle.moos_text.proofs.PrintedDigits.{decimal_digits, decimal_value, decimals_shape, Shape}
 
@@ -30,20 +30,20 @@ made_of whole decimals digits further some within =
 unsigned_whole : (whole : List ℕ) → list_all is_digit whole ≡ true → unsigned_of whole ≡ made whole []
 unfolding made
 unsigned_whole whole digits =
-    let at : point_of whole ≡ length whole = point_behind (length whole) whole (omega arith) (rw take-length digits) (λ lt. absurd (omega arith)) in
-    let front : take (point_of whole) whole ≡ whole = rw at (take-length whole) in
-    let back : drop (suc (point_of whole)) whole ≡ [] = drop_of_length-le whole {i = suc (point_of whole)} (omega (arith, at)) in
-    ap (λ w. made w (drop (suc (point_of whole)) whole)) front ∙ ap (λ d. made whole d) back
+    let at : point_place whole ≡ length whole = point_behind (length whole) whole (omega arith) (rw take-length digits) (λ lt. absurd (omega arith)) in
+    let front : take (point_place whole) whole ≡ whole = rw at (take-length whole) in
+    let back : drop (suc (point_place whole)) whole ≡ [] = drop_of_length-le whole {i = suc (point_place whole)} (omega (arith, at)) in
+    ap (λ w. made w (drop (suc (point_place whole)) whole)) front ∙ ap (λ d. made whole d) back
 
 -- digits on both sides of a point
 unsigned_parts : (whole decimals : List ℕ) → list_all is_digit whole ≡ true → unsigned_of (whole ++ 46 ∷ decimals) ≡ made whole decimals
 unfolding made
 unsigned_parts whole decimals digits =
     let text : List ℕ = whole ++ 46 ∷ decimals in
-    let at : point_of text ≡ length whole = point_behind (length whole) text (omega (arith, length-append whole (46 ∷ decimals))) (rw take-append_seam digits) (λ lt. grind (arith, common_steps)) in
-    let front : take (point_of text) text ≡ whole = rw at (take-append_seam whole (46 ∷ decimals)) in
-    let back : drop (suc (point_of text)) text ≡ decimals = rw at (ap (λ i. drop i text) (sym (add-one (length whole))) ∙ drop-append-add whole (46 ∷ decimals) 1) in
-    ap (λ w. made w (drop (suc (point_of text)) text)) front ∙ ap (λ d. made whole d) back
+    let at : point_place text ≡ length whole = point_behind (length whole) text (omega (arith, length-append whole (46 ∷ decimals))) (rw take-append_seam digits) (λ lt. grind (arith, common_steps)) in
+    let front : take (point_place text) text ≡ whole = rw at (take-append_seam whole (46 ∷ decimals)) in
+    let back : drop (suc (point_place text)) text ≡ decimals = rw at (ap (λ i. drop i text) (sym (add-one (length whole))) ∙ drop-append-add whole (46 ∷ decimals) 1) in
+    ap (λ w. made w (drop (suc (point_place text)) text)) front ∙ ap (λ d. made whole d) back
 
 -- a number without a sign, printed by its whole part and decimals of this shape
 shaped_back : (n : ℕ) → n ≤ 10 ^ 12 → Shape (n % 1000) → unsigned_of (unsigned_text n) ≡ Some n

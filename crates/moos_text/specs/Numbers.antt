@@ -18,14 +18,14 @@ is_numeral whole decimals =
     && nat_le (thousandths_of whole decimals) (10 ^ 12)
 
 -- where the first point stands, or the end
-abbrev pub point_of : List ℕ → ℕ
-point_of text = position_or_len (λ byte. byte == 46) text
+abbrev pub point_place : List ℕ → ℕ
+point_place text = position_or_len (λ byte. byte == 46) text
 
 -- a number without a sign: digits with at most one point
 abbrev pub unsigned_of : List ℕ → Option ℕ
 unsigned_of text =
-    let whole = take (point_of text) text in
-    let decimals = drop (suc (point_of text)) text in
+    let whole = take (point_place text) text in
+    let decimals = drop (suc (point_place text)) text in
     if is_numeral whole decimals then Some (thousandths_of whole decimals) else None
 
 -- The number that a text stands for, in thousandths: a sign or none, and then a number without a sign.

@@ -1,7 +1,7 @@
 -- Pairs of a variable and its value, as the lines of a file give them, and the parts of a line that gives several.
 use Rattle.std.specs.Prelude.{ℕ, ℤ, ◌+◌, Bool, false, not, ◌&&◌, ◌==◌, nat_lt, if◌then◌else◌, List, [], ◌∷◌, length, Option, Some, None, is_some, Result, Ok, Err}
 use Rattle.std.specs.List.{before_first, after_first, position_or_len}
-use Rattle.moos_post.specs.Words.{is_name, bad_place}
+use Rattle.moos_post.specs.Words.{is_name, control_place}
 use Rattle.moos_post.specs.declared.value.Pair.{Pair}
 use Rattle.moos_post.specs.declared.value.Value.{Value}
 use Rattle.moos_post.specs.declared.value.Value.TheVariants.{Num, Text}
@@ -33,7 +33,7 @@ is_quote byte = byte == 34
 -- a text as a value: no byte that a text can't hold, and at most 4,096 in all
 abbrev pub text_value : List ℕ → Result Value PairFault
 text_value bytes =
-    if is_some (bad_place bytes) then Err BadValue
+    if is_some (control_place bytes) then Err BadValue
     else if nat_lt 4096 (length bytes) then Err TooLong
     else Ok (Text bytes)
 
@@ -48,9 +48,9 @@ plain_value (Some number) bytes = Ok (Num number)
 plain_value None bytes = text_value bytes
 
 -- the value that stands on the right: quoted, or not empty and a text where it must be one
-abbrev pub value_of : Bool → List ℕ → Result Value PairFault
-value_of as_text [] = Err BadValue
-value_of as_text (first ∷ rest) =
+abbrev pub written_value : Bool → List ℕ → Result Value PairFault
+written_value as_text [] = Err BadValue
+written_value as_text (first ∷ rest) =
     if is_quote first then quoted_value rest
     else if as_text then text_value (first ∷ rest)
     else plain_value (milli_of (first ∷ rest)) (first ∷ rest)
@@ -62,7 +62,7 @@ with_value var (Err fault) = Err fault
 
 -- the variable on the left and the value on the right
 abbrev pub sides_pair : List ℕ → Bool → List ℕ → Result Pair PairFault
-sides_pair var as_text value = if is_name var then with_value var (value_of as_text value) else Err BadName
+sides_pair var as_text value = if is_name var then with_value var (written_value as_text value) else Err BadName
 
 -- The pair that a text stands for, or its first fault: it is cut at the first `=`, and a `:` directly before makes the
 -- value a text.

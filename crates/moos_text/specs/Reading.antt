@@ -2,7 +2,7 @@
 use Rattle.std.specs.Prelude.{◌≡◌, ℕ, suc, ◌<◌, ◌≤◌, true, false, List, length, take, drop, slice_index}
 use Rattle.std.specs.List.{list_all}
 use Rattle.moos_post.specs.Words.{is_digit}
-use Rattle.moos_text.specs.Numbers.{point_of}
+use Rattle.moos_text.specs.Numbers.{point_place}
 
 -- the first so many bytes are digits, and the next one is none
 pub record IsFront (count : ℕ) (text : List ℕ) : Type 0 where
@@ -12,5 +12,5 @@ pub record IsFront (count : ℕ) (text : List ℕ) : Type 0 where
 
 -- so many bytes stand before the first point, or are all where there is none, and these stand behind it
 pub record IsParted (text : List ℕ) (count : ℕ) (decimals : List ℕ) : Type 0 where
-  pub point : point_of text ≡ count
+  pub point : point_place text ≡ count
   pub rest : drop (suc count) text ≡ decimals

@@ -1,8 +1,8 @@
 ghost use Rattle.std.specs.Prelude.{◌≡◌, ◌≢◌, true, false, Ok, Err, IfOk, IfErr, MatchOption, None, Some, position};
-ghost use Rattle.moos_post.specs.Words.{is_name, is_control, bad_place};
+ghost use Rattle.moos_post.specs.Words.{is_name};
 ghost use Rattle.moos_text.specs.declared.pair.PairFault.TheVariants.{BadName, NoMemory};
 ghost use Rattle.moos_text.specs.Numbers.{milli_of};
-ghost use Rattle.moos_text.specs.Pairs.{is_equals, is_quote, sides_of, text_value, quoted_value, plain_value, value_of, sides_pair, pair_of};
+ghost use Rattle.moos_text.specs.Pairs.{is_equals, is_quote, sides_of, text_value, quoted_value, plain_value, written_value, sides_pair, pair_of};
 
 use crate::end::{ends_with, without_last};
 use crate::number::read_milli;
@@ -87,8 +87,8 @@ fn read_var(alloc: Global, bytes: &[u8]) -> Result<Name, PairFault>
 }
 
 fn read_value(alloc: Global, as_text: bool, side: &[u8]) -> Result<Value, PairFault>
-    ensures value { IfOk result (λ value. value_of as_text side.now ≡ Ok value) }
-    ensures fault { IfErr result (λ fault. fault ≢ NoMemory → value_of as_text side.now ≡ Err fault) }
+    ensures value { IfOk result (λ value. written_value as_text side.now ≡ Ok value) }
+    ensures fault { IfErr result (λ fault. fault ≢ NoMemory → written_value as_text side.now ≡ Err fault) }
 {
     match side {
         [] => Err(PairFault::BadValue),
@@ -135,7 +135,7 @@ fn read_text(alloc: Global, bytes: &[u8]) -> Result<Value, PairFault>
     ensures value { IfOk result (λ value. text_value bytes.now ≡ Ok value) }
     ensures fault { IfErr result (λ fault. fault ≢ NoMemory → text_value bytes.now ≡ Err fault) }
 {
-    if bad_place(bytes).is_some() {
+    if control_place(bytes).is_some() {
         return Err(PairFault::BadValue);
     }
     if bytes.len() > 4096 {
@@ -145,19 +145,6 @@ fn read_text(alloc: Global, bytes: &[u8]) -> Result<Value, PairFault>
         Ok(text) => Ok(Value::Text(text)),
         Err(_) => Err(PairFault::NoMemory),
     }
-}
-
-// Where the first byte stands that a text can't hold.
-fn bad_place(bytes: &[u8]) -> Option<usize>
-    ensures { result ≡ bad_place bytes.now }
-{
-    bytes.iter().position(|&byte| is_control(byte))
-}
-
-fn is_control(byte: u8) -> bool
-    ensures { result ≡ is_control byte }
-{
-    byte.is_ascii_control() && byte != b'\t'
 }
 
 #[cfg(test)]

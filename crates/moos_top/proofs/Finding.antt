@@ -12,14 +12,14 @@ use Rattle.clap.proofs.ValueTestLemmas.{Accepts-accepts, accepts-Accepts}
 use Rattle.clap.specs.Words.{Text, first_value, one_text, rows_of}
 use Rattle.clap.specs.declared.parser.matches.Found.{Found}
 use Rattle.clap.proofs.WalkLemmas.{both, first_value-rows, one_text-rows}
-use Rattle.moos_post.specs.Words.{bad_place}
+use Rattle.moos_post.specs.Words.{control_place}
 use Rattle.moos_top.specs.Commands.{few, file_in, is_set, text_of, workers_in, workers_of}
 
 -- more bytes than a text can hold are no text, nor are bytes with one that it can't hold
 pub long_no_text : (bytes : List ℕ) → 4096 < length bytes → None ≡ text_of bytes
 long_no_text bytes long = rw (lt-leb (length bytes) 4096 long) refl
 
-pub bad_no_text : (bytes : List ℕ) (place : ℕ) → length bytes ≤ 4096 → bad_place bytes ≡ Some place → None ≡ text_of bytes
+pub bad_no_text : (bytes : List ℕ) (place : ℕ) → length bytes ≤ 4096 → control_place bytes ≡ Some place → None ≡ text_of bytes
 bad_no_text bytes place short bad = rw (bad, and-false) refl
 
 -- the flag's value that was found

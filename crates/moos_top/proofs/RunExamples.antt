@@ -5,7 +5,7 @@ use Rattle.std.specs.Fmt.{digits}
 use Rattle.std.proofs.lemmas.List.{length-take}
 use Rattle.ivp_cert.specs.Texts.{decision_lines}
 use Rattle.moos_io.specs.Faults.{Rose}
-use Rattle.moos_io.specs.Files.{content_of, is_among}
+use Rattle.moos_io.specs.Files.{file_content, is_among}
 use Rattle.moos_text.specs.declared.cause.Cause.TheVariants.{P1}
 use Rattle.script_reader.specs.declared.script.Order.TheVariants.{Stamp}
 use Rattle.moos_top.specs.declared.job.Job.TheVariants.{Play, Solve, Check}
@@ -22,7 +22,7 @@ use Rattle.moos_top.proofs.JobExamples.{accepted, decision, decision_bytes, no_o
 
 -- a run that solves the problem in its file, by what the file holds, what the sink has taken, and how often it failed; the folder tells its files and is sure of this one
 abbrev folder : List ℕ → List ℕ → List ℕ → Option (List ℕ)
-folder name bytes = content_of (record { name = name; bytes = bytes } ∷ [])
+folder name bytes = file_content (record { name = name; bytes = bytes } ∷ [])
 
 abbrev solving : List ℕ → List ℕ → ℕ → Surroundings
 solving bytes taken put_faults =

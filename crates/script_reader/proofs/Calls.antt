@@ -18,7 +18,7 @@ use Rattle.moos_text.specs.Lines.{first_word, behind_word, words_of}
 use Rattle.moos_text.specs.Numbers.{milli_of}
 use Rattle.moos_text.specs.Pairs.{pair_of, parts_of}
 use Rattle.moos_text.specs.Refusals.{and_then}
-use Rattle.script_reader.specs.Script.{ended, milliseconds_of, time_of, pattern_of, interval_of, source_of, reg_of, one_more, register_of, word_at, withdrawal_of, unregister_of, with_cause, with_variable, Posting, posting, with_known, with_pair, with_part, with_parts, post_of_text, is_register, call_of}
+use Rattle.script_reader.specs.Script.{with_none_behind, milliseconds_of, time_of, pattern_of, interval_of, source_of, reg_of, register_one, register_of, word_at, withdrawal_of, unregister_of, with_cause, with_variable, Posting, posting, with_known, with_pair, with_part, with_parts, post_of_text, is_register, call_of}
 use Rattle.script_reader.specs.Validity.{keeps_limits}
 use Rattle.script_reader.specs.Counts.{with_pairs, with_call_variables}
 use Rattle.moos_text.proofs.Parts.{onto_part, parts_begin}
@@ -83,15 +83,15 @@ reg_short (Some var) (Some interval) (Some source) is early from =
 
 register_fine : (made : ℕ) (known words : List (List ℕ)) → IfOk (register_of made words) (IsFine made known)
 register_fine made known words =
-    and_then_good (IsFine made known) (IsFine made known) (λ call. ended call (word_at 3 words)) (and_then (one_more made) reg)
-    (and_then_good IsShortReg (IsFine made known) (one_more made) reg
+    and_then_good (IsFine made known) (IsFine made known) (λ call. with_none_behind call (word_at 3 words)) (and_then (register_one made) reg)
+    (and_then_good IsShortReg (IsFine made known) (register_one made) reg
     (reg_short (pattern_of (word_at 0 words)) (interval_of (word_at 1 words)) (source_of (word_at 2 words)) (pattern_is (word_at 0 words)) (interval_early (word_at 1 words)) (source_is (word_at 2 words))) more)
     (λ call fine. ended_good (IsFine made known) call (word_at 3 words) fine)
   where
     reg : Result Reg Cause
     reg = reg_of (pattern_of (word_at 0 words)) (interval_of (word_at 1 words)) (source_of (word_at 2 words))
 
-    more : (one : Reg) → IsShortReg one → IfOk (one_more made one) (IsFine made known)
+    more : (one : Reg) → IsShortReg one → IfOk (register_one made one) (IsFine made known)
     more one short =
         cond_good (IsFine made known) (nat_le 256 made) (Err (S8 Registrations)) (Ok (Register (one ∷ []))) (λ _. tt)
         (λ room. record { parts = All-cons IsReg one [] short.parts (All-nil IsReg); room = λ _. leb-false 256 made room; limits = short.early; variables = λ few. few })
@@ -103,7 +103,7 @@ withdrawal_fine made known (Some var) (Some source) is from = record { parts = (
 
 unregister_fine : (made : ℕ) (known words : List (List ℕ)) → IfOk (unregister_of words) (IsFine made known)
 unregister_fine made known words =
-    and_then_good (IsFine made known) (IsFine made known) (λ call. ended call (word_at 2 words)) (withdrawal_of (pattern_of (word_at 0 words)) (source_of (word_at 1 words)))
+    and_then_good (IsFine made known) (IsFine made known) (λ call. with_none_behind call (word_at 2 words)) (withdrawal_of (pattern_of (word_at 0 words)) (source_of (word_at 1 words)))
     (withdrawal_fine made known (pattern_of (word_at 0 words)) (source_of (word_at 1 words)) (pattern_is (word_at 0 words)) (source_is (word_at 1 words)))
     (λ call fine. ended_good (IsFine made known) call (word_at 2 words) fine)
 
@@ -222,7 +222,7 @@ call_fine made known text =
     cond_good (IsFine made known) (bytes_eq verb (codes "register")) (register_of made (words_of rest)) unregisters (λ _. register_fine made known (words_of rest))
     (λ _. cond_good (IsFine made known) (bytes_eq verb (codes "unregister")) (unregister_of (words_of rest)) posts (λ _. unregister_fine made known (words_of rest))
     (λ _. cond_good (IsFine made known) (bytes_eq verb (codes "post")) (post_of_text known rest) fetches (λ _. post_fine made known rest)
-    (λ _. cond_good (IsFine made known) (bytes_eq verb (codes "fetch")) (ended Fetch (first_word rest)) (Err S3)
+    (λ _. cond_good (IsFine made known) (bytes_eq verb (codes "fetch")) (with_none_behind Fetch (first_word rest)) (Err S3)
     (λ _. ended_good (IsFine made known) Fetch (first_word rest) (record { parts = tt; room = λ h. absurd cc; limits = refl; variables = λ few. few })) (λ _. tt))))
   where
     verb : List ℕ
@@ -232,7 +232,7 @@ call_fine made known text =
     rest = behind_word text
 
     fetches : Result Call Cause
-    fetches = cond (bytes_eq (first_word text) (codes "fetch")) (ended Fetch (first_word (behind_word text))) (Err S3)
+    fetches = cond (bytes_eq (first_word text) (codes "fetch")) (with_none_behind Fetch (first_word (behind_word text))) (Err S3)
 
     posts : Result Call Cause
     posts = cond (bytes_eq (first_word text) (codes "post")) (post_of_text known (behind_word text)) fetches

@@ -12,7 +12,7 @@ use Rattle.moos_post.specs.declared.value.Pair.{Pair}
 use Rattle.moos_post.specs.declared.value.Post.{Post}
 use Rattle.moos_post.specs.History.{post_of, posts_of, posts_of_entry, posts_of_call}
 use Rattle.script_reader.specs.declared.script.Script.{Script}
-use Rattle.script_reader.specs.Script.{with_variable, variables_of, is_register, registrations_of, number_of, with_client, with_call}
+use Rattle.script_reader.specs.Script.{with_variable, variables_of, is_register, registrations_of, client_number, with_client, with_client_call}
 use Rattle.script_reader.specs.Counts.{with_pairs, with_call_variables, with_made, AreCounts}
 
 abbrev and_var : List (List ℕ) → Post → List (List ℕ)
@@ -41,12 +41,12 @@ pub registrations_more : (client : ℕ) (lines : List Entry) (line : Entry)
     → registrations_of client (lines ++ line ∷ []) ≡ registrations_of client lines + cond (line.client == client && is_register line.call) 1 0
 registrations_more client lines line = count_more (λ one. one.client == client && is_register one.call) lines line
 
-pub client_length : (names : List (List ℕ)) (name : List ℕ) → length names ≤ 64 → number_of names name < 64 → length (with_client names name) ≤ 64
-client_length names name few among = at (nat_lt (number_of names name) (length names)) refl
+pub client_length : (names : List (List ℕ)) (name : List ℕ) → length names ≤ 64 → client_number names name < 64 → length (with_client names name) ≤ 64
+client_length names name few among = at (nat_lt (client_number names name) (length names)) refl
   where
-    at : (known : Bool) → nat_lt (number_of names name) (length names) ≡ known → length (cond known names (names ++ name ∷ [])) ≤ 64
+    at : (known : Bool) → nat_lt (client_number names name) (length names) ≡ known → length (cond known names (names ++ name ∷ [])) ≤ 64
     at true is = few
-    at false is = let past = ltb-false (number_of names name) (length names) is in omega (arith, length-append names (name ∷ []))
+    at false is = let past = ltb-false (client_number names name) (length names) is in omega (arith, length-append names (name ∷ []))
 
 -- before the first line
 pub counts_none : AreCounts (record { names = []; lines = []; stop = 0 }) (replicate 64 0) []
@@ -70,17 +70,17 @@ registered made number client call within = at (is_register call) (nat_eq number
 
 -- the counts with a client's call more
 pub counts_more : (script : Script) (made : List ℕ) (variables : List (List ℕ)) (stamp number : ℕ) (name : List ℕ) (call : Call) → AreCounts script made variables
-    → number ≡ number_of script.names name → number_of script.names name < 64
-    → AreCounts (with_call script stamp name call) (with_made made number call) (with_call_variables variables call)
+    → number ≡ client_number script.names name → client_number script.names name < 64
+    → AreCounts (with_client_call script stamp name call) (with_made made number call) (with_call_variables variables call)
 counts_more script made variables stamp number name call counts is among =
-    let line : Entry = record { stamp = stamp; client = number_of script.names name; call = call } in
+    let line : Entry = record { stamp = stamp; client = client_number script.names name; call = call } in
     record {
       few = client_length script.names name counts.few among;
       each = made_length (is_register call);
       registrations = λ client within.
           registered made number client call (omega (arith, is, counts.each))
           ∙ ap (λ n. slice_index made client + cond (n == client && is_register call) 1 0) is
-          ∙ ap (λ n. n + cond (number_of script.names name == client && is_register call) 1 0) (counts.registrations client within)
+          ∙ ap (λ n. n + cond (client_number script.names name == client && is_register call) 1 0) (counts.registrations client within)
           ∙ sym (registrations_more client script.lines line);
       posted = ap (λ known. with_call_variables known call) counts.posted ∙ sym (variables_more script.lines line);
     }

@@ -2,7 +2,7 @@
 use Rattle.std.proofs.Common.{◌≡◌, ℕ, Bool, true, false, cond, List, [], ◌∷◌, refl, subst}
 use Rattle.std.specs.Prelude.{Result, Ok, Err, IfOk}
 use Rattle.moos_text.specs.Refusals.{and_then}
-use Rattle.script_reader.specs.Script.{ended}
+use Rattle.script_reader.specs.Script.{with_none_behind}
 
 -- one of two, by a test
 pub cond_good : {A E : Type 0} (P : A → Type 0) (b : Bool) (one other : Result A E) → (b ≡ true → IfOk one P) → (b ≡ false → IfOk other P) → IfOk (cond b one other) P
@@ -14,7 +14,7 @@ pub and_then_good : {A B E : Type 0} (P : A → Type 0) (Q : B → Type 0) (next
 and_then_good P Q next (Ok value) h g = g value h
 and_then_good P Q next (Err fault) h g = tt
 
-pub ended_good : {A : Type 0} (P : A → Type 0) (value : A) (word : List ℕ) → P value → IfOk (ended value word) P
+pub ended_good : {A : Type 0} (P : A → Type 0) (value : A) (word : List ℕ) → P value → IfOk (with_none_behind value word) P
 ended_good P value [] h = h
 ended_good P value (byte ∷ bytes) h = tt
 

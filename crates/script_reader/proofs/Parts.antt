@@ -8,12 +8,12 @@ use Rattle.moos_post.specs.declared.value.Pair.{Pair}
 use Rattle.moos_post.specs.declared.value.Value.{Value}
 use Rattle.moos_post.specs.declared.value.Value.TheVariants.{Text}
 use Rattle.moos_post.specs.Entries.{IsPair, IsValue}
-use Rattle.moos_post.specs.Words.{bad_place, is_digit, is_name, IsMilli}
+use Rattle.moos_post.specs.Words.{control_place, is_digit, is_name, IsMilli}
 use Rattle.moos_text.specs.declared.pair.PairFault.{PairFault}
 use Rattle.moos_text.specs.declared.pair.PairFault.TheVariants.{NoEquals, BadName, BadValue, TooLong}
 use Rattle.moos_text.specs.Lines.{trimmed, without_last, ends_with}
-use Rattle.moos_text.specs.Numbers.{is_numeral, milli_of, point_of, thousandths_of, unsigned_of}
-use Rattle.moos_text.specs.Pairs.{is_equals, is_quote, pair_of, plain_value, quoted_value, sides_pair, text_value, value_of, with_value}
+use Rattle.moos_text.specs.Numbers.{is_numeral, milli_of, point_place, thousandths_of, unsigned_of}
+use Rattle.moos_text.specs.Pairs.{is_equals, is_quote, pair_of, plain_value, quoted_value, sides_pair, text_value, written_value, with_value}
 use Rattle.script_reader.specs.Script.{with_cause}
 use Rattle.script_reader.proofs.Judging.{cond_good}
 
@@ -21,10 +21,10 @@ unsigned_small : (text : List ℕ) → IfSome (unsigned_of text) (λ n. n ≤ 10
 unsigned_small text = at (is_numeral whole decimals) refl
   where
     whole : List ℕ
-    whole = take (point_of text) text
+    whole = take (point_place text) text
 
     decimals : List ℕ
-    decimals = drop (suc (point_of text)) text
+    decimals = drop (suc (point_place text)) text
 
     at : (b : Bool) → is_numeral whole decimals ≡ b → IfSome (cond b (Some (thousandths_of whole decimals)) None) (λ n. n ≤ 10 ^ 12)
     at true good =
@@ -51,9 +51,9 @@ number_is (first ∷ rest) = by (first == 43) (first == 45)
 
 text_is : (bytes : List ℕ) → IfOk (text_value bytes) IsValue
 text_is bytes =
-    cond_good IsValue (is_some (bad_place bytes)) (Err BadValue) (cond (nat_lt 4096 (length bytes)) (Err TooLong) (Ok (Text bytes))) (λ _. tt)
+    cond_good IsValue (is_some (control_place bytes)) (Err BadValue) (cond (nat_lt 4096 (length bytes)) (Err TooLong) (Ok (Text bytes))) (λ _. tt)
     (λ clean. cond_good IsValue (nat_lt 4096 (length bytes)) (Err TooLong) (Ok (Text bytes)) (λ _. tt)
-    (λ short. and_from (nat_le (length bytes) 4096) (is_none (bad_place bytes)) (le-leb (length bytes) 4096 (ltb-false 4096 (length bytes) short)) (none (bad_place bytes) clean)))
+    (λ short. and_from (nat_le (length bytes) 4096) (is_none (control_place bytes)) (le-leb (length bytes) 4096 (ltb-false 4096 (length bytes) short)) (none (control_place bytes) clean)))
   where
     none : (place : Option ℕ) → is_some place ≡ false → is_none place ≡ true
     none None clean = refl
@@ -67,7 +67,7 @@ plain_is : (number : Option ℤ) (bytes : List ℕ) → IfSome number IsMilli �
 plain_is (Some number) bytes is = is
 plain_is None bytes is = text_is bytes
 
-value_is : (as_text : Bool) (bytes : List ℕ) → IfOk (value_of as_text bytes) IsValue
+value_is : (as_text : Bool) (bytes : List ℕ) → IfOk (written_value as_text bytes) IsValue
 value_is as_text [] = tt
 value_is as_text (first ∷ rest) = by (is_quote first) as_text
   where
@@ -78,7 +78,7 @@ value_is as_text (first ∷ rest) = by (is_quote first) as_text
 
 sides_are : (var : List ℕ) (as_text : Bool) (value : List ℕ) → IfOk (sides_pair var as_text value) IsPair
 sides_are var as_text value =
-    cond_good IsPair (is_name var) (with_value var (value_of as_text value)) (Err BadName) (λ name. with name (value_of as_text value) (value_is as_text value)) (λ _. tt)
+    cond_good IsPair (is_name var) (with_value var (written_value as_text value)) (Err BadName) (λ name. with name (written_value as_text value) (value_is as_text value)) (λ _. tt)
   where
     with : IsTrue (is_name var) → (r : Result Value PairFault) → IfOk r IsValue → IfOk (with_value var r) IsPair
     with name (Ok value) is = record { var = name; value = is }

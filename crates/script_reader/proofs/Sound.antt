@@ -18,7 +18,7 @@ use Rattle.moos_text.specs.declared.cause.Limit.TheVariants.{Clients, Lines as N
 use Rattle.moos_text.specs.Lines.{raw_lines, content_of, is_unclosed, first_word, behind_word}
 use Rattle.script_reader.specs.declared.script.Script.{Script}
 use Rattle.moos_text.specs.Refusals.{and_then}
-use Rattle.script_reader.specs.Script.{ended, time_of, is_register, registrations_of, variables_of, call_of, number_of, with_client, client_of, with_call, after_client, after_stamp, not_before, after_words, Progress, progress, after_filled, after_line, go_on, read_from, nothing_read}
+use Rattle.script_reader.specs.Script.{with_none_behind, time_of, is_register, registrations_of, variables_of, call_of, client_number, with_client, client_of, with_client_call, after_client, after_stamp, not_before, after_line_words, Progress, progress, after_filled, after_line, go_on, progress_from, nothing_read}
 use Rattle.script_reader.specs.Validity.{are_clients, are_lines, keeps_limits, IsValid}
 use Rattle.script_reader.proofs.Calls.{IsFine, IsEarly, time_early, call_fine}
 use Rattle.script_reader.proofs.Counting.{client_length, registrations_more, variables_more}
@@ -58,12 +58,12 @@ lines_wider clients more last stop later (line ∷ lines) wider rises good =
     (lt-ltb line.client more (omega arith)) tests.1 tests.2 (lines_wider clients more line.stamp stop later lines wider rises tests.3)
 
 -- a name is the same as one that comes first
-first_place : (same : Bool) (name client : List ℕ) (names : List (List ℕ)) → bytes_eq name client ≡ same → number_of (name ∷ names) client ≡ cond same 0 (suc (number_of names client))
-first_place true name client names is = ap (λ b. cond (not b) (1 + number_of names client) 0) is
-first_place false name client names is = ap (λ b. cond (not b) (1 + number_of names client) 0) is ∙ one-add (number_of names client)
+first_place : (same : Bool) (name client : List ℕ) (names : List (List ℕ)) → bytes_eq name client ≡ same → client_number (name ∷ names) client ≡ cond same 0 (suc (client_number names client))
+first_place true name client names is = ap (λ b. cond (not b) (1 + client_number names client) 0) is
+first_place false name client names is = ap (λ b. cond (not b) (1 + client_number names client) 0) is ∙ one-add (client_number names client)
 
 -- a client that no name is may join
-clients_more : (names : List (List ℕ)) (client : List ℕ) → are_clients names ≡ true → not (bytes_eq client (codes "pHelmIvP")) ≡ true → length names ≤ number_of names client → are_clients (names ++ client ∷ []) ≡ true
+clients_more : (names : List (List ℕ)) (client : List ℕ) → are_clients names ≡ true → not (bytes_eq client (codes "pHelmIvP")) ≡ true → length names ≤ client_number names client → are_clients (names ++ client ∷ []) ≡ true
 clients_more [] client good own new = and_from (not (bytes_eq client (codes "pHelmIvP")) && true) true (and_from (not (bytes_eq client (codes "pHelmIvP"))) true own refl) refl
 clients_more (name ∷ names) client good own new = at (bytes_eq name client) refl (clients_more names client)
   where
@@ -82,7 +82,7 @@ clients_more (name ∷ names) client good own new = at (bytes_eq name client) re
     joined false false h g = refl
 
     at : (same : Bool) → bytes_eq name client ≡ same
-        → (are_clients names ≡ true → not (bytes_eq client (codes "pHelmIvP")) ≡ true → length names ≤ number_of names client → are_clients (names ++ client ∷ []) ≡ true)
+        → (are_clients names ≡ true → not (bytes_eq client (codes "pHelmIvP")) ≡ true → length names ≤ client_number names client → are_clients (names ++ client ∷ []) ≡ true)
         → are_clients (name ∷ names ++ client ∷ []) ≡ true
     at true is rest = absurd (omega (arith, first_place true name client names is))
     at false is rest =
@@ -118,40 +118,40 @@ record IsClient (names : List (List ℕ)) (name : List ℕ) (number : ℕ) : Typ
   named : Named name
   own : not (bytes_eq name (codes "pHelmIvP")) ≡ true
   among : number < 64
-  number_is : number ≡ number_of names name
+  number_is : number ≡ client_number names name
 
 client_good : (names : List (List ℕ)) (word : List ℕ) → IfOk (client_of names word) (IsClient names word)
 client_good names word =
     cond_good (IsClient names word) (not (is_name word)) (Err S4) named (λ _. tt)
     (λ good. cond_good (IsClient names word) (bytes_eq word (codes "pHelmIvP")) (Err S9) placed (λ _. tt)
-    (λ other. cond_good (IsClient names word) (nat_le 64 (number_of names word)) (Err (S8 Clients)) (Ok (number_of names word)) (λ _. tt)
-    (λ room. record { named = no_other (is_name word) good; own = ap not other; among = leb-false 64 (number_of names word) room; number_is = refl })))
+    (λ other. cond_good (IsClient names word) (nat_le 64 (client_number names word)) (Err (S8 Clients)) (Ok (client_number names word)) (λ _. tt)
+    (λ room. record { named = no_other (is_name word) good; own = ap not other; among = leb-false 64 (client_number names word) room; number_is = refl })))
   where
     no_other : (b : Bool) → not b ≡ false → b ≡ true
     no_other true good = refl
     no_other false good = absurd cc
 
     placed : Result ℕ Cause
-    placed = cond (nat_le 64 (number_of names word)) (Err (S8 Clients)) (Ok (number_of names word))
+    placed = cond (nat_le 64 (client_number names word)) (Err (S8 Clients)) (Ok (client_number names word))
 
     named : Result ℕ Cause
-    named = cond (bytes_eq word (codes "pHelmIvP")) (Err S9) (cond (nat_le 64 (number_of names word)) (Err (S8 Clients)) (Ok (number_of names word)))
+    named = cond (bytes_eq word (codes "pHelmIvP")) (Err S9) (cond (nat_le 64 (client_number names word)) (Err (S8 Clients)) (Ok (client_number names word)))
 
 -- the names with a client's, of which the client is one
 record AreJoined (names joined : List (List ℕ)) (name : List ℕ) : Type 0 where
   named : All Named joined
   clients : are_clients joined ≡ true
   wider : length names ≤ length joined
-  among : number_of names name < length joined
+  among : client_number names name < length joined
 
 names_joined : (names : List (List ℕ)) (name : List ℕ) → All Named names → Named name → are_clients names ≡ true → not (bytes_eq name (codes "pHelmIvP")) ≡ true → AreJoined names (with_client names name) name
-names_joined names name named one good own = at (nat_lt (number_of names name) (length names)) refl
+names_joined names name named one good own = at (nat_lt (client_number names name) (length names)) refl
   where
-    at : (known : Bool) → nat_lt (number_of names name) (length names) ≡ known → AreJoined names (cond known names (names ++ name ∷ [])) name
-    at true is = record { named = named; clients = good; wider = omega arith; among = ltb-true (number_of names name) (length names) is }
+    at : (known : Bool) → nat_lt (client_number names name) (length names) ≡ known → AreJoined names (cond known names (names ++ name ∷ [])) name
+    at true is = record { named = named; clients = good; wider = omega arith; among = ltb-true (client_number names name) (length names) is }
     at false is =
-        let past = ltb-false (number_of names name) (length names) is in
-        let place : number_of names name ≤ length names = position_or_len-le-length (λ other. bytes_eq other name) names in
+        let past = ltb-false (client_number names name) (length names) is in
+        let place : client_number names name ≤ length names = position_or_len-le-length (λ other. bytes_eq other name) names in
         let longer : length (names ++ name ∷ []) ≡ length names + 1 = length-append names (name ∷ []) in
         record { named = All-append Named names (name ∷ []) named (All-cons Named name [] one (All-nil Named)); clients = clients_more names name good own past; wider = omega (arith, longer); among = omega (arith, longer) }
 
@@ -166,8 +166,8 @@ registrations_few lines line few room client = at (nat_eq line.client client) (i
     at true false is calls more = omega (arith, more, few client)
     at false one is calls more = omega (arith, more, few client)
 
-call_sound : (script : Script) (stamp : ℕ) (name : List ℕ) (call : Call) → IsSound script → IsClient script.names name (number_of script.names name) → script.stop ≤ stamp → stamp ≤ 1000000000
-    → IsFine (registrations_of (number_of script.names name) script.lines) (variables_of script.lines) call → IsNext (length script.lines) (with_call script stamp name call)
+call_sound : (script : Script) (stamp : ℕ) (name : List ℕ) (call : Call) → IsSound script → IsClient script.names name (client_number script.names name) → script.stop ≤ stamp → stamp ≤ 1000000000
+    → IsFine (registrations_of (client_number script.names name) script.lines) (variables_of script.lines) call → IsNext (length script.lines) (with_client_call script stamp name call)
 call_sound script stamp name call sound client rises early fine = record {
   sound = record {
     named = joined.named;
@@ -185,7 +185,7 @@ call_sound script stamp name call sound client rises early fine = record {
 }
   where
     line : Entry
-    line = record { stamp = stamp; client = number_of script.names name; call = call }
+    line = record { stamp = stamp; client = client_number script.names name; call = call }
 
     joined : AreJoined script.names (with_client script.names name) name
     joined = names_joined script.names name sound.named client.named sound.clients client.own
@@ -209,28 +209,28 @@ client_sound : (script : Script) (stamp : ℕ) (name text : List ℕ) (number : 
     → IfOk (after_client script stamp name text number) (IsNext (length script.lines))
 client_sound script stamp name text number sound rises early client =
     subst (λ n. IfOk (after_client script stamp name text n) (IsNext (length script.lines))) (sym client.number_is)
-    (and_then_good (IsFine made known) (IsNext (length script.lines)) (λ call. Ok (with_call script stamp name call)) (call_of made known text) (call_fine made known text)
+    (and_then_good (IsFine made known) (IsNext (length script.lines)) (λ call. Ok (with_client_call script stamp name call)) (call_of made known text) (call_fine made known text)
     (λ call fine. call_sound script stamp name call sound own rises early fine))
   where
     made : ℕ
-    made = registrations_of (number_of script.names name) script.lines
+    made = registrations_of (client_number script.names name) script.lines
 
     known : List (List ℕ)
     known = variables_of script.lines
 
-    own : IsClient script.names name (number_of script.names name)
+    own : IsClient script.names name (client_number script.names name)
     own = subst (IsClient script.names name) client.number_is client
 
 stamp_sound : (script : Script) (text : List ℕ) (stamp : ℕ) → IsSound script → (script.stop ≤ stamp) × (stamp ≤ 1000000000) → IfOk (after_stamp script text stamp) (IsNext (length script.lines))
 stamp_sound script text stamp sound late =
-    cond_good (IsNext (length script.lines)) (bytes_eq (first_word text) (codes "until")) (ended (record script { stop = stamp }) (first_word (behind_word text)))
+    cond_good (IsNext (length script.lines)) (bytes_eq (first_word text) (codes "until")) (with_none_behind (record script { stop = stamp }) (first_word (behind_word text)))
     (and_then (after_client script stamp (first_word text) (behind_word text)) (client_of script.names (first_word text)))
     (λ _. ended_good (IsNext (length script.lines)) (record script { stop = stamp }) (first_word (behind_word text)) (until_sound script stamp sound late.0 late.1))
     (λ _. and_then_good (IsClient script.names (first_word text)) (IsNext (length script.lines)) (after_client script stamp (first_word text) (behind_word text))
     (client_of script.names (first_word text)) (client_good script.names (first_word text))
     (λ number client. client_sound script stamp (first_word text) (behind_word text) number sound late.0 late.1 client))
 
-words_sound : (script : Script) (text : List ℕ) → IsSound script → IfOk (after_words script text) (IsNext (length script.lines))
+words_sound : (script : Script) (text : List ℕ) → IsSound script → IfOk (after_line_words script text) (IsNext (length script.lines))
 words_sound script text sound =
     and_then_good IsLate (IsNext (length script.lines)) (after_stamp script (behind_word text)) (and_then (not_before script.stop) (ok_or (time_of (first_word text)) S1))
     (and_then_good IsEarly IsLate (not_before script.stop) (ok_or (time_of (first_word text)) S1) (early (time_of (first_word text)) (time_early (first_word text)))
@@ -253,9 +253,9 @@ record IsGood (read : Progress) : Type 0 where
 
 filled_good : (read : Progress) (content : List ℕ) → IsGood read → IfOk (after_filled read content) IsGood
 filled_good read content good =
-    cond_good IsGood (nat_le 100000 read.filled) (Err (S8 NonBlank)) (cond (is_unclosed content) (Err S5) (and_then more (after_words read.script content))) (λ _. tt)
-    (λ room. cond_good IsGood (is_unclosed content) (Err S5) (and_then more (after_words read.script content)) (λ _. tt)
-    (λ _. and_then_good (IsNext (length read.script.lines)) IsGood more (after_words read.script content) (words_sound read.script content good.sound)
+    cond_good IsGood (nat_le 100000 read.filled) (Err (S8 NonBlank)) (cond (is_unclosed content) (Err S5) (and_then more (after_line_words read.script content))) (λ _. tt)
+    (λ room. cond_good IsGood (is_unclosed content) (Err S5) (and_then more (after_line_words read.script content)) (λ _. tt)
+    (λ _. and_then_good (IsNext (length read.script.lines)) IsGood more (after_line_words read.script content) (words_sound read.script content good.sound)
     (λ script next. record { sound = next.sound; fewer = let few = next.few in omega (arith, good.fewer); few = leb-false 100000 read.filled room })))
   where
     more : Script → Result Progress Cause
@@ -265,14 +265,14 @@ line_good : (read : Progress) (content word : List ℕ) → IsGood read → IfOk
 line_good read content [] good = good
 line_good read content (byte ∷ bytes) good = filled_good read content good
 
-read_good : (number : ℕ) (read : Progress) (raws : List (List ℕ)) → IsGood read → IfOk (read_from number read raws) IsGood
+read_good : (number : ℕ) (read : Progress) (raws : List (List ℕ)) → IsGood read → IfOk (progress_from number read raws) IsGood
 read_good number read [] good = good
 read_good number read (raw ∷ raws) good =
     at (after_line read (content_of raw) (first_word (content_of raw))) (line_good read (content_of raw) (first_word (content_of raw)) good)
     (λ next. read_good (suc number) next raws)
   where
-    at : (result : Result Progress Cause) → IfOk result IsGood → ((next : Progress) → IsGood next → IfOk (read_from (suc number) next raws) IsGood)
-        → IfOk (go_on number (λ next. read_from (suc number) next raws) result) IsGood
+    at : (result : Result Progress Cause) → IfOk result IsGood → ((next : Progress) → IsGood next → IfOk (progress_from (suc number) next raws) IsGood)
+        → IfOk (go_on number (λ next. progress_from (suc number) next raws) result) IsGood
     at (Ok next) here rest = rest next here
     at (Err cause) here rest = tt
 
@@ -306,7 +306,7 @@ good_valid read good = record {
 }
 
 -- a script of which nothing is left to read
-pub read_valid : (bytes : List ℕ) (from number : ℕ) (read : Progress) → length bytes ≤ from → read_from 1 nothing_read (raw_lines bytes) ≡ read_from number read (raw_lines (drop from bytes)) → IsValid read.script
+pub read_valid : (bytes : List ℕ) (from number : ℕ) (read : Progress) → length bytes ≤ from → progress_from 1 nothing_read (raw_lines bytes) ≡ progress_from number read (raw_lines (drop from bytes)) → IsValid read.script
 read_valid bytes from number read end so_far =
-    good_valid read (at_good IsGood (read_from 1 nothing_read (raw_lines bytes)) read (read_good 1 nothing_read (raw_lines bytes) nothing_good)
-    (so_far ∙ ap (read_from number read) (ap raw_lines (drop_of_length-le bytes end))))
+    good_valid read (at_good IsGood (progress_from 1 nothing_read (raw_lines bytes)) read (read_good 1 nothing_read (raw_lines bytes) nothing_good)
+    (so_far ∙ ap (progress_from number read) (ap raw_lines (drop_of_length-le bytes end))))

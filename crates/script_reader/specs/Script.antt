@@ -23,9 +23,9 @@ use Rattle.moos_text.specs.Refusals.{and_then}
 use Rattle.script_reader.specs.declared.script.Script.{Script}
 
 -- what stands in front of this word, which must be missing
-abbrev pub ended : {A : Type 0} → A → List ℕ → Result A Cause
-ended value [] = Ok value
-ended value (byte ∷ bytes) = Err S3
+abbrev pub with_none_behind : {A : Type 0} → A → List ℕ → Result A Cause
+with_none_behind value [] = Ok value
+with_none_behind value (byte ∷ bytes) = Err S3
 
 -- a stamp or an interval is a number of seconds from 0 to 1,000,000, kept in milliseconds
 abbrev pub milliseconds_of : ℤ → Option ℕ
@@ -58,8 +58,8 @@ reg_of (Some var) (Some interval) None = Err S6
 reg_of (Some var) (Some interval) (Some source) = Ok (record { var = var; source = source; interval = interval })
 
 -- one registration more of a client that has made so many
-abbrev pub one_more : ℕ → Reg → Result Call Cause
-one_more made reg = if nat_le 256 made then Err (S8 Registrations) else Ok (Register (reg ∷ []))
+abbrev pub register_one : ℕ → Reg → Result Call Cause
+register_one made reg = if nat_le 256 made then Err (S8 Registrations) else Ok (Register (reg ∷ []))
 
 -- the word at this place, counted from 0, empty where there is none
 abbrev pub word_at : ℕ → List (List ℕ) → List ℕ
@@ -69,7 +69,7 @@ word_at place words = slice_index_or words place []
 abbrev pub register_of : ℕ → List (List ℕ) → Result Call Cause
 register_of made words =
     let reg = reg_of (pattern_of (word_at 0 words)) (interval_of (word_at 1 words)) (source_of (word_at 2 words)) in
-    and_then (λ call. ended call (word_at 3 words)) (and_then (one_more made) reg)
+    and_then (λ call. with_none_behind call (word_at 3 words)) (and_then (register_one made) reg)
 
 -- a withdrawal of these two, or the cause of the first of them that is missing
 abbrev pub withdrawal_of : Option (List ℕ) → Option (List ℕ) → Result Call Cause
@@ -79,7 +79,7 @@ withdrawal_of (Some var) (Some source) = Ok (Unregister var source)
 
 -- the words VARPATTERN [SOURCEPATTERN], and none behind them
 abbrev pub unregister_of : List (List ℕ) → Result Call Cause
-unregister_of words = and_then (λ call. ended call (word_at 2 words)) (withdrawal_of (pattern_of (word_at 0 words)) (source_of (word_at 1 words)))
+unregister_of words = and_then (λ call. with_none_behind call (word_at 2 words)) (withdrawal_of (pattern_of (word_at 0 words)) (source_of (word_at 1 words)))
 
 -- why a pair is refused; want of memory is no fault of a text
 abbrev pub cause_of : PairFault → Cause
@@ -154,44 +154,44 @@ call_of made known text =
     if bytes_eq verb (codes "register") then register_of made (words_of rest)
     else if bytes_eq verb (codes "unregister") then unregister_of (words_of rest)
     else if bytes_eq verb (codes "post") then post_of_text known rest
-    else if bytes_eq verb (codes "fetch") then ended Fetch (first_word rest)
+    else if bytes_eq verb (codes "fetch") then with_none_behind Fetch (first_word rest)
     else Err S3
 
 -- a client's number is its place among the names, which it joins where it is new
-abbrev pub number_of : List (List ℕ) → List ℕ → ℕ
-number_of names client = position_or_len (λ name. bytes_eq name client) names
+abbrev pub client_number : List (List ℕ) → List ℕ → ℕ
+client_number names client = position_or_len (λ name. bytes_eq name client) names
 
 -- the names with a client, which joins where it is new
 abbrev pub with_client : List (List ℕ) → List ℕ → List (List ℕ)
-with_client names client = if nat_lt (number_of names client) (length names) then names else names ++ client ∷ []
+with_client names client = if nat_lt (client_number names client) (length names) then names else names ++ client ∷ []
 
 -- a client is a name other than the helm's, and one of the first 64
 abbrev pub client_of : List (List ℕ) → List ℕ → Result ℕ Cause
 client_of names word =
     if not (is_name word) then Err S4
     else if bytes_eq word (codes "pHelmIvP") then Err S9
-    else if nat_le 64 (number_of names word) then Err (S8 Clients)
-    else Ok (number_of names word)
+    else if nat_le 64 (client_number names word) then Err (S8 Clients)
+    else Ok (client_number names word)
 
 -- the script with a client's call more
-abbrev pub with_call : Script → ℕ → List ℕ → Call → Script
-with_call script stamp client call = record {
+abbrev pub with_client_call : Script → ℕ → List ℕ → Call → Script
+with_client_call script stamp client call = record {
   names = with_client script.names client;
-  lines = script.lines ++ record { stamp = stamp; client = number_of script.names client; call = call } ∷ [];
+  lines = script.lines ++ record { stamp = stamp; client = client_number script.names client; call = call } ∷ [];
   stop = stamp;
 }
 
 -- the script with the call of the client of this number and name
 abbrev pub after_client : Script → ℕ → List ℕ → List ℕ → ℕ → Result Script Cause
 after_client script stamp name text number =
-    and_then (λ call. Ok (with_call script stamp name call)) (call_of (registrations_of number script.lines) (variables_of script.lines) text)
+    and_then (λ call. Ok (with_client_call script stamp name call)) (call_of (registrations_of number script.lines) (variables_of script.lines) text)
 
 -- what stands behind a good stamp: `until`, which only carries the stamp, or a client and its call
 abbrev pub after_stamp : Script → List ℕ → ℕ → Result Script Cause
 after_stamp script text stamp =
     let word = first_word text in
     let rest = behind_word text in
-    if bytes_eq word (codes "until") then ended (record script { stop = stamp }) (first_word rest)
+    if bytes_eq word (codes "until") then with_none_behind (record script { stop = stamp }) (first_word rest)
     else and_then (after_client script stamp word rest) (client_of script.names word)
 
 -- a stamp isn't below that of an earlier line
@@ -199,8 +199,8 @@ abbrev pub not_before : ℕ → ℕ → Result ℕ Cause
 not_before last stamp = if nat_lt stamp last then Err S2 else Ok stamp
 
 -- the script after the words of one line more
-abbrev pub after_words : Script → List ℕ → Result Script Cause
-after_words script text =
+abbrev pub after_line_words : Script → List ℕ → Result Script Cause
+after_line_words script text =
     and_then (after_stamp script (behind_word text)) (and_then (not_before script.stop) (ok_or (time_of (first_word text)) S1))
 
 -- what was read so far: the script, and how many lines weren't blank
@@ -217,7 +217,7 @@ abbrev pub after_filled : Progress → List ℕ → Result Progress Cause
 after_filled read content =
     if nat_le 100000 read.filled then Err (S8 NonBlank)
     else if is_unclosed content then Err S5
-    else and_then (λ script. Ok (progress script (suc read.filled))) (after_words read.script content)
+    else and_then (λ script. Ok (progress script (suc read.filled))) (after_line_words read.script content)
 
 -- one line more, of which this is the first word; a blank line says nothing
 abbrev pub after_line : Progress → List ℕ → List ℕ → Result Progress Cause
@@ -230,11 +230,11 @@ go_on number rest (Err cause) = Err (At number cause)
 go_on number rest (Ok read) = rest read
 
 -- what is read up to the end, of which the lines from this number on are left
-abbrev pub read_from : ℕ → Progress → List (List ℕ) → Result Progress ReadFault
-read_from number read [] = Ok read
-read_from number read (raw ∷ raws) =
+abbrev pub progress_from : ℕ → Progress → List (List ℕ) → Result Progress ReadFault
+progress_from number read [] = Ok read
+progress_from number read (raw ∷ raws) =
     let content = content_of raw in
-    go_on number (λ next. read_from (suc number) next raws) (after_line read content (first_word content))
+    go_on number (λ next. progress_from (suc number) next raws) (after_line read content (first_word content))
 
 -- before the first line
 abbrev pub nothing_read : Progress
@@ -242,4 +242,4 @@ nothing_read = progress (record { names = []; lines = []; stop = 0 }) 0
 
 -- What the bytes of a script stand for. Lines are counted from 1.
 abbrev pub script_of : List ℕ → Result Script ReadFault
-script_of bytes = and_then (λ read. Ok read.script) (read_from 1 nothing_read (raw_lines bytes))
+script_of bytes = and_then (λ read. Ok read.script) (progress_from 1 nothing_read (raw_lines bytes))

@@ -2,12 +2,12 @@
 ghost use Rattle.std.specs.Prelude.{◌≡◌, [], Ok, IfOk, IfErr};
 ghost use Rattle.moos_text.specs.Lines.{words_of};
 ghost use Rattle.moos_text.specs.Refusals.{IsLineFault};
-ghost use Rattle.script_reader.specs.Script.{reg_of, one_more, register_of, withdrawal_of, unregister_of, post_of_text, call_of};
+ghost use Rattle.script_reader.specs.Script.{reg_of, register_one, register_of, withdrawal_of, unregister_of, post_of_text, call_of};
 ghost use Rattle.script_reader.specs.Counts.{with_call_variables, pairs_in};
 
 use crate::batch::read_batch;
 use crate::variables::Variables;
-use crate::word::{ended, interval_of, pattern_of, source_of, split_word};
+use crate::word::{with_none_behind, interval_of, pattern_of, source_of, split_word};
 use moos_post::{Call, Pattern, Reg, Regs};
 use moos_text::{Cause, Limit, LineFault};
 use std::alloc::Global;
@@ -38,7 +38,7 @@ pub fn call_of(
     }
     if verb == b"fetch".as_slice() {
         let (more, _) = split_word(rest);
-        return Ok(ended(Call::Fetch, more)?);
+        return Ok(with_none_behind(Call::Fetch, more)?);
     }
     Err(LineFault::Refused(Cause::S3))
 }
@@ -57,8 +57,8 @@ fn register_of(alloc: Global, made: u32, text: &[u8]) -> Result<Call, LineFault>
     let var = pattern_of(alloc, var)?;
     let source = source_of(alloc, source)?;
     let reg = reg_of(var, interval_of(interval), source)?;
-    let call = one_more(alloc, made, reg)?;
-    Ok(ended(call, more)?)
+    let call = register_one(alloc, made, reg)?;
+    Ok(with_none_behind(call, more)?)
 }
 
 fn reg_of(
@@ -79,9 +79,9 @@ fn reg_of(
 }
 
 // One registration more of a client that has made so many.
-fn one_more(alloc: Global, made: u32, reg: Reg) -> Result<Call, LineFault>
-    ensures call { IfOk result (λ call. one_more made reg ≡ Ok call) }
-    ensures refused { IfErr result (λ fault. IsLineFault fault (one_more made reg)) }
+fn register_one(alloc: Global, made: u32, reg: Reg) -> Result<Call, LineFault>
+    ensures call { IfOk result (λ call. register_one made reg ≡ Ok call) }
+    ensures refused { IfErr result (λ fault. IsLineFault fault (register_one made reg)) }
 {
     if made >= MAX_REGISTRATIONS {
         return Err(LineFault::Refused(Cause::S8(Limit::Registrations)));
@@ -106,7 +106,7 @@ fn unregister_of(alloc: Global, text: &[u8]) -> Result<Call, LineFault>
     let var = pattern_of(alloc, var)?;
     let source = source_of(alloc, source)?;
     let call = withdrawal_of(var, source)?;
-    Ok(ended(call, more)?)
+    Ok(with_none_behind(call, more)?)
 }
 
 fn withdrawal_of(var: Option<Pattern>, source: Option<Pattern>) -> Result<Call, Cause>

@@ -3,13 +3,13 @@ ghost use Rattle.std.specs.Prelude.{◌≡◌, ◌<◌, ◌+◌, [], Ok, Err, If
 ghost use Rattle.std.specs.List.{position};
 ghost use Rattle.moos_text.specs.Lines.{first_word, is_unclosed};
 ghost use Rattle.moos_text.specs.Refusals.{IsLineFault};
-ghost use Rattle.script_reader.specs.Script.{number_of, with_client, with_call, is_register, client_of, after_client, after_stamp, not_before, after_words, after_filled, after_line, progress, nothing_read};
+ghost use Rattle.script_reader.specs.Script.{client_number, with_client, with_client_call, is_register, client_of, after_client, after_stamp, not_before, after_line_words, after_filled, after_line, progress, nothing_read};
 ghost use Rattle.script_reader.specs.Counts.{AreCounts, with_made};
 
 use crate::call::call_of;
 use crate::script::{Lines, Script};
 use crate::variables::Variables;
-use crate::word::{ended, split_word, time_of};
+use crate::word::{with_none_behind, split_word, time_of};
 use moos_post::{Call, Entry, Name, NameFault, Names, NoMemory};
 use moos_text::{Cause, Limit, LineFault};
 use std::alloc::{AllocError, Global};
@@ -95,8 +95,8 @@ impl Reading {
 
     fn read_words(&mut self, alloc: Global, text: &[u8]) -> Result<(), LineFault>
         requires { AreCounts self.old.script self.old.made self.old.variables }
-        ensures read { IfOk result (λ _. after_words self.old.script text.now ≡ Ok self.new.script) }
-        ensures refused { IfErr result (λ fault. IsLineFault fault (after_words self.old.script text.now)) }
+        ensures read { IfOk result (λ _. after_line_words self.old.script text.now ≡ Ok self.new.script) }
+        ensures refused { IfErr result (λ fault. IsLineFault fault (after_line_words self.old.script text.now)) }
         ensures counted { OnOk result (AreCounts self.new.script self.new.made self.new.variables) }
         ensures same { self.new.filled ≡ self.old.filled }
     {
@@ -117,7 +117,7 @@ impl Reading {
         let (word, rest) = split_word(text);
         if word == b"until".as_slice() {
             let (more, _) = split_word(rest);
-            ended((), more)?;
+            with_none_behind((), more)?;
             self.script.stop = stamp;
             return Ok(());
         }
@@ -134,13 +134,13 @@ impl Reading {
         name: Name,
     ) -> Result<(), LineFault>
         requires counted { AreCounts self.old.script self.old.made self.old.variables }
-        requires among { number_of self.old.script.names name < 64 }
-        ensures read { IfOk result (λ _. after_client self.old.script stamp name text.now (number_of self.old.script.names name) ≡ Ok self.new.script) }
-        ensures refused { IfErr result (λ fault. IsLineFault fault (after_client self.old.script stamp name text.now (number_of self.old.script.names name))) }
+        requires among { client_number self.old.script.names name < 64 }
+        ensures read { IfOk result (λ _. after_client self.old.script stamp name text.now (client_number self.old.script.names name) ≡ Ok self.new.script) }
+        ensures refused { IfErr result (λ fault. IsLineFault fault (after_client self.old.script stamp name text.now (client_number self.old.script.names name))) }
         ensures counted { OnOk result (AreCounts self.new.script self.new.made self.new.variables) }
         ensures same { self.new.filled ≡ self.old.filled }
     {
-        let number = number_of(&self.script.names, name.bytes());
+        let number = client_number(&self.script.names, name.bytes());
         let call = call_of(alloc, self.made[number], &mut self.variables, text)?;
         count(&mut self.made, number, &call);
         add_call(&mut self.script, stamp, number, name, call)?;
@@ -180,8 +180,8 @@ fn not_before(last: u64, stamp: u64) -> Result<u64, Cause>
 // The name of a client, which is one of the first 64.
 fn client_of(alloc: Global, names: &Names, word: &[u8]) -> Result<Name, LineFault>
     ensures name { IfOk result (λ name. name ≡ word.now) }
-    ensures client { OnOk result (client_of names.now word.now ≡ Ok (number_of names.now word.now)) }
-    ensures among { OnOk result (number_of names.now word.now < 64) }
+    ensures client { OnOk result (client_of names.now word.now ≡ Ok (client_number names.now word.now)) }
+    ensures among { OnOk result (client_number names.now word.now < 64) }
     ensures refused { IfErr result (λ fault. IsLineFault fault (client_of names.now word.now)) }
 {
     let name = match Name::new(alloc, word) {
@@ -192,7 +192,7 @@ fn client_of(alloc: Global, names: &Names, word: &[u8]) -> Result<Name, LineFaul
     if word == b"pHelmIvP".as_slice() {
         return Err(LineFault::Refused(Cause::S9));
     }
-    if number_of(names, word) >= MAX_CLIENTS {
+    if client_number(names, word) >= MAX_CLIENTS {
         return Err(LineFault::Refused(Cause::S8(Limit::Clients)));
     }
     Ok(name)
@@ -206,9 +206,9 @@ fn add_call(
     name: Name,
     call: Call,
 ) -> Result<(), NoMemory>
-    requires number { number ≡ number_of script.old.names name }
+    requires number { number ≡ client_number script.old.names name }
     requires among { number < 64 }
-    ensures { OnOk result (script.new ≡ with_call script.old stamp name call) }
+    ensures { OnOk result (script.new ≡ with_client_call script.old stamp name call) }
 {
     let line = Entry {
         stamp,
@@ -225,7 +225,7 @@ fn add_call(
 
 // The client of this number joins the names where it is new.
 fn join(names: &mut Names, number: usize, name: Name) -> Result<(), NoMemory>
-    requires { number ≡ number_of names.old name }
+    requires { number ≡ client_number names.old name }
     ensures { OnOk result (names.new ≡ with_client names.old name) }
 {
     if number < names.len() {
@@ -239,8 +239,8 @@ fn join(names: &mut Names, number: usize, name: Name) -> Result<(), NoMemory>
 
 // A client's number is its place among the names, or the next place where it is new.
 #[tactic(auto, using(moos_text::proofs::WordLemmas::position_or_len_of))]
-fn number_of(names: &Names, client: &[u8]) -> usize
-    ensures { result ≡ number_of names.now client.now }
+fn client_number(names: &Names, client: &[u8]) -> usize
+    ensures { result ≡ client_number names.now client.now }
 {
     place_of(names.all(), client).unwrap_or(names.len())
 }

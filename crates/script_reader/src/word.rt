@@ -1,7 +1,7 @@
 // The words of a line that stand for themselves: times and patterns.
 ghost use Rattle.std.specs.Prelude.{◌≡◌, IfOk, ◌<◌};
 ghost use Rattle.moos_text.specs.Lines.{first_word, behind_word};
-ghost use Rattle.script_reader.specs.Script.{milliseconds_of, time_of, pattern_of, interval_of, source_of, ended};
+ghost use Rattle.script_reader.specs.Script.{milliseconds_of, time_of, pattern_of, interval_of, source_of, with_none_behind};
 
 use moos_post::{Milli, NoMemory, Pattern, PatternFault};
 use moos_text::{Cause, next_word, read_milli};
@@ -22,8 +22,8 @@ pub fn split_word(text: &[u8]) -> (&[u8], &[u8])
 }
 
 /// The value in front of this word, which must be missing.
-pub fn ended<T: Drop>(value: T, word: &[u8]) -> Result<T, Cause>
-    ensures { result ≡ ended value word.now }
+pub fn with_none_behind<T: Drop>(value: T, word: &[u8]) -> Result<T, Cause>
+    ensures { result ≡ with_none_behind value word.now }
 {
     match word {
         [] => Ok(value),

@@ -1,6 +1,6 @@
 use Rattle.std.proofs.Common.{◌≡◌, ◌≤◌, suc, length, ◌-◌, drop}
 use Rattle.moos_text.specs.Lines.{raw_lines}
-use Rattle.script_reader.specs.Script.{nothing_read, read_from, progress}
+use Rattle.script_reader.specs.Script.{nothing_read, progress_from, progress}
 use Rattle.script_reader.specs.Counts.{AreCounts}
 use Rattle.script_reader.proofs.read.read_script.Given as goal
 
@@ -8,8 +8,8 @@ abbrev pub invariant-loop-from : goal.invariant-loop-from
 invariant-loop-from l = record {
   within : l.from ≤ length l.bytes;
   counted : l.number ≤ l.from;
-  so_far : read_from 1 nothing_read (raw_lines l.bytes)
-      ≡ read_from (suc l.number) (progress l.reading.script l.reading.filled) (raw_lines (drop l.from l.bytes));
+  so_far : progress_from 1 nothing_read (raw_lines l.bytes)
+      ≡ progress_from (suc l.number) (progress l.reading.script l.reading.filled) (raw_lines (drop l.from l.bytes));
   counts : AreCounts l.reading.script l.reading.made l.reading.variables;
 }
 

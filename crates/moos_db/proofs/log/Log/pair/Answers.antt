@@ -1,6 +1,6 @@
 use Rattle.std.proofs.Common.{◌≡◌, ◌<◌, ◌∙◌, length, ap, sym, subst, Some, option_map, slice_get, rules}
 use Rattle.moos_post.specs.History.{posts_of}
-use Rattle.moos_db.specs.Database.{pair_of}
+use Rattle.moos_db.specs.Database.{pair_posted}
 use Rattle.moos_db.specs.Places.{Journal}
 use Rattle.moos_db.proofs.Standing.{stands, stands-within, stands-pair, stands-post}
 use Rattle.moos_db.proofs.log.Log.pair.Goals as goal
@@ -19,5 +19,5 @@ pair_in-requires c =
 pub returns : goal.returns
 returns c =
     let below : c.args.number < length (posts_of c.self.inside.entries.items) = subst (λ (v : Journal). c.args.number < length (posts_of v.entries)) (sym c.self.view_is) c.requires in
-    let Told : Journal → Type 0 = λ v. option_map pair_of (slice_get (posts_of v.entries) c.args.number) ≡ Some c.pair_in.result.now in
-    subst Told c.self.view_is (ap (option_map pair_of) (stands-post _ _ _ _ (stands _ _ _ _ _ c.self.invariant below c.index-place.ensures) c.index.ensures) ∙ c.pair_in.ensures)
+    let Told : Journal → Type 0 = λ v. option_map pair_posted (slice_get (posts_of v.entries) c.args.number) ≡ Some c.pair_in.result.now in
+    subst Told c.self.view_is (ap (option_map pair_posted) (stands-post _ _ _ _ (stands _ _ _ _ _ c.self.invariant below c.index-place.ensures) c.index.ensures) ∙ c.pair_in.ensures)

@@ -1,9 +1,9 @@
 use Rattle.std.proofs.Common.{◌<◌, ◌∙◌, length, fold, take, refl, get_or, ap, sym}
 use Rattle.std.proofs.lemmas.List.{take_all}
 use Rattle.moos_post.specs.History.{posts_of}
-use Rattle.moos_db.specs.Kept.{catch_number}
+use Rattle.moos_db.specs.Subscribers.{catch_number}
 use Rattle.moos_db.proofs.Catching.{latest-posts, catching-next, catching-numbers}
-use Rattle.moos_db.proofs.inbox.Inbox.catch_up.Goals as goal
+use Rattle.moos_db.proofs.subscriber.Subscriber.catch_up.Goals as goal
 
 pub catch_post-requires : goal.catch_post-requires
 catch_post-requires c =

@@ -1,43 +1,43 @@
 ghost use Rattle.std.specs.Prelude.{◌≡◌, suc, ◌+◌, ◌-◌, ◌^◌, ◌<◌, ◌≤◌, ◌==◌, [], false, length, take, not, ◌&&◌, ◌++◌, ◌∷◌, IfOk, OnOk, OnErr, Some, slice_get, if◌then◌else◌};
 ghost use Rattle.std.specs.List.{list_any};
 ghost use Rattle.moos_post.specs.History.{name_of, posts_of, posts_of_entry};
-ghost use Rattle.moos_db.specs.Kept.{IsInbox, is_new_held};
+ghost use Rattle.moos_db.specs.Subscribers.{IsSubscriber, is_new_held};
 ghost use Rattle.moos_db.specs.Tables.{IsLatest, rows_of};
 
 use crate::latest::Latest;
-use crate::lives::Lives;
 use crate::log::Log;
+use crate::subscriptions::Subscriptions;
 use crate::variables::Variables;
 use moos_mail::Mailbox;
 use moos_post::{Call, Entry, Name, Names, NoMemory, Pair};
 use std::alloc::Global;
 use std::marker::Model;
 
-// What is kept of one client: how many entries its inbox has seen, how many posts there were in these, its live
+// What is kept of one client: how many entries were seen for it, how many posts there were in these, its live
 // registrations in the order in which they were made, and its mailbox.
 //
 // Each entry is seen as soon as it is made: a post by all of the client's live registrations, and a registration by the
-// latest post of each variable. Where memory ends on the way the inbox begins anew, and is made from the history when
+// latest post of each variable. Where memory ends on the way all this begins anew, and is made from the history when
 // the client fetches next.
 #[derive(Drop)]
-pub(crate) struct Inbox {
+pub(crate) struct Subscriber {
     seen: u64,
     posts: u64,
-    lives: Lives,
+    lives: Subscriptions,
     mailbox: Mailbox,
 }
 
-impl Model for Inbox {
-    ghost use Rattle.moos_db.specs.Kept.{Kept};
+impl Model for Subscriber {
+    ghost use Rattle.moos_db.specs.Subscribers.{SubscriberState};
 
-    ghost Value = { Kept };
+    ghost Value = { SubscriberState };
 
-    ghost view = { λ inbox. record {
-      seen = inbox.seen;
-      posts = inbox.posts;
-      lives = inbox.lives;
-      mailed = inbox.mailbox.mailed;
-      waits = inbox.mailbox.waiting;
+    ghost view = { λ subscriber. record {
+      seen = subscriber.seen;
+      posts = subscriber.posts;
+      lives = subscriber.lives;
+      mailed = subscriber.mailbox.mailed;
+      waits = subscriber.mailbox.waiting;
     } };
 }
 
@@ -51,23 +51,23 @@ fn source_of(names: &Names, client: u32) -> &[u8]
     }
 }
 
-impl Inbox {
+impl Subscriber {
     ghost use Rattle.moos_post.specs.declared.value.Post.{Post};
-    ghost use Rattle.moos_db.specs.Kept.{Kept, empty_kept, with_mailed, with_due, with_missed, kept_post, kept_batch, catch_post, kept_catching, kept_own, kept_posts, IsInbox, IsFresh};
+    ghost use Rattle.moos_db.specs.Subscribers.{SubscriberState, empty_kept, with_mailed, with_due, with_missed, kept_post, kept_batch, catch_post, kept_catching, kept_own, kept_posts, IsSubscriber, IsFresh};
 
-    // The inbox that has seen no entry.
-    pub fn new(alloc: Global) -> Inbox
+    // The client for which no entry was seen.
+    pub fn new(alloc: Global) -> Subscriber
         ensures { result ≡ empty_kept }
     {
-        Inbox {
+        Subscriber {
             seen: 0,
             posts: 0,
-            lives: Lives::new(alloc),
+            lives: Subscriptions::new(alloc),
             mailbox: Mailbox::make(alloc),
         }
     }
 
-    // How many entries it has seen.
+    // How many entries were seen.
     pub fn seen(&self) -> u64
         ensures { result ≡ self.now.seen }
     {
@@ -326,11 +326,11 @@ impl Inbox {
         variables: &Variables,
         client: u32,
     ) -> Result<(), NoMemory>
-        requires inbox { IsInbox names.now log.now.entries client self.old }
+        requires subscriber { IsSubscriber names.now log.now.entries client self.old }
         requires latest { latest.now.rows ≡ rows_of (take self.old.posts (posts_of log.now.entries)) }
         requires more { self.old.seen < length log.now.entries }
         requires fits { self.old.seen < 2 ^ 64 - 1 }
-        ensures inbox { IfOk result (λ _. IsInbox names.now log.now.entries client self.new) }
+        ensures subscriber { IfOk result (λ _. IsSubscriber names.now log.now.entries client self.new) }
         ensures next { IfOk result (λ _. self.new.seen ≡ suc self.old.seen) }
     {
         let seen = self.seen;
@@ -342,7 +342,7 @@ impl Inbox {
     }
 
     // The next entry, where there is one and the table of latest posts has seen the same posts. Without memory the
-    // inbox begins anew.
+    // all begins anew.
     pub fn follow(
         &mut self,
         alloc: Global,
@@ -352,19 +352,19 @@ impl Inbox {
         variables: &Variables,
         client: u32,
     )
-        requires inbox { IsInbox names.now log.now.entries client self.old }
+        requires subscriber { IsSubscriber names.now log.now.entries client self.old }
         requires latest { IsLatest (posts_of log.now.entries) latest.now }
-        ensures { IsInbox names.now log.now.entries client self.new }
+        ensures { IsSubscriber names.now log.now.entries client self.new }
     {
         if self.seen < log.len() as u64 && self.posts == latest.posts() as u64 {
             let seen = self.see_entry(alloc, names, log, latest, variables, client);
             if seen.is_err() {
-                *self = Inbox::new(alloc);
+                *self = Subscriber::new(alloc);
             }
         }
     }
 
-    // All entries. Without memory the inbox stays as it was.
+    // All entries. Without memory the client stays as it was.
     pub fn follow_all(
         &mut self,
         alloc: Global,
@@ -373,8 +373,8 @@ impl Inbox {
         variables: &Variables,
         client: u32,
     ) -> Result<(), NoMemory>
-        requires { IsInbox names.now log.now.entries client self.old }
-        ensures inbox { IsInbox names.now log.now.entries client self.new }
+        requires { IsSubscriber names.now log.now.entries client self.old }
+        ensures subscriber { IsSubscriber names.now log.now.entries client self.new }
         ensures all { OnOk result (self.new.seen ≡ length log.now.entries) }
         ensures few { OnOk result (self.new.seen < 2 ^ 64 - 1) }
     {
@@ -385,23 +385,23 @@ impl Inbox {
     }
 }
 
-// The client's inbox after the whole history, made from the history alone.
+// The client after the whole history, made from the history alone.
 fn made_anew(
     alloc: Global,
     names: &Names,
     log: &Log,
     variables: &Variables,
     client: u32,
-) -> Result<Inbox, NoMemory>
-    ensures inbox { IfOk result (λ now. IsInbox names.now log.now.entries client now) }
+) -> Result<Subscriber, NoMemory>
+    ensures subscriber { IfOk result (λ now. IsSubscriber names.now log.now.entries client now) }
     ensures all { IfOk result (λ now. now.seen ≡ length log.now.entries) }
     ensures few { IfOk result (λ now. now.seen < 2 ^ 64 - 1) }
 {
-    let mut inbox = Inbox::new(alloc);
+    let mut subscriber = Subscriber::new(alloc);
     let mut latest = Latest::new(alloc);
-    'entries: while inbox.seen() < log.len() as u64 {
-        latest.see_posts(alloc, log, inbox.posts() as usize)?;
-        inbox.see_entry(alloc, names, log, &latest, variables, client)?;
+    'entries: while subscriber.seen() < log.len() as u64 {
+        latest.see_posts(alloc, log, subscriber.posts() as usize)?;
+        subscriber.see_entry(alloc, names, log, &latest, variables, client)?;
     }
-    Ok(inbox)
+    Ok(subscriber)
 }

@@ -1,7 +1,7 @@
 use Rattle.std.proofs.Common.{◌≡◌, ◌∙◌, ap, sym, arith}
 use Rattle.std.proofs.lemmas.List.Edits.{map_over_more}
-use Rattle.moos_db.specs.Kept.{caught}
-use Rattle.moos_db.proofs.lives.pass_new.Goals as goal
+use Rattle.moos_db.specs.Subscribers.{caught}
+use Rattle.moos_db.proofs.subscriptions.pass_new.Goals as goal
 
 pub loop-live-preserved : goal.loop-live-preserved
 loop-live-preserved c =

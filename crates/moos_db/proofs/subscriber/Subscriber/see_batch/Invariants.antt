@@ -1,6 +1,6 @@
 use Rattle.std.proofs.Common.{◌≡◌, ◌+◌, take}
-use Rattle.moos_db.specs.Kept.{kept_batch, IsFresh}
-use Rattle.moos_db.proofs.inbox.Inbox.see_batch.Given as goal
+use Rattle.moos_db.specs.Subscribers.{kept_batch, IsFresh}
+use Rattle.moos_db.proofs.subscriber.Subscriber.see_batch.Given as goal
 
 abbrev pub invariant-loop-pair : goal.invariant-loop-pair
 invariant-loop-pair l = record {

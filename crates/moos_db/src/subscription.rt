@@ -1,6 +1,6 @@
 ghost use Rattle.std.specs.Prelude.{◌≡◌, ◌&&◌, bytes_eq, IfOk};
 ghost use Rattle.moos_post.specs.Patterns.{matches};
-ghost use Rattle.moos_db.specs.Kept.{picks, has_patterns, held_of_reg, with_stamp, is_due_held, passed, is_new_held, caught};
+ghost use Rattle.moos_db.specs.Subscribers.{picks, has_patterns, held_of_reg, with_stamp, is_due_held, passed, is_new_held, caught};
 
 use crate::table::Table;
 use moos_post::{Copied, Name, NoMemory, Pattern, Reg};
@@ -11,16 +11,16 @@ use std::marker::Model;
 // A live registration: what it asks for, the number of the entry that made it, and of each variable of which a post
 // came through it the last such stamp.
 #[derive(Drop)]
-pub(crate) struct Live {
+pub(crate) struct Subscription {
     reg: Reg,
     made: u64,
     lasts: Table,
 }
 
-impl Model for Live {
-    ghost use Rattle.moos_db.specs.Kept.{KeptLive};
+impl Model for Subscription {
+    ghost use Rattle.moos_db.specs.Subscribers.{SubscriptionState};
 
-    ghost Value = { KeptLive };
+    ghost Value = { SubscriptionState };
 
     ghost view = { λ live. record { reg = live.reg; made = live.made; lasts = live.lasts } };
 }
@@ -38,11 +38,11 @@ pub(crate) fn is_same(left: &[u8], right: &[u8]) -> bool
     left == right
 }
 
-impl Live {
-    ghost use Rattle.moos_db.specs.Kept.{held_of_reg, with_stamp, is_due_held, passed, is_new_held, caught, has_patterns};
+impl Subscription {
+    ghost use Rattle.moos_db.specs.Subscribers.{held_of_reg, with_stamp, is_due_held, passed, is_new_held, caught, has_patterns};
 
     // A new registration, with nothing come through.
-    pub fn new(alloc: Global, reg: &Reg, made: u64) -> Result<Live, NoMemory>
+    pub fn new(alloc: Global, reg: &Reg, made: u64) -> Result<Subscription, NoMemory>
         ensures { IfOk result (λ live. live ≡ held_of_reg made reg.now) }
     {
         let var = reg.var.copy(alloc)?;
@@ -52,7 +52,7 @@ impl Live {
             source,
             interval: reg.interval,
         };
-        Ok(Live {
+        Ok(Subscription {
             reg,
             made,
             lasts: Table::new(alloc),

@@ -1,9 +1,9 @@
 ghost use Rattle.std.specs.Prelude.{◌≡◌, [], map, fold, IfOk};
 ghost use Rattle.std.specs.List.{list_any};
-ghost use Rattle.moos_db.specs.Kept.{is_due_held, passed, is_new_held, caught, without_held, with_held};
+ghost use Rattle.moos_db.specs.Subscribers.{is_due_held, passed, is_new_held, caught, without_held, with_held};
 
 use crate::index::{Listed, list_var, pass_places, places_at};
-use crate::live::Live;
+use crate::subscription::Subscription;
 use moos_post::{Name, NoMemory, Pattern, Reg};
 use std::alloc::Global;
 use std::marker::Model;
@@ -12,31 +12,31 @@ use std::mem;
 // A client's live registrations in the order in which they were made, and of each variable that was posted since they
 // last changed a list of those whose pattern matches it.
 #[derive(Drop)]
-pub(crate) struct Lives {
-    lives: Vec<Live>,
+pub(crate) struct Subscriptions {
+    lives: Vec<Subscription>,
     lists: Vec<Option<Listed>>,
 }
 
-impl Model for Lives {
+impl Model for Subscriptions {
     ghost use Rattle.std.specs.Prelude.{List};
     ghost use Rattle.moos_db.specs.Index.{AreListed};
-    ghost use Rattle.moos_db.specs.Kept.{KeptLive};
+    ghost use Rattle.moos_db.specs.Subscribers.{SubscriptionState};
 
-    ghost Value = { List KeptLive };
+    ghost Value = { List SubscriptionState };
 
     ghost view = { λ all. all.lives.items };
 
     ghost invariant = { λ all. AreListed all.lives.items all.lists.items };
 }
 
-impl Lives {
-    ghost use Rattle.moos_db.specs.Kept.{is_due_held, passed, is_new_held, caught, without_held, with_held};
+impl Subscriptions {
+    ghost use Rattle.moos_db.specs.Subscribers.{is_due_held, passed, is_new_held, caught, without_held, with_held};
 
     // No registrations.
-    pub fn new(alloc: Global) -> Lives
+    pub fn new(alloc: Global) -> Subscriptions
         ensures { result ≡ [] }
     {
-        Lives {
+        Subscriptions {
             lives: Vec::new(alloc),
             lists: Vec::new(alloc),
         }
@@ -116,7 +116,7 @@ impl Lives {
 }
 
 // Whether some registration that was made at this entry selects the post.
-fn any_new(lives: &[Live], made: u64, var: &Name, source: &[u8]) -> bool
+fn any_new(lives: &[Subscription], made: u64, var: &Name, source: &[u8]) -> bool
     ensures { result ≡ list_any (is_new_held made var.now source.now) lives.now }
 {
     lives.iter().any(|live| live.is_new_for(made, var, source))
@@ -125,7 +125,7 @@ fn any_new(lives: &[Live], made: u64, var: &Name, source: &[u8]) -> bool
 // It comes through each of those.
 fn pass_new(
     alloc: Global,
-    lives: &mut [Live],
+    lives: &mut [Subscription],
     made: u64,
     stamp: u64,
     var: &Name,
@@ -142,10 +142,10 @@ fn pass_new(
 // The registrations without the one that has both these patterns.
 fn without(
     alloc: Global,
-    lives: Vec<Live>,
+    lives: Vec<Subscription>,
     var: &Pattern,
     source: &Pattern,
-) -> Result<Vec<Live>, NoMemory>
+) -> Result<Vec<Subscription>, NoMemory>
     ensures { IfOk result (λ left. left.items ≡ without_held var.now source.now lives.items) }
 {
     let mut left = Vec::with_capacity(alloc, lives.len())?;
@@ -158,21 +158,21 @@ fn without(
 }
 
 // The registrations after this entry made another, which withdraws one with the same patterns.
-fn with_live(alloc: Global, lives: Vec<Live>, made: u64, reg: &Reg) -> Result<Vec<Live>, NoMemory>
+fn with_live(alloc: Global, lives: Vec<Subscription>, made: u64, reg: &Reg) -> Result<Vec<Subscription>, NoMemory>
     ensures { IfOk result (λ more. more.items ≡ with_held made lives.items reg.now) }
 {
     let mut more = without(alloc, lives, &reg.var, &reg.source)?;
-    more.push(Live::new(alloc, reg, made)?)?;
+    more.push(Subscription::new(alloc, reg, made)?)?;
     Ok(more)
 }
 
 // The registrations after this entry made these, one after another.
 fn with_lives(
     alloc: Global,
-    lives: Vec<Live>,
+    lives: Vec<Subscription>,
     made: u64,
     regs: &[Reg],
-) -> Result<Vec<Live>, NoMemory>
+) -> Result<Vec<Subscription>, NoMemory>
     ensures { IfOk result (λ more. more.items ≡ fold (with_held made) lives.items regs.now) }
 {
     let mut more = lives;
