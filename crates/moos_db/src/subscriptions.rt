@@ -158,7 +158,12 @@ fn without(
 }
 
 // The registrations after this entry made another, which withdraws one with the same patterns.
-fn with_live(alloc: Global, lives: Vec<Subscription>, made: u64, reg: &Reg) -> Result<Vec<Subscription>, NoMemory>
+fn with_live(
+    alloc: Global,
+    lives: Vec<Subscription>,
+    made: u64,
+    reg: &Reg,
+) -> Result<Vec<Subscription>, NoMemory>
     ensures { IfOk result (λ more. more.items ≡ with_held made lives.items reg.now) }
 {
     let mut more = without(alloc, lives, &reg.var, &reg.source)?;

@@ -1,9 +1,11 @@
 // The standard output, through std. These few lines are trusted to meet the system as it is.
 ghost use Rattle.std.specs.Prelude.{◌≡◌, ◌<◌, ◌≤◌, None, [], length, take, is_ok, if◌then◌else◌, IfOk, OnErr};
+ghost use Rattle.moos_io.specs.Answers.{put_of_write};
 ghost use Rattle.moos_io.specs.Faults.{Rose, one_more};
 ghost use Rattle.moos_io.specs.Pieces.{Took};
 
 use crate::sink::{Failed, Sink};
+use std::io;
 use std::marker::Model;
 
 /// The standard output of `host`. It doesn't tell what it took.
@@ -46,12 +48,21 @@ impl<'a, H: Print> Sink for OutSink<'a, H> {
         ensures later { self.old ≤ self.new }
         ensures rose { OnErr result (Rose self.old self.new) }
     {
-        match self.host.write_some(bytes) {
-            Ok(count) if count > 0 => Ok(count),
-            _ => {
-                self.faults = self.faults.saturating_add(1);
-                Err(Failed)
-            }
+        answered(&mut self.faults, self.host.write_some(bytes))
+    }
+}
+
+// What a put answers where the system answers a write so. The count rises at each answer that isn't Ok.
+fn answered(faults: &mut u64, answer: io::Result<usize>) -> Result<usize, Failed>
+    ensures answer { result ≡ put_of_write answer }
+    ensures counted { faults.new ≡ (if is_ok result then faults.old else one_more faults.old) }
+    ensures later { faults.old ≤ faults.new }
+{
+    match answer {
+        Ok(count) if count > 0 => Ok(count),
+        _ => {
+            *faults = faults.saturating_add(1);
+            Err(Failed)
         }
     }
 }

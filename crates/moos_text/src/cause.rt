@@ -1,4 +1,5 @@
 ghost use Rattle.std.specs.Prelude.{◌≡◌};
+ghost use Rattle.moos_text.specs.Causes.{cause_text};
 ghost use Rattle.moos_text.specs.Refusals.{fault_at};
 
 use std::alloc::AllocError;
@@ -183,7 +184,9 @@ impl LineFault {
 
 impl Cause {
     /// The cause as it is printed: its letter and number, a space and its name. That of a limit is the limit's.
-    pub fn text(&self) -> &'static str {
+    pub fn text(&self) -> &'static str
+        ensures { result.now ≡ cause_text self.now }
+    {
         match self {
             Cause::S1 => "S1 BadStamp",
             Cause::S2 => "S2 StampGoesBack",

@@ -7,7 +7,7 @@ ghost use Rattle.moos_text.specs.Pairs.{is_equals, is_quote, sides_of, text_valu
 use crate::end::{ends_with, without_last};
 use crate::number::read_milli;
 use crate::trim::trimmed;
-use moos_post::{Name, NameFault, Pair, Txt, Value};
+use moos_post::{Name, NameFault, Pair, Txt, Value, control_place};
 use std::alloc::Global;
 use thiserror::Error;
 

@@ -7,7 +7,7 @@ ghost use Rattle.script_reader.specs.Counts.{with_call_variables, pairs_in};
 
 use crate::batch::read_batch;
 use crate::variables::Variables;
-use crate::word::{with_none_behind, interval_of, pattern_of, source_of, split_word};
+use crate::word::{interval_of, pattern_of, source_of, split_word, with_none_behind};
 use moos_post::{Call, Pattern, Reg, Regs};
 use moos_text::{Cause, Limit, LineFault};
 use std::alloc::Global;

@@ -9,7 +9,7 @@ ghost use Rattle.script_reader.specs.Counts.{AreCounts, with_made};
 use crate::call::call_of;
 use crate::script::{Lines, Script};
 use crate::variables::Variables;
-use crate::word::{with_none_behind, split_word, time_of};
+use crate::word::{split_word, time_of, with_none_behind};
 use moos_post::{Call, Entry, Name, NameFault, Names, NoMemory};
 use moos_text::{Cause, Limit, LineFault};
 use std::alloc::{AllocError, Global};
