@@ -1,19 +1,11 @@
--- Pieces whose numbers are within their bounds, and axes with one more.
-use Rattle.std.proofs.Common.{◌≡◌, ℕ, ◌+◌, ◌<◌, Bool, true, false, ◌&&◌, nat_lt, List, [], ◌∷◌, ◌++◌, length, take, drop, refl, arith}
+-- Pieces whose numbers are within their bounds.
+use Rattle.std.proofs.Common.{◌≡◌, ℕ, Bool, true, false, ◌&&◌, nat_lt, List, length, refl}
 use Rattle.std.specs.Prelude.{IsTrue}
 use Rattle.std.proofs.lemmas.Bool.{and_from, and_parts}
 use Rattle.ivp_domain.specs.declared.axis.Axis.{Axis}
 use Rattle.ivp_func.specs.declared.piece.Piece.{Piece}
 use Rattle.ivp_func.specs.Pieces.{is_base, is_box_of, is_flat_past, is_piece_of, is_slope, is_small, slope_on}
 use Rattle.ivp_cert.specs.Pieces.{are_slopes, is_slope_where}
-
--- one element behind a few, and then more of it
-pub one_behind : {X : Type 0} (xs : List X) (x : X) → length xs < 4 → take (length xs + 1) (xs ++ drop (length xs) (x ∷ x ∷ x ∷ x ∷ [])) ≡ xs ++ x ∷ []
-one_behind [] x few = refl
-one_behind (a ∷ []) x few = refl
-one_behind (a ∷ b ∷ []) x few = refl
-one_behind (a ∷ b ∷ d ∷ []) x few = refl
-one_behind (a ∷ b ∷ d ∷ e ∷ xs) x few = absurd (omega arith)
 
 kept : (box small one two three : Bool) → small ≡ true → one ≡ true → two ≡ true → three ≡ true → (box && small && one && two && three) ≡ box
 kept box small one two three a b d e = rw (a, b, d, e) (at box)

@@ -5,8 +5,8 @@ use Rattle.moos_text.specs.declared.cause.Cause.{Cause}
 use Rattle.moos_text.specs.declared.cause.Cause.TheVariants.{P1}
 use Rattle.moos_text.specs.declared.cause.ReadFault.{ReadFault}
 use Rattle.moos_text.specs.declared.cause.ReadFault.TheVariants.{At}
-use Rattle.moos_text.specs.Lines.{raw_lines}
-use Rattle.moos_text.specs.Refusals.{and_then}
+use Rattle.moos_text.specs.Lines.{raw_lines, last_line}
+use Rattle.moos_text.specs.Refusals.{and_then, at_line}
 use Rattle.ivp_domain.specs.declared.axis.Axis.{Axis}
 use Rattle.ivp_problem.specs.Problems.{WeightedSum}
 use Rattle.ivp_cert.specs.declared.claim.Decision.{Decision}
@@ -16,8 +16,8 @@ use Rattle.ivp_cert.specs.declared.stage.Stage.{Stage}
 use Rattle.ivp_cert.specs.declared.stage.Stage.TheVariants.{Axes, Begun, Ended, Functions, Start}
 use Rattle.ivp_cert.specs.Decisions.{claim_in, cuts_in, decision_of, with_claim, with_cut}
 use Rattle.ivp_cert.specs.Pieces.{piece_of}
-use Rattle.ivp_cert.specs.Problems.{axes_in, domain_in, nothing_behind, ended_early, finished, functions_in, is_first, last_line, problem_in, problem_of, with_domain, with_function, with_piece}
-use Rattle.ivp_cert.specs.Said.{at_line, last_of, Said, said_from, said_with}
+use Rattle.ivp_cert.specs.Problems.{axes_in, domain_in, nothing_behind, ended_early, finished, functions_in, is_first, problem_in, problem_of, with_domain, with_function, with_piece}
+use Rattle.ivp_cert.specs.Said.{last_of, Said, said_from, said_with}
 use Rattle.ivp_cert.specs.Stages.{after_first, after_word, stage_after, as_now, phase_after, after_lines, whole_decision, whole_problem}
 use Rattle.ivp_cert.specs.Unfinished.{UnfinishedSum}
 use Rattle.ivp_cert.specs.Words.{line_words}

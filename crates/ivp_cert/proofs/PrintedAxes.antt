@@ -11,9 +11,10 @@ use Rattle.moos_text.proofs.RoundTrip.{milli_back}
 use Rattle.ivp_domain.specs.declared.axis.Axis.{Axis}
 use Rattle.ivp_domain.specs.AxisNames.{is_axis_name, is_axis_letter, is_word_byte}
 use Rattle.ivp_cert.specs.Texts.{axis_text}
-use Rattle.ivp_cert.specs.Words.{axis_from, axis_of, fields_of}
+use Rattle.ivp_cert.specs.Words.{axis_of}
 use Rattle.ivp_cert.proofs.PrintedLines.{IsWord, line_of}
 use Rattle.ivp_cert.proofs.PrintedNumbers.{decimal_field, InField, ink_of, milli_field, whole_back}
+use Rattle.axis_reader.specs.Fields.{axis_from, fields_of}
 
 -- an axis as its word
 abbrev pub axis_word : Axis → List ℕ

@@ -7,10 +7,10 @@ use Rattle.std.proofs.lemmas.Bool.{le-leb, lt-ltb}
 use Rattle.std.proofs.lemmas.Fmt.{decimal_nonempty}
 use Rattle.moos_io.proofs.Lists.{each_true, each_weaker}
 use Rattle.moos_post.specs.Words.{is_digit, IsMilli}
-use Rattle.moos_text.specs.Numbers.{digits_value, milli_of, milli_text}
+use Rattle.moos_text.specs.Numbers.{digits_value, milli_of, milli_text, whole_of, whole_part}
 use Rattle.moos_text.proofs.PrintedDigits.{decimal_digits, decimal_value, milli_bytes}
 use Rattle.moos_text.proofs.RoundTrip.{milli_back}
-use Rattle.ivp_cert.specs.Words.{integer_of, natural_of, place_of, whole_of, whole_part}
+use Rattle.ivp_cert.specs.Words.{integer_of, natural_of, place_of}
 use Rattle.ivp_cert.proofs.PrintedLines.{IsWord}
 
 -- a printed number within its bound

@@ -16,7 +16,6 @@ use Rattle.ivp_cert.specs.declared.stage.Stage.TheVariants.{Axes, Ended, Functio
 use Rattle.ivp_cert.specs.Printed.{HasFourPlaces, IsPrefix}
 use Rattle.ivp_cert.specs.Problems.{finished, with_function}
 use Rattle.ivp_cert.specs.Stages.{after_first, as_now}
-use Rattle.ivp_cert.specs.Said.{at_line}
 use Rattle.ivp_cert.specs.Texts.{piece_text, term_text}
 use Rattle.ivp_cert.specs.Unfinished.{UnfinishedSum}
 use Rattle.ivp_cert.proofs.PrintedLines.{IsWord}
@@ -24,6 +23,7 @@ use Rattle.ivp_cert.proofs.PrintedNumbers.{decimal_word, whole_back}
 use Rattle.ivp_cert.proofs.PrintedTexts.{function_line}
 use Rattle.ivp_cert.proofs.Taking.{Takes, takes_as, takes_both, takes_line}
 use Rattle.ivp_cert.proofs.TakingPieces.{pieces_taken, with_pieces}
+use Rattle.moos_text.specs.Refusals.{at_line}
 
 -- a function that a problem over these axes may have, by the tests that the reader makes
 pub record IsPrintedTerm (axes : List Axis) (term : Term) : Type 0 where

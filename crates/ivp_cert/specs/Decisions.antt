@@ -5,15 +5,15 @@ use Rattle.moos_text.specs.declared.cause.Cause.{Cause}
 use Rattle.moos_text.specs.declared.cause.Cause.TheVariants.{P1, P9, P10}
 use Rattle.moos_text.specs.declared.cause.ReadFault.{ReadFault}
 use Rattle.moos_text.specs.declared.cause.ReadFault.TheVariants.{At}
-use Rattle.moos_text.specs.Lines.{raw_lines}
-use Rattle.moos_text.specs.Refusals.{and_then}
+use Rattle.moos_text.specs.Lines.{raw_lines, last_line}
+use Rattle.moos_text.specs.Refusals.{and_then, at_line}
 use Rattle.ivp_domain.specs.declared.axis.Axis.{Axis}
 use Rattle.ivp_domain.specs.declared.boxes.Point.{Point}
 use Rattle.ivp_problem.specs.Problems.{WeightedSum}
 use Rattle.ivp_cert.specs.declared.cert.Line.{Line}
 use Rattle.ivp_cert.specs.declared.claim.Decision.{Decision}
-use Rattle.ivp_cert.specs.Problems.{nothing_behind, last_line, problem_in}
-use Rattle.ivp_cert.specs.Said.{at_line, last_of, Said, said_from}
+use Rattle.ivp_cert.specs.Problems.{nothing_behind, problem_in}
+use Rattle.ivp_cert.specs.Said.{last_of, Said, said_from}
 use Rattle.ivp_cert.specs.Words.{natural_of, place_of}
 
 -- a sum: digits, at most 64,000,000,000

@@ -1,12 +1,12 @@
 -- What the bytes of a problem stand for: the problem, or its first refusal with its line and cause. First what one line
 -- says, and then which line may follow which. `last` is the line that is refused where the lines end too early.
-use Rattle.std.specs.Prelude.{ℕ, max, Bool, false, ◌&&◌, nat_lt, if◌then◌else◌, List, [], ◌∷◌, ◌++◌, length, codes, bytes_eq, Option, Some, None, Result, Ok, Err}
+use Rattle.std.specs.Prelude.{ℕ, Bool, false, ◌&&◌, nat_lt, if◌then◌else◌, List, [], ◌∷◌, ◌++◌, length, codes, bytes_eq, Option, Some, None, Result, Ok, Err}
 use Rattle.moos_text.specs.declared.cause.Cause.{Cause}
 use Rattle.moos_text.specs.declared.cause.Cause.TheVariants.{P1, P2, P3, P4, P5, P6, P7, P8, P9}
 use Rattle.moos_text.specs.declared.cause.ReadFault.{ReadFault}
 use Rattle.moos_text.specs.declared.cause.ReadFault.TheVariants.{At}
-use Rattle.moos_text.specs.Lines.{raw_lines}
-use Rattle.moos_text.specs.Refusals.{and_then}
+use Rattle.moos_text.specs.Lines.{last_line, raw_lines}
+use Rattle.moos_text.specs.Refusals.{and_then, at_line}
 use Rattle.ivp_domain.specs.declared.axis.Axis.{Axis}
 use Rattle.ivp_domain.specs.declared.domain.DomainFault.{DomainFault}
 use Rattle.ivp_domain.specs.Domains.{domain_of}
@@ -16,9 +16,10 @@ use Rattle.ivp_func.specs.Functions.{has_values, is_partition}
 use Rattle.ivp_problem.specs.declared.term.Term.{Term}
 use Rattle.ivp_problem.specs.Problems.{is_weight, WeightedSum}
 use Rattle.ivp_cert.specs.Pieces.{piece_of}
-use Rattle.ivp_cert.specs.Said.{at_line, last_of, Said, said_from}
+use Rattle.ivp_cert.specs.Said.{last_of, Said, said_from}
 use Rattle.ivp_cert.specs.Unfinished.{UnfinishedSum}
-use Rattle.ivp_cert.specs.Words.{axis_of, whole_of}
+use Rattle.ivp_cert.specs.Words.{axis_of}
+use Rattle.moos_text.specs.Numbers.{whole_of}
 
 -- `ivp 1`, by its first word and those behind
 abbrev pub is_first : List ℕ → List (List ℕ) → Bool
@@ -118,10 +119,6 @@ domain_in last next (said ∷ behind) =
 abbrev pub problem_in : {A : Type 0} → ℕ → (WeightedSum → List Said → Result A ReadFault) → List Said → Result A ReadFault
 problem_in last next [] = Err (At last P9)
 problem_in last next (said ∷ behind) = if is_first said.word said.rest then domain_in last next behind else Err (At said.line P1)
-
--- the last of the lines, which is line 1 in an empty file
-abbrev pub last_line : List ℕ → ℕ
-last_line bytes = max 1 (length (raw_lines bytes))
 
 -- What the bytes of a problem stand for. Lines are counted from 1.
 abbrev pub problem_of : List ℕ → Result WeightedSum ReadFault

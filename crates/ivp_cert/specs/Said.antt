@@ -1,6 +1,5 @@
 -- The lines that say something, of a problem and of a decision.
 use Rattle.std.specs.Prelude.{ℕ, suc, List, [], ◌∷◌, Result, Ok, Err}
-use Rattle.moos_text.specs.declared.cause.Cause.{Cause}
 use Rattle.moos_text.specs.declared.cause.Cause.TheVariants.{P1}
 use Rattle.moos_text.specs.declared.cause.ReadFault.{ReadFault}
 use Rattle.moos_text.specs.declared.cause.ReadFault.TheVariants.{At}
@@ -21,11 +20,6 @@ said_with line (word ∷ rest) behind = record { line = line; word = word; rest 
 abbrev pub said_from : ℕ → List (List ℕ) → List Said
 said_from before [] = []
 said_from before (raw ∷ raws) = said_with (suc before) (line_words raw) (said_from (suc before) raws)
-
--- a refusal of this line
-abbrev pub at_line : {A : Type 0} → ℕ → Result A Cause → Result A ReadFault
-at_line line (Ok value) = Ok value
-at_line line (Err cause) = Err (At line cause)
 
 -- what was read, where no line behind it says anything
 abbrev pub last_of : {A : Type 0} → A → List Said → Result A ReadFault

@@ -4,7 +4,7 @@ use Rattle.moos_text.specs.declared.cause.Cause.{Cause}
 use Rattle.moos_text.specs.declared.cause.Cause.TheVariants.{P1, P9}
 use Rattle.moos_text.specs.declared.cause.ReadFault.{ReadFault}
 use Rattle.moos_text.specs.declared.cause.ReadFault.TheVariants.{At}
-use Rattle.moos_text.specs.Refusals.{and_then}
+use Rattle.moos_text.specs.Refusals.{and_then, at_line}
 use Rattle.ivp_domain.specs.declared.axis.Axis.{Axis}
 use Rattle.ivp_domain.specs.Domains.{is_point}
 use Rattle.ivp_problem.specs.Problems.{WeightedSum}
@@ -16,7 +16,6 @@ use Rattle.ivp_cert.specs.declared.stage.Stage.TheVariants.{Start, Begun, Axes, 
 use Rattle.ivp_cert.specs.Decisions.{with_claim, with_cut}
 use Rattle.ivp_cert.specs.Pieces.{piece_of}
 use Rattle.ivp_cert.specs.Problems.{nothing_behind, ended_early, finished, is_first, with_domain, with_function, with_piece}
-use Rattle.ivp_cert.specs.Said.{at_line}
 use Rattle.ivp_cert.specs.Unfinished.{UnfinishedSum}
 use Rattle.ivp_cert.specs.Words.{line_words}
 

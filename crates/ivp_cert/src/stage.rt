@@ -1,19 +1,19 @@
-ghost use Rattle.std.specs.Prelude.{◌≡◌, ◌+◌, ◌<◌, ◌∷◌, ◌++◌, [], take, Ok, Err, Some, length, IfOk, IfErr};
+ghost use Rattle.std.specs.Prelude.{◌≡◌, ◌<◌, ◌∷◌, [], Ok, Err, Some, length, IfOk, IfErr};
 ghost use Rattle.moos_text.specs.Lines.{trimmed, words_of};
-ghost use Rattle.moos_text.specs.Refusals.{IsFirst, IsLineFault};
+ghost use Rattle.moos_text.specs.Refusals.{IsFirst, IsLineFault, at_line};
 ghost use Rattle.ivp_cert.specs.Problems.{nothing_behind, ended_early, with_axis, with_domain, with_function, with_piece, with_weight};
 ghost use Rattle.ivp_cert.specs.Stages.{after_axes, after_begun, after_functions, after_word, stage_after, after_start, whole_problem};
-ghost use Rattle.ivp_cert.specs.Said.{at_line};
 ghost use Rattle.ivp_cert.specs.Pieces.{piece_of};
 ghost use Rattle.ivp_cert.specs.Words.{axis_of, without_prefix};
 
 use crate::piece::piece_of;
 use crate::terms::Terms;
 use crate::unfinished::Unfinished;
-use crate::words::{axis_of, content_of, whole_of};
+use crate::words::{axis_of, content_of};
+use axis_reader::extended;
 use ivp_domain::{Axis, Domain, MOST_AXES};
 use ivp_problem::{MOST_FUNCTIONS, MOST_WEIGHT, Problem};
-use moos_text::{Cause, LineFault, ReadFault, next_word};
+use moos_text::{Cause, LineFault, ReadFault, next_word, read_whole};
 use std::alloc::Global;
 
 /// How far the lines of a problem have come.
@@ -198,20 +198,10 @@ fn with_axis(axes: &[Axis], axis: Axis) -> Result<Domain, Cause>
     if axes.len() >= MOST_AXES {
         return Err(Cause::P2);
     }
-    match Domain::make(&one_more(axes, axis)[..axes.len() + 1]) {
+    match extended(axes, axis) {
         Ok(domain) => Ok(domain),
         Err(_) => Err(Cause::P2),
     }
-}
-
-// The axes, and this one behind them up to the last place.
-fn one_more(axes: &[Axis], axis: Axis) -> [Axis; 4]
-    requires { length axes.now < 4 }
-    ensures { take (length axes.now + 1) result ≡ axes.now ++ axis ∷ [] }
-{
-    let mut all = [axis; MOST_AXES];
-    all[..axes.len()].copy_from_slice(axes);
-    all
 }
 
 // What stands behind `function` is one word; a 65th function is refused, and a weight out of range.
@@ -239,7 +229,7 @@ fn with_weight_word(
     if before.len() >= MOST_FUNCTIONS {
         return Err(Cause::P7);
     }
-    match whole_of(word) {
+    match read_whole(word) {
         Some(weight) => with_weight(alloc, before, line, weight),
         None => Err(Cause::P6),
     }

@@ -1,13 +1,13 @@
-ghost use Rattle.std.specs.Prelude.{◌≡◌, ◌≤◌, ◌+◌, ◌^◌, ◌==◌, ◌&&◌, ◌∷◌, [], Some, IsTrue, IfSome, MatchOption, min, int_le, neg_ℤ, pos, true};
-ghost use Rattle.std.specs.List.{list_all, position};
+ghost use Rattle.std.specs.Prelude.{◌≡◌, ◌≤◌, ◌+◌, ◌^◌, ◌==◌, ◌&&◌, Some, IsTrue, IfSome, min, int_le, neg_ℤ, pos, true};
+ghost use Rattle.std.specs.List.{list_all};
 ghost use Rattle.moos_post.specs.Words.{is_digit};
 ghost use Rattle.moos_text.specs.Lines.{trimmed};
 ghost use Rattle.moos_text.specs.Numbers.{digits_value};
-ghost use Rattle.ivp_cert.specs.Words.{axis_of, axis_with, fields_of, integer_of, natural_of, place_of, whole_of, whole_part, without_prefix};
+ghost use Rattle.ivp_cert.specs.Words.{axis_of, integer_of, natural_of, place_of, without_prefix};
 
-use ivp_domain::{Axis, AxisName};
-use moos_post::Milli;
-use moos_text::{read_milli, trimmed};
+use axis_reader::four_fields;
+use ivp_domain::Axis;
+use moos_text::trimmed;
 
 /// What counts of a line that is given without its end: it is trimmed, and then a `%% ` in front is dropped.
 pub fn content_of(line: &[u8]) -> &[u8]
@@ -80,63 +80,9 @@ pub fn integer_of(word: &[u8], most: u64) -> Option<i64>
     }
 }
 
-fn whole_part(thousandths: Milli) -> Option<u32>
-    ensures { result ≡ whole_part thousandths }
-{
-    let thousandths = thousandths.get();
-    if 0 <= thousandths && thousandths % 1000 == 0 {
-        Some((thousandths / 1000) as u32)
-    } else {
-        None
-    }
-}
-
-/// The whole number, not below zero, that a number without thousandths is.
-pub fn whole_of(word: &[u8]) -> Option<u32>
-    ensures { result ≡ whole_of word.now }
-{
-    whole_part(read_milli(word)?)
-}
-
-// Where the first `:` stands.
-fn first_colon(text: &[u8]) -> Option<usize>
-    ensures { result ≡ position (λ byte. byte == 58) text.now }
-{
-    text.iter().position(|&byte| byte == b':')
-}
-
-// The first field of a text and what stands behind its `:`; `None` exactly where the text is one field.
-#[tactic(auto, using(crate::proofs::Fields::fields_one))]
-fn cut_at_colon(text: &[u8]) -> Option<(&[u8], &[u8])>
-    ensures { MatchOption result (fields_of text.now ≡ text.now ∷ []) (λ cut. fields_of text.now ≡ cut.0.now ∷ fields_of cut.1.now) }
-{
-    match first_colon(text) {
-        Some(place) => Some((&text[..place], &text[place + 1..])),
-        None => None,
-    }
-}
-
-fn axis_with(name: &[u8], low: Milli, high: Milli, points: u32) -> Option<Axis>
-    ensures { result ≡ axis_with name.now (Some low) (Some high) (Some points) }
-{
-    let name = AxisName::new(name)?;
-    Some(Axis {
-        name,
-        low: low.get(),
-        high: high.get(),
-        points,
-    })
-}
-
 /// The axis that a word NAME:LOW:HIGH:POINTS spells.
 pub fn axis_of(word: &[u8]) -> Option<Axis>
     ensures { result ≡ axis_of word.now }
 {
-    let (name, rest) = cut_at_colon(word)?;
-    let (low, rest) = cut_at_colon(rest)?;
-    let (high, points) = cut_at_colon(rest)?;
-    match cut_at_colon(points) {
-        Some(_) => None,
-        None => axis_with(name, read_milli(low)?, read_milli(high)?, whole_of(points)?),
-    }
+    axis_reader::axis_of(&four_fields(word)?)
 }

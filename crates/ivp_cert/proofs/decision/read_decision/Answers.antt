@@ -3,12 +3,12 @@ use Rattle.std.proofs.lemmas.Result.{err_from_is_err_and}
 use Rattle.ivp_cert.specs.declared.stage.Stage.TheVariants.{Start}
 use Rattle.ivp_cert.specs.declared.phase.Phase.TheVariants.{OfProblem}
 use Rattle.ivp_cert.specs.Decisions.{decision_of}
-use Rattle.ivp_cert.specs.Problems.{last_line}
 use Rattle.ivp_cert.specs.Stages.{phase_after, whole_decision}
 use Rattle.ivp_cert.proofs.Following.{decision_read}
 use Rattle.ivp_cert.proofs.Reading.{IsNext, one_read, one_refused, told_fault, told_value}
 use Rattle.ivp_cert.proofs.Bounded.{read_sums, read_whole}
 use Rattle.ivp_cert.proofs.decision.read_decision.Goals as goal
+use Rattle.moos_text.specs.Lines.{last_line}
 
 pub loop-line-preserved : goal.loop-line-preserved
 loop-line-preserved c =

@@ -1,12 +1,13 @@
 use Rattle.std.proofs.Common.{sym, ◌∙◌, arith}
 use Rattle.std.proofs.lemmas.Result.{err_from_is_err_and}
 use Rattle.ivp_cert.specs.declared.stage.Stage.TheVariants.{Start}
-use Rattle.ivp_cert.specs.Problems.{last_line, problem_of}
+use Rattle.ivp_cert.specs.Problems.{problem_of}
 use Rattle.ivp_cert.specs.Stages.{stage_after, whole_problem}
 use Rattle.ivp_cert.proofs.Bounded.{problem_whole}
 use Rattle.ivp_cert.proofs.Following.{problem_read}
 use Rattle.ivp_cert.proofs.Reading.{IsNext, one_read, one_refused, told_fault, told_value}
 use Rattle.ivp_cert.proofs.read.read_problem.Goals as goal
+use Rattle.moos_text.specs.Lines.{last_line}
 
 pub loop-line-preserved : goal.loop-line-preserved
 loop-line-preserved c =

@@ -1,7 +1,7 @@
-use Rattle.ivp_cert.proofs.Fields.{fifth_field}
+use Rattle.std.proofs.Common.{sym}
+use Rattle.axis_reader.specs.Fields.{fields_of}
+use Rattle.axis_reader.proofs.Cuts.{not_four}
 use Rattle.ivp_cert.proofs.words.axis_of.Goals as goal
 
-pub returns-in-Some : goal.returns-in-Some
-returns-in-Some c =
-    fifth_field c.args.word.now _ _ _ _ c.in_ok-name.rest.now c.in_ok-low.rest.now c.in_ok-high.points.now c.in-Some.field-0.1.now c.in_ok-name.ensures
-    c.in_ok-low.ensures c.in_ok-high.ensures c.in-Some.ensures
+pub returns-in_err-four_fields : goal.returns-in_err-four_fields
+returns-in_err-four_fields c = rw c.from_residual.ensures (sym (not_four (fields_of c.args.word.now) c.in_err-four_fields.ensures))
