@@ -23,9 +23,9 @@ pub use end::{ends_with, without_last};
 pub use line::{Line, Said, next_line, next_said, next_whole_line};
 pub use milli_text::{MilliText, print_milli, print_seconds};
 pub use number::{read_milli, read_whole};
-pub use pair::{PairFault, cut_at_equals, read_pair};
+pub use pair::{PairFault, cut_at_equals, read_pair, read_plain, read_text};
 pub use part::{Part, next_part};
-pub use trim::trimmed;
+pub use trim::{trimmed, without_front_blanks};
 pub use word::{is_named, next_word};
 
 #[cfg(test)]

@@ -121,7 +121,8 @@ fn quote_at(text: &[u8]) -> Option<usize>
     text.iter().position(|&byte| byte == b'"')
 }
 
-fn read_plain(alloc: Global, side: &[u8]) -> Result<Value, PairFault>
+/// A value without quotes: a number where the bytes are one, and else a text.
+pub fn read_plain(alloc: Global, side: &[u8]) -> Result<Value, PairFault>
     ensures value { IfOk result (λ value. plain_value (milli_of side.now) side.now ≡ Ok value) }
     ensures fault { IfErr result (λ fault. fault ≢ NoMemory → plain_value (milli_of side.now) side.now ≡ Err fault) }
 {
@@ -131,7 +132,8 @@ fn read_plain(alloc: Global, side: &[u8]) -> Result<Value, PairFault>
     }
 }
 
-fn read_text(alloc: Global, bytes: &[u8]) -> Result<Value, PairFault>
+/// These bytes as a text.
+pub fn read_text(alloc: Global, bytes: &[u8]) -> Result<Value, PairFault>
     ensures value { IfOk result (λ value. text_value bytes.now ≡ Ok value) }
     ensures fault { IfErr result (λ fault. fault ≢ NoMemory → text_value bytes.now ≡ Err fault) }
 {

@@ -10,7 +10,8 @@ pub fn trimmed(bytes: &[u8]) -> &[u8]
     without_back_blanks(without_front_blanks(bytes))
 }
 
-pub(crate) fn without_front_blanks(bytes: &[u8]) -> &[u8]
+/// The bytes from the first on that is no blank.
+pub fn without_front_blanks(bytes: &[u8]) -> &[u8]
     ensures { result.now ≡ without_front_blanks bytes.now }
 {
     let mut left = bytes;

@@ -1,0 +1,12 @@
+pub mod Coding
+pub mod Conditions
+pub mod Faults
+pub mod Flat
+pub mod Grammar
+pub mod Infos
+pub mod Learnt
+pub mod Levels
+pub mod Modes
+pub mod Stacks
+pub mod Tokens
+pub mod Told
