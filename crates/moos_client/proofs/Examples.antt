@@ -9,7 +9,7 @@ use Rattle.moos_post.specs.declared.entry.Entry.{Entry}
 use Rattle.moos_post.specs.declared.value.Value.TheVariants.{Num}
 use Rattle.moos_post.specs.Delivery.{mail_after}
 use Rattle.moos_post.specs.History.{History, posts_of}
-use Rattle.moos_client.specs.Calls.{entries_of, entry_of, IsCalled, IsFetched, IsUncalled, MayCall, SeatState, with_call}
+use Rattle.moos_client.specs.Calls.{entries_of, entry_of, IsCalled, IsFetched, IsUncalled, MayCall, SeatState, seat_after}
 use Rattle.turn_lock.specs.Passes.{first_pass, LockState}
 
 abbrev names : List (List ℕ)
@@ -26,7 +26,7 @@ module _ (lock : LockState (List (List ℕ))) (is : lock.base ≡ names) where
   seat = first_pass lock 2
 
   abbrev after : SeatState
-  after = with_call seat (entry_of 1 0 Fetch ∷ []) (entry_of 0 500 Fetch)
+  after = seat_after seat (entry_of 1 0 Fetch ∷ []) (entry_of 0 500 Fetch)
 
   may_call : MayCall lock seat
   may_call = record { of_lock = record { same = refl; live = refl; base = refl }; free = refl; client = omega (arith, ap length is) }
@@ -66,7 +66,7 @@ module _ (lock : LockState (List (List ℕ))) (is : lock.base ≡ names) where
   fetched = record { before = entry_of 1 0 Fetch ∷ []; later = (entry_of 1 0 Fetch ∷ [], refl); own = refl; after = refl; given = refl }
 
   -- no entry under its number stands before the call that it didn't make
-  not_its_own : IsCalled seat (with_call seat (entry_of 0 0 Fetch ∷ []) (entry_of 0 500 Fetch)) 500 Fetch → ⊥
+  not_its_own : IsCalled seat (seat_after seat (entry_of 0 0 Fetch ∷ []) (entry_of 0 500 Fetch)) 500 Fetch → ⊥
   not_its_own call =
       let same : entry_of 0 0 Fetch ∷ [] ≡ call.before = append_cancel_right (entry_of 0 0 Fetch ∷ []) call.before (entry_of 0 500 Fetch ∷ []) (ap (λ (one : SeatState). one.seen) call.after) in
       omega (arith, ap length (subst (λ before. entries_of 0 before ≡ []) (sym same) call.own))
@@ -95,10 +95,10 @@ module _ (lock : LockState (List (List ℕ))) (is : lock.base ≡ names) where
   abbrev letter : Letter
   letter = record { number = 0; post = record { stamp = 100; source = 1; var = codes "X"; value = Num (pos 7) } }
 
-  mailed : IsFetched listener (with_call listener posted (entry_of 0 500 Fetch)) names 500 (letter ∷ [])
+  mailed : IsFetched listener (seat_after listener posted (entry_of 0 500 Fetch)) names 500 (letter ∷ [])
   mailed = record { before = posted; later = (posted, refl); own = refl; after = refl; given = refl }
 
-  not_mailed : IsFetched listener (with_call listener posted (entry_of 0 500 Fetch)) names 500 [] → ⊥
+  not_mailed : IsFetched listener (seat_after listener posted (entry_of 0 500 Fetch)) names 500 [] → ⊥
   not_mailed fetch =
       let same : posted ≡ fetch.before = append_cancel_right posted fetch.before (entry_of 0 500 Fetch ∷ []) (ap (λ (one : SeatState). one.seen) fetch.after) in
       omega (arith, ap length (subst (λ before. AreLetters (posts_of before) (mail_after names 0 before) []) (sym same) fetch.given))

@@ -24,8 +24,8 @@ abbrev pub entry_of : ℕ → ℕ → Call → Entry
 entry_of client stamp call = record { stamp = stamp; client = client; call = call }
 
 -- the seat after its entry, which stands behind this history
-abbrev pub with_call : SeatState → History → Entry → SeatState
-with_call seat before entry = record seat { seen = before ++ entry ∷ []; mine = seat.mine ++ entry ∷ [] }
+abbrev pub seat_after : SeatState → History → Entry → SeatState
+seat_after seat before entry = record seat { seen = before ++ entry ∷ []; mine = seat.mine ++ entry ∷ [] }
 
 -- a client's own entries, in order
 abbrev pub entries_of : ℕ → History → List Entry
@@ -37,14 +37,14 @@ pub record IsCalled (old new : SeatState) (stamp : ℕ) (call : Call) : Type 0 w
   pub before : History
   pub later : Begins before old.seen
   pub own : entries_of old.number before ≡ old.mine
-  pub after : new ≡ with_call old before (entry_of old.number stamp call)
+  pub after : new ≡ seat_after old before (entry_of old.number stamp call)
 
 -- the same for a fetch, whose mail is what was mailed to the client since its fetch before
 pub record IsFetched (old new : SeatState) (names : List (List ℕ)) (stamp : ℕ) (mail : List Letter) : Type 0 where
   pub before : History
   pub later : Begins before old.seen
   pub own : entries_of old.number before ≡ old.mine
-  pub after : new ≡ with_call old before (entry_of old.number stamp Fetch)
+  pub after : new ≡ seat_after old before (entry_of old.number stamp Fetch)
   pub given : AreLetters (posts_of before) (mail_after names old.number before) mail
 
 -- no entry was made: the client may have seen more

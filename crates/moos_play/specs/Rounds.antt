@@ -48,8 +48,8 @@ pub record IsGathered (lock : CommunityLock) (first : SeatState) : Type 0 where
   pub each : (n : ℕ) → 0 < n → n < length lock.base → 0 < times_met n first.met
   pub once : (n : ℕ) → times_met n first.met ≤ 1
 
--- The seats of these players are parted from the first, and it knows with them what it knew before. Each other client
--- but that of number 0 has none of the lines.
+-- The seats of these players are parted from the first, and it knows with them just what it knew before, each number as
+-- often. Each other client but that of number 0 has none of the lines.
 pub record AreParted (lock : CommunityLock) (lines : List Entry) (before first : SeatState) (players : List Player) : Type 0 where
   pub same : first ≡ record before { met = first.met }
   pub apart : All (λ player. IsApart lock player.seat) players
@@ -70,7 +70,8 @@ pub record HasSeenAll (before after : SeatState) : Type 0 where
   pub same : after ≡ record before { seen = after.seen }
   pub whole : (n : ℕ) → entries_of n after.seen ≡ known_of before n
 
--- A round of these lines: what is seen goes on, what is known of each client are its lines more, and all is seen.
+-- A round of these lines: what the first seat has seen goes on, what it knows of each client are the client's lines more,
+-- and the history that it has seen has of each client just that.
 pub record GoesOn (lines : List Entry) (before after : SeatState) : Type 0 where
   pub later : Begins after.seen before.seen
   pub known : (n : ℕ) → known_of after n ≡ known_of before n ++ entries_of n lines
@@ -88,7 +89,7 @@ pub record KnowsNothing (first : SeatState) : Type 0 where
   pub seen : first.seen ≡ []
   pub known : (n : ℕ) → known_of first n ≡ []
 
--- what an order asks of the lines of one round: by their stamps they all have one stamp
+-- what an order asks of the lines of one round: by their stamps they all have one stamp, and in a race nothing
 abbrev pub IsOneRound : Order → List Entry → Type 0
 IsOneRound Stamp lines = (stamp : ℕ) × IsTrue (list_all (λ line. line.stamp == stamp) lines)
 IsOneRound Race lines = Unit {0}

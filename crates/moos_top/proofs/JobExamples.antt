@@ -23,8 +23,8 @@ use Rattle.moos_top.specs.declared.status.Status.TheVariants.{Done, CheckNo, Usa
 use Rattle.moos_top.specs.Commands.{check_command, few, IsPlain, play_command, race_rule, solve_command, workers_rule}
 use Rattle.moos_top.specs.Exit.{code_of}
 use Rattle.moos_top.specs.Jobs.Task.{Checking, Playing, Solving}
-use Rattle.moos_top.specs.Jobs.{decision_on, file_of, HasEnded, HasFewWorkers, IsAccepted, IsOutput, kind_of, task_of}
-use Rattle.moos_top.specs.Steps.{CannotLoad, Ended, sinking, status_of}
+use Rattle.moos_top.specs.Jobs.{decision_on, file_of, HasFewWorkers, IsAccepted, IsOutput, kind_of, task_of}
+use Rattle.moos_top.specs.Steps.{Ended, sinking, status_of}
 use Rattle.moos_top.proofs.Playing.{all_entries}
 
 -- one function over two points, of value 5 and 6
@@ -128,22 +128,7 @@ not_accepted is = let line = is.lines 0 (record { path = 0 ∷ []; sum = 6; inde
 no_line : IsAccepted (record decision { cert = [] }) → ⊥
 no_line is = omega (arith, is.once (0 ∷ []) (record { depth = 1; area = record { low = 0 ∷ 0 ∷ 0 ∷ 0 ∷ []; high = 1 ∷ 0 ∷ 0 ∷ 0 ∷ [] }; base = pos 5; slope = pos 1 ∷ pos 0 ∷ pos 0 ∷ pos 0 ∷ [] }) refl (omega arith))
 
--- so a check of the first ends with Done, and of the other one with CheckNo; a job that solves a problem ends with Done alone
-ended : HasEnded (Solving problem) Done × HasEnded (Checking decision) Done × HasEnded (Checking poor) CheckNo
-ended = (refl, inl (refl, accepted), inr (refl, not_accepted))
-
-ended_no : HasEnded (Checking decision) CheckNo → ⊥
-ended_no (inl done) = let is : CheckNo ≡ Done = done.0 in cc
-ended_no (inr refused) = refused.1 accepted
-
-ended_yes : HasEnded (Checking poor) Done → ⊥
-ended_yes (inl done) = not_accepted done.1
-ended_yes (inr refused) = let is : Done ≡ CheckNo = refused.0 in cc
-
-solved_no : HasEnded (Solving problem) CheckNo → ⊥
-solved_no is = cc
-
--- and each check writes which of the two it is, to the last byte
+-- so a check of the first ends with Done, and of the other one with CheckNo, and each writes which it is, to the last byte
 outputs : IsOutput (Checking decision) Done (codes "accepted\n") × IsOutput (Checking poor) CheckNo (codes "not accepted\n")
 outputs = ((accepted, refl), (not_accepted, refl))
 
@@ -184,20 +169,6 @@ reported = record { history = fetches; lawful = record { own = λ client. refl; 
 
 nothing_reported : IsOutput (Playing Stamp script) Done [] → ⊥
 nothing_reported is = let printed = is.printed in cc
-
--- a file can't be loaded where the folder failed, and isn't sure of it, or where no memory is left
-not_loaded : CannotLoad [] 0 1 (codes "p") LoadFault × CannotLoad (codes "p" ∷ []) 0 0 (codes "p") NoMemory
-not_loaded = ((inl (omega arith), refl), tt)
-
-sure_of_it : CannotLoad (codes "q" ∷ codes "p" ∷ []) 0 1 (codes "p") LoadFault → ⊥
-sure_of_it is = let unsure : true ≡ false = is.1 in cc
-
-no_fault : CannotLoad [] 1 1 (codes "p") LoadFault → ⊥
-no_fault (inl rose, unsure) = omega arith
-no_fault (inr most, unsure) = omega arith
-
-loaded_badly : CannotLoad [] 0 1 (codes "p") (Refused (record { file = ProblemFile; line = 1; cause = P9 })) → ⊥
-loaded_badly is = is
 
 -- a reader's refusal is the run's, with the kind of file, and its want of memory is the run's
 statuses : (status_of DecisionFile (At 3 P1) ≡ Refused (record { file = DecisionFile; line = 3; cause = P1 })) × (status_of DecisionFile Unread ≡ NoMemory)

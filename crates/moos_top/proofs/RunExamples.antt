@@ -1,8 +1,7 @@
 -- Runs worked by hand: what each status says, and what it doesn't say of a run that did something else.
 use Rattle.std.proofs.Common.{◌≡◌, ℕ, inl, inr, true, false, List, [], ◌∷◌, ◌++◌, length, take, refl, ap, sym, ◌∙◌, subst, arith}
-use Rattle.std.specs.Prelude.{codes, Option, Some, None}
+use Rattle.std.specs.Prelude.{codes, Option, Some, None, Ok}
 use Rattle.std.specs.Fmt.{digits}
-use Rattle.std.proofs.lemmas.List.{length-take}
 use Rattle.ivp_cert.specs.Texts.{decision_lines}
 use Rattle.moos_io.specs.Faults.{Rose}
 use Rattle.moos_io.specs.Files.{file_content, is_among}
@@ -14,9 +13,10 @@ use Rattle.moos_top.specs.declared.status.FileKind.TheVariants.{Problem as Probl
 use Rattle.moos_top.specs.declared.status.Status.{Status}
 use Rattle.moos_top.specs.declared.status.Status.TheVariants.{Done, CheckNo, Usage, LoadFault, WriteFault, Refused, NoMemory}
 use Rattle.moos_top.specs.Jobs.Task.{Checking, Playing, Solving}
-use Rattle.moos_top.specs.Jobs.{decision_on, file_of, IsOutput}
-use Rattle.moos_top.specs.Run.{Completes, HasBytes, IsServed, IsWritten, Ran, Refuses, Surroundings, surroundings}
-use Rattle.moos_top.proofs.Endings.{completes, refuses, written_output}
+use Rattle.moos_top.specs.Jobs.{decision_on, file_of}
+use Rattle.moos_top.specs.Run.{Completes, DidJob, HasBytes, IsServed, Ran, Refuses, Surroundings, surroundings}
+use Rattle.moos_top.specs.Steps.{Ended, sinking, WroteAll}
+use Rattle.moos_top.proofs.Endings.{completes, ended_with, output_of, refuses}
 use Rattle.moos_top.proofs.Examples.{checks, plays, solves_by_one}
 use Rattle.moos_top.proofs.JobExamples.{accepted, decision, decision_bytes, no_other, not_accepted, poor, poor_bytes, printed, problem, problem_bytes, script}
 
@@ -26,7 +26,7 @@ folder name bytes = file_content (record { name = name; bytes = bytes } ∷ [])
 
 abbrev solving : List ℕ → List ℕ → ℕ → Surroundings
 solving bytes taken put_faults =
-    surroundings (codes "solve" ∷ codes "p" ∷ []) (Some (folder (codes "p") bytes)) (codes "p" ∷ []) 0 0 (Some []) (Some taken) 0 put_faults
+    surroundings (codes "solve" ∷ codes "p" ∷ []) (Some (folder (codes "p") bytes)) (codes "p" ∷ []) 0 0 (sinking (Some []) (Some taken) 0 put_faults)
 
 none_rose : Rose 0 0 → ⊥
 none_rose (inl rose) = omega arith
@@ -46,18 +46,27 @@ other_name : HasBytes (Some (folder (codes "p") problem_bytes)) (codes "q") prob
 other_name has = let bytes : None ≡ Some problem_bytes = has in cc
 
 -- Done: the whole decision was written, and not half of it, nor twice, nor nothing
-written : IsWritten (codes "solve" ∷ codes "p" ∷ []) (Some (folder (codes "p") problem_bytes)) Done decision_bytes
-unfolding digits
-written = record { job = Solve (codes "p") 1; bytes = problem_bytes; file = record { named = solves_by_one; content = refl }; task = Solving problem; read = refl; output = refl }
-
 solved : Ran (solving problem_bytes decision_bytes 0) Done
-solved = record { text = decision_bytes; written = written; took = refl }
+unfolding digits
+solved =
+    record {
+      job = Solve (codes "p") 1;
+      named = solves_by_one;
+      bytes = problem_bytes;
+      content = refl;
+      ended = record { task = Solving problem; good = refl; text = decision_bytes; output = refl; took = refl };
+    }
+
+-- how it ended, by what its file holds
+solving_ended : (taken : List ℕ) (status : Status) → DidJob (solving problem_bytes taken 0) status → Ended ProblemFile (Ok (Solving problem)) (sinking (Some []) (Some taken) 0 0) status
+solving_ended taken status is = ended_with (solving problem_bytes taken 0) (Solve (codes "p") 1) problem_bytes (Ok (Solving problem)) status (served problem_bytes taken) refl is
 
 all_written : (taken : List ℕ) → Ran (solving problem_bytes taken 0) Done → taken ≡ decision_bytes
 all_written taken is =
-    let output : is.text ≡ decision_lines [] (decision_on problem) = written_output (solving problem_bytes taken 0) (Solve (codes "p") 1) problem_bytes is.text (Solving problem) Done (served problem_bytes taken) refl is.written in
-    let took : Some taken ≡ Some is.text = is.took in
-    let same : taken ≡ is.text = cc in
+    let wrote : WroteAll (Ok (Solving problem)) Done (sinking (Some []) (Some taken) 0 0) = solving_ended taken Done is in
+    let output : wrote.text ≡ decision_lines [] (decision_on problem) = output_of (Solving problem) Done (sinking (Some []) (Some taken) 0 0) wrote in
+    let took : Some taken ≡ Some wrote.text = wrote.took in
+    let same : taken ≡ wrote.text = cc in
     same ∙ output ∙ printed
 
 half_written : Ran (solving problem_bytes (take 20 decision_bytes) 0) Done → ⊥
@@ -71,51 +80,37 @@ nothing_written is = omega (arith, ap length (all_written [] is))
 
 -- CheckNo is no end of a job that solves a problem
 says_no : Ran (solving problem_bytes decision_bytes 0) CheckNo → ⊥
-says_no is = written_output (solving problem_bytes decision_bytes 0) (Solve (codes "p") 1) problem_bytes is.text (Solving problem) CheckNo (served problem_bytes decision_bytes) refl is.written
+says_no is = output_of (Solving problem) CheckNo (sinking (Some []) (Some decision_bytes) 0 0) (solving_ended decision_bytes CheckNo is)
 
 -- WriteFault: the sink took a part and not the whole, and its fault was counted
 write_failed : Ran (solving problem_bytes (take 20 decision_bytes) 1) WriteFault
-write_failed = record { rose = inl (omega arith); status = Done; text = decision_bytes; written = written; took = (20, omega arith, refl) }
+unfolding digits
+write_failed =
+    record {
+      job = Solve (codes "p") 1;
+      named = solves_by_one;
+      bytes = problem_bytes;
+      content = refl;
+      ended = record { task = Solving problem; good = refl; status = Done; text = decision_bytes; output = refl; took = (20, omega arith, refl); rose = inl (omega arith) };
+    }
 
 told_no_fault : Ran (solving problem_bytes (take 20 decision_bytes) 0) WriteFault → ⊥
-told_no_fault is = none_rose is.rose
-
-took_the_whole : Ran (solving problem_bytes decision_bytes 1) WriteFault → ⊥
-took_the_whole is = omega (arith, is.took.1, ap length whole, ap length same, length-take is.took.0 is.text)
-  where
-    only : (status : Status) (text : List ℕ) → IsOutput (Solving problem) status text → text ≡ decision_lines [] (decision_on problem)
-    only Done text output = output
-    only CheckNo text output = absurd output
-    only Usage text output = absurd output
-    only LoadFault text output = absurd output
-    only WriteFault text output = absurd output
-    only (Refused refusal) text output = absurd output
-    only NoMemory text output = absurd output
-
-    -- the folder of a run whose sink failed tells the same
-    output : IsOutput (Solving problem) is.status is.text
-    output = written_output (solving problem_bytes decision_bytes 0) (Solve (codes "p") 1) problem_bytes is.text (Solving problem) is.status (served problem_bytes decision_bytes) refl is.written
-
-    whole : is.text ≡ decision_bytes
-    whole = only is.status is.text output ∙ printed
-
-    same : decision_bytes ≡ take is.took.0 is.text
-    same = let took : Some decision_bytes ≡ Some (take is.took.0 is.text) = is.took.2 in cc
+told_no_fault is = none_rose is.ended.rose
 
 -- NoMemory: nothing was written, and no sink failed
 no_memory : Ran (solving problem_bytes [] 0) NoMemory
-no_memory = record { taken = refl; put_faults = refl }
+no_memory = record { taken = refl; faults = refl }
 
 wrote_without_memory : Ran (solving problem_bytes (take 20 decision_bytes) 0) NoMemory → ⊥
 wrote_without_memory is = let taken : Some (take 20 decision_bytes) ≡ Some [] = is.taken in cc
 
 -- Usage: the words name no job, nothing was loaded, and nothing was written
 sails : (faults : ℕ) (taken : List ℕ) → Surroundings
-sails faults taken = surroundings (codes "sail" ∷ codes "p" ∷ []) None [] 0 faults (Some []) (Some taken) 0 0
+sails faults taken = surroundings (codes "sail" ∷ codes "p" ∷ []) None [] 0 faults (sinking (Some []) (Some taken) 0 0)
 
 usage : Ran (sails 0 []) Usage
 unfolding sails
-usage = record { unnamed = refl; load_faults = refl; silent = record { taken = refl; put_faults = refl } }
+usage = record { unnamed = refl; load_faults = refl; silent = record { taken = refl; faults = refl } }
 
 wrote_its_usage : Ran (sails 0 (codes "usage\n")) Usage → ⊥
 unfolding sails
@@ -131,10 +126,10 @@ named_a_job is = let both : None ≡ Some (Solve (codes "p") 1) = sym is.unnamed
 -- LoadFault: the folder failed at a file that it isn't sure of, its fault was counted, and nothing was written
 abbrev loading : List (List ℕ) → ℕ → List ℕ → Surroundings
 loading sure load_faults taken =
-    surroundings (codes "solve" ∷ codes "p" ∷ []) (Some (folder (codes "p") problem_bytes)) sure 0 load_faults (Some []) (Some taken) 0 0
+    surroundings (codes "solve" ∷ codes "p" ∷ []) (Some (folder (codes "p") problem_bytes)) sure 0 load_faults (sinking (Some []) (Some taken) 0 0)
 
 not_loaded : Ran (loading [] 1 []) LoadFault
-not_loaded = record { rose = inl (omega arith); job = Solve (codes "p") 1; named = solves_by_one; unsure = refl; silent = record { taken = refl; put_faults = refl } }
+not_loaded = record { rose = inl (omega arith); job = Solve (codes "p") 1; named = solves_by_one; unsure = refl; silent = record { taken = refl; faults = refl } }
 
 sure_of_it : Ran (loading (codes "p" ∷ []) 1 []) LoadFault → ⊥
 sure_of_it is =
@@ -154,14 +149,10 @@ abbrev refusal : FileKind → ℕ → Status
 refusal file line = Refused (record { file = file; line = line; cause = P1 })
 
 refused : Ran (solving (codes "ivp 2\n") [] 0) (refusal ProblemFile 1)
-refused =
-    record {
-      refused = record { job = Solve (codes "p") 1; bytes = codes "ivp 2\n"; file = record { named = solves_by_one; content = refl }; kind = refl; refused = refl };
-      silent = record { taken = refl; put_faults = refl };
-    }
+refused = record { job = Solve (codes "p") 1; named = solves_by_one; bytes = codes "ivp 2\n"; content = refl; ended = (refl, refl, record { taken = refl; faults = refl }) }
 
 refused_and_written : Ran (solving (codes "ivp 2\n") (codes "ivp 2\n") 0) (refusal ProblemFile 1) → ⊥
-refused_and_written is = let taken : Some (codes "ivp 2\n") ≡ Some [] = is.silent.taken in cc
+refused_and_written is = let taken : Some (codes "ivp 2\n") ≡ Some [] = is.ended.2.taken in cc
 
 -- a good file isn't refused; a bad one isn't refused at another line, and its job isn't done
 line_in : Status → ℕ
@@ -171,7 +162,7 @@ line_in status = 0
 refused_the_good : Ran (solving problem_bytes [] 0) (refusal ProblemFile 1) → ⊥
 refused_the_good is =
     elim (completes (solving problem_bytes [] 0) (refusal ProblemFile 1) is (Solve (codes "p") 1) problem_bytes (Solving problem) (served problem_bytes []) refl) [
-      | inl done ↦ let other : refusal ProblemFile 1 ≡ Done = done in cc
+      | inl wrote ↦ output_of (Solving problem) (refusal ProblemFile 1) (sinking (Some []) (Some []) 0 0) wrote
       | inr memory ↦ cc
     ]
 
@@ -192,7 +183,7 @@ did_the_bad is =
 
 -- a run that checks a decision: accepted with Done, not accepted with CheckNo, and never the other way round
 abbrev checking : List ℕ → List ℕ → Surroundings
-checking bytes taken = surroundings (codes "check" ∷ codes "d" ∷ []) (Some (folder (codes "d") bytes)) [] 0 0 (Some []) (Some taken) 0 0
+checking bytes taken = surroundings (codes "check" ∷ codes "d" ∷ []) (Some (folder (codes "d") bytes)) [] 0 0 (sinking (Some []) (Some taken) 0 0)
 
 asked : (bytes taken : List ℕ) → IsServed (checking bytes taken) (Check (codes "d")) bytes
 asked bytes taken = record { files = folder (codes "d") bytes; told = refl; named = checks; content = refl; loads = none_rose; puts = none_rose }
@@ -200,53 +191,61 @@ asked bytes taken = record { files = folder (codes "d") bytes; told = refl; name
 checked : Ran (checking decision_bytes (codes "accepted\n")) Done
 checked =
     record {
-      text = codes "accepted\n";
-      written = record { job = Check (codes "d"); bytes = decision_bytes; file = record { named = checks; content = refl }; task = Checking decision; read = refl; output = (accepted, refl) };
-      took = refl;
+      job = Check (codes "d");
+      named = checks;
+      bytes = decision_bytes;
+      content = refl;
+      ended = record { task = Checking decision; good = refl; text = codes "accepted\n"; output = (accepted, refl); took = refl };
     }
 
 checked_poor : Ran (checking poor_bytes (codes "not accepted\n")) CheckNo
 checked_poor =
     record {
-      text = codes "not accepted\n";
-      written = record { job = Check (codes "d"); bytes = poor_bytes; file = record { named = checks; content = refl }; task = Checking poor; read = refl; output = (not_accepted, refl) };
-      took = refl;
+      job = Check (codes "d");
+      named = checks;
+      bytes = poor_bytes;
+      content = refl;
+      ended = record { task = Checking poor; good = refl; text = codes "not accepted\n"; output = (not_accepted, refl); took = refl };
     }
 
 accepted_the_poor : Ran (checking poor_bytes (codes "accepted\n")) Done → ⊥
-accepted_the_poor is = not_accepted (written_output (checking poor_bytes (codes "accepted\n")) (Check (codes "d")) poor_bytes is.text (Checking poor) Done (asked poor_bytes (codes "accepted\n")) refl is.written).0
+accepted_the_poor is =
+    let wrote = ended_with (checking poor_bytes (codes "accepted\n")) (Check (codes "d")) poor_bytes (Ok (Checking poor)) Done (asked poor_bytes (codes "accepted\n")) refl is in
+    not_accepted (output_of (Checking poor) Done (sinking (Some []) (Some (codes "accepted\n")) 0 0) wrote).0
 
 refused_the_best : Ran (checking decision_bytes (codes "not accepted\n")) CheckNo → ⊥
 refused_the_best is =
-    (written_output (checking decision_bytes (codes "not accepted\n")) (Check (codes "d")) decision_bytes is.text (Checking decision) CheckNo (asked decision_bytes (codes "not accepted\n")) refl is.written).0 accepted
+    let wrote = ended_with (checking decision_bytes (codes "not accepted\n")) (Check (codes "d")) decision_bytes (Ok (Checking decision)) CheckNo (asked decision_bytes (codes "not accepted\n")) refl is in
+    (output_of (Checking decision) CheckNo (sinking (Some []) (Some (codes "not accepted\n")) 0 0) wrote).0 accepted
 
 -- a script was played where a report was written, and not where nothing was
 abbrev playing : List ℕ → Surroundings
-playing taken = surroundings (codes "play" ∷ codes "survey.txt" ∷ []) (Some (folder (codes "survey.txt") (codes "0 a fetch\n"))) [] 0 0 (Some []) (Some taken) 0 0
+playing taken = surroundings (codes "play" ∷ codes "survey.txt" ∷ []) (Some (folder (codes "survey.txt") (codes "0 a fetch\n"))) [] 0 0 (sinking (Some []) (Some taken) 0 0)
 
 played : Ran (playing (codes "%% moosdb play 1\n%% client 0 a\n%% entry 0 0 a fetch\n%% end 1 0\n")) Done
 unfolding digits
 played =
     record {
-      text = codes "%% moosdb play 1\n%% client 0 a\n%% entry 0 0 a fetch\n%% end 1 0\n";
-      written =
+      job = Play (codes "survey.txt") Stamp;
+      named = plays;
+      bytes = codes "0 a fetch\n";
+      content = refl;
+      ended =
           record {
-            job = Play (codes "survey.txt") Stamp;
-            bytes = codes "0 a fetch\n";
-            file = record { named = plays; content = refl };
             task = Playing Stamp script;
-            read = refl;
+            good = refl;
+            text = codes "%% moosdb play 1\n%% client 0 a\n%% entry 0 0 a fetch\n%% end 1 0\n";
             output = record { history = script.lines; lawful = record { own = λ client. refl; stamps = refl }; printed = refl; listed = λ other is text. no_other other is };
+            took = refl;
           };
-      took = refl;
     }
 
 played_silently : Ran (playing []) Done → ⊥
 played_silently is =
     let served : IsServed (playing []) (Play (codes "survey.txt") Stamp) (codes "0 a fetch\n") = record { files = folder (codes "survey.txt") (codes "0 a fetch\n"); told = refl; named = plays; content = refl; loads = none_rose; puts = none_rose } in
-    let report = written_output (playing []) (Play (codes "survey.txt") Stamp) (codes "0 a fetch\n") is.text (Playing Stamp script) Done served refl is.written in
-    let printed = report.printed in
-    let took : Some [] ≡ Some is.text = is.took in
+    let wrote : WroteAll (Ok (Playing Stamp script)) Done (sinking (Some []) (Some []) 0 0) = ended_with (playing []) (Play (codes "survey.txt") Stamp) (codes "0 a fetch\n") (Ok (Playing Stamp script)) Done served refl is in
+    let printed = (output_of (Playing Stamp script) Done (sinking (Some []) (Some []) 0 0) wrote).printed in
+    let took : Some [] ≡ Some wrote.text = wrote.took in
     cc
 
 -- where nothing failed, a good file's job is done and a bad file is refused, or no memory was left
@@ -256,7 +255,7 @@ completed = (completes (solving problem_bytes decision_bytes 0) Done solved, com
 gave_up : Completes (solving problem_bytes [] 0) WriteFault → ⊥
 gave_up does =
     elim (does (Solve (codes "p") 1) problem_bytes (Solving problem) (served problem_bytes []) refl) [
-      | inl done ↦ let other : WriteFault ≡ Done = done in cc
+      | inl wrote ↦ output_of (Solving problem) WriteFault (sinking (Some []) (Some []) 0 0) wrote
       | inr memory ↦ cc
     ]
 

@@ -1,5 +1,5 @@
 -- What a command line asks for, what is to be done with the file of a job, and what the job may write.
-use Rattle.std.specs.Prelude.{◌≡◌, ℕ, ◌≤◌, ◌⊎◌, if◌then◌else◌, List, [], ◌∷◌, codes, bytes_eq, Option, None, option_map, option_and_then, Result, Ok, Err}
+use Rattle.std.specs.Prelude.{◌≡◌, ℕ, ◌≤◌, if◌then◌else◌, List, [], ◌∷◌, codes, bytes_eq, Option, None, option_map, option_and_then, Result, Ok, Err}
 use Rattle.clap.specs.Words.{Row, Text}
 use Rattle.ivp_cert.specs.declared.claim.Decision.{Decision}
 use Rattle.ivp_cert.specs.Certificates.{Accepts, certificate_of}
@@ -109,16 +109,11 @@ decision_on problem =
 abbrev pub IsAccepted : Decision → Type 0
 IsAccepted decision = Accepts decision.problem decision.claim decision.cert
 
--- a job may end with this status and write this text
+-- a job may end with this status and write this text: of a script the report of a lawful history, of a problem the decision
+-- on it, of a decision whether it is accepted; and nothing with another status
 abbrev pub IsOutput : Task → Status → List ℕ → Type 0
 IsOutput (Playing order script) Done text = IsReport order script text
 IsOutput (Solving problem) Done text = text ≡ decision_lines [] (decision_on problem)
 IsOutput (Checking decision) Done text = IsAccepted decision × (text ≡ codes "accepted\n")
 IsOutput (Checking decision) CheckNo text = (IsAccepted decision → ⊥) × (text ≡ codes "not accepted\n")
 IsOutput task status text = ⊥
-
--- how a job ends that nothing fails at
-abbrev pub HasEnded : Task → Status → Type 0
-HasEnded (Playing order script) status = status ≡ Done
-HasEnded (Solving problem) status = status ≡ Done
-HasEnded (Checking decision) status = ((status ≡ Done) × IsAccepted decision) ⊎ ((status ≡ CheckNo) × (IsAccepted decision → ⊥))

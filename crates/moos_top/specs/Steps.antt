@@ -1,7 +1,6 @@
--- The steps of a run: a file is loaded, and then the job is done with its bytes.
-use Rattle.std.specs.Prelude.{◌≡◌, ℕ, false, List, Option, Result, Ok, Err}
+-- How a job ends with the bytes of its file: what it wrote, and with which status.
+use Rattle.std.specs.Prelude.{◌≡◌, ℕ, List, Option, Result, Ok, Err}
 use Rattle.moos_io.specs.Faults.{Rose}
-use Rattle.moos_io.specs.Files.{is_among}
 use Rattle.moos_io.specs.Pieces.{Took, TookFront}
 use Rattle.moos_text.specs.declared.cause.ReadFault.{ReadFault}
 use Rattle.moos_text.specs.declared.cause.ReadFault.TheVariants.{At, NoMemory as Unread}
@@ -9,16 +8,6 @@ use Rattle.moos_top.specs.declared.status.FileKind.{FileKind}
 use Rattle.moos_top.specs.declared.status.Status.{Status}
 use Rattle.moos_top.specs.declared.status.Status.TheVariants.{Done, CheckNo, Usage, LoadFault, WriteFault, Refused, NoMemory}
 use Rattle.moos_top.specs.Jobs.{IsOutput, Task}
-
--- why a file can't be loaded: the folder failed, and isn't sure of the name, or no memory was left
-abbrev pub CannotLoad : List (List ℕ) → ℕ → ℕ → List ℕ → Status → Type 0
-CannotLoad sure before after name LoadFault = Rose before after × (is_among sure name ≡ false)
-CannotLoad sure before after name NoMemory = Unit {0}
-CannotLoad sure before after name Done = ⊥
-CannotLoad sure before after name CheckNo = ⊥
-CannotLoad sure before after name Usage = ⊥
-CannotLoad sure before after name WriteFault = ⊥
-CannotLoad sure before after name (Refused refusal) = ⊥
 
 -- the status for what a reader of such files answers in place of what a file holds
 abbrev pub status_of : FileKind → ReadFault → Status
@@ -37,12 +26,12 @@ abbrev pub sinking : Option (List ℕ) → Option (List ℕ) → ℕ → ℕ →
 sinking taken_before taken_after faults_before faults_after =
     record { taken_before = taken_before; taken_after = taken_after; faults_before = faults_before; faults_after = faults_after }
 
--- nothing was written
+-- nothing was written, and no writing failed
 pub record IsUntouched (sink : Sinking) : Type 0 where
   pub taken : sink.taken_after ≡ sink.taken_before
   pub faults : sink.faults_after ≡ sink.faults_before
 
--- all of a text was written that the job may write and end with this status
+-- the sink took all of a text that the job may write and end with this status, of what its file holds
 pub record WroteAll (read : Result Task ReadFault) (status : Status) (sink : Sinking) : Type 0 where
   pub task : Task
   pub good : read ≡ Ok task
@@ -50,7 +39,7 @@ pub record WroteAll (read : Result Task ReadFault) (status : Status) (sink : Sin
   pub output : IsOutput task status text
   pub took : Took sink.taken_before sink.taken_after text
 
--- only a front of it was written
+-- the sink failed, and took a front of what the job else writes, not the whole
 pub record WroteFront (read : Result Task ReadFault) (sink : Sinking) : Type 0 where
   pub task : Task
   pub good : read ≡ Ok task
@@ -60,7 +49,8 @@ pub record WroteFront (read : Result Task ReadFault) (sink : Sinking) : Type 0 w
   pub took : TookFront sink.taken_before sink.taken_after text
   pub rose : Rose sink.faults_before sink.faults_after
 
--- how a job ends whose file, of this kind, holds this or is refused
+-- how a job ends whose file, of this kind, holds this or is refused; a refusal is the first one, and then nothing is
+-- written, nor where no memory is left
 abbrev pub Ended : FileKind → Result Task ReadFault → Sinking → Status → Type 0
 Ended kind read sink Done = WroteAll read Done sink
 Ended kind read sink CheckNo = WroteAll read CheckNo sink

@@ -15,7 +15,7 @@ mod run;
 mod status;
 mod words;
 
-use crate::run::run;
+use crate::run::{run, run_law};
 use crate::status::{Status, code};
 use crate::words::{Word, Words};
 use moos_io::{DirFolder, NoGate, OutSink};
@@ -30,6 +30,8 @@ fn main(rt: HostRuntime) -> ExitCode {
         }
         Err(status) => status,
     };
+    // A law does nothing. That the program calls it is why it is proved with the program.
+    run_law();
     // Where standard error fails too, the exit status still tells.
     let _ = tell(&rt, &status);
     ExitCode::from(code(&status))

@@ -1,12 +1,12 @@
 // The top call: from a command line to what was written and how it ended.
-ghost use Rattle.std.specs.Prelude.{◌≡◌, ◌<◌, ◌≤◌, ◌^◌, length, IfOk, IfErr, OnOk, OnErr};
+ghost use Rattle.std.specs.Prelude.{◌≡◌, ◌<◌, ◌≤◌, ◌^◌, length, OnOk, OnErr};
 ghost use Rattle.ivp_cert.specs.Decisions.{decision_of};
 ghost use Rattle.ivp_cert.specs.Problems.{problem_of};
 ghost use Rattle.moos_top.specs.Jobs.{HasFewWorkers, kind_of, task_of, task_with};
 ghost use Rattle.moos_top.specs.Jobs.Task.{Checking, Playing, Solving};
-ghost use Rattle.moos_top.specs.Run.{Ran, Completes, HasBytes, Refuses, surroundings};
+ghost use Rattle.moos_top.specs.Run.{Completes, Ran, Refuses, Surroundings, surroundings};
+ghost use Rattle.moos_top.specs.Steps.{Ended, sinking, status_of};
 ghost use Rattle.script_reader.specs.Script.{script_of};
-ghost use Rattle.moos_top.specs.Steps.{CannotLoad, Ended, sinking, status_of};
 
 use crate::decide::decide;
 use crate::job::{Job, file_name, job_named};
@@ -23,7 +23,8 @@ use std::sync::Wait;
 use std::thread::Threads;
 
 /// Runs the job that the command line names: loads and reads its files from `folder`, and writes to `out`. The status
-/// tells how it ended, and what was written with it.
+/// tells how it ended, and what was written with it; [`run_law`] says what follows where nothing fails.
+#[tactic(auto, using(crate::proofs::Endings::did, crate::proofs::Loading::whole))]
 pub fn run<R: Threads + Wait + Sync, F: Folder, K: Sink, G: Gate>(
     rt: &R,
     alloc: Global,
@@ -33,31 +34,10 @@ pub fn run<R: Threads + Wait + Sync, F: Folder, K: Sink, G: Gate>(
     gate: &G,
 ) -> Status
     // What each status says of the words, the files, and what was written.
-    ensures ran { Ran (surroundings words.now (F.told folder.old) (F.sure folder.old)
-        (F.faults folder.old) (F.faults folder.new) (K.taken out.old) (K.taken out.new) (K.faults out.old) (K.faults out.new)) result }
-
-    // Where nothing fails, a job whose file is good is done, and another is refused with its file's first refusal.
-    ensures completes { Completes (surroundings words.now (F.told folder.old) (F.sure folder.old)
-        (F.faults folder.old) (F.faults folder.new) (K.taken out.old) (K.taken out.new) (K.faults out.old) (K.faults out.new)) result }
-    ensures refuses { Refuses (surroundings words.now (F.told folder.old) (F.sure folder.old)
-        (F.faults folder.old) (F.faults folder.new) (K.taken out.old) (K.taken out.new) (K.faults out.old) (K.faults out.new)) result }
+    ensures ran { Ran (surroundings words.now (F.told folder.old) (F.sure folder.old) (F.faults folder.old) (F.faults folder.new)
+        (sinking (K.taken out.old) (K.taken out.new) (K.faults out.old) (K.faults out.new))) result }
 
     // The folder tells the same as before, and is sure of the same names.
-    ensures same { (F.told folder.new ≡ F.told folder.old) × (F.sure folder.new ≡ F.sure folder.old) }
-{
-    run_job(rt, alloc, words, folder, out, gate)
-}
-
-fn run_job<R: Threads + Wait + Sync, F: Folder, K: Sink, G: Gate>(
-    rt: &R,
-    alloc: Global,
-    words: &Words,
-    folder: &mut F,
-    out: &mut K,
-    gate: &G,
-) -> Status
-    ensures ran { Ran (surroundings words.now (F.told folder.old) (F.sure folder.old)
-        (F.faults folder.old) (F.faults folder.new) (K.taken out.old) (K.taken out.new) (K.faults out.old) (K.faults out.new)) result }
     ensures same { (F.told folder.new ≡ F.told folder.old) × (F.sure folder.new ≡ F.sure folder.old) }
 {
     let job = match job_named(alloc, words) {
@@ -65,28 +45,20 @@ fn run_job<R: Threads + Wait + Sync, F: Folder, K: Sink, G: Gate>(
         Ok(None) => return Status::Usage,
         Err(_) => return Status::NoMemory,
     };
-    let bytes = match load(alloc, file_name(&job), folder) {
-        Ok(bytes) => bytes,
-        Err(status) => return status,
-    };
-    let status = do_job(rt, alloc, &job, &bytes, out, gate);
-    status
-}
-
-// The whole content of the file of this name, or how a run ends that can't load it.
-fn load<F: Folder>(alloc: Global, name: &[u8], folder: &mut F) -> Result<Vec<u8>, Status>
-    ensures content { IfOk result (λ bytes. HasBytes (F.told folder.old) name.now bytes.items) }
-    ensures short { IfOk result (λ bytes. length bytes.items < 2 ^ 32) }
-    ensures fault { IfErr result (CannotLoad (F.sure folder.old) (F.faults folder.old) (F.faults folder.new) name.now) }
-    ensures same { (F.told folder.new ≡ F.told folder.old) × (F.sure folder.new ≡ F.sure folder.old) }
-{
     let mut bytes = Vec::new(alloc);
-    match folder.load(name, &mut bytes) {
-        Ok(()) => Ok(bytes),
-        Err(LoadFault::Failed) => Err(Status::LoadFault),
-        Err(LoadFault::NoMemory) => Err(Status::NoMemory),
+    match folder.load(file_name(&job), &mut bytes) {
+        Ok(()) => do_job(rt, alloc, &job, &bytes, out, gate),
+        Err(LoadFault::Failed) => Status::LoadFault,
+        Err(LoadFault::NoMemory) => Status::NoMemory,
     }
 }
+
+/// What holds of runs, whatever they did: where nothing fails, a job whose file is good is done, and another is refused with
+/// its file's first refusal. It does nothing.
+pub fn run_law()
+    ensures completes { (run : Surroundings) (status : Status) → Ran run status → Completes run status }
+    ensures refuses { (run : Surroundings) (status : Status) → Ran run status → Refuses run status }
+{}
 
 // Does the job with the bytes of its file.
 fn do_job<R: Threads + Wait + Sync, K: Sink, G: Gate>(
