@@ -1,15 +1,16 @@
 #!/usr/bin/env python3
-"""Solves problems of growing size with 1, 2 and 4 workers and checks the decision, and prints seconds, peak memory and the
-lines of the certificate.
+"""Solves problems of growing size with 1, 2 and 4 workers and checks the decision, and prints seconds, peak memory, closed
+nodes and the lines of the certificate.
 
-    bench/solve.py [SEED]          1 where none is given
+    bench/solve.py [SEED [PROGRAM]]          1 and this repository's program where none is given
 
-The problems: 64 functions of one piece each, at the greatest weight; 8 functions of 100 random pieces over course and
-speed; such over course, speed and depth; and 10 functions of 4,096 random pieces over 2000 x 2000 points. Random pieces
-are boxes that the domain falls into when a box is cut in two at a random place, again and again, each with random slopes
-and with values from 0 to 100,000. Nothing here is part of the gate, and no figure is promised. Steps of the search and
-how many nodes each worker closed can't be seen in a run of the program: workers.md has the counts of such problems. A
-peak of some 14 MB is what this script itself has when it starts the program; the program's own is below that.
+The problems: 64 functions of one piece each, at the greatest weight; 3 functions of 8 random pieces and 40 of 36 over
+course and speed; 12 of 300 over course, speed and depth; and 10 of 4,096 over 2000 x 2000 points. Random pieces are boxes
+that the domain falls into when a box is cut in two at a random place, again and again, each with random slopes and with
+values from 0 to 100,000. Nothing here is part of the gate, and no figure is promised. The closed nodes are those at and
+above the lines of the certificate: so many the cutter and the checker close, and a search that knows the best key from the
+start; how many more each worker closed can't be seen in a run of the program, and workers.md has such counts. A peak of
+some 14 MB is what this script itself has when it starts the program; the program's own is below that.
 """
 import os
 import random
@@ -69,10 +70,10 @@ def level():
     return lines + ["end"]
 
 
-def measure(*words):
+def measure(program, *words):
     """Runs the program once: its exit status, what it printed, seconds of wall clock and of processor time, peak MB."""
     start = os.times()
-    child = subprocess.Popen([os.path.join(TOP, "moos"), *words], stdout=subprocess.PIPE)
+    child = subprocess.Popen([program, *words], stdout=subprocess.PIPE)
     printed = child.stdout.read().decode()
     _, status, usage = os.wait4(child.pid, 0)
     end = os.times()
@@ -80,25 +81,28 @@ def measure(*words):
 
 
 def note_of(status, printed):
-    """The decision and the number of the certificate's lines, what a check answers, or the exit status."""
+    """The decision, the closed nodes and the number of the certificate's lines, what a check answers, or the exit status."""
     lines = printed.splitlines()
     said = [line for line in lines if line.startswith(("decision", "accepted"))]
     if status != 0 or not said:
         return f"exit status {status}"
-    cuts = sum(line.startswith("cut ") for line in lines)
-    return f"{said[0]}, {cuts:,} lines" if cuts else said[0]
+    paths = [line.split(" : ")[0].split()[1:] for line in lines if line.startswith("cut ")]
+    nodes = {tuple(path[:depth]) for path in paths for depth in range(len(path) + 1)}
+    return f"{said[0]}, {len(nodes):,} closed nodes, {len(paths):,} lines" if paths else said[0]
 
 
 def main():
     seed = int(sys.argv[1]) if len(sys.argv) > 1 else 1
     problems = [
         ("64 level functions over course", level()),
-        ("8 functions of 100 pieces over course, speed", mixed(random.Random(seed), [COURSE, SPEED], 8, 100)),
-        ("8 functions of 100 pieces over course, speed, depth", mixed(random.Random(seed), [COURSE, SPEED, DEPTH], 8, 100)),
+        ("3 functions of 8 pieces over course, speed", mixed(random.Random(seed), [COURSE, SPEED], 3, 8)),
+        ("40 functions of 36 pieces over course, speed", mixed(random.Random(seed), [COURSE, SPEED], 40, 36)),
+        ("12 functions of 300 pieces over course, speed, depth", mixed(random.Random(seed), [COURSE, SPEED, DEPTH], 12, 300)),
         ("10 functions of 4,096 pieces over 2000 x 2000", mixed(random.Random(seed), [ACROSS, ALONG], 10, 4096)),
     ]
+    program = sys.argv[2] if len(sys.argv) > 2 else os.path.join(TOP, "moos")
     # Builds the program where it is stale, so that no run pays for that.
-    subprocess.run([os.path.join(TOP, "moos"), "solve"], stderr=subprocess.DEVNULL)
+    subprocess.run([program, "solve"], stderr=subprocess.DEVNULL)
     print(f"{'problem':<52} {'job':<8} {'seconds':>8} {'cpu':>7} {'peak MB':>8}")
     with tempfile.TemporaryDirectory() as folder:
         for name, lines in problems:
@@ -106,7 +110,7 @@ def main():
             with open(problem, "w") as out:
                 out.write("\n".join(lines) + "\n")
             for job, words in [(f"solve {n}", ["solve", problem, "--workers", str(n)]) for n in (1, 2, 4)] + [("check", ["check", decision])]:
-                status, printed, seconds, cpu, peak = measure(*words)
+                status, printed, seconds, cpu, peak = measure(program, *words)
                 if job != "check":
                     with open(decision, "w") as out:
                         out.write(printed)

@@ -15,7 +15,7 @@ use Rattle.ivp_problem.specs.Trees.{bound_of, node_below, node_of, root_of}
 use Rattle.ivp_problem.proofs.BestPoints.{best_listed}
 use Rattle.ivp_problem.proofs.Bounds.{bound_attained, key_bound}
 use Rattle.ivp_problem.proofs.KeyOrder.{best_most, best_point, index_small, key_apart}
-use Rattle.ivp_problem.proofs.Nodes.{inside_point, node_keeps}
+use Rattle.ivp_problem.proofs.Nodes.{node_keeps}
 use Rattle.ivp_func.proofs.Counting.{one_if}
 use Rattle.ivp_cert.specs.declared.cert.Line.{Line}
 use Rattle.ivp_cert.specs.declared.claim.Claim.{Claim}
@@ -25,6 +25,7 @@ use Rattle.ivp_cert.proofs.Covering.{Anyhow, Covers, Under}
 use Rattle.ivp_cert.proofs.Leaves.{below_depth, below_inside, below_length, below_append, has_leaf, Reached, reached_full, reached_node, root_reached}
 use Rattle.ivp_cert.proofs.Paths.{beginning, beginning_cons}
 use Rattle.ivp_cert.proofs.Walking.{covers_walk, topmost_covers, walk_covers}
+use Rattle.ivp_func.proofs.Facts.{area_point}
 
 -- from the root, lines cover as an accepted certificate does
 under_root : (problem : WeightedSum) (key : ℕ) (line : Line) → IsLine problem key line → Under Anyhow problem key problem.terms [] (root_of problem) line
@@ -119,7 +120,7 @@ attains : (problem : WeightedSum) → IsProblem problem → (path : List ℕ) (n
 attains problem h path node at =
     let keeps = node_keeps problem node h (reached_node problem [] path node at) in
     let one = bound_attained problem node h keeps (reached_full problem path node at) in
-    let most = best_most problem one.0 (inside_point problem.axes node.area one.0 keeps.inside one.1) in
+    let most = best_most problem one.0 (area_point problem.axes node.area one.0 keeps.inside one.1) in
     omega (arith, most, one.2)
 
 pub certificate_accepted : (problem : WeightedSum) (claim : Claim) → IsProblem problem → claim.point ≡ best_of problem → claim.sum ≡ sum_at problem claim.point → Accepts problem claim (certificate_of problem)

@@ -1,9 +1,9 @@
 -- The checker's and the cutter's loops over the children of a node, one piece after the other.
-use Rattle.std.proofs.Common.{◌≡◌, ℕ, suc, ◌+◌, ◌-◌, ◌<◌, ◌≤◌, true, false, Option, Some, None, List, [], ◌∷◌, ◌++◌, length, take, drop, get_or, refl, sym, ap, subst, ◌∙◌, arith, add-one, append_assoc, append-nil, drop-cons, length-append, length-drop}
+use Rattle.std.proofs.Common.{◌≡◌, ℕ, zero, suc, inl, inr, ◌+◌, ◌-◌, ◌<◌, ◌≤◌, true, false, Option, Some, None, List, [], ◌∷◌, ◌++◌, length, take, drop, get_or, refl, sym, ap, subst, ◌∙◌, arith, add-one, append_assoc, append-nil, drop-cons, length-append, length-drop}
 use Rattle.std.specs.Prelude.{IfSome, slice_get}
 use Rattle.std.specs.List.{flat_map}
 use Rattle.std.specs.Option.{option_and_then, option_to_list}
-use Rattle.std.proofs.lemmas.Bool.{le-leb, lt-leb}
+use Rattle.std.proofs.lemmas.Bool.{cases_lt, le-leb, lt-leb}
 use Rattle.std.proofs.lemmas.List.{drop_all, take-append-le, take_all}
 use Rattle.std.proofs.lemmas.Option.{slice_get-get_or}
 use Rattle.ivp_domain.specs.Boxes.{numbers_from}
@@ -11,11 +11,10 @@ use Rattle.ivp_problem.specs.declared.node.Node.{Node}
 use Rattle.ivp_problem.specs.declared.term.Term.{Term}
 use Rattle.ivp_problem.specs.Keys.{index_of_key, sum_of}
 use Rattle.ivp_problem.specs.Problems.{WeightedSum}
-use Rattle.ivp_func.specs.Functions.{Function}
 use Rattle.ivp_problem.specs.Trees.{bound_of, child_in, child_of, next_of, root_of}
 use Rattle.ivp_problem.proofs.Makes.{drop_at}
 use Rattle.ivp_problem.proofs.Nodes.{blank_term, child_of_in}
-use Rattle.ivp_problem.proofs.Pieces.{child_depth}
+use Rattle.ivp_problem.proofs.Pieces.{child_depth, child_within, many_next}
 use Rattle.ivp_cert.specs.declared.cert.Line.{Line}
 use Rattle.ivp_cert.specs.Certificates.{line_of, topmost}
 use Rattle.ivp_cert.specs.Walks.{behind_child, behind_each, behind_node, behind_own, is_line_of}
@@ -43,10 +42,9 @@ next problem node pieces below counts =
       many = subst (λ (o : Option Term). IfSome o (λ t. pieces ≡ length t.func.pieces)) stands counts;
     }
 
--- a child is one deeper
-pub deeper : (problem : WeightedSum) (node : Node) (number : ℕ) (o : Option Node) → o ≡ child_of problem node number → IfSome o (λ (child : Node). child.depth ≡ node.depth + 1)
-deeper problem node number None e = tt
-deeper problem node number (Some child) e = child_depth problem node child number (sym e)
+-- as many pieces as the next function has
+own_count : (problem : WeightedSum) (node : Node) → node.depth < length problem.terms → Counts problem node (many_next problem node)
+own_count problem node below = rw (slice_get-get_or problem.terms node.depth blank_term below) refl
 
 -- the walk over the children from a piece on
 abbrev onward_in : WeightedSum → ℕ → List ℕ → Node → ℕ → List Line → List Term → Option (List Line)
@@ -65,9 +63,9 @@ each_next go low n lines within =
     let e : n - low ≡ suc (n - (low + 1)) = omega arith in
     ap (λ c. behind_each go low c lines) e ∙ ap (λ l. option_and_then (behind_each go l (n - (low + 1))) (go low lines)) (sym (add-one low))
 
-pub onward_start : (problem : WeightedSum) (key : ℕ) (path : List ℕ) (node : Node) (pieces : ℕ) (lines : List Line) → node.depth < length problem.terms → Counts problem node pieces → behind_own problem key path node lines ≡ None → behind_node problem key (drop node.depth problem.terms) path node lines ≡ onward problem key path node 0 lines
-onward_start problem key path node pieces lines below counts none =
-    let at = next problem node pieces below counts in
+pub onward_start : (problem : WeightedSum) (key : ℕ) (path : List ℕ) (node : Node) (lines : List Line) → node.depth < length problem.terms → behind_own problem key path node lines ≡ None → behind_node problem key (drop node.depth problem.terms) path node lines ≡ onward problem key path node 0 lines
+onward_start problem key path node lines below none =
+    let at = next problem node (many_next problem node) below (own_count problem node below) in
     let term = at.term in
     let terms = drop (node.depth + 1) problem.terms in
     let all : length term.func.pieces ≡ length term.func.pieces - 0 = omega arith in
@@ -111,6 +109,25 @@ onward_end problem key path node pieces low lines below counts past =
     let none : length at.term.func.pieces - low ≡ 0 = omega (arith, at.many) in
     rw (at.rest, none) refl
 
+-- pieces that make no child are passed
+onward_skip : (problem : WeightedSum) (key : ℕ) (path : List ℕ) (node : Node) (from low : ℕ) (lines : List Line) → node.depth < length problem.terms → from ≤ low → low ≤ many_next problem node → ((m : ℕ) → from ≤ m → m < low → child_of problem node m ≡ None) → onward problem key path node from lines ≡ onward problem key path node low lines
+onward_skip problem key path node from zero lines below up within none = let same : from ≡ zero = omega arith in ap (λ n. onward problem key path node n lines) same
+onward_skip problem key path node from (suc low) lines below up within none =
+    elim (cases_lt from (suc low)) [
+      | inl more ↦
+          onward_skip problem key path node from low lines below (omega arith) (omega arith) (λ m above under. none m above (omega arith))
+          ∙ (onward_none problem key path node (many_next problem node) low lines below (own_count problem node below) (omega arith) (none low (omega arith) (omega arith)) ∙ ap (λ n. onward problem key path node n lines) (add-one low))
+      | inr here ↦ let same : from ≡ suc low = omega arith in ap (λ n. onward problem key path node n lines) same
+    ]
+
+pub onward_last : (problem : WeightedSum) (key : ℕ) (path : List ℕ) (node : Node) (from : ℕ) (lines : List Line) → node.depth < length problem.terms → ((m : ℕ) → from ≤ m → child_of problem node m ≡ None) → onward problem key path node from lines ≡ Some lines
+onward_last problem key path node from lines below none =
+    let many = many_next problem node in
+    elim (cases_lt from many) [
+      | inl within ↦ onward_skip problem key path node from many lines below (omega arith) (omega arith) (λ m above under. none m above) ∙ onward_end problem key path node many many lines below (own_count problem node below) (omega arith)
+      | inr past ↦ onward_end problem key path node many from lines below (own_count problem node below) past
+    ]
+
 -- a path without the number that was added
 pub popped : (path : List ℕ) (number : ℕ) → take (length (path ++ number ∷ []) - 1) (path ++ number ∷ []) ≡ path
 popped path number =
@@ -135,9 +152,9 @@ topmost_own problem key path node (term ∷ terms) h = rw (le-leb (bound_of prob
 pub left_full : (problem : WeightedSum) (key : ℕ) (path : List ℕ) (node : Node) → length problem.terms ≤ node.depth → key < bound_of problem node → topmost_of problem key path node ≡ []
 left_full problem key path node full h = let past : drop node.depth problem.terms ≡ [] = drop_all node.depth problem.terms full in rw (past, lt-leb (bound_of problem node) key h) refl
 
-pub left_start : (problem : WeightedSum) (key : ℕ) (path : List ℕ) (node : Node) (pieces : ℕ) → node.depth < length problem.terms → Counts problem node pieces → key < bound_of problem node → topmost_of problem key path node ≡ left problem key path node 0
-left_start problem key path node pieces below counts h =
-    let at = next problem node pieces below counts in
+pub left_start : (problem : WeightedSum) (key : ℕ) (path : List ℕ) (node : Node) → node.depth < length problem.terms → key < bound_of problem node → topmost_of problem key path node ≡ left problem key path node 0
+left_start problem key path node below h =
+    let at = next problem node (many_next problem node) below (own_count problem node below) in
     let term = at.term in
     let terms = drop (node.depth + 1) problem.terms in
     let all : length term.func.pieces ≡ length term.func.pieces - 0 = omega arith in
@@ -178,6 +195,24 @@ left_end problem key path node pieces low below counts past =
     let none : length at.term.func.pieces - low ≡ 0 = omega (arith, at.many) in
     rw (at.rest, none) refl
 
+left_skip : (problem : WeightedSum) (key : ℕ) (path : List ℕ) (node : Node) (from low : ℕ) → node.depth < length problem.terms → from ≤ low → low ≤ many_next problem node → ((m : ℕ) → from ≤ m → m < low → child_of problem node m ≡ None) → left problem key path node from ≡ left problem key path node low
+left_skip problem key path node from zero below up within none = let same : from ≡ zero = omega arith in ap (left problem key path node) same
+left_skip problem key path node from (suc low) below up within none =
+    elim (cases_lt from (suc low)) [
+      | inl more ↦
+          left_skip problem key path node from low below (omega arith) (omega arith) (λ m above under. none m above (omega arith))
+          ∙ (left_none problem key path node (many_next problem node) low below (own_count problem node below) (omega arith) (none low (omega arith) (omega arith)) ∙ ap (left problem key path node) (add-one low))
+      | inr here ↦ let same : from ≡ suc low = omega arith in ap (left problem key path node) same
+    ]
+
+pub left_last : (problem : WeightedSum) (key : ℕ) (path : List ℕ) (node : Node) (from : ℕ) → node.depth < length problem.terms → ((m : ℕ) → from ≤ m → child_of problem node m ≡ None) → left problem key path node from ≡ []
+left_last problem key path node from below none =
+    let many = many_next problem node in
+    elim (cases_lt from many) [
+      | inl within ↦ left_skip problem key path node from many below (omega arith) (omega arith) (λ m above under. none m above) ∙ left_end problem key path node many many below (own_count problem node below) (omega arith)
+      | inr past ↦ left_end problem key path node many from below (own_count problem node below) past
+    ]
+
 pub own_at : (problem : WeightedSum) (key : ℕ) (path : List ℕ) (node : Node) (cert : List Line) (place : ℕ) (line : Line) → slice_get cert place ≡ Some line → is_line_of problem key path node line ≡ true → Some (drop (place + 1) cert) ≡ behind_own problem key path node (drop place cert)
 own_at problem key path node cert place line at own = sym (ap (behind_own problem key path node) (drop_at cert place line at) ∙ rw own refl)
 
@@ -186,14 +221,6 @@ own_other problem key path node cert place line at own = sym (ap (behind_own pro
 
 pub own_past : (problem : WeightedSum) (key : ℕ) (path : List ℕ) (node : Node) (cert : List Line) (place : ℕ) → length cert ≤ place → None ≡ behind_own problem key path node (drop place cert)
 own_past problem key path node cert place past = sym (ap (behind_own problem key path node) (drop_all place cert past))
-
--- as many pieces as the next function has
-pub counts : (problem : WeightedSum) (node : Node) (func : Function) (pieces : ℕ) → IfSome (next_of problem node) (λ term. func ≡ term.func) → pieces ≡ length func.pieces → Counts problem node pieces
-counts problem node func pieces same e = by (next_of problem node) same
-  where
-    by : (o : Option Term) → IfSome o (λ term. func ≡ term.func) → IfSome o (λ term. pieces ≡ length term.func.pieces)
-    by None same = tt
-    by (Some term) same = e ∙ ap (λ (f : Function). length f.pieces) same
 
 -- a piece further down the path is one longer
 pub one_longer : (path pushed : List ℕ) (number : ℕ) → pushed ≡ path ++ number ∷ [] → length pushed ≡ length path + 1
@@ -204,15 +231,17 @@ pub popped_back : (path pushed back : List ℕ) (number : ℕ) → pushed ≡ pa
 popped_back path pushed back number more less = less ∙ (ap (λ p. take (length p - 1) p) more ∙ popped path number)
 
 -- what a child's walk comes to, for the whole
-pub child_fails : (problem : WeightedSum) (key : ℕ) (path pushed : List ℕ) (node child : Node) (pieces low : ℕ) (lines : List Line) (whole : Option (List Line)) → node.depth < length problem.terms → Counts problem node pieces → low < pieces → whole ≡ onward problem key path node low lines → Some child ≡ child_of problem node low → pushed ≡ path ++ low ∷ [] → None ≡ behind_node problem key (drop child.depth problem.terms) pushed child lines → None ≡ whole
-child_fails problem key path pushed node child pieces low lines whole below counts within onto is more none =
+pub child_fails : (problem : WeightedSum) (key : ℕ) (path pushed : List ℕ) (node child : Node) (from low : ℕ) (lines : List Line) (whole : Option (List Line)) → node.depth < length problem.terms → from ≤ low → ((m : ℕ) → from ≤ m → m < low → child_of problem node m ≡ None) → whole ≡ onward problem key path node from lines → child_of problem node low ≡ Some child → pushed ≡ path ++ low ∷ [] → None ≡ behind_node problem key (drop child.depth problem.terms) pushed child lines → None ≡ whole
+child_fails problem key path pushed node child from low lines whole below up skipped onto is more none =
+    let within = child_within problem node child low below is in
     let there : behind_child_of problem key path child low lines ≡ None = ap (λ p. behind_node problem key (drop child.depth problem.terms) p child lines) (sym more) ∙ sym none in
-    sym (onto ∙ (onward_some problem key path node child pieces low lines below counts within (sym is) ∙ ap (option_and_then (onward problem key path node (low + 1))) there))
+    sym (onto ∙ (onward_skip problem key path node from low lines below up (omega arith) skipped ∙ (onward_some problem key path node child (many_next problem node) low lines below (own_count problem node below) within is ∙ ap (option_and_then (onward problem key path node (low + 1))) there)))
 
-pub child_passes : (problem : WeightedSum) (key : ℕ) (path pushed : List ℕ) (node child : Node) (pieces low : ℕ) (lines rest : List Line) (whole : Option (List Line)) → node.depth < length problem.terms → Counts problem node pieces → low < pieces → whole ≡ onward problem key path node low lines → Some child ≡ child_of problem node low → pushed ≡ path ++ low ∷ [] → Some rest ≡ behind_node problem key (drop child.depth problem.terms) pushed child lines → whole ≡ onward problem key path node (low + 1) rest
-child_passes problem key path pushed node child pieces low lines rest whole below counts within onto is more some =
+pub child_passes : (problem : WeightedSum) (key : ℕ) (path pushed : List ℕ) (node child : Node) (from low : ℕ) (lines rest : List Line) (whole : Option (List Line)) → node.depth < length problem.terms → from ≤ low → ((m : ℕ) → from ≤ m → m < low → child_of problem node m ≡ None) → whole ≡ onward problem key path node from lines → child_of problem node low ≡ Some child → pushed ≡ path ++ low ∷ [] → Some rest ≡ behind_node problem key (drop child.depth problem.terms) pushed child lines → whole ≡ onward problem key path node (low + 1) rest
+child_passes problem key path pushed node child from low lines rest whole below up skipped onto is more some =
+    let within = child_within problem node child low below is in
     let there : behind_child_of problem key path child low lines ≡ Some rest = ap (λ p. behind_node problem key (drop child.depth problem.terms) p child lines) (sym more) ∙ sym some in
-    onto ∙ (onward_some problem key path node child pieces low lines below counts within (sym is) ∙ ap (option_and_then (onward problem key path node (low + 1))) there)
+    onto ∙ (onward_skip problem key path node from low lines below up (omega arith) skipped ∙ (onward_some problem key path node child (many_next problem node) low lines below (own_count problem node below) within is ∙ ap (option_and_then (onward problem key path node (low + 1))) there))
 
 -- the whole tree
 pub whole_tree : (problem : WeightedSum) (key key' : ℕ) (root : Node) (path : List ℕ) (cert : List Line) (out : Option (List Line)) → root ≡ root_of problem → path ≡ [] → key ≡ key' → out ≡ behind_node problem key (drop root.depth problem.terms) path root cert → out ≡ behind_node problem key' problem.terms [] (root_of problem) cert
@@ -226,11 +255,12 @@ pub at_end : (cert : List Line) (place : ℕ) → place ≤ length cert → Some
 at_end cert place within e = let none : drop place cert ≡ [] = cc in omega (arith, ap length none, length-drop place cert)
 
 -- the lines with those of a child
-pub child_added : (problem : WeightedSum) (key : ℕ) (path pushed : List ℕ) (node child : Node) (pieces low : ℕ) (cert after : List Line) → node.depth < length problem.terms → Counts problem node pieces → low < pieces → Some child ≡ child_of problem node low → pushed ≡ path ++ low ∷ [] → after ≡ cert ++ topmost problem key (drop child.depth problem.terms) pushed child → cert ++ left problem key path node low ≡ after ++ left problem key path node (low + 1)
-child_added problem key path pushed node child pieces low cert after below all within is more added =
+pub child_added : (problem : WeightedSum) (key : ℕ) (path pushed : List ℕ) (node child : Node) (from low : ℕ) (cert after : List Line) → node.depth < length problem.terms → from ≤ low → ((m : ℕ) → from ≤ m → m < low → child_of problem node m ≡ None) → child_of problem node low ≡ Some child → pushed ≡ path ++ low ∷ [] → after ≡ cert ++ topmost problem key (drop child.depth problem.terms) pushed child → cert ++ left problem key path node from ≡ after ++ left problem key path node (low + 1)
+child_added problem key path pushed node child from low cert after below up skipped is more added =
+    let within = child_within problem node child low below is in
     let others = left problem key path node (low + 1) in
     let own : after ≡ cert ++ topmost_of problem key (path ++ low ∷ []) child = added ∙ ap (λ p. cert ++ topmost problem key (drop child.depth problem.terms) p child) more in
-    ap (λ ls. cert ++ ls) (left_some problem key path node child pieces low below all within (sym is))
+    ap (λ ls. cert ++ ls) (left_skip problem key path node from low below up (omega arith) skipped ∙ left_some problem key path node child (many_next problem node) low below (own_count problem node below) within is)
     ∙ (sym (append_assoc cert (topmost_of problem key (path ++ low ∷ []) child) others) ∙ ap (λ ls. ls ++ others) (sym own))
 
 -- the lines with the node's own

@@ -8,7 +8,7 @@ ghost use Rattle.ivp_cert.specs.Walks.{behind_node, behind_own, is_line_of};
 use crate::cert::{Cert, Line};
 use crate::claim::Claim;
 use crate::trail::Trail;
-use crate::tree::{bound_of, child_of, sum_at};
+use crate::tree::{bound_of, sum_at};
 use ivp_problem::{Key, Node, Problem, index_of_key, key_of, problem_law, sum_of};
 
 /// Whether a certificate is accepted for what is claimed of a problem: the claim's sum is the one at its point; each line is
@@ -89,15 +89,15 @@ fn behind_node(
         return None;
     }
     let mut place = place;
-    for piece in 0..problem.func(node.depth).len() {
-        if let Some(child) = child_of(problem, node, piece) {
-            trail.push(piece);
-            let Some(next) = behind_node(problem, key, &child, trail, cert, place) else {
-                return None;
-            };
-            trail.pop();
-            place = next;
-        }
+    let mut from = 0;
+    while let Some(child) = problem.next_child(node, from) {
+        trail.push(child.piece);
+        let Some(next) = behind_node(problem, key, &child.node, trail, cert, place) else {
+            return None;
+        };
+        trail.pop();
+        place = next;
+        from = child.piece + 1;
     }
     Some(place)
 }

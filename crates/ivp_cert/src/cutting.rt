@@ -7,7 +7,7 @@ ghost use Rattle.ivp_cert.specs.Certificates.{certificate_of, topmost};
 use crate::cert::{Cert, Line};
 use crate::path::Path;
 use crate::trail::Trail;
-use crate::tree::{bound_of, child_of};
+use crate::tree::bound_of;
 use ivp_problem::{Key, Node, Problem, index_of_key, problem_law, sum_of};
 use moos_post::NoMemory;
 use std::alloc::{AllocError, Global};
@@ -70,12 +70,12 @@ fn add_topmost(
     if node.depth >= problem.len() {
         return Ok(());
     }
-    for piece in 0..problem.func(node.depth).len() {
-        if let Some(child) = child_of(problem, node, piece) {
-            trail.push(piece);
-            add_topmost(alloc, problem, key, &child, trail, cert)?;
-            trail.pop();
-        }
+    let mut from = 0;
+    while let Some(child) = problem.next_child(node, from) {
+        trail.push(child.piece);
+        add_topmost(alloc, problem, key, &child.node, trail, cert)?;
+        trail.pop();
+        from = child.piece + 1;
     }
     Ok(())
 }

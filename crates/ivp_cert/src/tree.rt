@@ -1,8 +1,8 @@
-// What the walks over a tree ask of a problem: sums and bounds, whose steps a ledger counts that nobody reads, and children.
-ghost use Rattle.std.specs.Prelude.{◌≡◌, ◌+◌, ◌<◌, ◌≤◌, IfSome, IsTrue, length};
+// What the walks over a tree ask of a problem: sums and bounds, whose steps a ledger counts that nobody reads.
+ghost use Rattle.std.specs.Prelude.{◌≡◌, ◌<◌, ◌≤◌, IsTrue};
 ghost use Rattle.ivp_domain.specs.Domains.{is_point};
 ghost use Rattle.ivp_problem.specs.Sums.{sum_at};
-ghost use Rattle.ivp_problem.specs.Trees.{bound_of, child_of, IsNode, next_of};
+ghost use Rattle.ivp_problem.specs.Trees.{bound_of, IsNode};
 
 use ivp_domain::{Point, Steps};
 use ivp_problem::{Key, Node, Problem};
@@ -47,16 +47,4 @@ pub fn sum_at(problem: &Problem, point: &Point) -> u64
     ensures range { result ≤ 64000000000 }
 {
     sum_by::<Brand>(problem, point, Blank::new(1))
-}
-
-/// The child of a node by the piece of this number of the next function, where there is one. It is one deeper.
-pub fn child_of(problem: &Problem, node: &Node, piece: u32) -> Option<Node>
-    requires node { IsNode problem.now node.now }
-    requires depth { node.now.depth < length problem.now.terms }
-    requires piece { IfSome (next_of problem.now node.now) (λ term. piece < length term.func.pieces) }
-    ensures child { result ≡ child_of problem.now node.now piece }
-    ensures node { IfSome result (IsNode problem.now) }
-    ensures deeper { IfSome result (λ child. child.depth ≡ node.now.depth + 1) }
-{
-    problem.child(node, piece)
 }

@@ -1,9 +1,9 @@
 -- How many pieces hold a point, and which one is found.
-use Rattle.std.proofs.Common.{◌≡◌, ℕ, zero, suc, ◌+◌, ◌<◌, ◌≤◌, Bool, true, false, cond, Some, List, [], ◌∷◌, length, take, drop, drop-cons, add-one, get_or, refl, ap, ◌∙◌, inl, inr, arith}
+use Rattle.std.proofs.Common.{◌≡◌, ℕ, zero, suc, ◌+◌, ◌<◌, ◌≤◌, Bool, true, false, cond, Some, List, [], ◌∷◌, length, drop, drop-cons, add-one, get_or, refl, ap, ◌∙◌, inl, inr, arith}
 use Rattle.std.specs.Prelude.{slice_get, find}
 use Rattle.std.proofs.lemmas.Bool.{cases_Bool}
 use Rattle.std.proofs.lemmas.Option.{slice_get_within}
-use Rattle.std.proofs.lemmas.List.Sums.{sum_by-cons, sum_by_more, sum_by-take-le}
+use Rattle.std.proofs.lemmas.List.Sums.{sum_by-cons}
 use Rattle.ivp_domain.specs.declared.axis.Axis.{Axis}
 use Rattle.ivp_domain.specs.declared.boxes.Point.{Point}
 use Rattle.ivp_domain.specs.Domains.{is_point}
@@ -17,12 +17,6 @@ one_if b = cond b 1 0
 
 pub count_at-cons : (x : Piece) (xs : List Piece) (p : Point) → count_at (x ∷ xs) p ≡ one_if (holds p x) + count_at xs p
 count_at-cons x xs p = sum_by-cons (λ y. one_if (holds p y)) x xs
-
-pub count_at_more : (xs : List Piece) (i : ℕ) (d : Piece) (p : Point) → i < length xs → count_at (take (i + 1) xs) p ≡ count_at (take i xs) p + one_if (holds p (get_or xs i d))
-count_at_more xs i d p h = sum_by_more (λ y. one_if (holds p y)) xs i d h
-
-pub count_at-take : (xs : List Piece) (i : ℕ) (p : Point) → count_at (take i xs) p ≤ count_at xs p
-count_at-take xs i p = sum_by-take-le (λ y. one_if (holds p y)) xs i
 
 -- a piece that holds the point counts
 pub count_positive : (xs : List Piece) (k : ℕ) (x : Piece) (p : Point) → slice_get xs k ≡ Some x → holds p x ≡ true → 0 < count_at xs p
@@ -72,22 +66,34 @@ find_some (y ∷ ys) p h =
 pub held_point : (axes : List Axis) (xs : List Piece) (p : Point) → are_pieces_of axes xs ≡ true → 0 < count_at xs p → is_point axes p ≡ true
 held_point axes xs p fit h = let one = find_some xs p h in piece_point axes one.piece p (passes_at (is_piece_of axes) xs one.place one.piece fit one.stands) one.holds_it
 
--- steps of a count over the pieces so far
-pub none_more : (xs : List Piece) (i : ℕ) (p : Point) → i < length xs → count_at (take i xs) p ≡ 0 → holds p (get_or xs i blank) ≡ false → count_at (take (i + 1) xs) p ≡ 0
-none_more xs i p within none h = let one : one_if (holds p (get_or xs i blank)) ≡ 0 = ap one_if h in omega (arith, count_at_more xs i blank p within, none, one)
+-- two pieces that hold a point count twice
+pub two_hold : (xs : List Piece) (i j : ℕ) (x y : Piece) (p : Point) → i < j → slice_get xs i ≡ Some x → slice_get xs j ≡ Some y → holds p x ≡ true → holds p y ≡ true → 1 < count_at xs p
+two_hold [] i j x y p lt e e' h h' = absurd (cc)
+two_hold (z ∷ zs) i zero x y p lt e e' h h' = absurd (omega arith)
+two_hold (z ∷ zs) zero (suc j) x y p lt e e' h h' =
+    let same : holds p z ≡ true = let at : z ≡ x = cc in ap (holds p) at ∙ h in
+    let one : one_if (holds p z) ≡ 1 = ap one_if same in
+    omega (arith, count_at-cons z zs p, one, count_positive zs j y p e' h')
+two_hold (z ∷ zs) (suc i) (suc j) x y p lt e e' h h' = omega (arith, count_at-cons z zs p, two_hold zs i j x y p (omega arith) e e' h h')
 
-pub one_more : (xs : List Piece) (i : ℕ) (p : Point) → i < length xs → count_at (take i xs) p ≤ 1 → (holds p (get_or xs i blank) ≡ true → count_at (take i xs) p ≡ 0) → count_at (take (i + 1) xs) p ≤ 1
-one_more xs i p within most alone =
-    let more = count_at_more xs i blank p within in
-    elim (cases_Bool (holds p (get_or xs i blank))) [
-      | inl h ↦ let one : one_if (holds p (get_or xs i blank)) ≡ 1 = ap one_if h in omega (arith, more, one, alone h)
-      | inr h ↦ let one : one_if (holds p (get_or xs i blank)) ≡ 0 = ap one_if h in omega (arith, more, one, most)
+none_hold : (xs : List Piece) (p : Point) → ((k : ℕ) (x : Piece) → slice_get xs k ≡ Some x → holds p x ≡ false) → count_at xs p ≡ 0
+none_hold [] p h = refl
+none_hold (x ∷ xs) p h =
+    let one : one_if (holds p x) ≡ 0 = ap one_if (h 0 x refl) in
+    omega (arith, count_at-cons x xs p, one, none_hold xs p (λ k y e. h (suc k) y e))
+
+-- where no two of them do, at most one holds it
+pub no_two : (xs : List Piece) (p : Point) → ((i j : ℕ) (x y : Piece) → i < j → slice_get xs i ≡ Some x → slice_get xs j ≡ Some y → holds p x ≡ true → holds p y ≡ false) → count_at xs p ≤ 1
+no_two [] p h = omega arith
+no_two (x ∷ xs) p h =
+    let rest = no_two xs p (λ i j y z lt e e'. h (suc i) (suc j) y z (omega arith) e e') in
+    elim (cases_Bool (holds p x)) [
+      | inl is ↦
+          let one : one_if (holds p x) ≡ 1 = ap one_if is in
+          let none = none_hold xs p (λ k y e. h 0 (suc k) x y (omega arith) refl e is) in
+          omega (arith, count_at-cons x xs p, one, none)
+      | inr other ↦ let none : one_if (holds p x) ≡ 0 = ap one_if other in omega (arith, count_at-cons x xs p, none, rest)
     ]
-
-pub two : (xs : List Piece) (i : ℕ) (p : Point) → i < length xs → 0 < count_at (take i xs) p → holds p (get_or xs i blank) ≡ true → 1 < count_at xs p
-two xs i p within some h =
-    let one : one_if (holds p (get_or xs i blank)) ≡ 1 = ap one_if h in
-    omega (arith, count_at_more xs i blank p within, one, some, count_at-take xs (i + 1) p)
 
 -- the value that the pieces from a place on give
 pub value_at-here : (xs : List Piece) (i : ℕ) (p : Point) → i < length xs → holds p (get_or xs i blank) ≡ true → value_at (drop i xs) p ≡ piece_value (get_or xs i blank) p

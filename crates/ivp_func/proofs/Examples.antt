@@ -13,6 +13,7 @@ use Rattle.ivp_func.specs.declared.func.FuncFault.TheVariants.{NotPartition, Val
 use Rattle.ivp_func.specs.declared.piece.Piece.{Piece}
 use Rattle.ivp_func.specs.Covering.{covered_in, CutOn, SameOn, shared_with, Shorter}
 use Rattle.ivp_func.specs.Functions.{Function, has_values, is_partition, IsFunction, IsTop}
+use Rattle.ivp_func.specs.Grids.{cell_at, cell_box, cells_of, meeting, meets, run_on}
 use Rattle.ivp_func.specs.Making.{MadeFunction}
 use Rattle.ivp_func.specs.Pieces.{are_pieces_of, count_at, is_base, is_piece_of, is_value, value_at}
 use Rattle.ivp_func.proofs.PointTests.{passes_partition, passes_values}
@@ -146,3 +147,36 @@ made_of_bad is = omega (arith, is.1 (point_from 1 0 0 0) refl)
 
 value_in_range : MadeFunction three good (Err (ValueOut (point_from 2 0 0 0) (pos 100000))) → ⊥
 value_in_range is = let out : true ≡ false = is.4 in cc
+
+-- domains of one, two and three axes
+abbrev sized : ℕ → Axis
+sized points = record { name = codes "a"; low = pos 0; high = pos 1000; points = points }
+
+abbrev course : List Axis
+course = sized 360 ∷ []
+
+abbrev square : List Axis
+square = sized 2000 ∷ sized 2000 ∷ []
+
+abbrev deep : List Axis
+deep = sized 360 ∷ sized 41 ∷ sized 101 ∷ []
+
+-- runs of two places, of 125 and 125, and of 60, 7 and 17
+runs : (run_on 0 course ≡ 2) × (cells_of course ≡ 180) × (run_on 1 square ≡ 125) × (cells_of square ≡ 256) × (run_on 1 deep ≡ 7) × (run_on 2 deep ≡ 17) × (cells_of deep ≡ 216)
+runs = (refl, refl, refl, refl, refl, refl, refl)
+
+-- the last run of an axis ends with it: 41 places are five runs of seven and one of six
+last_cell : cell_box deep 215 ≡ record { low = 300 ∷ 35 ∷ 85 ∷ 0 ∷ []; high = 359 ∷ 40 ∷ 100 ∷ 0 ∷ [] }
+last_cell = refl
+
+-- the first axis counts most
+second_cell : (cell_box square 1 ≡ record { low = 0 ∷ 125 ∷ 0 ∷ 0 ∷ []; high = 124 ∷ 249 ∷ 0 ∷ 0 ∷ [] }) × (cell_at square (point_from 124 125 0 0) ≡ 1) × (cell_at square (point_from 125 124 0 0) ≡ 16)
+second_cell = (refl, refl, refl)
+
+-- three pieces of 45 places each
+abbrev eighths : List Piece
+eighths = piece 0 44 (pos 0) (pos 0) (pos 0) ∷ piece 45 89 (pos 0) (pos 0) (pos 0) ∷ piece 90 134 (pos 0) (pos 0) (pos 0) ∷ []
+
+-- the cell of the places 44 and 45 has two of them, which share a point with it, and the third doesn't
+listed : (cell_box course 22 ≡ (piece 44 45 (pos 0) (pos 0) (pos 0)).area) × (meeting eighths (cell_box course 22) ≡ 0 ∷ 1 ∷ []) × (meets eighths (cell_box course 22) 1 ≡ true) × (meets eighths (cell_box course 22) 2 ≡ false) × (meets eighths (cell_box course 22) 3 ≡ false)
+listed = (refl, refl, refl, refl, refl)

@@ -1,5 +1,5 @@
 -- Boxes axis by axis, and what a piece that fits a domain keeps.
-use Rattle.std.proofs.Common.{◌≡◌, ℕ, zero, suc, ◌+◌, ◌<◌, ◌≤◌, Bool, true, false, ◌&&◌, nat_le, nat_lt, Some, pos, length, get_or, subst, inl, inr, List, [], refl, leb-true, ltb-true, arith}
+use Rattle.std.proofs.Common.{◌≡◌, ℕ, zero, suc, ◌+◌, ◌<◌, ◌≤◌, Bool, true, ◌&&◌, nat_le, nat_lt, Some, pos, length, get_or, subst, inl, inr, List, [], leb-true, ltb-true, arith}
 use Rattle.std.specs.Prelude.{slice_get, slice_index}
 use Rattle.std.specs.List.{list_all}
 use Rattle.std.proofs.Math.Nat.{one-le-mul}
@@ -79,12 +79,15 @@ box_parts axes area h =
       ltb-true (slice_index area.high 3) (size_on 3 axes) four.1,
     )
 
--- a point of a piece is one of the domain
-pub piece_point : (axes : List Axis) (piece : Piece) (p : Point) → is_piece_of axes piece ≡ true → holds p piece ≡ true → is_point axes p ≡ true
-piece_point axes piece p fits h =
-    let high = box_parts axes piece.area (piece_parts axes piece fits).0 in
+-- a point of a box in the domain is one of the domain, and so is one of a piece
+pub area_point : (axes : List Axis) (area : BoxN) (p : Point) → is_box_of axes area ≡ true → has_point area p ≡ true → is_point axes p ≡ true
+area_point axes area p fits h =
+    let high = box_parts axes area fits in
     is_point-from axes p
-    (omega (arith, (place_in piece.area p h 0 (omega arith)).1, high.1)) (omega (arith, (place_in piece.area p h 1 (omega arith)).1, high.2)) (omega (arith, (place_in piece.area p h 2 (omega arith)).1, high.3)) (omega (arith, (place_in piece.area p h 3 (omega arith)).1, high.4))
+    (omega (arith, (place_in area p h 0 (omega arith)).1, high.1)) (omega (arith, (place_in area p h 1 (omega arith)).1, high.2)) (omega (arith, (place_in area p h 2 (omega arith)).1, high.3)) (omega (arith, (place_in area p h 3 (omega arith)).1, high.4))
+
+pub piece_point : (axes : List Axis) (piece : Piece) (p : Point) → is_piece_of axes piece ≡ true → holds p piece ≡ true → is_point axes p ≡ true
+piece_point axes piece p fits h = area_point axes piece.area p (piece_parts axes piece fits).0 h
 
 -- each of a list that passes
 pub passes_at : {X : Type 0} (t : X → Bool) (xs : List X) (k : ℕ) (x : X) → list_all t xs ≡ true → slice_get xs k ≡ Some x → t x ≡ true
@@ -107,10 +110,6 @@ each_more P xs i before here k x within e =
       | inl same ↦ let at : get_or xs i blank ≡ x = subst (λ j. get_or xs j blank ≡ x) same (get_or_from_slice_get xs k x blank e) in subst P at here
       | inr other ↦ before k x (omega arith) e
     ]
-
-pub left_false : (a b : Bool) → (a && b) ≡ false → b ≡ true → a ≡ false
-left_false false b h e = refl
-left_false true b h e = absurd (cc)
 
 -- a piece that fits is over a proper box, and small
 pub piece_at : (axes : List Axis) (xs : List Piece) (k : ℕ) → are_pieces_of axes xs ≡ true → k < length xs → (is_box (get_or xs k blank).area ≡ true) × (is_small (get_or xs k blank) ≡ true)

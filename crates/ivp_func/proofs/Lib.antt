@@ -6,3 +6,6 @@ pub mod Bounds
 pub mod Rises
 pub mod Tops
 pub mod PointTests
+pub mod Cutting
+pub mod Meetings
+pub mod Seeking

@@ -2,3 +2,6 @@ pub mod Pieces
 pub mod Covering
 pub mod Functions
 pub mod Making
+pub mod Grids
+pub mod Cuts
+pub mod Cells

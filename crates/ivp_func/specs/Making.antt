@@ -14,4 +14,4 @@ MadeFunction axes pieces (Ok func) = (length pieces ≤ 4096) × IsPartition axe
 MadeFunction axes pieces (Err TooMany) = 4096 < length pieces
 MadeFunction axes pieces (Err (NotPartition point count)) = (length pieces ≤ 4096) × IsTrue (is_point axes point) × (count ≡ count_at pieces point) × (count ≢ 1)
 MadeFunction axes pieces (Err (ValueOut point value)) = (length pieces ≤ 4096) × IsPartition axes pieces × IsTrue (is_point axes point) × (value ≡ value_at pieces point) × (is_value value ≡ false)
-MadeFunction axes pieces (Err NoMemory) = ⊥
+MadeFunction axes pieces (Err NoMemory) = (length pieces ≤ 4096) × IsPartition axes pieces × HasValues axes pieces

@@ -22,8 +22,8 @@ fn has_place(domain: &Domain, axis: u32, place: u32) -> bool
     }
 }
 
-/// The box lies in the domain and has points.
-fn is_box_of(domain: &Domain, area: &BoxN) -> bool
+/// Whether a box lies in the domain and has points.
+pub fn is_box_of(domain: &Domain, area: &BoxN) -> bool
     ensures { result ≡ is_box_of domain.now area.now }
 {
     is_proper(area)

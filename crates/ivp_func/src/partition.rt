@@ -1,10 +1,13 @@
 ghost use Rattle.std.specs.Prelude.{◌≡◌, ◌≢◌, ℕ, ◌*◌, ◌^◌, ◌<◌, ◌≤◌, length, IsTrue, IfSome, IfNone, nat_lt, slice_index};
 ghost use Rattle.ivp_domain.specs.Boxes.{has_point, is_box, volume_of};
 ghost use Rattle.ivp_domain.specs.Domains.{is_domain, is_point};
+ghost use Rattle.ivp_func.specs.Cells.{IsGrid};
 ghost use Rattle.ivp_func.specs.Covering.{covered_in, shared_with, CutOn, SameOn, Shorter};
 ghost use Rattle.ivp_func.specs.Functions.{IsPartition};
+ghost use Rattle.ivp_func.specs.Grids.{share};
 ghost use Rattle.ivp_func.specs.Pieces.{are_pieces_of, count_at, holds};
 
+use crate::grid::{Grid, next_meet};
 use crate::piece::{Piece, holds};
 use ivp_domain::{BoxN, Domain, Point, meet, volume};
 
@@ -23,27 +26,33 @@ fn first_point(area: &BoxN) -> Point
     Point { at: area.low }
 }
 
-/// A point of the piece that one of these holds too.
-fn meeting(pieces: &[Piece], piece: &Piece) -> Option<Point>
-    ensures some { IfSome result (λ p. IsTrue (holds p piece.now) × (0 < count_at pieces.now p)) }
-    ensures none { IfNone result ((p : Point) → IsTrue (holds p piece.now) → count_at pieces.now p ≡ 0) }
+/// The least point that two pieces share.
+fn shared_point(a: &Piece, b: &Piece) -> Point
+    requires { IsTrue (share a.now.area b.now.area) }
+    ensures one { IsTrue (holds result a.now) }
+    ensures other { IsTrue (holds result b.now) }
 {
-    for other in pieces {
-        if let Some(area) = meet(&other.area, &piece.area) {
-            return Some(first_point(&area));
-        }
+    let (one, other) = (a.area.low, b.area.low);
+    Point {
+        at: [
+            one[0].max(other[0]),
+            one[1].max(other[1]),
+            one[2].max(other[2]),
+            one[3].max(other[3]),
+        ],
     }
-    None
 }
 
-/// A point that several pieces hold.
-fn overlap(pieces: &[Piece]) -> Option<Point>
+/// A point that several pieces hold: none, where no piece meets one behind it.
+fn overlap(pieces: &[Piece], grid: Option<&Grid>) -> Option<Point>
+    requires few { length pieces.now ≤ 4096 }
+    requires grid { IfSome grid (λ grid. IsGrid pieces.now grid.now × IsTrue (are_pieces_of grid.now.cuts pieces.now)) }
     ensures some { IfSome result (λ p. 1 < count_at pieces.now p) }
     ensures none { IfNone result ((p : Point) → count_at pieces.now p ≤ 1) }
 {
     for (place, piece) in pieces.iter().enumerate() {
-        if let Some(point) = meeting(&pieces[..place], piece) {
-            return Some(point);
+        if let Some(other) = next_meet(grid, pieces, &piece.area, place as u32 + 1) {
+            return Some(shared_point(piece, &pieces[other as usize]));
         }
     }
     None
@@ -146,14 +155,15 @@ fn gap(area: BoxN, pieces: &[Piece]) -> Point
 }
 
 /// A point of the domain that no piece holds, or several.
-pub(crate) fn misfit(domain: &Domain, pieces: &[Piece]) -> Option<Point>
+pub(crate) fn misfit(domain: &Domain, pieces: &[Piece], grid: Option<&Grid>) -> Option<Point>
     requires few { length pieces.now ≤ 4096 }
+    requires grid { IfSome grid (λ grid. IsGrid pieces.now grid.now × (grid.now.cuts ≡ domain.now)) }
     requires fit { IsTrue (are_pieces_of domain.now pieces.now) }
     ensures some { IfSome result (λ p. IsTrue (is_point domain.now p) × (count_at pieces.now p ≢ 1)) }
     ensures none { IfNone result (IsPartition domain.now pieces.now) }
     ensures domain { IfNone result (IsTrue (is_domain domain.now)) }
 {
-    if let Some(point) = overlap(pieces) {
+    if let Some(point) = overlap(pieces, grid) {
         return Some(point);
     }
     let area = domain.whole();

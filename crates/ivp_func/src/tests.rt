@@ -1,7 +1,7 @@
 ghost use Rattle.std.specs.Prelude.{◌≡◌, ◌<◌, IsTrue};
 ghost use Rattle.ivp_domain.specs.Domains.{is_point};
 
-use crate::{Func, FuncFault, Piece, are_pieces_of, is_piece_of, tests_law};
+use crate::{Func, FuncFault, Piece, are_pieces_of, is_box_of, is_piece_of, tests_law};
 use ivp_domain::{Axis, AxisName, BoxN, Domain, Point, Steps};
 use std::alloc::Global;
 use std::marker::Brand;
@@ -196,5 +196,36 @@ fn peak_of_a_heading(rt: HostRuntime) -> Result<(), Fail> {
         assert_eq!(rt; value(&func, index), Some(expected));
     }
     assert_eq!(rt; value(&func, 360), None);
+    Ok(())
+}
+
+/// Eight pieces of 45 points each.
+fn eighths(alloc: Global) -> Result<Func, Fail> {
+    let domain = line(360)?;
+    let mut pieces = Vec::new(alloc);
+    for number in 0..8 {
+        pieces.push(piece(number * 45, number * 45 + 44, 0, 0))?;
+    }
+    let func = made(alloc, &domain, pieces).ok_or("pieces that fit")?;
+    Ok(func.map_err(|_| "a function")?)
+}
+
+/// 180 cells of two points each, one of which lies in two pieces; and an area of more cells than are looked at.
+#[test]
+fn pieces_of_an_area(rt: HostRuntime) -> Result<(), Fail> {
+    let func = eighths(rt.alloc())?;
+    let area = piece(44, 45, 0, 0).area;
+    assert!(rt; is_box_of(&func.domain(), &area));
+    assert_eq!(rt; func.next_meet(&area, 0), Some(0));
+    assert_eq!(rt; func.next_meet(&area, 1), Some(1));
+    assert_eq!(rt; func.next_meet(&area, 2), None);
+    assert_eq!(rt; func.cells(), 180);
+    assert!(rt; 22 < func.cells());
+    assert_eq!(rt; func.cell_box(22), area);
+    assert!(rt; func.cell(22) == [0, 1].as_slice());
+    let most = piece(1, 359, 0, 0).area;
+    assert!(rt; is_box_of(&func.domain(), &most));
+    assert_eq!(rt; func.next_meet(&most, 3), Some(3));
+    assert_eq!(rt; func.next_meet(&most, 8), None);
     Ok(())
 }

@@ -3,7 +3,6 @@ use Rattle.std.proofs.Common.{◌≡◌, ℕ, ◌+◌, ◌<◌, ◌≤◌, inl, 
 use Rattle.std.specs.Prelude.{IsTrue}
 use Rattle.std.specs.List.{sum_by}
 use Rattle.std.proofs.lemmas.List.Sums.{sum_by-cons}
-use Rattle.std.proofs.lemmas.Int.{ints}
 use Rattle.atomic_table.specs.Seated.{TableId}
 use Rattle.atomic_table.specs.Table.{Me}
 use Rattle.best_word.specs.declared.best.View.{View}
@@ -12,20 +11,20 @@ use Rattle.ivp_domain.specs.Domains.{is_point}
 use Rattle.ivp_problem.specs.declared.node.Node.{Node}
 use Rattle.ivp_problem.specs.Keys.{key_of}
 use Rattle.ivp_problem.specs.Trees.{IsNode, has_in, root_of}
-use Rattle.ivp_problem.proofs.Examples.{first, left, right, twelve, two, two_is_lawful}
+use Rattle.ivp_problem.proofs.Examples.{first, left, twelve, two, two_is_lawful}
 use Rattle.ivp_problem.proofs.KeyOrder.{best_most}
 use Rattle.ivp_pool.specs.declared.team.Worker.{Worker}
-use Rattle.ivp_pool.specs.Closing.{AreCovered, Closed, Passed, Pushed}
+use Rattle.ivp_pool.specs.Closing.{AreCovered, Closed, Pushed}
 use Rattle.ivp_pool.specs.Solving.{AreClosed, IsNew, IsSearched, IsWorker, low_of, worker_share, total_of, WentOn}
 use Rattle.ivp_pool.proofs.Gluing.{whole}
 use Rattle.ivp_pool.proofs.Growing.{closed_covers}
 use Rattle.ivp_pool.proofs.Teams.{closed_one, searched}
 use Rattle.ivp_pool.specs.Tallies.{AreLinked, IsTally, IsWholeTree, Tally}
-use Rattle.ivp_pool.specs.Parts.{Done, Handed, handed_in, handed_of, IsPart, Part, Pruned, size_of, Split, Then}
+use Rattle.ivp_pool.specs.Parts.{Done, Handed, handed_in, handed_of, IsPart, Part, Pruned, size_of, Expanded, Then}
 
 -- the root and its child are split, and both leaves are pruned: the first has the best point, of sum 75 at index 2
 abbrev all_here : Part
-all_here = Split (Then (Split (Then Pruned (Then Pruned Done))) Done)
+all_here = Expanded (Then (Expanded (Then Pruned (Then Pruned Done))) Done)
 
 all_here_is_one : IsPart two (key_of 75 2) (root_of two) all_here
 all_here_is_one = (omega arith, ((omega arith, (omega arith, (omega arith, tt))), tt))
@@ -35,7 +34,7 @@ all_here_has_four = (refl, refl)
 
 -- the first leaf goes to others, so the second's bound, 55 at index 10, is enough to know
 abbrev one_handed : Part
-one_handed = Split (Then (Split (Then Handed (Then Pruned Done))) Done)
+one_handed = Expanded (Then (Expanded (Then Handed (Then Pruned Done))) Done)
 
 one_handed_is_one : IsPart two (key_of 55 10) (root_of two) one_handed
 one_handed_is_one = (omega arith, ((omega arith, (tt, (omega arith, tt))), tt))
@@ -43,8 +42,8 @@ one_handed_is_one = (omega arith, ((omega arith, (tt, (omega arith, tt))), tt))
 one_handed_has_left : (size_of one_handed ≡ 4) × (handed_of two (root_of two) one_handed ≡ left ∷ [])
 one_handed_has_left = (refl, refl)
 
--- a split node has a part for each of its children
-one_child_too_few : IsPart two (key_of 75 2) (root_of two) (Split (Then (Split (Then Pruned Done)) Done)) → ⊥
+-- an expanded node has a part for each of its children
+one_child_too_few : IsPart two (key_of 75 2) (root_of two) (Expanded (Then (Expanded (Then Pruned Done)) Done)) → ⊥
 one_child_too_few is = is.1.0.1.1
 
 -- and a node whose bound is above what is known is not pruned
@@ -76,25 +75,25 @@ calls_have_four whole = let size = whole.size in (whole.part, omega arith)
 four_closed : IsSearched two (key_of 75 2) 4
 four_closed = record { part = all_here; is = all_here_is_one; none = refl; size = refl }
 
--- and with the best key known every search of it closes just four: the root and its child can't be dropped
+-- and with the best key known every search of it closes just four: the root and its child can't be pruned
 child_has_three : (part : Part) → IsPart two (key_of 75 2) first part → handed_in two (first ∷ []) (Then part Done) ≡ [] → size_of part ≡ 3
 child_has_three Pruned is none = absurd (omega (arith, is))
 child_has_three Handed is none = absurd (cc)
-child_has_three (Split Done) is none = absurd is.1
-child_has_three (Split (Then Handed parts)) is none = absurd (cc)
-child_has_three (Split (Then (Split below) parts)) is none = absurd (omega (arith, is.1.0.0))
-child_has_three (Split (Then Pruned Done)) is none = absurd is.1.1
-child_has_three (Split (Then Pruned (Then Handed parts))) is none = absurd (cc)
-child_has_three (Split (Then Pruned (Then (Split below) parts))) is none = absurd (omega (arith, is.1.1.0.0))
-child_has_three (Split (Then Pruned (Then Pruned Done))) is none = refl
-child_has_three (Split (Then Pruned (Then Pruned (Then part parts)))) is none = absurd is.1.1.1
+child_has_three (Expanded Done) is none = absurd is.1
+child_has_three (Expanded (Then Handed parts)) is none = absurd (cc)
+child_has_three (Expanded (Then (Expanded below) parts)) is none = absurd (omega (arith, is.1.0.0))
+child_has_three (Expanded (Then Pruned Done)) is none = absurd is.1.1
+child_has_three (Expanded (Then Pruned (Then Handed parts))) is none = absurd (cc)
+child_has_three (Expanded (Then Pruned (Then (Expanded below) parts))) is none = absurd (omega (arith, is.1.1.0.0))
+child_has_three (Expanded (Then Pruned (Then Pruned Done))) is none = refl
+child_has_three (Expanded (Then Pruned (Then Pruned (Then part parts)))) is none = absurd is.1.1.1
 
 root_has_four : (part : Part) → IsPart two (key_of 75 2) (root_of two) part → handed_of two (root_of two) part ≡ [] → size_of part ≡ 4
 root_has_four Pruned is none = absurd (omega (arith, is))
 root_has_four Handed is none = absurd (cc)
-root_has_four (Split Done) is none = absurd is.1
-root_has_four (Split (Then part Done)) is none = omega (arith, child_has_three part is.1.0 none)
-root_has_four (Split (Then part (Then other parts))) is none = absurd is.1.1
+root_has_four (Expanded Done) is none = absurd is.1
+root_has_four (Expanded (Then part Done)) is none = omega (arith, child_has_three part is.1.0 none)
+root_has_four (Expanded (Then part (Then other parts))) is none = absurd is.1.1
 
 always_four : (count : ℕ) → IsSearched two (key_of 75 2) count → count ≡ 4
 always_four count is = omega (arith, is.size, root_has_four is.part is.is is.none)
@@ -121,25 +120,6 @@ closed_three = record { part = one_handed; is = one_handed_is_one; here = λ sam
 -- two workers closed two nodes and three
 closed_five : total_of (record { closed = 2 } ∷ record { closed = 3 } ∷ []) ≡ 5
 closed_five = refl
-
--- the root's child has a child by each of two pieces: that goes to the tray or comes back, and by a third piece there is none
-passed_on : Passed two [] (left ∷ []) first 0 None × Passed two [] [] first 0 (Some left) × Passed two (left ∷ []) (left ∷ []) first 2 None
-passed_on = (inr (left, refl, refl), (refl, refl), inl (refl, refl))
-
--- but no child is dropped, or taken where it comes back, or in the place of another
-child_dropped : Passed two [] [] first 0 None → ⊥
-child_dropped (inl dropped) = let is : Some left ≡ None = dropped.0 in cc
-child_dropped (inr taken) = let is = taken.2 in absurd (cc)
-
-child_doubled : Passed two [] (left ∷ []) first 0 (Some left) → ⊥
-child_doubled is = let taken = is.1 in absurd (cc)
-
-other_child : Passed two [] (left ∷ []) first 1 None → ⊥
-other_child (inl dropped) = let taken = dropped.1 in absurd (cc)
-other_child (inr taken) =
-    let same : left ≡ taken.0 = cc in
-    let other : right ≡ taken.0 = cc in
-    absurd (omega (arith, ints, ap (λ (node : Node). node.base) same, ap (λ (node : Node). node.base) other))
 
 -- where the best key is known every point is covered, and the points of a node that was handed on are whatever is known
 all_covered : AreCovered two (key_of 75 2) [] [] (is_point twelve)
@@ -209,7 +189,7 @@ closed_nothing key is = at_least is.tallies (is.called (λ node. 1)) is.size
     own : (part : Part) → 1 ≤ size_of part
     own Pruned = omega arith
     own Handed = omega arith
-    own (Split parts) = omega arith
+    own (Expanded parts) = omega arith
 
     at_least : (tallies : List Tally) → sum_by (λ (tally : Tally). 1) tallies ≡ 1 → 0 ≡ sum_by (λ (tally : Tally). size_of tally.part) tallies → ⊥
     at_least [] one size = omega arith

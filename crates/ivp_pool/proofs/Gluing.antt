@@ -9,7 +9,7 @@ use Rattle.ivp_problem.specs.declared.node.Node.{Node}
 use Rattle.ivp_problem.specs.Problems.{IsProblem, WeightedSum}
 use Rattle.ivp_problem.specs.Sums.{key_at}
 use Rattle.ivp_problem.specs.Trees.{children_of, has_in, IsNode, root_of}
-use Rattle.ivp_pool.specs.Parts.{AreParts, Done, Handed, handed_in, handed_of, IsPart, Part, Parts, Pruned, size_in, size_of, Split, Then}
+use Rattle.ivp_pool.specs.Parts.{AreParts, Done, Handed, handed_in, handed_of, IsPart, Part, Parts, Pruned, size_in, size_of, Expanded, Then}
 use Rattle.ivp_pool.specs.Tallies.{AreLinked, handed_by, IsTally, IsWholeTree, Tally}
 use Rattle.ivp_pool.proofs.Growing.{covered}
 use Rattle.ivp_pool.proofs.SameNodes.{is_same, is_same-self, is_same-true}
@@ -46,10 +46,10 @@ mutual
   fill problem key node Handed rest (Then one others) is are none =
       let both = both_empty (handed_of problem node one) (handed_in problem rest others) none in
       record { whole = one; left = others; is = are.0; none = both.0; are = are.1; nothing = both.1; size = omega arith }
-  fill problem key node (Split old) rest parts is are none =
+  fill problem key node (Expanded old) rest parts is are none =
       let filled = fill_all problem key (children_of problem node) old rest parts is.1 are none in
       let size = filled.size in
-      record { whole = Split filled.wholes; left = filled.left; is = (is.0, filled.all); none = filled.none; are = filled.are; nothing = filled.nothing; size = omega arith }
+      record { whole = Expanded filled.wholes; left = filled.left; is = (is.0, filled.all); none = filled.none; are = filled.are; nothing = filled.nothing; size = omega arith }
 
   fill_all : (problem : WeightedSum) (key : ℕ) (nodes : List Node) (old : Parts) (rest : List Node) (parts : Parts) → AreParts problem key nodes old → AreParts problem key (handed_in problem nodes old ++ rest) parts → handed_in problem (handed_in problem nodes old ++ rest) parts ≡ [] → AllFilled problem key nodes old rest parts
   fill_all problem key [] Done rest parts all are none = record { wholes = Done; left = parts; all = tt; none = refl; are = are; nothing = none; size = omega arith }
@@ -85,8 +85,8 @@ mutual
       let fewer : suc (length problem.terms - node.depth) ≤ suc levels = omega arith in
       let same : weight_of problem node ≤ weight_of problem node = omega arith in
       omega (arith, sum_by-cons (burden problem) node [], mul-le-mul {n₁ = suc (length problem.terms - node.depth)} {m₁ = weight_of problem node} {n₂ = suc levels} {m₂ = weight_of problem node} fewer same)
-  burden_most problem h key from zero node (Split parts) stands is = absurd (omega (arith, stands.most, is.0))
-  burden_most problem h key from (suc levels) node (Split parts) stands is =
+  burden_most problem h key from zero node (Expanded parts) stands is = absurd (omega (arith, stands.most, is.0))
+  burden_most problem h key from (suc levels) node (Expanded parts) stands is =
       omega (
         arith,
         suc-mul (suc levels) (weight_of problem node),
@@ -111,7 +111,7 @@ mutual
 lighter : (problem : WeightedSum) → IsProblem problem → (key : ℕ) (node : Node) (part : Part) → IsNode problem node → IsPart problem key node part → part ≢ Handed → sum_by (burden problem) (handed_of problem node part) < burden problem node
 lighter problem h key node Pruned is part here = omega (arith, suc-mul (length problem.terms - node.depth) (weight_of problem node), some_weight problem node h is)
 lighter problem h key node Handed is part here = absurd (here refl)
-lighter problem h key node (Split parts) is part here = by (length problem.terms - node.depth) refl
+lighter problem h key node (Expanded parts) is part here = by (length problem.terms - node.depth) refl
   where
     by : (levels : ℕ) → length problem.terms - node.depth ≡ levels → sum_by (burden problem) (handed_in problem (children_of problem node) parts) < burden problem node
     by zero e = let below = part.0 in absurd (omega (arith, below))

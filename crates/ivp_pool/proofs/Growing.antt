@@ -11,12 +11,12 @@ use Rattle.ivp_domain.specs.Boxes.{has_point}
 use Rattle.ivp_problem.specs.declared.node.Node.{Node}
 use Rattle.ivp_problem.specs.Problems.{IsProblem, WeightedSum}
 use Rattle.ivp_problem.specs.Sums.{key_at}
-use Rattle.ivp_problem.specs.Trees.{bound_of, children_of, has_in, IsNode}
+use Rattle.ivp_problem.specs.Trees.{bound_of, child_of, children_of, has_in, IsNode}
 use Rattle.ivp_problem.proofs.Bounds.{key_bound}
 use Rattle.ivp_problem.proofs.Nodes.{node_keeps}
-use Rattle.ivp_problem.proofs.Pieces.{children_more, children_to, has_all, no_child}
-use Rattle.ivp_pool.specs.Closing.{AreCovered, Closed, Passed}
-use Rattle.ivp_pool.specs.Parts.{AreParts, Done, Handed, handed_in, handed_of, IsPart, Part, Parts, Pruned, size_in, size_of, Split, Then}
+use Rattle.ivp_problem.proofs.Pieces.{children_more, children_to, has_all}
+use Rattle.ivp_pool.specs.Closing.{AreCovered, Closed, Pushed}
+use Rattle.ivp_pool.specs.Parts.{AreParts, Done, Handed, handed_in, handed_of, IsPart, Part, Parts, Pruned, size_in, size_of, Expanded, Then}
 use Rattle.ivp_pool.proofs.Standing.{children_stand, first_stand, standing, Stands}
 use Rattle.ivp_pool.proofs.Weights.{few_weight, first_weight, once_in, sizes_most}
 
@@ -25,7 +25,7 @@ mutual
   pub raised : (problem : WeightedSum) (low high : ℕ) → low ≤ high → (node : Node) (part : Part) → IsPart problem low node part → IsPart problem high node part
   raised problem low high up node Pruned is = omega (arith, up, is)
   raised problem low high up node Handed is = tt
-  raised problem low high up node (Split parts) is = (is.0, all_raised problem low high up (children_of problem node) parts is.1)
+  raised problem low high up node (Expanded parts) is = (is.0, all_raised problem low high up (children_of problem node) parts is.1)
 
   all_raised : (problem : WeightedSum) (low high : ℕ) → low ≤ high → (nodes : List Node) (parts : Parts) → AreParts problem low nodes parts → AreParts problem high nodes parts
   all_raised problem low high up [] Done are = tt
@@ -57,8 +57,8 @@ mutual
   pub covered : (problem : WeightedSum) → IsProblem problem → (low from levels : ℕ) (node : Node) (part : Part) → Stands problem from levels node → IsPart problem low node part → (p : Point) → has_point node.area p ≡ true → (key_at problem p ≤ low) ⊎ (has_in (handed_of problem node part) p ≡ true)
   covered problem h low from levels node Pruned stands is p inside = inl (omega (arith, key_bound problem node p (node_keeps problem node h stands.is) inside, is))
   covered problem h low from levels node Handed stands is p inside = inr (ap (λ t. t || false) inside)
-  covered problem h low from zero node (Split parts) stands is p inside = absurd (omega (arith, stands.most, is.0))
-  covered problem h low from (suc levels) node (Split parts) stands is p inside =
+  covered problem h low from zero node (Expanded parts) stands is p inside = absurd (omega (arith, stands.most, is.0))
+  covered problem h low from (suc levels) node (Expanded parts) stands is p inside =
       let children = children_of problem node in
       all_covered problem h low (suc from) levels children parts (children_stand problem from levels node stands) is.1 p (sym (has_all node children p (once_in problem node p h stands.is is.0)) ∙ inside)
 
@@ -87,8 +87,8 @@ mutual
   handed_below : (problem : WeightedSum) (low from levels : ℕ) (node : Node) (part : Part) → Stands problem from levels node → IsPart problem low node part → Each (IsBelow problem from) (handed_of problem node part)
   handed_below problem low from levels node Pruned stands is = tt
   handed_below problem low from levels node Handed stands is = (record { is = stands.is; deep = stands.deep }, tt)
-  handed_below problem low from zero node (Split parts) stands is = absurd (omega (arith, stands.most, is.0))
-  handed_below problem low from (suc levels) node (Split parts) stands is = less_deep problem from (handed_in problem (children_of problem node) parts) (all_below problem low (suc from) levels (children_of problem node) parts (children_stand problem from levels node stands) is.1)
+  handed_below problem low from zero node (Expanded parts) stands is = absurd (omega (arith, stands.most, is.0))
+  handed_below problem low from (suc levels) node (Expanded parts) stands is = less_deep problem from (handed_in problem (children_of problem node) parts) (all_below problem low (suc from) levels (children_of problem node) parts (children_stand problem from levels node stands) is.1)
 
   all_below : (problem : WeightedSum) (low from levels : ℕ) (nodes : List Node) (parts : Parts) → Each (Stands problem from levels) nodes → AreParts problem low nodes parts → Each (IsBelow problem from) (handed_in problem nodes parts)
   all_below problem low from levels nodes Done stand are = tt
@@ -99,8 +99,8 @@ mutual
 pub handed_deeper : (problem : WeightedSum) (low levels : ℕ) (node : Node) (part : Part) → Stands problem node.depth levels node → IsPart problem low node part → part ≢ Handed → Each (IsBelow problem (suc node.depth)) (handed_of problem node part)
 handed_deeper problem low levels node Pruned stands is here = tt
 handed_deeper problem low levels node Handed stands is here = absurd (here refl)
-handed_deeper problem low zero node (Split parts) stands is here = absurd (omega (arith, stands.most, is.0))
-handed_deeper problem low (suc levels) node (Split parts) stands is here = all_below problem low (suc node.depth) levels (children_of problem node) parts (children_stand problem node.depth levels node stands) is.1
+handed_deeper problem low zero node (Expanded parts) stands is here = absurd (omega (arith, stands.most, is.0))
+handed_deeper problem low (suc levels) node (Expanded parts) stands is here = all_below problem low (suc node.depth) levels (children_of problem node) parts (children_stand problem node.depth levels node stands) is.1
 
 -- one part more at the end
 abbrev with_last : Parts → Part → Parts
@@ -123,7 +123,7 @@ handed_more problem low (first ∷ nodes) Done node part are = absurd are
 handed_more problem low [] (Then one parts) node part are = absurd are
 handed_more problem low (first ∷ nodes) (Then one parts) node part are = ap (λ rest. handed_of problem first one ++ rest) (handed_more problem low nodes parts node part are.1) ∙ sym (append_assoc (handed_of problem first one) (handed_in problem nodes parts) (handed_of problem node part))
 
--- some children of a split node were searched; the count has the node itself too
+-- some children of an expanded node were searched; the count has the node itself too
 pub record Searched (problem : WeightedSum) (low : ℕ) (took took' : List Node) (nodes : List Node) (count : ℕ) : Type 0 where
   pub parts : Parts
   pub are : AreParts problem low nodes parts
@@ -145,19 +145,23 @@ searched_more problem low high took took' took'' nodes count node part more up s
       counted = omega (arith, searched.counted, counted, ap length all, length-append handed (handed_of problem node part), size_more searched.parts part);
     }
 
--- the next piece's child was handed to the tray, or there is none
-pub searched_passed : (problem : WeightedSum) (low : ℕ) (took took' took'' : List Node) (node : Node) (number count : ℕ) → Searched problem low took took' (children_to problem node number) count → Passed problem took' took'' node number None → Searched problem low took took'' (children_to problem node (number + 1)) count
-searched_passed problem low took took' took'' node number count searched (inl (none, same)) = subst (λ ns. Searched problem low took took'' ns count) (sym (no_child problem node number none)) (subst (λ t. Searched problem low took t (children_to problem node number) count) (sym same) searched)
-searched_passed problem low took took' took'' node number count searched (inr (child, is, taken)) =
+-- pieces that have no point of the node
+pub searched_on : (problem : WeightedSum) (low : ℕ) (took took' : List Node) (node : Node) (from number count : ℕ) → children_to problem node number ≡ children_to problem node from → Searched problem low took took' (children_to problem node from) count → Searched problem low took took' (children_to problem node number) count
+searched_on problem low took took' node from number count same searched = subst (λ ns. Searched problem low took took' ns count) (sym same) searched
+
+-- the child by a piece was handed to the tray
+pub searched_passed : (problem : WeightedSum) (low : ℕ) (took took' took'' : List Node) (node child : Node) (number count : ℕ) → child_of problem node number ≡ Some child → Searched problem low took took' (children_to problem node number) count → Pushed took' took'' child None → Searched problem low took took'' (children_to problem node (number + 1)) count
+searched_passed problem low took took' took'' node child number count is searched taken =
     let none : count + 0 ≡ count = omega arith in
     let more = searched_more problem low low took took' took'' (children_to problem node number) count child Handed 0 (omega arith) searched tt taken (omega arith) in
     subst (λ ns. Searched problem low took took'' ns count) (sym (children_more problem node number ∙ ap (λ o. children_to problem node number ++ option_to_list o) is)) (subst (Searched problem low took took'' (children_to problem node number ++ child ∷ [])) none more)
 
 -- it came back, and was closed
-pub searched_closed : (problem : WeightedSum) (low high : ℕ) (took took' took'' took''' : List Node) (node child : Node) (number count more : ℕ) → low ≤ high → Searched problem low took took' (children_to problem node number) count → Passed problem took' took'' node number (Some child) → Closed problem high took'' took''' child more → Searched problem high took took''' (children_to problem node (number + 1)) (count + more)
-searched_closed problem low high took took' took'' took''' node child number count more up searched passed closed =
-    subst (λ ns. Searched problem high took took''' ns (count + more)) (sym (children_more problem node number ∙ ap (λ o. children_to problem node number ++ option_to_list o) passed.0))
-    (searched_more problem low high took took' took''' (children_to problem node number) count child closed.part more up searched closed.is (closed.taken ∙ ap (λ t. t ++ handed_of problem child closed.part) passed.1) closed.counted)
+pub searched_closed : (problem : WeightedSum) (low high : ℕ) (took took' took'' took''' : List Node) (node child back : Node) (number count more : ℕ) → low ≤ high → child_of problem node number ≡ Some child → Searched problem low took took' (children_to problem node number) count → Pushed took' took'' child (Some back) → Closed problem high took'' took''' back more → Searched problem high took took''' (children_to problem node (number + 1)) (count + more)
+searched_closed problem low high took took' took'' took''' node child back number count more up is searched passed closed =
+    let same : child_of problem node number ≡ Some back = is ∙ ap Some (sym passed.0) in
+    subst (λ ns. Searched problem high took took''' ns (count + more)) (sym (children_more problem node number ∙ ap (λ o. children_to problem node number ++ option_to_list o) same))
+    (searched_more problem low high took took' took''' (children_to problem node number) count back closed.part more up searched closed.is (closed.taken ∙ ap (λ t. t ++ handed_of problem back closed.part) passed.1) closed.counted)
 
 -- the count stays small
 pub searched_few : (problem : WeightedSum) (low : ℕ) (took took' : List Node) (node : Node) (number pieces count : ℕ) → IsProblem problem → IsNode problem node → node.depth < length problem.terms → number ≤ pieces → children_to problem node pieces ≡ children_of problem node → Searched problem low took took' (children_to problem node number) count → count ≤ 1 + 65 * 2 ^ 22
@@ -170,14 +174,14 @@ searched_few problem low took took' node number pieces count h is below within a
 pub searched_all : (problem : WeightedSum) (low : ℕ) (took took' : List Node) (node : Node) (count : ℕ) → node.depth < length problem.terms → Searched problem low took took' (children_of problem node) count → Closed problem low took took' node count
 searched_all problem low took took' node count below searched =
     record {
-      part = Split searched.parts;
+      part = Expanded searched.parts;
       is = (below, searched.are);
       here = λ same. absurd (cc);
       taken = searched.taken;
       counted = searched.counted;
     }
 
--- a node was dropped, since its bound is no more than what the scout knows
+-- a node was pruned, since its bound is no more than what the scout knows
 pub pruned : (problem : WeightedSum) (low : ℕ) (took : List Node) (node : Node) → bound_of problem node ≤ low → Closed problem low took took node 1
 pruned problem low took node is =
     record {

@@ -12,15 +12,15 @@ use Rattle.ivp_domain.specs.Domains.{points_of, whole}
 use Rattle.ivp_domain.proofs.BoxLemmas.{has_low_corner}
 use Rattle.ivp_domain.proofs.Sizes.{few, length-points_of}
 use Rattle.ivp_func.proofs.Counting.{one_if}
-use Rattle.ivp_func.proofs.Facts.{box_parts}
+use Rattle.ivp_func.proofs.Facts.{area_point, box_parts}
 use Rattle.ivp_problem.specs.declared.node.Node.{Node}
 use Rattle.ivp_problem.specs.Problems.{IsProblem, WeightedSum}
 use Rattle.ivp_problem.specs.Trees.{child_of, children_of, IsNode}
 use Rattle.ivp_problem.proofs.Children.{count_children, has}
-use Rattle.ivp_problem.proofs.Nodes.{blank_term, inside_point, node_keeps}
+use Rattle.ivp_problem.proofs.Nodes.{blank_term, node_keeps}
 use Rattle.ivp_problem.proofs.Pieces.{children_more, children_to}
 use Rattle.ivp_problem.proofs.Terms.{at_places, listed_at}
-use Rattle.ivp_pool.specs.Parts.{AreParts, Done, Handed, IsPart, Part, Parts, Pruned, size_in, size_of, Split, Then}
+use Rattle.ivp_pool.specs.Parts.{AreParts, Done, Handed, IsPart, Part, Parts, Pruned, size_in, size_of, Expanded, Then}
 use Rattle.ivp_pool.proofs.Standing.{children_stand, Stands}
 
 -- how many of the domain's points a node has
@@ -55,7 +55,7 @@ some_weight problem node h is =
     let keeps = node_keeps problem node h is in
     let low : Point = record { at = node.area.low } in
     let inside = has_low_corner node.area (box_parts problem.axes node.area keeps.inside).0 in
-    let at = listed_at (whole problem.axes) low (inside_point problem.axes node.area low keeps.inside inside) in
+    let at = listed_at (whole problem.axes) low (area_point problem.axes node.area low keeps.inside inside) in
     let points = points_of problem.axes in
     let same : get_or points at.0 (at_places low) ≡ at_places low = get_or_from_slice_get points at.0 (at_places low) (at_places low) at.1 in
     let one : one_if (has_point node.area (get_or points at.0 (at_places low))) ≡ 1 = ap (λ (q : Point). one_if (has_point node.area q)) same ∙ ap one_if inside in
@@ -110,8 +110,8 @@ mutual
   pub size_most : (problem : WeightedSum) → IsProblem problem → (low from levels : ℕ) (node : Node) (part : Part) → Stands problem from levels node → IsPart problem low node part → size_of part ≤ suc levels * weight_of problem node
   size_most problem h low from levels node Pruned stands is = omega (arith, suc-mul levels (weight_of problem node), some_weight problem node h stands.is)
   size_most problem h low from levels node Handed stands is = omega (arith, suc-mul levels (weight_of problem node), some_weight problem node h stands.is)
-  size_most problem h low from zero node (Split parts) stands is = absurd (omega (arith, stands.most, is.0))
-  size_most problem h low from (suc levels) node (Split parts) stands is =
+  size_most problem h low from zero node (Expanded parts) stands is = absurd (omega (arith, stands.most, is.0))
+  size_most problem h low from (suc levels) node (Expanded parts) stands is =
       let weight = weight_of problem node in
       let children = children_of problem node in
       omega (

@@ -4,7 +4,7 @@ use Rattle.ivp_domain.specs.declared.boxes.Point.{Point}
 use Rattle.ivp_problem.specs.declared.node.Node.{Node}
 use Rattle.ivp_problem.specs.Problems.{WeightedSum}
 use Rattle.ivp_problem.specs.Sums.{key_at}
-use Rattle.ivp_problem.specs.Trees.{child_of, has_in}
+use Rattle.ivp_problem.specs.Trees.{has_in}
 use Rattle.ivp_pool.specs.Parts.{handed_of, IsPart, Part, Handed, size_of}
 
 -- what a tray has taken after a push: the node at the end, or as before, where the node came back
@@ -24,8 +24,3 @@ pub record Closed (problem : WeightedSum) (low : ℕ) (took took' : List Node) (
 abbrev pub AreCovered : WeightedSum → ℕ → List Node → List Node → (Point → Bool) → Type 0
 AreCovered problem low took took' passes =
     (since : List Node) × (took' ≡ took ++ since) × ((p : Point) → IsTrue (passes p) → (key_at problem p ≤ low) ⊎ IsTrue (has_in since p))
-
--- the child by a piece went to the tray, or there is none; or it came back
-abbrev pub Passed : WeightedSum → List Node → List Node → Node → ℕ → Option Node → Type 0
-Passed problem took took' node number None = ((child_of problem node number ≡ None) × (took' ≡ took)) ⊎ ((child : Node) × (child_of problem node number ≡ Some child) × (took' ≡ took ++ child ∷ []))
-Passed problem took took' node number (Some child) = (child_of problem node number ≡ Some child) × (took' ≡ took)

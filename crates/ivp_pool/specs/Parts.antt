@@ -5,11 +5,11 @@ use Rattle.ivp_problem.specs.Problems.{WeightedSum}
 use Rattle.ivp_problem.specs.Trees.{bound_of, children_of}
 
 mutual
-  -- what became of a node: it was dropped with all below it, handed to others, or split into its children
+  -- what became of a node: it was pruned with all below it, handed to others, or expanded into its children
   pub data Part : Type 0 where
     Pruned : Part
     Handed : Part
-    Split : Parts → Part
+    Expanded : Parts → Part
 
   -- what became of each of some nodes, one after the other
   pub data Parts : Type 0 where
@@ -17,11 +17,11 @@ mutual
     Then : Part → Parts → Parts
 
 abbrev mutual
-  -- the part is one of this node: a pruned node's bound is at most this key, and a split one isn't at full depth and has a part for each of its children
+  -- the part is one of this node: a pruned node's bound is at most this key, and an expanded one isn't at full depth and has a part for each of its children
   pub IsPart : WeightedSum → ℕ → Node → Part → Type 0
   IsPart problem low node Pruned = bound_of problem node ≤ low
   IsPart problem low node Handed = Unit {0}
-  IsPart problem low node (Split parts) = (node.depth < length problem.terms) × AreParts problem low (children_of problem node) parts
+  IsPart problem low node (Expanded parts) = (node.depth < length problem.terms) × AreParts problem low (children_of problem node) parts
 
   -- there is one part for each of these nodes
   pub AreParts : WeightedSum → ℕ → List Node → Parts → Type 0
@@ -35,7 +35,7 @@ abbrev mutual
   pub size_of : Part → ℕ
   size_of Pruned = 1
   size_of Handed = 1
-  size_of (Split parts) = 1 + size_in parts
+  size_of (Expanded parts) = 1 + size_in parts
 
   -- how many nodes several parts have together
   pub size_in : Parts → ℕ
@@ -47,7 +47,7 @@ abbrev mutual
   pub handed_of : WeightedSum → Node → Part → List Node
   handed_of problem node Pruned = []
   handed_of problem node Handed = node ∷ []
-  handed_of problem node (Split parts) = handed_in problem (children_of problem node) parts
+  handed_of problem node (Expanded parts) = handed_in problem (children_of problem node) parts
 
   -- the nodes of several parts that were handed to others, part after part
   pub handed_in : WeightedSum → List Node → Parts → List Node

@@ -1,8 +1,8 @@
-ghost use Rattle.std.specs.Prelude.{◌≡◌, ◌<◌, ◌≤◌, length, Some, IfSome};
+ghost use Rattle.std.specs.Prelude.{◌≡◌, ◌<◌, ◌≤◌, Some};
 ghost use Rattle.ivp_domain.specs.Boxes.{has_point};
-ghost use Rattle.ivp_problem.specs.Trees.{bound_of, IsNode, next_of};
+ghost use Rattle.ivp_problem.specs.Trees.{bound_of, IsNode};
 ghost use Rattle.best_word.specs.Known.{IsKnownKey};
-ghost use Rattle.ivp_pool.specs.Closing.{AreCovered, Closed, Passed};
+ghost use Rattle.ivp_pool.specs.Closing.{AreCovered, Closed};
 
 use crate::tray::Tray;
 use best_word::{Best, Scout};
@@ -31,22 +31,8 @@ fn bound_of(problem: &Problem, node: &Node) -> Key
     bound_by::<Brand>(problem, node, Blank::new(1))
 }
 
-/// Hands the child by a piece to the tray, where there is one. It is the answer where it came back.
-fn kept_child<T: Tray>(problem: &Problem, node: &Node, piece: u32, tray: &mut T) -> Option<Node>
-    requires tray { T.problem tray.old ≡ problem.now }
-    requires node { IsNode problem.now node.now }
-    requires depth { node.now.depth < length problem.now.terms }
-    requires piece { IfSome (next_of problem.now node.now) (λ term. piece < length term.func.pieces) }
-    ensures passed { Passed problem.now (T.took tray.old) (T.took tray.new) node.now piece result }
-    ensures node { IfSome result (IsNode problem.now) }
-    ensures tray { T.problem tray.new ≡ problem.now }
-{
-    let child = problem.child(node, piece)?;
-    tray.push(child)
-}
-
 /// Closes a node. It looks at the word first: where the node's bound is at most the key there, nothing below it can be
-/// better, and it is dropped. At full depth its best point is offered. Else each child goes to the tray, pieces in order, and
+/// better, and it is pruned. At full depth its best point is offered. Else each child goes to the tray, pieces in order, and
 /// one that comes back is closed at once. The answer is how many nodes were closed. It takes no memory of its own and
 /// doesn't wait.
 pub fn close_one<T: Tray>(
@@ -62,7 +48,7 @@ pub fn close_one<T: Tray>(
     requires node { IsNode problem.now node }
     ensures closed { Closed problem.now scout.new.me.0.low (T.took tray.old) (T.took tray.new) node result }
     ensures covered { AreCovered problem.now scout.new.me.0.low (T.took tray.old) (T.took tray.new) (has_point node.area) }
-    ensures dropped { bound_of problem.now node ≤ scout.old.me.0.low → (result ≡ 1) × (T.took tray.new ≡ T.took tray.old) }
+    ensures pruned { bound_of problem.now node ≤ scout.old.me.0.low → (result ≡ 1) × (T.took tray.new ≡ T.took tray.old) }
     ensures known { IsKnownKey problem.now scout.new.me.0.low }
     ensures later { scout.old.me.0.low ≤ scout.new.me.0.low }
     ensures scout { (scout.new.table_id ≡ scout.old.table_id) × (scout.new.me ≡ (record scout.old.me.0 { low = scout.new.me.0.low }, scout.old.me.1)) }
@@ -80,10 +66,12 @@ pub fn close_one<T: Tray>(
         return 1;
     }
     let mut closed = 1;
-    for piece in 0..problem.func(node.depth).len() {
-        if let Some(child) = kept_child(problem, &node, piece, tray) {
+    let mut from = 0;
+    while let Some(next) = problem.next_child(&node, from) {
+        if let Some(child) = tray.push(next.node) {
             closed += close_one(problem, best, scout, child, tray);
         }
+        from = next.piece + 1;
     }
     closed
 }

@@ -90,7 +90,7 @@ pub(crate) fn team_of(
 }
 
 /// Closes a node, as the worker's next call.
-fn close_next<T: Tray, G: Gate>(
+pub(crate) fn close_next<T: Tray, G: Gate>(
     problem: &Problem,
     best: &Best,
     gate: &G,

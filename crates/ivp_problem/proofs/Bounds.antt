@@ -11,7 +11,7 @@ use Rattle.ivp_domain.specs.declared.boxes.Point.{Point}
 use Rattle.ivp_domain.specs.Boxes.{has_point, is_box, points_in}
 use Rattle.ivp_domain.specs.Domains.{index_of, size_on}
 use Rattle.ivp_domain.proofs.BoxLemmas.{has_low_corner, listed_point}
-use Rattle.ivp_func.proofs.Facts.{box_parts, has_first_point, place_in}
+use Rattle.ivp_func.proofs.Facts.{area_point, box_parts, has_first_point, place_in}
 use Rattle.ivp_problem.specs.declared.node.Node.{Node}
 use Rattle.ivp_problem.specs.Keys.{key_of}
 use Rattle.ivp_problem.specs.Problems.{IsProblem, WeightedSum}
@@ -19,7 +19,7 @@ use Rattle.ivp_problem.specs.Sums.{greatest, key_at, least, sum_at, weighted_at,
 use Rattle.ivp_problem.specs.Corners.{Beats}
 use Rattle.ivp_problem.specs.Trees.{bound_of, chosen_at, rest_of, slope_at}
 use Rattle.ivp_problem.proofs.KeyOrder.{index_le, index_small, key_le, key_lt, key_places, key_some}
-use Rattle.ivp_problem.proofs.Nodes.{inside_point, Keeps}
+use Rattle.ivp_problem.proofs.Nodes.{Keeps}
 use Rattle.ivp_problem.proofs.Terms.{at_places, listed_at, weighted_sums_places, weighted_sums_tops}
 use Rattle.ivp_problem.proofs.Totals.{greatest_each, greatest_is, greatest_one, least_each, least_is}
 
@@ -99,7 +99,7 @@ key_bound problem node p keeps inside =
         let at = listed_at node.area p inside in
         let terms = take node.depth problem.terms in
         let most : weighted_sum terms p ≤ greatest (weighted_sum terms) (points_in node.area) = subst (λ n. n ≤ greatest (weighted_sum terms) (points_in node.area)) (weighted_sums_places terms p) (greatest_each (weighted_sum terms) (points_in node.area) at.0 (at_places p) at.1) in
-        let others = weighted_sums_tops problem.axes (drop node.depth problem.terms) p (inside_point problem.axes node.area p keeps.inside inside) in
+        let others = weighted_sums_tops problem.axes (drop node.depth problem.terms) p (area_point problem.axes node.area p keeps.inside inside) in
         let first : least (index_of problem.axes) (points_in node.area) ≤ index_of problem.axes p = least_each (index_of problem.axes) (points_in node.area) at.0 (at_places p) at.1 in
         let whole = sum_by-take-drop (weighted_at p) problem.terms node.depth in
         let sum : sum_at problem p ≤ greatest (weighted_sum terms) (points_in node.area) + rest_of problem node = omega arith in
@@ -125,7 +125,7 @@ pub bound_attained : (problem : WeightedSum) (node : Node) → IsProblem problem
 bound_attained problem node h keeps full =
     let low : Point = record { at = node.area.low } in
     let inside = has_low_corner node.area (box_parts problem.axes node.area keeps.inside).0 in
-    let some : 0 < key_at problem low = key_some (sum_at problem low) (index_of problem.axes low) (index_small problem.axes low h.domain (inside_point problem.axes node.area low keeps.inside inside)) in
+    let some : 0 < key_at problem low = key_some (sum_at problem low) (index_of problem.axes low) (index_small problem.axes low h.domain (area_point problem.axes node.area low keeps.inside inside)) in
     let below = key_bound problem node low keeps inside in
     let test : nat_lt node.depth (length problem.terms) ≡ false = grind (arith, nat_tests) in
     let greatest : bound_of problem node ≡ greatest (key_at problem) (points_in node.area) = rw test refl in

@@ -17,7 +17,8 @@ use Rattle.ivp_problem.specs.declared.node.Node.{Node}
 use Rattle.ivp_problem.specs.declared.term.Term.{Term}
 use Rattle.ivp_problem.specs.Problems.{IsProblem, WeightedSum}
 use Rattle.ivp_problem.specs.Trees.{child_with, children_in, children_of, with_chosen}
-use Rattle.ivp_problem.proofs.Nodes.{inside_point, Keeps}
+use Rattle.ivp_problem.proofs.Nodes.{Keeps}
+use Rattle.ivp_func.proofs.Facts.{area_point}
 
 -- a list over the numbers of a list's elements is one over the elements
 shifted : {A : Type 0} (f : ℕ → List A) (low n : ℕ) → flat_map f (numbers_from (suc low) n) ≡ flat_map (λ k. f (suc k)) (numbers_from low n)
@@ -70,7 +71,7 @@ count_children problem node term p h keeps stands =
     let of_term = h.terms node.depth term stands in
     let partition = subst (λ (a : List Axis). IsPartition a term.func.pieces) of_term.domain of_term.func.partition in
     let children : children_of problem node ≡ children_in term node = rw stands (append-nil (children_in term node)) in
-    ap (count_by (has p)) (children ∙ children_list term node) ∙ (count_pieces term.weight node term.func.pieces p ∙ once (has_point node.area p) refl (λ inside. partition p (inside_point problem.axes node.area p keeps.inside inside)))
+    ap (count_by (has p)) (children ∙ children_list term node) ∙ (count_pieces term.weight node term.func.pieces p ∙ once (has_point node.area p) refl (λ inside. partition p (area_point problem.axes node.area p keeps.inside inside)))
   where
     once : (t : Bool) → has_point node.area p ≡ t → (has_point node.area p ≡ true → count_at term.func.pieces p ≡ 1) → cond t (count_at term.func.pieces p) 0 ≡ cond t 1 0
     once true e h = h e

@@ -13,12 +13,12 @@ use Rattle.ivp_domain.specs.declared.boxes.Point.{Point}
 use Rattle.ivp_domain.specs.Boxes.{common, has_point, is_box, meet_of}
 use Rattle.ivp_domain.specs.Domains.{is_point, size_on, whole}
 use Rattle.ivp_domain.proofs.BoxLemmas.{has_point-common}
-use Rattle.ivp_domain.proofs.Sizes.{few_on, is_point-from, places_below, positive}
+use Rattle.ivp_domain.proofs.Sizes.{few_on, places_below, positive}
 use Rattle.ivp_func.specs.declared.piece.Piece.{Piece}
 use Rattle.ivp_func.specs.Functions.{IsPartition}
 use Rattle.ivp_func.specs.Pieces.{are_pieces_of, is_box_of, is_piece_of, is_slope, is_small, slope_on, value_at, piece_value}
 use Rattle.ivp_func.proofs.Counting.{value_at-only}
-use Rattle.ivp_func.proofs.Facts.{box_parts, passes_at, piece_parts, place_in}
+use Rattle.ivp_func.proofs.Facts.{area_point, box_parts, passes_at, piece_parts}
 use Rattle.ivp_func.proofs.Rises.{base_within, slope_within, small_parts}
 use Rattle.ivp_problem.specs.declared.node.Node.{Node}
 use Rattle.ivp_problem.specs.declared.term.Term.{Term}
@@ -133,13 +133,6 @@ piece_fits axes term number piece h stands =
     let pieces = subst (λ (a : List Axis). are_pieces_of a term.func.pieces ≡ true) h.domain h.func.pieces in
     passes_at (is_piece_of axes) term.func.pieces number piece pieces stands
 
--- a point of a box of the domain is one of the domain
-pub inside_point : (axes : List Axis) (area : BoxN) (p : Point) → is_box_of axes area ≡ true → has_point area p ≡ true → is_point axes p ≡ true
-inside_point axes area p fits h =
-    let high = box_parts axes area fits in
-    is_point-from axes p
-    (omega (arith, (place_in area p h 0 (omega arith)).1, high.1)) (omega (arith, (place_in area p h 1 (omega arith)).1, high.2)) (omega (arith, (place_in area p h 2 (omega arith)).1, high.3)) (omega (arith, (place_in area p h 3 (omega arith)).1, high.4))
-
 -- the sum of one more term
 pub weighted_sums_more : (terms : List Term) (n : ℕ) (term : Term) (p : Point) → slice_get terms n ≡ Some term → weighted_sum (take (n + 1) terms) p ≡ weighted_sum (take n terms) p + weighted_at p term
 weighted_sums_more terms n term p e =
@@ -152,7 +145,7 @@ child_sum : (problem : WeightedSum) → IsProblem problem → (node : Node) (ter
 child_sum problem h node term number piece keeps stands in_term p inside =
     let axes = problem.axes in
     let in_both = and_parts (has_point node.area p) (has_point piece.area p) (sym (has_point-common node.area piece.area p) ∙ inside) in
-    let in_domain = inside_point axes node.area p keeps.inside in_both.0 in
+    let in_domain = area_point axes node.area p keeps.inside in_both.0 in
     let of_term = h.terms node.depth term stands in
     let value = value_here axes term number piece p of_term in_term in_domain in_both.1 in
     let one : (pos term.weight *ℤ piece_value piece p) ≡ pos (weighted_at p term) = ap (λ z. pos term.weight *ℤ z) (sym value) ∙ weighted_signed axes term p of_term in_domain in
@@ -240,7 +233,7 @@ small_more a b node le h =
 pub place_small : (problem : WeightedSum) (node : Node) (p : Point) → IsProblem problem → Keeps problem node → has_point node.area p ≡ true → (k : ℕ) → k < 4 → slice_index p.at k < 2 ^ 22
 place_small problem node p h keeps inside k within =
     let axes = problem.axes in
-    let at = places_below axes p h.domain (inside_point axes node.area p keeps.inside inside) in
+    let at = places_below axes p h.domain (area_point axes node.area p keeps.inside inside) in
     by k within (few_on axes h.domain k within) at.0 at.1 at.2 at.3
   where
     by : (k : ℕ) → k < 4 → size_on k problem.axes ≤ 2 ^ 22 → slice_index p.at 0 < size_on 0 problem.axes → slice_index p.at 1 < size_on 1 problem.axes → slice_index p.at 2 < size_on 2 problem.axes → slice_index p.at 3 < size_on 3 problem.axes → slice_index p.at k < 2 ^ 22

@@ -18,7 +18,7 @@ mod term;
 
 pub use key::{Key, MOST_SUM, index_of_key, key_of, sum_of};
 pub use law::{best_law, bound_law, children_law, keys_law};
-pub use node::Node;
+pub use node::{Node, NumberedChild};
 pub use problem::{MOST_FUNCTIONS, MOST_WEIGHT, Problem, problem_law};
 pub use term::{ProblemFault, Term};
 

@@ -1,4 +1,4 @@
-ghost use Rattle.std.specs.Prelude.{◌≡◌, ℕ, ◌+◌, ◌*◌, ◌^◌, ◌<◌, ◌≤◌, ◌↔◌, pos, neg_ℤ, ◌*ℤ◌, ◌≤ℤ◌, length, Some, IsTrue, IsNone, IfSome, false, ◌&&◌, slice_get, slice_index, take};
+ghost use Rattle.std.specs.Prelude.{◌≡◌, ℕ, ◌+◌, ◌*◌, ◌^◌, ◌<◌, ◌≤◌, ◌↔◌, pos, neg_ℤ, ◌*ℤ◌, ◌≤ℤ◌, length, Some, None, IsTrue, IsNone, IfSome, IfNone, false, ◌&&◌, slice_get, slice_index, take};
 ghost use Rattle.ivp_domain.specs.Boxes.{has_point, is_box};
 ghost use Rattle.ivp_domain.specs.Domains.{is_point};
 ghost use Rattle.ivp_func.specs.Pieces.{is_small};
@@ -21,6 +21,13 @@ pub struct Node {
     pub area: BoxN,
     pub base: i64,
     pub slope: [i64; 4],
+}
+
+/// A child of a node, with the number of the piece that it chooses.
+#[derive(Clone, Copy, Debug, PartialEq, Eq)]
+pub struct NumberedChild {
+    pub piece: u32,
+    pub node: Node,
 }
 
 /// The slope along an axis with that of a weighted piece added.
@@ -143,6 +150,23 @@ impl Problem {
             Some(area) => Some(with_chosen(weight, &piece, node, area)),
             None => None,
         }
+    }
+
+    /// The child by the least piece number from `from` on that shares a point with the node. `None`
+    /// exactly where there is none.
+    pub fn next_child(&self, node: &Node, from: u32) -> Option<NumberedChild>
+        requires node { IsNode self.now node.now }
+        requires depth { node.now.depth < length self.now.terms }
+        ensures child { IfSome result (λ next. child_of self.now node.now next.piece ≡ Some next.node) }
+        ensures node { IfSome result (λ next. IsNode self.now next.node) }
+        ensures piece { IfSome result (λ next. (from ≤ next.piece) × (next.piece < 4096)) }
+        ensures least { IfSome result (λ next. (other : ℕ) → from ≤ other → other < next.piece → child_of self.now node.now other ≡ None) }
+        ensures none { IfNone result ((other : ℕ) → from ≤ other → child_of self.now node.now other ≡ None) }
+    {
+        problem_law(self);
+        let piece = self.func(node.depth).next_meet(&node.area, from)?;
+        let node = self.child(node, piece)?;
+        Some(NumberedChild { piece, node })
     }
 
     /// The sum of the chosen functions at a point of a node.

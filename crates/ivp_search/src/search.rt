@@ -10,7 +10,7 @@ use ivp_problem::{Key, Node, Problem, bound_law, children_law, keys_law};
 use std::sync::ledger::Ledger;
 
 /// Searches a node and all below it: the best of the incumbent and of the keys of the node's points.
-/// A node whose bound is at most the incumbent is dropped, since no key in it is above its bound.
+/// A node whose bound is at most the incumbent is pruned, since no key in it is above its bound.
 /// At full depth the bound is the greatest key in the node.
 fn close<L: Ledger>(problem: &Problem, node: &Node, incumbent: Key, steps: &mut Steps<L>) -> Key
     requires { IsNode problem.now node.now }
@@ -27,10 +27,10 @@ fn close<L: Ledger>(problem: &Problem, node: &Node, incumbent: Key, steps: &mut 
     }
     children_law(problem, node);
     let mut best = incumbent;
-    for piece in 0..problem.func(node.depth).len() {
-        if let Some(child) = problem.child(node, piece) {
-            best = close(problem, &child, best, steps);
-        }
+    let mut from = 0;
+    while let Some(next) = problem.next_child(node, from) {
+        best = close(problem, &next.node, best, steps);
+        from = next.piece + 1;
     }
     best
 }

@@ -202,7 +202,7 @@ fn last_of_all(rt: HostRuntime) -> Result<(), Fail> {
     Ok(())
 }
 
-/// The first child is the best, and the others are dropped.
+/// The first child is the best, and the others are pruned.
 #[test]
 fn first_of_all(rt: HostRuntime) -> Result<(), Fail> {
     let one = (

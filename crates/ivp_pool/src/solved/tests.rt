@@ -1,12 +1,16 @@
 // Whole searches: worked problems, a hundred generated ones, and workers beside each other.
 ghost use Rattle.std.specs.Prelude.{◌+◌, ◌<◌, ◌≤◌};
+ghost use Rattle.ivp_pool.specs.Solving.{IsNew};
 
 use crate::solved::solve;
+use crate::team::{Worker, close_next, team_of};
 use crate::tests::{axis, key_at, term, two};
+use crate::tray::Tray;
 use crate::work::{Work, Works};
+use best_word::Best;
 use ivp_domain::{BoxN, Domain};
 use ivp_func::Piece;
-use ivp_problem::{Key, Problem, index_of_key, key_of, sum_of};
+use ivp_problem::{Key, Node, Problem, index_of_key, key_of, sum_of};
 use moos_io::{Gate, NoGate};
 use std::alloc::Global;
 use std::process::Abort;
@@ -200,35 +204,25 @@ fn a_hundred_small_problems(rt: HostRuntime) -> Result<(), Fail> {
     Ok(())
 }
 
-/// Holds worker 0 at its node 1 until worker 1 is at its node 0, and that one until worker 0 is there, each for at most
-/// 100,000,000 looks.
+/// Holds each of three workers at the first node of its share until all three are there, for at most 100,000,000 looks.
 #[derive(Drop)]
 struct Beside {
-    first: AtomicBool,
-    second: AtomicBool,
+    here: AtomicU64,
     late: AtomicBool,
-}
-
-impl Beside {
-    fn meet(&self, mine: &AtomicBool, other: &AtomicBool) {
-        mine.store(true, Ordering::SeqCst);
-        for _ in 0..100_000_000u32 {
-            if other.load(Ordering::SeqCst) {
-                return;
-            }
-        }
-        self.late.store(true, Ordering::SeqCst);
-    }
 }
 
 impl Gate for Beside {
     fn at_node(&self, worker: u32, nth: u64) {
-        if worker == 0 && nth == 1 {
-            self.meet(&self.first, &self.second);
+        if nth != if worker == 0 { 1 } else { 0 } {
+            return;
         }
-        if worker == 1 && nth == 0 {
-            self.meet(&self.second, &self.first);
+        self.here.fetch_add(1, Ordering::SeqCst);
+        for _ in 0..100_000_000u32 {
+            if self.here.load(Ordering::SeqCst) == 3 {
+                return;
+            }
         }
+        self.late.store(true, Ordering::SeqCst);
     }
 
     fn at_call(&self, _client: u32, _nth: u64) {}
@@ -238,14 +232,74 @@ impl Gate for Beside {
 fn workers_beside(rt: HostRuntime) -> Result<(), Fail> {
     let problem = eight(rt.alloc())?;
     let gate = Beside {
-        first: AtomicBool::new(false),
-        second: AtomicBool::new(false),
+        here: AtomicU64::new(0),
         late: AtomicBool::new(false),
     };
-    let solved = solve(&rt, rt.alloc(), &problem, 2, &gate)?;
+    let solved = solve(&rt, rt.alloc(), &problem, 3, &gate)?;
     assert_eq!(rt; solved.key, key_of(9, 5));
-    assert!(rt; gate.first.load(Ordering::SeqCst) && gate.second.load(Ordering::SeqCst));
+    assert_eq!(rt; gate.here.load(Ordering::SeqCst), 3);
     assert!(rt; !gate.late.load(Ordering::SeqCst));
+    Ok(())
+}
+
+/// Notes how many nodes a tray had seen when a call was told.
+#[derive(Drop)]
+struct Watching {
+    pushed: AtomicU64,
+    told_at: AtomicU64,
+}
+
+impl Gate for Watching {
+    fn at_node(&self, _worker: u32, _nth: u64) {
+        self.told_at
+            .store(self.pushed.load(Ordering::SeqCst), Ordering::SeqCst);
+    }
+
+    fn at_call(&self, _client: u32, _nth: u64) {}
+}
+
+/// A tray that counts the nodes that it hands back.
+#[derive(Drop)]
+struct Watched<'a> {
+    problem: &'a Problem,
+    pushed: &'a AtomicU64,
+}
+
+impl<'a> Tray for Watched<'a> {
+    ghost use Rattle.std.specs.Prelude.{[]};
+
+    ghost problem = { λ tray. tray.problem.now };
+
+    ghost took = { λ _. [] };
+
+    fn push(&mut self, node: Node) -> Option<Node> {
+        self.pushed.fetch_add(1, Ordering::SeqCst);
+        Some(node)
+    }
+}
+
+/// A new worker closes the root, watched by the gate.
+fn close_watched(problem: &Problem, best: &Best, gate: &Watching, worker: &mut Worker)
+    requires { IsNew problem.now best.now worker.old }
+{
+    let pushed = &gate.pushed;
+    let mut tray = Watched { problem, pushed };
+    close_next(problem, best, gate, 0, worker, problem.root(), &mut tray);
+}
+
+/// The gate is told before the node is closed.
+#[test]
+fn told_before_the_call(rt: HostRuntime) -> Result<(), Fail> {
+    let problem = two(rt.alloc())?;
+    let gate = Watching {
+        pushed: AtomicU64::new(0),
+        told_at: AtomicU64::new(9),
+    };
+    let (best, mut scout) = Best::make(rt.alloc(), &problem)?;
+    let mut team = team_of(rt.alloc(), &problem, &best, &mut scout, 1)?;
+    close_watched(&problem, &best, &gate, &mut team[0]);
+    assert_eq!(rt; gate.told_at.load(Ordering::SeqCst), 0);
+    assert_eq!(rt; gate.pushed.load(Ordering::SeqCst), 3);
     Ok(())
 }
 

@@ -1,7 +1,8 @@
-use Rattle.std.proofs.Common.{◌≤◌, take}
-use Rattle.ivp_domain.specs.declared.boxes.Point.{Point}
-use Rattle.ivp_func.specs.Pieces.{count_at}
+use Rattle.std.proofs.Common.{◌≡◌, ℕ, ◌<◌, false, Some}
+use Rattle.std.specs.Prelude.{slice_get}
+use Rattle.ivp_func.specs.declared.piece.Piece.{Piece}
+use Rattle.ivp_func.specs.Grids.{meets}
 use Rattle.ivp_func.proofs.partition.overlap.Given as goal
 
 abbrev pub invariant-loop-place : goal.invariant-loop-place
-invariant-loop-place l = (p : Point) → count_at (take l.place l.pieces) p ≤ 1
+invariant-loop-place l = (place other : ℕ) (piece : Piece) → place < l.place → slice_get l.pieces place ≡ Some piece → place < other → meets l.pieces piece.area other ≡ false

@@ -1,7 +1,11 @@
-use Rattle.std.proofs.Common.{◌≡◌, false, ap, refl, ◌∙◌, sym, subst, to_z, of_z, w64, arith, rules}
+use Rattle.std.proofs.Common.{◌≡◌, List, false, ap, refl, ◌∙◌, sym, subst, to_z, of_z, w64, arith, rules}
 use Rattle.std.proofs.lemmas.Int.{ints}
+use Rattle.ivp_func.specs.declared.grid.Grid.{Grid}
+use Rattle.ivp_func.specs.declared.piece.Piece.{Piece}
+use Rattle.ivp_func.specs.Cells.{IsGrid}
 use Rattle.ivp_func.specs.Functions.{HasValues, IsPartition, IsTop}
 use Rattle.ivp_func.specs.Pieces.{is_value, value_at}
+use Rattle.ivp_func.proofs.Seeking.{ok_some}
 use Rattle.ivp_func.proofs.func.Func.make.Goals as goal
 
 pub invariant_of-result : goal.invariant_of-result
@@ -12,10 +16,12 @@ invariant_of-result c =
         domain = c.in_default.ensures.domain;
         few = search rules;
         pieces = c.requires;
-        partition = subst (λ xs. IsPartition axes xs) c.deref.ensures.value c.in_default.ensures.none;
-        values = subst (λ xs. HasValues axes xs) c.deref-2.ensures.value c.in_default-point_out.ensures.none;
+        partition = subst (λ xs. IsPartition axes xs) c.deref-2.ensures.value c.in_default.ensures.none;
+        values = subst (λ xs. HasValues axes xs) c.deref-3.ensures.value c.in_default-point_out.ensures.none;
       },
-      subst (λ v. IsTop axes c.args.pieces.items v) (sym kept) (subst (λ xs. IsTop axes xs c.top-top.result) c.deref-3.ensures.value c.top-top.ensures),
+      subst (λ v. IsTop axes c.args.pieces.items v) (sym kept) (subst (λ xs. IsTop axes xs c.top-top.result) c.deref-4.ensures.value c.top-top.ensures),
+      subst (λ (xs : List Piece). IsGrid xs c.in-Some-grid.grid) c.deref.ensures.value (ok_some (IsGrid c.deref.result.now) c.make.result c.in-Some-grid.grid (sym c.ok-grid.ensures.value ∙ c.in-Some-grid.is) c.make.ensures.grid),
+      ok_some (λ (g : Grid). g.cuts ≡ axes) c.make.result c.in-Some-grid.grid (sym c.ok-grid.ensures.value ∙ c.in-Some-grid.is) c.make.ensures.domain,
     )
 
 pub returns-in-Some-point_out : goal.returns-in-Some-point_out
@@ -24,9 +30,9 @@ returns-in-Some-point_out c =
     let point = c.in-Some-point_out.point in
     let kept : to_z w64 (of_z w64 c.value_at-value.result) ≡ c.value_at-value.result = omega (arith, ints) in
     let value : to_z w64 (of_z w64 c.value_at-value.result) ≡ value_at c.args.pieces.items point = kept ∙ (c.value_at-value.ensures ∙ ap (λ xs. value_at xs point) c.deref-in-Some-point_out.ensures.value) in
-    let out : is_value (value_at c.args.pieces.items point) ≡ false = subst (λ xs. is_value (value_at xs point) ≡ false) c.deref-2.ensures.value c.in-Some-point_out.ensures.some.1 in (
+    let out : is_value (value_at c.args.pieces.items point) ≡ false = subst (λ xs. is_value (value_at xs point) ≡ false) c.deref-3.ensures.value c.in-Some-point_out.ensures.some.1 in (
       search rules,
-      subst (λ xs. IsPartition axes xs) c.deref.ensures.value c.in_default.ensures.none,
+      subst (λ xs. IsPartition axes xs) c.deref-2.ensures.value c.in_default.ensures.none,
       c.in-Some-point_out.ensures.some.0,
       value,
       ap is_value value ∙ out,
@@ -36,7 +42,7 @@ pub returns : goal.returns
 returns c =
     let axes = c.args.domain.now in (
       search rules,
-      subst (λ xs. IsPartition axes xs) c.deref.ensures.value c.in_default.ensures.none,
-      subst (λ xs. HasValues axes xs) c.deref-2.ensures.value c.in_default-point_out.ensures.none,
+      subst (λ xs. IsPartition axes xs) c.deref-2.ensures.value c.in_default.ensures.none,
+      subst (λ xs. HasValues axes xs) c.deref-3.ensures.value c.in_default-point_out.ensures.none,
       refl,
     )

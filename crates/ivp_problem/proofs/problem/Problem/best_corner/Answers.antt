@@ -1,12 +1,12 @@
 use Rattle.std.proofs.Common.{◌≡◌, subst}
 use Rattle.std.proofs.lemmas.List.{take_all}
 use Rattle.ivp_domain.specs.Domains.{index_of}
-use Rattle.ivp_func.proofs.Facts.{box_parts}
+use Rattle.ivp_func.proofs.Facts.{area_point, box_parts}
 use Rattle.ivp_problem.specs.Keys.{key_of}
 use Rattle.ivp_problem.specs.Sums.{weighted_sum}
 use Rattle.ivp_problem.specs.Trees.{bound_of}
 use Rattle.ivp_problem.proofs.Bounds.{bound_full, IsHighCorner}
-use Rattle.ivp_problem.proofs.Nodes.{inside_point, node_keeps}
+use Rattle.ivp_problem.proofs.Nodes.{node_keeps}
 use Rattle.ivp_problem.proofs.problem.Problem.best_corner.Goals as goal
 
 pub high_corner-requires : goal.high_corner-requires
@@ -19,7 +19,7 @@ pub returns-clause-point : goal.returns-clause-point
 returns-clause-point c =
     let problem = c.args.self.now in
     let keeps = node_keeps problem c.args.node.now c.problem_law.ensures c.requires.node in
-    inside_point problem.axes c.args.node.now.area c.high_corner.result keeps.inside c.high_corner.ensures.inside
+    area_point problem.axes c.args.node.now.area c.high_corner.result keeps.inside c.high_corner.ensures.inside
 
 pub returns-clause-best : goal.returns-clause-best
 returns-clause-best c =

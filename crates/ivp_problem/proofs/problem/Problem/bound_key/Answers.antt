@@ -1,14 +1,14 @@
 use Rattle.std.proofs.Common.{◌≡◌, ℕ, ◌+◌, ◌*◌, ◌^◌, ◌≤◌, true, drop, length-drop, refl, ap, ◌∙◌, arith}
 use Rattle.ivp_domain.specs.declared.boxes.Point.{Point}
 use Rattle.ivp_domain.specs.Domains.{index_of, is_point}
-use Rattle.ivp_func.proofs.Facts.{box_parts, has_first_point}
+use Rattle.ivp_func.proofs.Facts.{area_point, box_parts, has_first_point}
 use Rattle.ivp_problem.specs.Keys.{key_of}
 use Rattle.ivp_problem.specs.declared.node.Node.{Node}
 use Rattle.ivp_problem.specs.Problems.{IsProblem, WeightedSum}
 use Rattle.ivp_problem.specs.Trees.{bound_of, rest_of}
 use Rattle.ivp_problem.proofs.Bounds.{bound_below, bound_full, IsHighCorner, key_bound}
 use Rattle.ivp_problem.proofs.KeyOrder.{index_small}
-use Rattle.ivp_problem.proofs.Nodes.{inside_point, Keeps, node_keeps}
+use Rattle.ivp_problem.proofs.Nodes.{Keeps, node_keeps}
 use Rattle.ivp_problem.proofs.Terms.{each_drop, tops_most}
 use Rattle.ivp_problem.proofs.problem.Problem.bound_key.Goals as goal
 
@@ -22,7 +22,7 @@ sum_within problem node most rest h keeps few e =
 
 -- the low corner of a node's box is a point of the domain
 first_inside : (problem : WeightedSum) (node : Node) (first : Point) → Keeps problem node → first.at ≡ node.area.low → is_point problem.axes first ≡ true
-first_inside problem node first keeps low = inside_point problem.axes node.area first keeps.inside (has_first_point node.area first (box_parts problem.axes node.area keeps.inside).0 low)
+first_inside problem node first keeps low = area_point problem.axes node.area first keeps.inside (has_first_point node.area first (box_parts problem.axes node.area keeps.inside).0 low)
 
 pub high_corner-corner-requires : goal.high_corner-corner-requires
 high_corner-corner-requires c =
@@ -60,7 +60,7 @@ pub index_of-requires-else-node-len : goal.index_of-requires-else-node-len
 index_of-requires-else-node-len c =
     let problem = c.args.self.now in
     let keeps = node_keeps problem c.args.node.now c.len-len.ensures.problem c.requires in
-    rw c.lent_domain-domain.ensures (inside_point problem.axes c.args.node.now.area c.high_corner-corner.result keeps.inside c.high_corner-corner.ensures.inside)
+    rw c.lent_domain-domain.ensures (area_point problem.axes c.args.node.now.area c.high_corner-corner.result keeps.inside c.high_corner-corner.ensures.inside)
 
 pub key_of-requires-else-node-len-clause-sum : goal.key_of-requires-else-node-len-clause-sum
 key_of-requires-else-node-len-clause-sum c =
@@ -78,7 +78,7 @@ key_of-requires-else-node-len-clause-index c =
     let keeps = node_keeps problem c.args.node.now h c.requires in
     let corner = c.high_corner-corner.result in
     let same : c.index_of-else-node-len.result ≡ index_of problem.axes corner = c.index_of-else-node-len.ensures.index ∙ ap (λ a. index_of a corner) c.lent_domain-domain.ensures in
-    rw same (index_small problem.axes corner h.domain (inside_point problem.axes c.args.node.now.area corner keeps.inside c.high_corner-corner.ensures.inside))
+    rw same (index_small problem.axes corner h.domain (area_point problem.axes c.args.node.now.area corner keeps.inside c.high_corner-corner.ensures.inside))
 
 pub returns-then-node-len-clause-bound : goal.returns-then-node-len-clause-bound
 returns-then-node-len-clause-bound c =

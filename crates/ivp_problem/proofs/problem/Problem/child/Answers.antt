@@ -5,7 +5,7 @@ use Rattle.std.proofs.lemmas.Option.{slice_get-get_or}
 use Rattle.ivp_domain.specs.Boxes.{meet_of}
 use Rattle.ivp_func.specs.Functions.{Function}
 use Rattle.ivp_func.proofs.Facts.{piece_parts}
-use Rattle.ivp_problem.specs.Trees.{with_chosen}
+use Rattle.ivp_problem.specs.Trees.{child_in, with_chosen}
 use Rattle.ivp_problem.proofs.Nodes.{blank_term, child_apart, child_met, child_node, child_of_in, node_keeps, small_more}
 use Rattle.ivp_problem.proofs.problem.Problem.child.Goals as goal
 
@@ -21,8 +21,9 @@ with_chosen-requires-clause-node c =
 pub with_chosen-requires-clause-depth : goal.with_chosen-requires-clause-depth
 with_chosen-requires-clause-depth c = let h = c.problem_law.ensures in omega (arith, c.requires.depth, h.few)
 
-pub returns-in-Some-clause-child : goal.returns-in-Some-clause-child
-returns-in-Some-clause-child c =
+-- the child by its definition
+the_child : (c : goal.After-with_chosen) → child_in (get_or c.args.self.now.terms c.args.node.now.depth blank_term) c.args.node.now c.args.piece ≡ Some c.with_chosen.result
+the_child c =
     let problem = c.args.self.now in
     let node = c.args.node.now in
     let term = get_or problem.terms node.depth blank_term in
@@ -33,21 +34,21 @@ returns-in-Some-clause-child c =
     let in_term : slice_get term.func.pieces c.args.piece ≡ Some piece = subst (λ (f : Function). slice_get f.pieces c.args.piece ≡ Some piece) func c.piece-piece.ensures.piece in
     let met : meet_of node.area piece.area ≡ Some c.in-Some.area = sym c.meet.ensures.exact ∙ c.in-Some.is in
     let same = c.with_chosen.ensures ∙ ap (λ w. with_chosen w piece node c.in-Some.area) weight in
-    ap Some same ∙ (sym (child_met problem node term c.args.piece piece c.in-Some.area stands in_term met) ∙ sym (child_of_in problem node term c.args.piece stands))
+    child_met problem node term c.args.piece piece c.in-Some.area stands in_term met ∙ ap Some (sym same)
+
+pub returns-in-Some-clause-child : goal.returns-in-Some-clause-child
+returns-in-Some-clause-child c =
+    let problem = c.args.self.now in
+    let node = c.args.node.now in
+    let stands = slice_get-get_or problem.terms node.depth blank_term c.requires.depth in
+    sym (child_of_in problem node (get_or problem.terms node.depth blank_term) c.args.piece stands ∙ the_child c)
 
 pub returns-in-Some-clause-node : goal.returns-in-Some-clause-node
 returns-in-Some-clause-node c =
     let problem = c.args.self.now in
     let node = c.args.node.now in
-    let term = get_or problem.terms node.depth blank_term in
     let stands = slice_get-get_or problem.terms node.depth blank_term c.requires.depth in
-    let func = rw stands at c.func.ensures.func in
-    let weight = rw stands at c.weight-weight.ensures.weight in
-    let piece = c.piece-piece.result in
-    let in_term : slice_get term.func.pieces c.args.piece ≡ Some piece = subst (λ (f : Function). slice_get f.pieces c.args.piece ≡ Some piece) func c.piece-piece.ensures.piece in
-    let met : meet_of node.area piece.area ≡ Some c.in-Some.area = sym c.meet.ensures.exact ∙ c.in-Some.is in
-    let same = c.with_chosen.ensures ∙ ap (λ w. with_chosen w piece node c.in-Some.area) weight in
-    child_node problem node c.with_chosen.result term c.args.piece c.requires.node stands (child_met problem node term c.args.piece piece c.in-Some.area stands in_term met ∙ ap Some (sym same))
+    child_node problem node c.with_chosen.result (get_or problem.terms node.depth blank_term) c.args.piece c.requires.node stands (the_child c)
 
 pub returns-in-Some-clause-none : goal.returns-in-Some-clause-none
 returns-in-Some-clause-none c =

@@ -1,7 +1,8 @@
 use Rattle.std.proofs.Common.{◌≡◌, ◌≤◌, take, length, length-take, refl, ◌∙◌, to_z, of_z, w64, arith}
 use Rattle.std.proofs.lemmas.Int.{ints}
-use Rattle.ivp_problem.proofs.Nodes.{inside_point, node_keeps, place_small, small_more}
+use Rattle.ivp_problem.proofs.Nodes.{node_keeps, place_small, small_more}
 use Rattle.ivp_problem.proofs.Terms.{each_take, weighted_sums_most}
+use Rattle.ivp_func.proofs.Facts.{area_point}
 use Rattle.ivp_problem.proofs.problem.Problem.chosen_sum.Goals as goal
 
 pub chosen-requires-clause-node : goal.chosen-requires-clause-node
@@ -23,7 +24,7 @@ overflow_cast-result c =
     let keeps = node_keeps problem node h c.requires.node in
     let terms = take node.depth problem.terms in
     let kept : to_z w64 (of_z w64 c.chosen.result) ≡ c.chosen.result = omega (arith, ints) in
-    let most = weighted_sums_most problem.axes terms c.args.point.now (each_take problem.axes node.depth problem.terms h.terms) (inside_point problem.axes node.area c.args.point.now keeps.inside c.requires.point) in
+    let most = weighted_sums_most problem.axes terms c.args.point.now (each_take problem.axes node.depth problem.terms h.terms) (area_point problem.axes node.area c.args.point.now keeps.inside c.requires.point) in
     let few : length terms ≤ 64 = omega (arith, length-take node.depth problem.terms, keeps.depth, h.few) in
     rw (kept ∙ (c.chosen.ensures ∙ keeps.sum c.args.point.now c.requires.point)) (tt, omega arith)
 
@@ -42,6 +43,6 @@ returns-clause-range c =
     let keeps = node_keeps problem node h c.requires.node in
     let terms = take node.depth problem.terms in
     let kept : to_z w64 (of_z w64 c.chosen.result) ≡ c.chosen.result = omega (arith, ints) in
-    let most = weighted_sums_most problem.axes terms c.args.point.now (each_take problem.axes node.depth problem.terms h.terms) (inside_point problem.axes node.area c.args.point.now keeps.inside c.requires.point) in
+    let most = weighted_sums_most problem.axes terms c.args.point.now (each_take problem.axes node.depth problem.terms h.terms) (area_point problem.axes node.area c.args.point.now keeps.inside c.requires.point) in
     let few : length terms ≤ node.depth = omega (arith, length-take node.depth problem.terms) in
     rw (kept ∙ (c.chosen.ensures ∙ keeps.sum c.args.point.now c.requires.point)) (omega arith)

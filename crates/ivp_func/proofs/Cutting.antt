@@ -1,0 +1,130 @@
+-- Runs and cells: how many there are, and that a point of the domain lies in the cell that is counted for it.
+use Rattle.std.proofs.Common.{◌≡◌, ℕ, zero, suc, ◌+◌, ◌-◌, ◌*◌, ◌/◌, ◌%◌, ◌^◌, ◌<◌, ◌≤◌, min, true, List, [], ◌∷◌, refl, ap, sym, subst, ◌∙◌, length, arith}
+use Rattle.std.specs.Prelude.{slice_index}
+use Rattle.std.proofs.Math.Nat.{div-le_self, div-mul-le_self, lt-div-mul-add, mul-le-mul}
+use Rattle.std.proofs.lemmas.Nat.{div-mul-add, le-div, mod-mul-add}
+use Rattle.ivp_domain.specs.declared.axis.Axis.{Axis}
+use Rattle.ivp_domain.specs.declared.boxes.BoxN.{BoxN}
+use Rattle.ivp_domain.specs.declared.boxes.Point.{Point}
+use Rattle.ivp_domain.specs.Boxes.{has_point}
+use Rattle.ivp_domain.specs.Domains.{is_domain, is_point, size_of, size_on, whole}
+use Rattle.ivp_domain.proofs.BoxLemmas.{product_part}
+use Rattle.ivp_domain.proofs.Ranges.{digits}
+use Rattle.ivp_domain.proofs.Sizes.{few, few_on, positive, radix}
+use Rattle.ivp_func.specs.Grids.{cell_at, cell_box, cells_of, last_on, most_runs, run_at, run_high, run_low, run_on, runs_box, runs_on}
+use Rattle.ivp_func.proofs.Facts.{has_point-from, place_in}
+
+-- one of four
+pub one_of_four : (f : ℕ → ℕ) (k : ℕ) → k < 4 → slice_index (f 0 ∷ f 1 ∷ f 2 ∷ f 3 ∷ []) k ≡ f k
+one_of_four f zero p = refl
+one_of_four f (suc zero) p = refl
+one_of_four f (suc (suc zero)) p = refl
+one_of_four f (suc (suc (suc zero))) p = refl
+one_of_four f (suc (suc (suc (suc k)))) p = absurd (omega arith)
+
+-- the last place is one below the size
+last_size : (axes : List Axis) (k : ℕ) → is_domain axes ≡ true → k < 4 → last_on k axes + 1 ≡ size_on k axes
+last_size axes k h p = let some = positive axes h k in let at : last_on k axes ≡ size_on k axes - 1 = one_of_four (λ axis. size_on axis axes - 1) k p in omega (arith, at, some)
+
+pub last_small : (axes : List Axis) (k : ℕ) → is_domain axes ≡ true → k < 4 → last_on k axes < 2 ^ 22
+last_small axes k h p = omega (arith, last_size axes k h p, few_on axes h k p)
+
+-- a run within the axis begins on it
+pub run_fits : (axes : List Axis) (k run : ℕ) → run < runs_on k axes → run_low k axes run ≤ last_on k axes
+run_fits axes k run h =
+    let last = last_on k axes in
+    let places = run_on k axes in
+    let most : run ≤ last / places = omega arith in
+    let one : run * places ≤ last / places * places = mul-le-mul most (let same : places ≤ places = omega arith in same) in
+    omega (arith, one, div-mul-le_self last places)
+
+-- a run has no more places than the axis
+pub run_short : (axes : List Axis) (k : ℕ) → run_on k axes ≤ last_on k axes + 1
+run_short axes k = omega (arith, div-le_self (last_on k axes) (most_runs (length axes)))
+
+runs_few : (axes : List Axis) (k : ℕ) → is_domain axes ≡ true → k < 4 → runs_on k axes ≤ size_on k axes
+runs_few axes k h p = omega (arith, div-le_self (last_on k axes) (run_on k axes), last_size axes k h p)
+
+pub runs_some : (axes : List Axis) (k : ℕ) → 0 < runs_on k axes
+runs_some axes k = omega arith
+
+-- the cells are no more than the points, and so are those of the first axes
+pub cells_few : (axes : List Axis) → is_domain axes ≡ true → (runs_on 0 axes * runs_on 1 axes ≤ 2 ^ 22) × (runs_on 0 axes * runs_on 1 axes * runs_on 2 axes ≤ 2 ^ 22) × (cells_of axes ≤ 2 ^ 22)
+cells_few axes h =
+    let all : cells_of axes ≤ size_of axes = mul-le-mul (mul-le-mul (mul-le-mul (runs_few axes 0 h (omega arith)) (runs_few axes 1 h (omega arith))) (runs_few axes 2 h (omega arith))) (runs_few axes 3 h (omega arith)) in
+    let points = few axes h in
+    let part = product_part (runs_on 0 axes) (runs_on 1 axes) (runs_on 2 axes) (runs_on 3 axes) (2 ^ 22 + 1) (runs_some axes 2) (runs_some axes 3) (omega (arith, all, points)) in
+    (omega (arith, part.0), omega (arith, part.1), omega (arith, all, points))
+
+-- the runs of a cell
+pub cell_runs : (axes : List Axis) (cell : ℕ) → cell < cells_of axes → (cell / runs_on 3 axes / runs_on 2 axes / runs_on 1 axes < runs_on 0 axes) × (cell / runs_on 3 axes / runs_on 2 axes % runs_on 1 axes < runs_on 1 axes) × (cell / runs_on 3 axes % runs_on 2 axes < runs_on 2 axes) × (cell % runs_on 3 axes < runs_on 3 axes)
+cell_runs axes cell h =
+    let one = runs_some axes 1 in
+    let two = runs_some axes 2 in
+    let three = runs_some axes 3 in
+    ((digits cell (runs_on 0 axes) (runs_on 1 axes) (runs_on 2 axes) (runs_on 3 axes) one two three h).0, omega arith, omega arith, omega arith)
+
+-- the run of a point's place
+div_below : (place last places : ℕ) → 0 < places → place ≤ last → place / places ≤ last / places
+div_below place last places some h = le-div (place / places) last places some (omega (arith, div-mul-le_self place places))
+
+pub in_run : (axes : List Axis) (k : ℕ) (p : Point) → slice_index p.at k ≤ last_on k axes → run_at k axes p < runs_on k axes
+in_run axes k p h = let some : 0 < run_on k axes = omega arith in omega (arith, div_below (slice_index p.at k) (last_on k axes) (run_on k axes) some h)
+
+-- a point's cell, step by step
+pub record IsCellOf (axes : List Axis) (p : Point) : Type 0 where
+  pub two : run_at 0 axes p * runs_on 1 axes + run_at 1 axes p < runs_on 0 axes * runs_on 1 axes
+  pub three : (run_at 0 axes p * runs_on 1 axes + run_at 1 axes p) * runs_on 2 axes + run_at 2 axes p < runs_on 0 axes * runs_on 1 axes * runs_on 2 axes
+  pub within : cell_at axes p < cells_of axes
+
+pub cell_of : (axes : List Axis) (p : Point) → is_point axes p ≡ true → IsCellOf axes p
+cell_of axes p inside =
+    let at : (k : ℕ) → k < 4 → run_at k axes p < runs_on k axes = λ k within. in_run axes k p (place_in (whole axes) p inside k within).1 in
+    let steps = radix (run_at 0 axes p) (run_at 1 axes p) (run_at 2 axes p) (run_at 3 axes p) (runs_on 0 axes) (runs_on 1 axes) (runs_on 2 axes) (runs_on 3 axes) (at 0 (omega arith)) (at 1 (omega arith)) (at 2 (omega arith)) (at 3 (omega arith)) in
+    record { two = steps.0; three = steps.1; within = steps.2 }
+
+-- a place lies in its run
+in_its_run : (place last places : ℕ) → 0 < places → place ≤ last → (place / places * places ≤ place) × (place ≤ min (place / places * places + (places - 1)) last)
+in_its_run place last places some h = (div-mul-le_self place places, let above : place < place / places * places + places = lt-div-mul-add some in omega (arith, above, h))
+
+in_runs_box : (axes : List Axis) (p : Point) → is_point axes p ≡ true → has_point (runs_box axes (run_at 0 axes p) (run_at 1 axes p) (run_at 2 axes p) (run_at 3 axes p)) p ≡ true
+in_runs_box axes p inside = has_point-from (runs_box axes (run_at 0 axes p) (run_at 1 axes p) (run_at 2 axes p) (run_at 3 axes p)) p (at)
+  where
+    here : (k : ℕ) → k < 4 → (run_low k axes (run_at k axes p) ≤ slice_index p.at k) × (slice_index p.at k ≤ run_high k axes (run_at k axes p))
+    here k within = let some : 0 < run_on k axes = omega arith in in_its_run (slice_index p.at k) (last_on k axes) (run_on k axes) some (place_in (whole axes) p inside k within).1
+
+    at : (k : ℕ) → k < 4 → (slice_index (runs_box axes (run_at 0 axes p) (run_at 1 axes p) (run_at 2 axes p) (run_at 3 axes p)).low k ≤ slice_index p.at k) × (slice_index p.at k ≤ slice_index (runs_box axes (run_at 0 axes p) (run_at 1 axes p) (run_at 2 axes p) (run_at 3 axes p)).high k)
+    at zero within = here 0 within
+    at (suc zero) within = here 1 within
+    at (suc (suc zero)) within = here 2 within
+    at (suc (suc (suc zero))) within = here 3 within
+    at (suc (suc (suc (suc k)))) within = absurd (omega arith)
+
+-- so a point lies in the cell that is counted for it
+radix_back : (i j k l a b c : ℕ) → j < a → k < b → l < c → let n = ((i * a + j) * b + k) * c + l in (n / c / b / a ≡ i) × (n / c / b % a ≡ j) × (n / c % b ≡ k) × (n % c ≡ l)
+radix_back i j k l a b c p q r =
+    let one = div-mul-add ((i * a + j) * b + k) c l r in
+    let two = div-mul-add (i * a + j) b k q in
+    (rw (one, two) (div-mul-add i a j p), rw (one, two) (mod-mul-add i a j p), rw one (mod-mul-add (i * a + j) b k q), mod-mul-add ((i * a + j) * b + k) c l r)
+
+pub in_cell : (axes : List Axis) (p : Point) → is_point axes p ≡ true → has_point (cell_box axes (cell_at axes p)) p ≡ true
+in_cell axes p inside =
+    let at : (k : ℕ) → k < 4 → run_at k axes p < runs_on k axes = λ k within. in_run axes k p (place_in (whole axes) p inside k within).1 in
+    let back = radix_back (run_at 0 axes p) (run_at 1 axes p) (run_at 2 axes p) (run_at 3 axes p) (runs_on 1 axes) (runs_on 2 axes) (runs_on 3 axes) (at 1 (omega arith)) (at 2 (omega arith)) (at 3 (omega arith)) in
+    let same : cell_box axes (cell_at axes p) ≡ runs_box axes (run_at 0 axes p) (run_at 1 axes p) (run_at 2 axes p) (run_at 3 axes p) = equal back.0 back.1 back.2 back.3 in
+    subst (λ (area : BoxN). has_point area p ≡ true) (sym same) (in_runs_box axes p inside)
+  where
+    equal : {i j k l i' j' k' l' : ℕ} → i ≡ i' → j ≡ j' → k ≡ k' → l ≡ l' → runs_box axes i j k l ≡ runs_box axes i' j' k' l'
+    equal {i} {j} {k} {l} {i'} {j'} {k'} {l'} e f g h = ap (λ n. runs_box axes n j k l) e ∙ (ap (λ n. runs_box axes i' n k l) f ∙ (ap (λ n. runs_box axes i' j' n l) g ∙ ap (runs_box axes i' j' k') h))
+
+-- a point whose places are no less has a cell that is no less
+pub cells_rise : (axes : List Axis) (p q : Point) → ((k : ℕ) → k < 4 → slice_index p.at k ≤ slice_index q.at k) → cell_at axes p ≤ cell_at axes q
+cells_rise axes p q h =
+    let at : (k : ℕ) → k < 4 → run_at k axes p ≤ run_at k axes q = λ k within. let some : 0 < run_on k axes = omega arith in div_below (slice_index p.at k) (slice_index q.at k) (run_on k axes) some (h k within) in
+    let same : (n : ℕ) → n ≤ n = λ n. omega arith in
+    let one : run_at 0 axes p * runs_on 1 axes ≤ run_at 0 axes q * runs_on 1 axes = mul-le-mul (at 0 (omega arith)) (same (runs_on 1 axes)) in
+    let two : run_at 0 axes p * runs_on 1 axes + run_at 1 axes p ≤ run_at 0 axes q * runs_on 1 axes + run_at 1 axes q = omega (arith, one, at 1 (omega arith)) in
+    let two' : (run_at 0 axes p * runs_on 1 axes + run_at 1 axes p) * runs_on 2 axes ≤ (run_at 0 axes q * runs_on 1 axes + run_at 1 axes q) * runs_on 2 axes = mul-le-mul two (same (runs_on 2 axes)) in
+    let three : (run_at 0 axes p * runs_on 1 axes + run_at 1 axes p) * runs_on 2 axes + run_at 2 axes p ≤ (run_at 0 axes q * runs_on 1 axes + run_at 1 axes q) * runs_on 2 axes + run_at 2 axes q = omega (arith, two', at 2 (omega arith)) in
+    let three' = mul-le-mul three (same (runs_on 3 axes)) in
+    omega (arith, three', at 3 (omega arith))

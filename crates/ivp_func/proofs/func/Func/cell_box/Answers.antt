@@ -1,0 +1,13 @@
+use Rattle.std.proofs.Common.{◌≡◌, ◌<◌, refl, length, sym, ap, subst, ◌∙◌}
+use Rattle.std.proofs.lemmas.Option.{slice_get_read}
+use Rattle.ivp_func.specs.Functions.{Function}
+use Rattle.ivp_func.specs.Grids.{cell_box, cells_of}
+use Rattle.ivp_func.proofs.func.Func.cell_box.Goals as goal
+
+pub returns : goal.returns
+returns c =
+    let cells = c.self.inside.grid.cells.items in
+    let axes : c.self.inside.grid.cuts ≡ c.args.self.now.axes = c.self.invariant.3 ∙ ap (λ (f : Function). f.axes) c.self.view_is in
+    let within : c.args.k < length cells = subst (λ n. c.args.k < n) (sym (c.self.invariant.2.count ∙ ap cells_of axes)) c.requires in
+    let is = c.self.invariant.2.each c.args.k c.index.result.now (slice_get_read cells (length cells) c.args.k c.index.result.now refl within c.index.ensures) in
+    is.area ∙ ap (λ a. cell_box a c.args.k) axes

@@ -1,0 +1,9 @@
+use Rattle.std.proofs.Common.{ap, arith}
+use Rattle.ivp_func.specs.Grids.{cells_of}
+use Rattle.ivp_func.proofs.Cutting.{cells_few}
+use Rattle.ivp_func.proofs.func.Func.cells.Goals as goal
+
+pub overflow_cast-result : goal.overflow_cast-result
+overflow_cast-result c =
+    let few = cells_few c.self.inside.domain c.self.invariant.0.domain in
+    omega (arith, c.len.ensures, c.self.invariant.2.count, ap cells_of c.self.invariant.3, few.2)

@@ -1,0 +1,43 @@
+use Rattle.std.proofs.Common.{ℕ, ◌+◌, ◌<◌, List, length, refl, sym, subst, ◌∙◌, arith}
+use Rattle.std.specs.Prelude.{slice_index}
+use Rattle.std.proofs.lemmas.Option.{slice_get_read}
+use Rattle.ivp_func.specs.Cells.{IsCell, IsRising, NoneLess}
+use Rattle.ivp_func.specs.Grids.{cell_box}
+use Rattle.ivp_func.proofs.Seeking.{cell_apart, cell_looked, cell_rising, cell_within, SoFar}
+use Rattle.ivp_func.proofs.grid.next_in_cells.Goals as goal
+use Rattle.ivp_func.proofs.grid.next_in_cells.Goals.{then-share, else-share}
+
+pub next_in-next-requires : goal.next_in-next-requires
+next_in-next-requires c =
+    let pieces = c.args.pieces.now in
+    let cells = c.args.grid.now.cells.items in
+    let number = c.loop-number.number in
+    let within : number < length cells = omega (arith, c.loop-number-test.true, c.requires.last, c.requires.grid.count) in
+    let is = c.requires.grid.each number c.index-cell.result.now (slice_get_read cells (length cells) number c.index-cell.result.now refl within c.index-cell.ensures) in
+    let place = cell_box c.args.grid.now.cuts number in
+    record {
+      inside = subst (λ (numbers : List ℕ). (k : ℕ) → k < length numbers → slice_index numbers k < length pieces) (sym c.deref.ensures.value) (cell_within pieces place c.index-cell.result.now is);
+      rising = subst IsRising (sym c.deref.ensures.value) (cell_rising pieces place c.index-cell.result.now is);
+    }
+
+pub loop-number-preserved : goal.loop-number-preserved
+loop-number-preserved c =
+    let axes = c.args.grid.now.cuts in
+    let pieces = c.args.pieces.now in
+    let area = c.args.area.now in
+    let cells = c.args.grid.now.cells.items in
+    let number = c.loop-number.number in
+    let cell = c.index-cell.result.now in
+    let within : number < length cells = omega (arith, c.loop-number-test.true, c.requires.last, c.requires.grid.count) in
+    let is : IsCell pieces (cell_box axes number) cell = c.requires.grid.each number cell (slice_get_read cells (length cells) number cell refl within c.index-cell.ensures) in
+    elim c.if-share.branch [
+      | then-share w ↦
+          subst (SoFar axes pieces area c.args.from c.args.first (number + 1)) (sym w.next-is)
+          (cell_looked axes pieces area c.args.from c.loop-number.next w.next_in-next.result c.args.first number cell c.requires.area is w.next_in-next.ensures.meeting (subst (λ (numbers : List ℕ). NoneLess pieces area c.args.from w.next_in-next.result numbers) w.deref.ensures.value w.next_in-next.ensures.least) c.loop-number.invariant)
+      | else-share w ↦
+          subst (SoFar axes pieces area c.args.from c.args.first (number + 1)) (sym w.next-is)
+          (cell_apart axes pieces area c.args.from c.loop-number.next c.args.first number cell c.requires.area is (sym c.share.ensures ∙ w.if-share.false) c.loop-number.invariant)
+    ]
+
+pub returns-clause-least : goal.returns-clause-least
+returns-clause-least c = λ n piece p above stands held inside begin below. c.loop-number.invariant.least n piece p above stands held inside begin (omega (arith, below, c.loop-number-test.false))

@@ -1,0 +1,43 @@
+-- What a grid keeps, and what is known of the least piece that meets an area while it is sought.
+use Rattle.std.specs.Prelude.{◌≡◌, ℕ, ◌<◌, ◌≤◌, IsTrue, Some, List, length, slice_get, slice_index}
+use Rattle.ivp_domain.specs.declared.axis.Axis.{Axis}
+use Rattle.ivp_domain.specs.declared.boxes.BoxN.{BoxN}
+use Rattle.ivp_domain.specs.declared.boxes.Point.{Point}
+use Rattle.ivp_domain.specs.Boxes.{has_point}
+use Rattle.ivp_func.specs.declared.grid.Cell.{Cell}
+use Rattle.ivp_func.specs.declared.grid.Grid.{Grid}
+use Rattle.ivp_func.specs.declared.piece.Piece.{Piece}
+use Rattle.ivp_func.specs.Grids.{cell_at, cell_box, cells_of, meeting, meets}
+use Rattle.ivp_func.specs.Pieces.{holds}
+
+-- a cell of this box has it, and the numbers of the pieces that share a point with it
+pub record IsCell (pieces : List Piece) (place : BoxN) (cell : Cell) : Type 0 where
+  pub area : cell.area ≡ place
+  pub listed : cell.numbers.items ≡ meeting pieces place
+
+-- the grid has each cell of its domain, by its number
+pub record IsGrid (pieces : List Piece) (grid : Grid) : Type 0 where
+  pub count : length grid.cells.items ≡ cells_of grid.cuts
+  pub each : (number : ℕ) (cell : Cell) → slice_get grid.cells.items number ≡ Some cell → IsCell pieces (cell_box grid.cuts number) cell
+
+-- no number is above one behind it
+abbrev pub IsRising : List ℕ → Type 0
+IsRising numbers = (place later : ℕ) → place ≤ later → later < length numbers → slice_index numbers place ≤ slice_index numbers later
+
+-- a number from `from` on and below `until` whose piece meets the area, or else `until`
+pub record IsMeeting (pieces : List Piece) (area : BoxN) (from until next : ℕ) : Type 0 where
+  pub most : next ≤ until
+  pub found : next < until → (from ≤ next) × IsTrue (meets pieces area next)
+
+-- none of these numbers that does so is less
+abbrev pub NoneLess : List Piece → BoxN → ℕ → ℕ → List ℕ → Type 0
+NoneLess pieces area from next numbers = (place : ℕ) → place < length numbers → from ≤ slice_index numbers place → IsTrue (meets pieces area (slice_index numbers place)) → next ≤ slice_index numbers place
+
+-- none less of all that share a point with the area in one of the cells from the first on and below this one
+abbrev pub NoneLessIn : List Axis → List Piece → BoxN → ℕ → ℕ → ℕ → ℕ → Type 0
+NoneLessIn axes pieces area from next first cell =
+    (number : ℕ) (piece : Piece) (point : Point) → from ≤ number → slice_get pieces number ≡ Some piece → IsTrue (holds point piece) → IsTrue (has_point area point) → first ≤ cell_at axes point → cell_at axes point < cell → next ≤ number
+
+-- none less of all
+abbrev pub IsLeast : List Piece → BoxN → ℕ → ℕ → Type 0
+IsLeast pieces area from next = (number : ℕ) → from ≤ number → IsTrue (meets pieces area number) → next ≤ number

@@ -1,0 +1,149 @@
+ghost use Rattle.std.specs.Prelude.{◌≡◌, ◌+◌, ◌*◌, ◌^◌, ◌<◌, ◌≤◌, IsTrue};
+ghost use Rattle.ivp_domain.specs.Domains.{is_point};
+ghost use Rattle.ivp_func.specs.Grids.{cell_at, cell_box, cells_of, most_runs, parts_to, run_at, run_high, run_low, runs_on};
+
+use ivp_domain::{BoxN, Domain, Point};
+use std::marker::Model;
+
+/// A domain cut into cells: each axis from place 0 on into runs of as many places, of which the last may be shorter, and a
+/// cell is one run of each axis.
+#[derive(Debug, Drop)]
+pub(crate) struct Cuts {
+    domain: Domain,
+    /// How many places a run has on each axis.
+    run: [usize; 4],
+    /// How many runs there are on each axis.
+    runs: [usize; 4],
+}
+
+impl Model for Cuts {
+    ghost use Rattle.std.specs.Prelude.{List};
+    ghost use Rattle.ivp_domain.specs.declared.axis.Axis.{Axis};
+    ghost use Rattle.ivp_func.specs.Cuts.{AreCuts};
+
+    ghost Value = { List Axis };
+
+    ghost view = { λ c. c.domain };
+
+    ghost invariant = { λ c. AreCuts c.domain c.run c.runs };
+}
+
+/// How many runs an axis is cut into at most, by how many axes there are: at most 256 cells in all.
+fn most_runs(axes: u32) -> usize
+    ensures most { result ≡ most_runs axes }
+    ensures some { 0 < result }
+{
+    match axes {
+        2 => 16,
+        3 => 6,
+        4 => 4,
+        _ => 256,
+    }
+}
+
+/// How many parts of so many places there are up to the last one.
+fn parts_to(last: u32, places: usize) -> usize
+    requires { 0 < places }
+    ensures parts { result ≡ parts_to last places }
+    ensures some { 0 < result }
+{
+    last as usize / places + 1
+}
+
+impl Cuts {
+    /// The cells of a domain.
+    pub(crate) fn of(domain: &Domain) -> Cuts
+        ensures { result ≡ domain.now }
+    {
+        let last = domain.whole().high;
+        let most = most_runs(domain.axes());
+        let run = [
+            parts_to(last[0], most),
+            parts_to(last[1], most),
+            parts_to(last[2], most),
+            parts_to(last[3], most),
+        ];
+        let runs = [
+            parts_to(last[0], run[0]),
+            parts_to(last[1], run[1]),
+            parts_to(last[2], run[2]),
+            parts_to(last[3], run[3]),
+        ];
+        Cuts {
+            domain: *domain,
+            run,
+            runs,
+        }
+    }
+
+    /// How many cells there are.
+    pub(crate) fn cells(&self) -> usize
+        ensures cells { result ≡ cells_of self.now }
+        ensures few { result ≤ 2 ^ 22 }
+    {
+        self.runs[0] * self.runs[1] * self.runs[2] * self.runs[3]
+    }
+
+    /// The first place of a run.
+    fn low(&self, axis: usize, run: usize) -> u32
+        requires axis { axis < 4 }
+        requires run { run < runs_on axis self.now }
+        ensures { result ≡ run_low axis self.now run }
+    {
+        (run * self.run[axis]) as u32
+    }
+
+    /// The last place of a run.
+    fn high(&self, axis: usize, run: usize) -> u32
+        requires axis { axis < 4 }
+        requires run { run < runs_on axis self.now }
+        ensures { result ≡ run_high axis self.now run }
+    {
+        let end = run * self.run[axis] + (self.run[axis] - 1);
+        (end as u32).min(self.domain.whole().high[axis])
+    }
+
+    /// The box of a cell.
+    pub(crate) fn cell_box(&self, cell: usize) -> BoxN
+        requires { cell < cells_of self.now }
+        ensures { result ≡ cell_box self.now cell }
+    {
+        let one = cell / self.runs[3] / self.runs[2] / self.runs[1];
+        let two = cell / self.runs[3] / self.runs[2] % self.runs[1];
+        let three = cell / self.runs[3] % self.runs[2];
+        let four = cell % self.runs[3];
+        BoxN {
+            low: [
+                self.low(0, one),
+                self.low(1, two),
+                self.low(2, three),
+                self.low(3, four),
+            ],
+            high: [
+                self.high(0, one),
+                self.high(1, two),
+                self.high(2, three),
+                self.high(3, four),
+            ],
+        }
+    }
+
+    /// In which run of an axis a point lies.
+    fn run_at(&self, axis: usize, point: &Point) -> usize
+        requires { axis < 4 }
+        ensures { result ≡ run_at axis self.now point.now }
+    {
+        point.at[axis] as usize / self.run[axis]
+    }
+
+    /// In which cell a point lies.
+    pub(crate) fn cell_at(&self, point: &Point) -> usize
+        requires { IsTrue (is_point self.now point.now) }
+        ensures cell { result ≡ cell_at self.now point.now }
+        ensures within { result < cells_of self.now }
+    {
+        let two = self.run_at(0, point) * self.runs[1] + self.run_at(1, point);
+        let three = two * self.runs[2] + self.run_at(2, point);
+        three * self.runs[3] + self.run_at(3, point)
+    }
+}

@@ -1,0 +1,196 @@
+ghost use Rattle.std.specs.Prelude.{◌≡◌, ℕ, ◌+◌, ◌<◌, ◌≤◌, length, slice_index, IfOk, IfSome, IfNone, IsTrue, false};
+ghost use Rattle.ivp_domain.specs.declared.boxes.Point.{Point};
+ghost use Rattle.ivp_domain.specs.Boxes.{has_point};
+ghost use Rattle.ivp_func.specs.Cells.{IsGrid, IsLeast, IsMeeting, IsRising, NoneLess, NoneLessIn};
+ghost use Rattle.ivp_func.specs.Grids.{cell_at, cells_of, meeting, meets, share};
+ghost use Rattle.ivp_func.specs.Pieces.{is_box_of};
+
+use crate::cuts::Cuts;
+use crate::piece::Piece;
+use ivp_domain::{BoxN, Domain, Point};
+use std::alloc::{AllocError, Global};
+
+/// A cell: its box, and the numbers of the pieces whose boxes share a point with it, rising.
+#[derive(Debug, Drop)]
+pub(crate) struct Cell {
+    pub(crate) area: BoxN,
+    pub(crate) numbers: Vec<u32>,
+}
+
+/// The cells of a domain by their numbers, and the pieces of each.
+#[derive(Debug, Drop)]
+pub(crate) struct Grid {
+    cuts: Cuts,
+    pub(crate) cells: Vec<Cell>,
+}
+
+/// Where an area may lie in more cells than this, the pieces are looked at in order: it is large, and the next one is near.
+const FEW_CELLS: usize = 40;
+
+/// So many pieces are looked at in order as fast as one cell.
+const PIECES_A_CELL: usize = 4;
+
+/// Whether the boxes share a point.
+fn share(a: &BoxN, b: &BoxN) -> bool
+    ensures { result ≡ share a.now b.now }
+{
+    a.low[0].max(b.low[0]) <= a.high[0].min(b.high[0])
+        && a.low[1].max(b.low[1]) <= a.high[1].min(b.high[1])
+        && a.low[2].max(b.low[2]) <= a.high[2].min(b.high[2])
+        && a.low[3].max(b.low[3]) <= a.high[3].min(b.high[3])
+}
+
+/// Whether the piece of this number shares a point with the area.
+fn meets(pieces: &[Piece], number: u32, area: &BoxN) -> bool
+    requires { number < length pieces.now }
+    ensures { result ≡ meets pieces.now area.now number }
+{
+    share(area, &pieces[number as usize].area)
+}
+
+/// The numbers of the pieces that share a point with the area.
+fn meeting(alloc: Global, pieces: &[Piece], area: &BoxN) -> Result<Vec<u32>, AllocError>
+    requires { length pieces.now ≤ 4096 }
+    ensures { IfOk result (λ numbers. numbers.items ≡ meeting pieces.now area.now) }
+{
+    let mut numbers = Vec::new(alloc);
+    for number in 0..pieces.len() as u32 {
+        if meets(pieces, number, area) {
+            numbers.push(number)?;
+        }
+    }
+    Ok(numbers)
+}
+
+impl Grid {
+    /// The grid of these pieces over the domain.
+    pub(crate) fn make(alloc: Global, domain: &Domain, pieces: &[Piece]) -> Result<Grid, AllocError>
+        requires { length pieces.now ≤ 4096 }
+        ensures grid { IfOk result (IsGrid pieces.now) }
+        ensures domain { IfOk result (λ grid. grid.cuts ≡ domain.now) }
+    {
+        let cuts = Cuts::of(domain);
+        let count = cuts.cells();
+        let mut cells = Vec::with_capacity(alloc, count)?;
+        for number in 0..count {
+            let area = cuts.cell_box(number);
+            let numbers = meeting(alloc, pieces, &area)?;
+            cells.push(Cell { area, numbers })?;
+        }
+        Ok(Grid { cuts, cells })
+    }
+
+    /// The first cell that may have points of an area: that of its low corner.
+    fn first_cell(&self, area: &BoxN) -> usize
+        requires { IsTrue (is_box_of self.now.cuts area.now) }
+        ensures first { (point : Point) → IsTrue (has_point area.now point) → result ≤ cell_at self.now.cuts point }
+        ensures within { result < cells_of self.now.cuts }
+    {
+        self.cuts.cell_at(&Point { at: area.low })
+    }
+
+    /// The last one: that of its high corner.
+    fn last_cell(&self, area: &BoxN) -> usize
+        requires { IsTrue (is_box_of self.now.cuts area.now) }
+        ensures last { (point : Point) → IsTrue (has_point area.now point) → cell_at self.now.cuts point ≤ result }
+        ensures within { result < cells_of self.now.cuts }
+    {
+        self.cuts.cell_at(&Point { at: area.high })
+    }
+}
+
+/// The least of a cell's numbers from `from` on and below `until` whose piece meets the area, else `until`.
+fn next_in(numbers: &[u32], pieces: &[Piece], area: &BoxN, from: u32, until: u32) -> u32
+    requires inside { (place : ℕ) → place < length numbers.now → slice_index numbers.now place < length pieces.now }
+    requires rising { IsRising numbers.now }
+    ensures meeting { IsMeeting pieces.now area.now from until result }
+    ensures least { NoneLess pieces.now area.now from result numbers.now }
+{
+    for number in numbers {
+        if *number >= until {
+            return until;
+        }
+        if from <= *number && meets(pieces, *number, area) {
+            return *number;
+        }
+    }
+    until
+}
+
+/// The same over the cells from `first` to `last`, else the count of the pieces.
+fn next_in_cells(
+    grid: &Grid,
+    first: usize,
+    last: usize,
+    pieces: &[Piece],
+    area: &BoxN,
+    from: u32,
+) -> u32
+    requires grid { IsGrid pieces.now grid.now }
+    requires few { length pieces.now ≤ 4096 }
+    requires area { IsTrue (is_box_of grid.now.cuts area.now) }
+    requires last { last < cells_of grid.now.cuts }
+    ensures meeting { IsMeeting pieces.now area.now from (length pieces.now) result }
+    ensures least { NoneLessIn grid.now.cuts pieces.now area.now from result first (last + 1) }
+{
+    let mut next = pieces.len() as u32;
+    for number in first..last + 1 {
+        let cell = &grid.cells[number];
+        if share(area, &cell.area) {
+            next = next_in(&cell.numbers, pieces, area, from, next);
+        }
+    }
+    next
+}
+
+/// The same over all pieces, one after the other.
+fn next_in_order(pieces: &[Piece], area: &BoxN, from: u32) -> u32
+    requires { length pieces.now ≤ 4096 }
+    ensures meeting { IsMeeting pieces.now area.now from (length pieces.now) result }
+    ensures least { IsLeast pieces.now area.now from result }
+{
+    for number in from..pieces.len() as u32 {
+        if meets(pieces, number, area) {
+            return number;
+        }
+    }
+    pieces.len() as u32
+}
+
+/// The same by the cells of the area, where these are few.
+fn next_of(grid: Option<&Grid>, pieces: &[Piece], area: &BoxN, from: u32) -> u32
+    requires grid { IfSome grid (λ grid. IsGrid pieces.now grid.now × IsTrue (is_box_of grid.now.cuts area.now)) }
+    requires few { length pieces.now ≤ 4096 }
+    ensures meeting { IsMeeting pieces.now area.now from (length pieces.now) result }
+    ensures least { IsLeast pieces.now area.now from result }
+{
+    if let Some(grid) = grid {
+        let first = grid.first_cell(area);
+        let last = grid.last_cell(area);
+        if last < first + FEW_CELLS.min(pieces.len() / PIECES_A_CELL) {
+            return next_in_cells(grid, first, last, pieces, area, from);
+        }
+    }
+    next_in_order(pieces, area, from)
+}
+
+/// The least number from `from` on of a piece that shares a point with the area. `None` exactly where there is none.
+pub(crate) fn next_meet(
+    grid: Option<&Grid>,
+    pieces: &[Piece],
+    area: &BoxN,
+    from: u32,
+) -> Option<u32>
+    requires grid { IfSome grid (λ grid. IsGrid pieces.now grid.now × IsTrue (is_box_of grid.now.cuts area.now)) }
+    requires few { length pieces.now ≤ 4096 }
+    ensures some { IfSome result (λ number. (from ≤ number) × (number < length pieces.now) × IsTrue (meets pieces.now area.now number)) }
+    ensures least { IfSome result (λ number. (other : ℕ) → from ≤ other → other < number → meets pieces.now area.now other ≡ false) }
+    ensures none { IfNone result ((other : ℕ) → from ≤ other → meets pieces.now area.now other ≡ false) }
+{
+    let next = next_of(grid, pieces, area, from);
+    if (next as usize) < pieces.len() {
+        Some(next)
+    } else {
+        None
+    }
+}
