@@ -1,0 +1,3 @@
+mod Examples
+pub mod Scanned
+pub mod Walking

@@ -1,0 +1,4 @@
+pub mod Modes
+pub mod Paths
+pub mod Scans
+pub mod Trees

@@ -1,0 +1,8 @@
+/// The mode as a path through the declarations: the numbers of those that give its parts, of which the first `len`
+/// count. Where `other` is true the last of them stands for its OTHER name.
+#[derive(Clone, Copy, Debug)]
+pub struct Path {
+    pub len: u32,
+    pub decls: [u32; 16],
+    pub other: bool,
+}
