@@ -14,7 +14,9 @@ use Rattle.moos_post.specs.Delivery.{is_latest}
 use Rattle.moos_post.specs.History.{name_of}
 use Rattle.moos_db.specs.Subscribers.{SubscriberState, is_new_held, catch_post, catch_found, catch_number, catches_kept, with_caught, kept_catching, kept_own, IsFresh}
 use Rattle.moos_db.specs.Tables.{latest_from}
-use Rattle.moos_mail.proofs.Lists.{found-below, length-push, list_any-push}
+use Rattle.moos_mail.specs.Mailboxes.{with_number}
+use Rattle.moos_mail.proofs.Appending.{any_with}
+use Rattle.moos_mail.proofs.Lists.{found-below, length-push}
 use Rattle.moos_db.proofs.Standing.{slice_get-seam}
 
 -- only the latest post of a variable catches up, so the others can be left out
@@ -88,11 +90,11 @@ kept_posts-own names posts kept true Fetch = refl
 
 -- numbers from the count of posts on stay fresh
 fresh-push : (posts number : ℕ) (mailed : List ℕ) → number < posts → ((n : ℕ) → posts ≤ n → list_any (λ one. one == n) mailed ≡ false) →
-    (n : ℕ) → posts ≤ n → list_any (λ one. one == n) (mailed ++ number ∷ []) ≡ false
+    (n : ℕ) → posts ≤ n → list_any (λ one. one == n) (with_number number mailed) ≡ false
 fresh-push posts number mailed below fresh n from =
-    list_any-push (λ one. one == n) mailed number
-    ∙ ap (λ b. b || (number == n)) (fresh n from)
-    ∙ ne_eqb number n (λ same. omega arith)
+    any_with (λ one. one == n) number mailed
+    ∙ ap (λ b. b || list_any (λ one. one == n) mailed) (ne_eqb number n (λ same. omega arith))
+    ∙ fresh n from
 
 fresh-catching : (names : List (List ℕ)) (number : ℕ) (kept : SubscriberState) (posts : List Post) → number + length posts ≤ kept.posts → IsFresh kept → IsFresh (kept_catching names number kept posts)
 fresh-catching names number kept [] within fresh = fresh

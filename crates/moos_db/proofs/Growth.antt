@@ -14,6 +14,7 @@ use Rattle.moos_post.specs.History.{History, posts_of, posts_of_entry}
 use Rattle.moos_db.specs.Subscribers.{SubscriberState, kept_of, kept_own, kept_posts, kept_entry, empty_kept, IsSubscriber, IsFresh}
 use Rattle.moos_db.proofs.Catching.{kept_posts-own, fresh-own}
 use Rattle.moos_db.proofs.Keeping.{kept-entry}
+use Rattle.moos_mail.proofs.Appending.{any_in_order}
 use Rattle.moos_mail.proofs.Inboxes.{posts-inbox_of}
 use Rattle.moos_mail.proofs.Lists.{take-next}
 use Rattle.moos_mail.proofs.Living.{before-next, posts-split}
@@ -145,7 +146,8 @@ IsSubscriber-fresh names history client kept inbox =
     let here : Inbox = inbox_of names client (take kept.seen history) in
     let past : All (IsPast here.entries (length here.posts)) here.mailed = (settled-inbox_of names client (take kept.seen history)).orderly.past in
     subst IsFresh (sym inbox.same) (λ n from.
-    list_any_none (λ number. number == n) (map (λ (one : Mailing). one.number) here.mailed)
+    any_in_order (λ number. number == n) (map (λ (one : Mailing). one.number) here.mailed)
+    ∙ list_any_none (λ number. number == n) (map (λ (one : Mailing). one.number) here.mailed)
     (All-map (λ number. (number == n) ≡ false) (λ (one : Mailing). one.number) here.mailed
     (All-weaker (IsPast here.entries (length here.posts)) (λ one. (one.number == n) ≡ false) (λ one is. ne_eqb one.number n (λ same. omega (arith, is.number, from, same))) here.mailed past)))
 

@@ -15,6 +15,8 @@ use Rattle.moos_post.specs.Delivery.{Live, Mailing, Inbox, is_due, is_past, sele
 use Rattle.moos_post.specs.History.{name_of, post_of, posts_of_call}
 use Rattle.moos_db.specs.Subscribers.{SubscriberState, held_of, kept_of, held_of_reg, is_due_held, with_stamp, passed, is_new_held, caught, has_patterns, without_held, with_held, with_mailed, kept_post, kept_batch, catches_kept, with_caught, kept_catching, kept_regs, kept_own, kept_posts, kept_entry}
 use Rattle.moos_db.proofs.Lasts.{last_in-lasts_of}
+use Rattle.moos_mail.specs.Mailboxes.{in_rising_order}
+use Rattle.moos_mail.proofs.Appending.{any_in_order}
 use Rattle.moos_mail.proofs.Lists.{filter-map, filter-none, length-push, list_any-alike, list_any-map}
 use Rattle.moos_mail.proofs.Orderly.{IsOrderly, IsPast}
 
@@ -79,10 +81,10 @@ kept-mailed : (inbox : Inbox) (lives : List Live) (number : ℕ) → inbox.fetch
     kept_of (record inbox { lives = lives; mailed = inbox.mailed ++ mailing number inbox.entries ∷ [] })
     ≡ record (with_mailed number (kept_of inbox)) { lives = map held_of lives }
 kept-mailed inbox lives number before =
-    ap (λ waits. record { seen = inbox.entries; posts = length inbox.posts; lives = map held_of lives; mailed = map (λ (one : Mailing). one.number) (inbox.mailed ++ mailing number inbox.entries ∷ []); waits = waits })
+    ap (λ waits. record { seen = inbox.entries; posts = length inbox.posts; lives = map held_of lives; mailed = in_rising_order (map (λ (one : Mailing). one.number) (inbox.mailed ++ mailing number inbox.entries ∷ [])); waits = waits })
     (waits-more inbox.fetched number inbox.entries inbox.mailed before)
     ∙ ap (λ mailed. record { seen = inbox.entries; posts = length inbox.posts; lives = map held_of lives; mailed = mailed; waits = waiting inbox ++ number ∷ [] })
-    (map-append _ inbox.mailed (mailing number inbox.entries ∷ []))
+    (ap in_rising_order (map-append _ inbox.mailed (mailing number inbox.entries ∷ [])) ∙ fold-append _ [] (map (λ (one : Mailing). one.number) inbox.mailed) (number ∷ []))
 
 -- an inbox after a post that is mailed or not, by this test
 abbrev kept_by : Bool → Inbox → SubscriberState
@@ -122,7 +124,7 @@ catches-kept : (names : List (List ℕ)) (inbox : Inbox) (number : ℕ) (post : 
     catches_up names inbox number post later ≡ catches_kept names (kept_of inbox) number post later
 catches-kept names inbox number post later =
     ap (λ any. is_latest post later && any && not (was_mailed number inbox.mailed)) (sym (list_any-map _ held_of inbox.lives))
-    ∙ ap (λ mailed. is_latest post later && list_any (is_new_held inbox.entries post.var (name_of names post.source)) (map held_of inbox.lives) && not mailed) (sym (list_any-map _ _ inbox.mailed))
+    ∙ ap (λ mailed. is_latest post later && list_any (is_new_held inbox.entries post.var (name_of names post.source)) (map held_of inbox.lives) && not mailed) (sym (any_in_order _ (map (λ (one : Mailing). one.number) inbox.mailed) ∙ list_any-map _ _ inbox.mailed))
 
 -- the inbox after a post that may catch up
 abbrev caught_or_not : Bool → List (List ℕ) → Inbox → ℕ → Post → Inbox

@@ -10,6 +10,7 @@ use Rattle.moos_post.specs.declared.value.Post.{Post}
 use Rattle.moos_post.specs.Delivery.{Inbox, Live, inbox_of, is_past, is_latest, waiting}
 use Rattle.moos_post.specs.History.{History, name_of}
 use Rattle.moos_post.specs.Patterns.{matches}
+use Rattle.moos_mail.specs.Mailboxes.{in_rising_order, with_number}
 use Rattle.moos_db.specs.Tables.{Row, number_of, with_row, lasts_of}
 
 -- a live registration as it is kept: the last stamp of each variable in place of the posts that came through
@@ -64,7 +65,7 @@ abbrev pub with_held : ℕ → List SubscriptionState → Reg → List Subscript
 with_held made helds reg = without_held reg.var reg.source helds ++ held_of_reg made reg ∷ []
 
 -- a client's inbox as it is kept: how many entries it has seen and how many posts were in them, the live registrations, the
--- numbers of all posts ever mailed, and those of the posts that wait for the client's next fetch
+-- numbers of all posts ever mailed in rising order, and those of the posts that wait for the client's next fetch
 pub record SubscriberState : Type 0 where
   pub seen : ℕ
   pub posts : ℕ
@@ -78,7 +79,7 @@ kept_of inbox = record {
   seen = inbox.entries;
   posts = length inbox.posts;
   lives = map held_of inbox.lives;
-  mailed = map (λ one. one.number) inbox.mailed;
+  mailed = in_rising_order (map (λ one. one.number) inbox.mailed);
   waits = waiting inbox;
 }
 
@@ -88,7 +89,7 @@ empty_kept = record { seen = 0; posts = 0; lives = []; mailed = []; waits = [] }
 
 -- the post with this number is mailed
 abbrev pub with_mailed : ℕ → SubscriberState → SubscriberState
-with_mailed number kept = record kept { mailed = kept.mailed ++ number ∷ []; waits = kept.waits ++ number ∷ [] }
+with_mailed number kept = record kept { mailed = with_number number kept.mailed; waits = kept.waits ++ number ∷ [] }
 
 -- after a post of this stamp from the source with this name, which is mailed where it is due
 abbrev pub with_due : ℕ → List ℕ → SubscriberState → List ℕ → SubscriberState

@@ -1,5 +1,5 @@
 -- The sentences of the delivery rule worked by hand.
-use Rattle.std.proofs.Common.{◌≡◌, ℕ, zero, suc, ◌*◌, ◌≢◌, inl, inr, List, [], ◌∷◌, map, Some, None, Option, AllPairs, refl, ap, ◌∙◌, true, false, arith}
+use Rattle.std.proofs.Common.{◌≡◌, ℕ, zero, suc, ◌*◌, ◌<◌, ◌≤◌, ◌≢◌, inl, inr, List, [], ◌∷◌, get_or, map, Some, None, Option, AllPairs, refl, ap, ◌∙◌, true, false, arith}
 use Rattle.std.specs.Prelude.{pos, codes, slice_get}
 use Rattle.std.proofs.lemmas.List.Elements.{All-cons, All-nil}
 use Rattle.std.proofs.lemmas.List.Kept.{AllPairs-cons}
@@ -12,7 +12,7 @@ use Rattle.moos_post.specs.declared.value.Post.{Post}
 use Rattle.moos_post.specs.declared.value.Value.TheVariants.{Num}
 use Rattle.moos_post.specs.Delivery.{Mailing, mailed_to, mailing}
 use Rattle.moos_post.specs.History.{History}
-use Rattle.moos_mail.specs.Mailboxes.{MailboxState, is_one_of}
+use Rattle.moos_mail.specs.Mailboxes.{MailboxState, in_rising_order, is_one_of, IsPlaceOf, with_number}
 use Rattle.moos_mail.specs.Registrations.{MadeReg, made_at, live_before, came_through, is_to_mail, is_mailed_at, IsLive, regs_of}
 use Rattle.moos_mail.specs.Sentences.{given_at, mailed_between, posts_before, since, AreOnceEach, IsBefore, IsMadeBy}
 
@@ -118,6 +118,25 @@ box_is = (refl, refl)
 
 in_box : map (λ n. is_one_of n box.mailed) (0 ∷ 1 ∷ 2 ∷ 3 ∷ 4 ∷ []) ≡ false ∷ true ∷ true ∷ true ∷ false ∷ []
 in_box = refl
+
+-- A number more goes into its place, and only there does it keep the order.
+in_order : (with_number 2 (1 ∷ 3 ∷ []) ≡ 1 ∷ 2 ∷ 3 ∷ []) × (in_rising_order (3 ∷ 1 ∷ 2 ∷ []) ≡ box.mailed)
+in_order = (refl, refl)
+
+its_place : IsPlaceOf 2 (1 ∷ 3 ∷ []) 1
+its_place = record { within = omega arith; below = below; from = from }
+  where
+    below : (k d : ℕ) → k < 1 → get_or (1 ∷ 3 ∷ []) k d < 2
+    below zero d first = omega arith
+    below (suc k) d first = absurd (omega arith)
+
+    from : (k d : ℕ) → 1 ≤ k → k < 2 → 2 ≤ get_or (1 ∷ 3 ∷ []) k d
+    from zero d behind inside = absurd (omega arith)
+    from (suc zero) d behind inside = omega arith
+    from (suc (suc k)) d behind inside = absurd (omega arith)
+
+no_place : IsPlaceOf 2 (1 ∷ 3 ∷ []) 0 → ⊥
+no_place place = let behind : 2 ≤ 1 = place.from 0 0 (omega arith) (omega arith) in omega arith
 
 -- Live registrations: the second place of an entry ends the first, a later entry ends one of another, and a client's own
 -- entries alone end its registrations.

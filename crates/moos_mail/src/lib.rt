@@ -2,7 +2,7 @@
 //
 // The contract for the layers above: a mailbox is the list that waits, the list of all numbers ever mailed, and how many
 // more can be mailed without memory. Memory is taken by `reserve` alone, so that a caller can take it for a whole call
-// before anything changes. Asking whether a number was mailed and mailing one take constant time, on average.
+// before anything changes. The numbers ever mailed stand in rising order, so that one is found by halves.
 //
 // `delivery_law` says the delivery rule over again, in sentences about the places of a history.
 //

@@ -1,8 +1,8 @@
 ghost use Rattle.std.specs.Prelude.{◌≡◌, ◌≤◌, ◌+◌, ◌++◌, ◌∷◌, [], false, OnOk, OnErr};
-ghost use Rattle.moos_mail.specs.Mailboxes.{is_one_of};
+ghost use Rattle.std.specs.List.Sorted.{IsNonDecreasingBy};
+ghost use Rattle.moos_mail.specs.Mailboxes.{is_one_of, with_number, IsPlaceOf};
 
 use crate::Numbers;
-use indexmap::IndexSet;
 use moos_post::NoMemory;
 use std::alloc::Global;
 use std::marker::Model;
@@ -10,26 +10,36 @@ use std::mem;
 
 /// What is mailed to one client.
 ///
-/// Contracts see the numbers that wait for the next fetch, all that were ever mailed, both in the order of mailing, and
-/// the spare room: how many more can be mailed without memory.
+/// Contracts see the numbers that wait for the next fetch, in the order of mailing, all that were ever mailed, in rising
+/// order, and the spare room: how many more can be mailed without memory.
 #[derive(Drop)]
 pub struct Mailbox {
-    mailed: IndexSet<u64>,
+    mailed: Vec<u64>,
     waiting: Vec<u64>,
 }
 
 impl Model for Mailbox {
     ghost use Rattle.std.specs.Prelude.{◌-◌, min, vec_len, vec_capacity};
-    ghost use Rattle.indexmap.specs.IndexSet.{spare};
+    ghost use Rattle.std.specs.List.Sorted.{IsNonDecreasingBy};
     ghost use Rattle.moos_mail.specs.Mailboxes.{MailboxState};
 
     ghost Value = { MailboxState };
 
     ghost view = { λ mailbox. record {
       waiting = mailbox.waiting.items;
-      mailed = mailbox.mailed.keys;
-      spare = min (spare mailbox.mailed) (vec_capacity mailbox.waiting - vec_len mailbox.waiting);
+      mailed = mailbox.mailed.items;
+      spare = min (vec_capacity mailbox.mailed - vec_len mailbox.mailed) (vec_capacity mailbox.waiting - vec_len mailbox.waiting);
     } };
+
+    ghost invariant = { λ mailbox. IsNonDecreasingBy (λ number. number) mailbox.mailed.items };
+}
+
+// Where the number stands among these, which rise, or would.
+fn place_of(numbers: &[u64], number: u64) -> usize
+    requires { IsNonDecreasingBy (λ one. one) numbers.now }
+    ensures { IsPlaceOf number numbers.now result }
+{
+    numbers.partition_point(|one| *one < number)
 }
 
 impl Mailbox {
@@ -40,7 +50,7 @@ impl Mailbox {
         ensures spare { result.spare ≡ 0 }
     {
         Mailbox {
-            mailed: IndexSet::new(alloc),
+            mailed: Vec::new(alloc),
             waiting: Vec::new(alloc),
         }
     }
@@ -59,15 +69,15 @@ impl Mailbox {
     }
 
     /// Mails the post with this number, which was never mailed. It takes no memory, and at most one place of the room.
-    #[tactic(auto, using(crate::proofs::Appending::goes_last))]
     pub fn append(&mut self, number: u64)
         requires room { 1 ≤ self.old.spare }
         requires new { is_one_of number self.old.mailed ≡ false }
         ensures waiting { self.new.waiting ≡ self.old.waiting ++ number ∷ [] }
-        ensures mailed { self.new.mailed ≡ self.old.mailed ++ number ∷ [] }
+        ensures mailed { self.new.mailed ≡ with_number number self.old.mailed }
         ensures spare { self.old.spare ≤ self.new.spare + 1 }
     {
-        let _ = self.mailed.insert(number);
+        let place = place_of(self.mailed.as_slice(), number);
+        let _ = self.mailed.insert(place, number);
         let _ = self.waiting.push(number);
     }
 
@@ -75,7 +85,8 @@ impl Mailbox {
     pub fn mailed(&self, number: u64) -> bool
         ensures { result ≡ is_one_of number self.now.mailed }
     {
-        self.mailed.contains(&number)
+        let place = place_of(self.mailed.as_slice(), number);
+        place < self.mailed.len() && self.mailed[place] == number
     }
 
     /// The numbers that wait for the next fetch. It takes no memory.
