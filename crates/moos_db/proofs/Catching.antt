@@ -12,7 +12,7 @@ use Rattle.moos_post.specs.declared.entry.Call.TheVariants.{Register, Unregister
 use Rattle.moos_post.specs.declared.value.Post.{Post}
 use Rattle.moos_post.specs.Delivery.{is_latest}
 use Rattle.moos_post.specs.History.{name_of}
-use Rattle.moos_db.specs.Subscribers.{SubscriberState, is_new_held, catch_post, catch_found, catch_number, catches_kept, with_caught, kept_catching, kept_own, IsFresh}
+use Rattle.moos_db.specs.Subscribers.{SubscriberState, is_new_held, catch_post, catch_found, catch_number, catches_kept, with_caught, kept_catching, kept_own, IsFresh, is_due_held, with_due, with_mailed}
 use Rattle.moos_db.specs.Tables.{latest_from}
 use Rattle.moos_mail.specs.Mailboxes.{with_number}
 use Rattle.moos_mail.proofs.Appending.{any_with}
@@ -95,6 +95,16 @@ fresh-push posts number mailed below fresh n from =
     any_with (λ one. one == n) number mailed
     ∙ ap (λ b. b || list_any (λ one. one == n) mailed) (ne_eqb number n (λ same. omega arith))
     ∙ fresh n from
+
+pub fresh-due : (stamp : ℕ) (source : List ℕ) (kept : SubscriberState) (var : List ℕ) → IsFresh kept → (n : ℕ) → (with_due stamp source kept var).posts + 1 ≤ n → list_any (λ one. one == n) (with_due stamp source kept var).mailed ≡ false
+fresh-due stamp source kept var fresh = by (list_any (is_due_held stamp var source) kept.lives)
+  where
+    by : (due : Bool) → (n : ℕ) → (if due then with_mailed kept.posts kept else kept).posts + 1 ≤ n → list_any (λ one. one == n) (if due then with_mailed kept.posts kept else kept).mailed ≡ false
+    by true n from =
+        any_with (λ one. one == n) kept.posts kept.mailed
+        ∙ ap (λ b. b || list_any (λ one. one == n) kept.mailed) (ne_eqb kept.posts n (λ same. omega arith))
+        ∙ fresh n (omega arith)
+    by false n from = fresh n (omega arith)
 
 fresh-catching : (names : List (List ℕ)) (number : ℕ) (kept : SubscriberState) (posts : List Post) → number + length posts ≤ kept.posts → IsFresh kept → IsFresh (kept_catching names number kept posts)
 fresh-catching names number kept [] within fresh = fresh

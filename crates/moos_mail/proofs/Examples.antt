@@ -120,8 +120,8 @@ in_box : map (λ n. is_one_of n box.mailed) (0 ∷ 1 ∷ 2 ∷ 3 ∷ 4 ∷ []) �
 in_box = refl
 
 -- A number more goes into its place, and only there does it keep the order.
-in_order : (with_number 2 (1 ∷ 3 ∷ []) ≡ 1 ∷ 2 ∷ 3 ∷ []) × (in_rising_order (3 ∷ 1 ∷ 2 ∷ []) ≡ box.mailed)
-in_order = (refl, refl)
+put_in_order : (with_number 2 (1 ∷ 3 ∷ []) ≡ 1 ∷ 2 ∷ 3 ∷ []) × (in_rising_order (3 ∷ 1 ∷ 2 ∷ []) ≡ box.mailed)
+put_in_order = (refl, refl)
 
 its_place : IsPlaceOf 2 (1 ∷ 3 ∷ []) 1
 its_place = record { within = omega arith; below = below; from = from }

@@ -1,4 +1,4 @@
-use Rattle.std.proofs.Common.{◌==◌, nat_lt, rules, arith}
+use Rattle.std.proofs.Common.{nat_lt, rules, arith}
 use Rattle.std.proofs.lemmas.Bool.{ltb-true, ltb-false}
 use Rattle.std.proofs.lemmas.List.Sorted.{IsPartitionPoint-from_clause, IsPartitionedBy-ltb}
 use Rattle.moos_mail.proofs.mailbox.place_of.Goals as goal
