@@ -14,3 +14,6 @@ mod walk;
 
 pub use path::Path;
 pub use tree::ModeTree;
+
+#[cfg(test)]
+mod tests;
