@@ -162,29 +162,33 @@ fn without_clients(rt: HostRuntime) -> Result<(), Fail> {
     Ok(())
 }
 
-/// Holds each of two clients at its call 1 until the other is at its own, or lets go after a while.
+// Three clients that make their first calls at one stamp.
+const THREE: &[u8] =
+    b"1 a post X=1\n1 a fetch\n1 b post X=2\n1 b fetch\n1 b fetch\n1 c fetch\n1 c fetch\n";
+
+/// Holds each of three clients before its first call until all three are there, and client 0 besides until client 1 is
+/// before its third; or lets go after a while.
 #[derive(Drop)]
-struct Beside {
-    first: AtomicBool,
-    second: AtomicBool,
+struct Meeting {
+    arrived: AtomicU64,
+    ahead: AtomicBool,
     missed: AtomicBool,
 }
 
-impl Gate for Beside {
+impl Gate for Meeting {
     fn at_node(&self, _worker: u32, _nth: u64) {}
 
     fn at_call(&self, client: u32, nth: u64) {
-        if nth != 1 {
+        if nth > 0 {
+            if client == 1 && nth == 2 {
+                self.ahead.store(true, Ordering::SeqCst);
+            }
             return;
         }
-        let (own, other) = if client == 0 {
-            (&self.first, &self.second)
-        } else {
-            (&self.second, &self.first)
-        };
-        own.store(true, Ordering::SeqCst);
+        self.arrived.fetch_add(1, Ordering::SeqCst);
         for _ in 0..100_000_000u32 {
-            if other.load(Ordering::SeqCst) {
+            let is_met = self.arrived.load(Ordering::SeqCst) >= 3;
+            if is_met && (client != 0 || self.ahead.load(Ordering::SeqCst)) {
                 return;
             }
             spin_loop();
@@ -200,24 +204,37 @@ fn clients_beside(rt: HostRuntime) -> Result<(), Fail> {
     Ok(())
 }
 
-// That the two clients meet at their calls 1.
+// How many entries of client 1 stand before the first of client 0.
+fn entries_ahead(history: &[Told]) -> u32 {
+    let mut ahead = 0u32;
+    for (_, client, _, _) in history {
+        if *client == 0 {
+            return ahead;
+        }
+        if *client == 1 {
+            ahead = ahead.saturating_add(1);
+        }
+    }
+    ahead
+}
+
+// That the three clients meet before their first calls, and that who is held at the gate hasn't made its call.
 fn check_beside<R: Threads + Wait + Sync + Abort>(
     rt: &R,
     alloc: Global,
     order: Order,
 ) -> Result<(), Fail> {
-    let script = script_of(rt, alloc, TWO)?;
-    let gate = Beside {
-        first: AtomicBool::new(false),
-        second: AtomicBool::new(false),
+    let script = script_of(rt, alloc, THREE)?;
+    let gate = Meeting {
+        arrived: AtomicU64::new(0),
+        ahead: AtomicBool::new(false),
         missed: AtomicBool::new(false),
     };
-    let _ran = play(rt, alloc, &script, order, &gate)?;
-    let (first, second) = (
-        gate.first.load(Ordering::SeqCst),
-        gate.second.load(Ordering::SeqCst),
-    );
-    assert!(rt; first && second && !gate.missed.load(Ordering::SeqCst));
+    let Ran { db } = play(rt, alloc, &script, order, &gate)?;
+    let missed = gate.missed.load(Ordering::SeqCst);
+    let history = history_told(alloc, &db)?;
+    let ahead = entries_ahead(history.as_slice());
+    assert!(rt; !missed && ahead >= 2);
     Ok(())
 }
 
