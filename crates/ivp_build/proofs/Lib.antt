@@ -1,0 +1,13 @@
+mod Examples
+pub mod Heights
+pub mod Lines
+pub mod Rises
+pub mod Runs
+pub mod Zones
+pub mod Crests
+pub mod Tiles
+pub mod Steps
+pub mod Bands
+pub mod Lawful
+pub mod Searches
+pub mod Nearest

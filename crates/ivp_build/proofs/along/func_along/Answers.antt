@@ -1,0 +1,50 @@
+use Rattle.std.proofs.Common.{◌≡◌, ℕ, true, ◌^◌, ◌<◌, ◌≤◌, List, Err, map, length, sym, ◌∙◌, ap, subst, arith}
+use Rattle.ivp_domain.specs.declared.axis.Axis.{Axis}
+use Rattle.ivp_func.specs.declared.piece.Piece.{Piece}
+use Rattle.ivp_func.specs.Making.{MadeFunction}
+use Rattle.ivp_func.specs.Pieces.{are_pieces_of, value_at}
+use Rattle.ivp_build.specs.declared.profile.Profile.{Profile}
+use Rattle.ivp_build.specs.Builders.{piece_over, pieces_along}
+use Rattle.ivp_build.specs.Ends.{cut_ends, runs_by}
+use Rattle.ivp_build.specs.Shapes.{IsProfileOf}
+use Rattle.ivp_build.proofs.Lawful.{Fits, by_ends, fits, fit, made_anyhow, value}
+use Rattle.ivp_build.proofs.along.func_along.Goals as goal
+use Rattle.ivp_domain.specs.Domains.{is_domain, size_on}
+
+-- the pieces that were made are the shape's
+made : (axes : List Axis) (number count : ℕ) (p : Profile) (ends : List ℕ) (pieces : List Piece) → Fits axes number p → count ≡ size_on number axes → ends ≡ cut_ends p.slopes count p.crest
+    → pieces ≡ map (piece_over axes number p) (runs_by 0 ends) → pieces ≡ pieces_along axes number p
+made axes number count p ends pieces h e e' e'' =
+    e'' ∙ ap (λ es. map (piece_over axes number p) (runs_by 0 es)) (e' ∙ ap (λ n. cut_ends p.slopes n p.crest) e) ∙ by_ends axes number p h
+
+ready : (axes : List Axis) (number count : ℕ) (p : Profile) → count ≡ size_on number axes → is_domain axes ≡ true → number < length axes → count ≤ 2 ^ 22
+    → IsProfileOf (size_on number axes) p → Fits axes number p
+ready axes number count p e lawful listed few h = fits axes number p lawful listed (omega arith) h
+
+pub make-requires : goal.make-requires
+make-requires c =
+    let h = ready c.args.domain.now c.args.axis c.axis_on-count.result.points c.args.profile.now c.axis_on-count.ensures.count c.axis_on-count.ensures.lawful c.requires.axis c.axis_on-count.ensures.few c.requires.profile in
+    let same = made c.args.domain.now c.args.axis c.axis_on-count.result.points c.args.profile.now c.ends.result c.in_ok-pieces.pieces.items h c.axis_on-count.ensures.count c.ends.ensures.ends
+    c.in_ok-pieces.ensures in
+    subst (λ pieces. are_pieces_of c.args.domain.now pieces ≡ true) (sym same) (fit c.args.domain.now c.args.axis c.args.profile.now h)
+
+pub no_memory-requires : goal.no_memory-requires
+no_memory-requires c =
+    let h = ready c.args.domain.now c.args.axis c.axis_on-count.result.points c.args.profile.now c.axis_on-count.ensures.count c.axis_on-count.ensures.lawful c.requires.axis c.axis_on-count.ensures.few c.requires.profile in
+    let same = made c.args.domain.now c.args.axis c.axis_on-count.result.points c.args.profile.now c.ends.result c.in_ok-pieces.pieces.items h c.axis_on-count.ensures.count c.ends.ensures.ends
+    c.in_ok-pieces.ensures in
+    made_anyhow c.args.domain.now c.args.axis c.args.profile.now h c.in-Err.fault (subst (λ pieces. MadeFunction c.args.domain.now pieces (Err c.in-Err.fault)) same c.in-Err.ensures)
+
+pub returns-in-Ok-clause-pieces : goal.returns-in-Ok-clause-pieces
+returns-in-Ok-clause-pieces c =
+    let h = ready c.args.domain.now c.args.axis c.axis_on-count.result.points c.args.profile.now c.axis_on-count.ensures.count c.axis_on-count.ensures.lawful c.requires.axis c.axis_on-count.ensures.few c.requires.profile in
+    let same = made c.args.domain.now c.args.axis c.axis_on-count.result.points c.args.profile.now c.ends.result c.in_ok-pieces.pieces.items h c.axis_on-count.ensures.count c.ends.ensures.ends
+    c.in_ok-pieces.ensures in
+    c.in-Ok.ensures.3 ∙ ap (λ pieces. record { axes = c.args.domain.now; pieces = pieces }) same
+
+pub returns-in-Ok-clause-value : goal.returns-in-Ok-clause-value
+returns-in-Ok-clause-value c p inside =
+    let h = ready c.args.domain.now c.args.axis c.axis_on-count.result.points c.args.profile.now c.axis_on-count.ensures.count c.axis_on-count.ensures.lawful c.requires.axis c.axis_on-count.ensures.few c.requires.profile in
+    let same = made c.args.domain.now c.args.axis c.axis_on-count.result.points c.args.profile.now c.ends.result c.in_ok-pieces.pieces.items h c.axis_on-count.ensures.count c.ends.ensures.ends
+    c.in_ok-pieces.ensures in
+    ap (λ func. value_at func.pieces p) c.in-Ok.ensures.3 ∙ ap (λ pieces. value_at pieces p) same ∙ value c.args.domain.now c.args.axis c.args.profile.now h p inside

@@ -1,0 +1,6 @@
+pub mod Places
+pub mod Cuts
+pub mod Shapes
+pub mod Builders
+pub mod Ends
+pub mod Faults

@@ -1,0 +1,30 @@
+//! Objective functions from shapes: one value, a peak about a number of an axis, and limits.
+//!
+//! The contract for the layer above: the utility of a shape at a place is arithmetic on the place,
+//! and the function that a builder gives has that value at every point. Its pieces are the maximal
+//! runs of consecutive places of one side and zone, each over the whole of the other axes.
+//!
+//! Reading order: `shape`, `slopes`, `crest`, `profile`, `ends`, `along`, `level`, `places`, `limits`, `near`,
+//! `peaks`.
+#![tactic(auto)]
+
+mod along;
+mod crest;
+mod ends;
+mod fault;
+mod level;
+mod limits;
+mod near;
+mod peaks;
+mod places;
+mod profile;
+mod shape;
+mod slopes;
+
+pub use level::flat;
+pub use limits::{at_least, at_most};
+pub use peaks::peak;
+pub use shape::Peak;
+
+#[cfg(test)]
+mod tests;
