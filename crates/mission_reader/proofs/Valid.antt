@@ -21,8 +21,8 @@ use Rattle.ivp_domain.specs.declared.domain.DomainFault.TheVariants.{BadAxis, To
 use Rattle.ivp_domain.specs.Domains.{domain_of, is_domain, same_name}
 use Rattle.axis_reader.proofs.Makes.{domain_good}
 use Rattle.mission_reader.specs.declared.settings.Settings.{Settings}
-use Rattle.mission_reader.specs.Missions.{app_block, app_of, AppBlock, axes_in, axis_set, begun_by, complete, is_brace, line_in, mission_form, mission_of, mission_with, nothing_set, period_of, with_axis, with_behaviors, with_domain, with_period, with_setting}
-use Rattle.mission_reader.specs.Validity.{IsValid}
+use Rattle.mission_reader.specs.Missions.{app_block, app_of, AppBlock, mission_axes, axis_set, begun_by, complete, is_brace, line_in, mission_form, mission_of, mission_with, nothing_set, period_of, with_mission_axis, with_behaviors, with_mission_domain, with_period, with_setting}
+use Rattle.mission_reader.specs.Validity.{IsValidMission}
 
 -- what settings keep
 record IsSound (settings : Settings) : Type 0 where
@@ -62,7 +62,7 @@ tick_period (Some (pos rate)) = rate_period rate
 tick_period (Some (negsuc rate)) = tt
 
 -- a domain with one axis more
-domain_sound : (settings : Settings) (made : Result (List Axis) DomainFault) → IsSound settings → IfOk made (λ all. is_domain all ≡ true) → IfOk (with_domain settings made) IsSound
+domain_sound : (settings : Settings) (made : Result (List Axis) DomainFault) → IsSound settings → IfOk made (λ all. is_domain all ≡ true) → IfOk (with_mission_domain settings made) IsSound
 domain_sound settings (Ok axes) sound is = record { ticks = sound.ticks; slowest = sound.slowest; named = sound.named; domain = is }
 domain_sound settings (Err (BadAxis place)) sound is = tt
 domain_sound settings (Err TooLarge) sound is = tt
@@ -72,12 +72,12 @@ or_left : (a b : Bool) → (a || b) ≡ false → a ≡ false
 or_left true b e = e
 or_left false b e = refl
 
-axis_sound : (settings : Settings) (axis : Option Axis) → IsSound settings → IfOk (with_axis settings axis) IsSound
+axis_sound : (settings : Settings) (axis : Option Axis) → IsSound settings → IfOk (with_mission_axis settings axis) IsSound
 axis_sound settings None sound = tt
 axis_sound settings (Some axis) sound =
-    let axes = axes_in settings.domain in
+    let axes = mission_axes settings.domain in
     let many = nat_le 4 (length axes) || list_any (same_name axis) axes in
-    cond_good IsSound many (Err M3) (with_domain settings (domain_of (axes ++ axis ∷ []))) (λ _. tt)
+    cond_good IsSound many (Err M3) (with_mission_domain settings (domain_of (axes ++ axis ∷ []))) (λ _. tt)
     (λ few.
     let short : length axes < 4 = leb-false 4 (length axes) (or_left (nat_le 4 (length axes)) (list_any (same_name axis) axes) few) in
     let long : length (axes ++ axis ∷ []) ≡ length axes + 1 = length-append axes (axis ∷ []) in
@@ -89,13 +89,13 @@ setting_sound settings (Some set) sound =
     cond_good IsSound (str_eq_ignore_ascii_case set.name (codes "AppTick")) (with_period settings (option_and_then period_of (milli_of set.value))) others
     (λ _. period_sound settings (option_and_then period_of (milli_of set.value)) sound (tick_period (milli_of set.value)))
     (λ _. cond_good IsSound (str_eq_ignore_ascii_case set.name (codes "behaviors")) (with_behaviors settings set.value) axes (λ _. behaviors_sound settings set.value sound)
-    (λ _. cond_good IsSound (str_eq_ignore_ascii_case set.name (codes "domain")) (with_axis settings (axis_set set.value)) (Ok settings) (λ _. axis_sound settings (axis_set set.value) sound) (λ _. sound)))
+    (λ _. cond_good IsSound (str_eq_ignore_ascii_case set.name (codes "domain")) (with_mission_axis settings (axis_set set.value)) (Ok settings) (λ _. axis_sound settings (axis_set set.value) sound) (λ _. sound)))
   where
     axes : Result Settings Cause
-    axes = cond (str_eq_ignore_ascii_case set.name (codes "domain")) (with_axis settings (axis_set set.value)) (Ok settings)
+    axes = cond (str_eq_ignore_ascii_case set.name (codes "domain")) (with_mission_axis settings (axis_set set.value)) (Ok settings)
 
     others : Result Settings Cause
-    others = cond (str_eq_ignore_ascii_case set.name (codes "behaviors")) (with_behaviors settings set.value) (cond (str_eq_ignore_ascii_case set.name (codes "domain")) (with_axis settings (axis_set set.value)) (Ok settings))
+    others = cond (str_eq_ignore_ascii_case set.name (codes "behaviors")) (with_behaviors settings set.value) (cond (str_eq_ignore_ascii_case set.name (codes "domain")) (with_mission_axis settings (axis_set set.value)) (Ok settings))
 
 begun_sound : (settings : Settings) (app : List ℕ) → IsSound settings → IfOk (begun_by settings app) (λ block. IsSound block.settings)
 begun_sound settings app sound =
@@ -125,17 +125,17 @@ sound_form = record {
   close = λ block said sound. sound;
 }
 
-complete_valid : (last : ℕ) (settings : Settings) → 1 ≤ last → IsSound settings → IfOk (mission_with last settings) IsValid
+complete_valid : (last : ℕ) (settings : Settings) → 1 ≤ last → IsSound settings → IfOk (mission_with last settings) IsValidMission
 complete_valid last settings some sound = at settings.domain settings.behaviors sound.domain sound.named
   where
-    at : (domain : Option (List Axis)) (behaviors : Option (List ℕ)) → IfSome domain (λ axes. IsTrue (is_domain axes)) → IfSome behaviors (λ name. (0 < length name) × IsTrue (is_text name)) → IfOk (complete last settings.period domain behaviors) IsValid
+    at : (domain : Option (List Axis)) (behaviors : Option (List ℕ)) → IfSome domain (λ axes. IsTrue (is_domain axes)) → IfSome behaviors (λ name. (0 < length name) × IsTrue (is_text name)) → IfOk (complete last settings.period domain behaviors) IsValidMission
     at None behaviors axes name = tt
     at (Some domain) None axes name = tt
     at (Some domain) (Some behaviors) axes name = record { ticks = sound.ticks; slowest = sound.slowest; named = name.0; text = name.1; domain = axes; lines = some }
 
 -- what the bytes of a mission stand for is valid
-pub mission_valid : (bytes : List ℕ) → IfOk (mission_of bytes) IsValid
+pub mission_valid : (bytes : List ℕ) → IfOk (mission_of bytes) IsValidMission
 mission_valid bytes =
-    and_then_good IsSound IsValid (mission_with (last_line bytes)) (made_of_file mission_form nothing_set bytes)
+    and_then_good IsSound IsValidMission (mission_with (last_line bytes)) (made_of_file mission_form nothing_set bytes)
     (file_good mission_form IsSound (λ block. IsSound block.settings) sound_form nothing_set bytes (record { ticks = omega arith; slowest = omega arith; named = tt; domain = tt }))
     (λ settings. complete_valid (last_line bytes) settings (le-max_left 1 (length (raw_lines bytes))))

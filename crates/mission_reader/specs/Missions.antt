@@ -49,23 +49,23 @@ abbrev pub axis_set : List ℕ → Option Axis
 axis_set value = axis_from (map trimmed (fields_of (map axis_byte value)))
 
 -- the axes so far
-abbrev pub axes_in : Option (List Axis) → List Axis
-axes_in None = []
-axes_in (Some axes) = axes
+abbrev pub mission_axes : Option (List Axis) → List Axis
+mission_axes None = []
+mission_axes (Some axes) = axes
 
 -- the axes, where they make a domain
-abbrev pub with_domain : Settings → Result (List Axis) DomainFault → Result Settings Cause
-with_domain settings (Ok axes) = Ok (record settings { domain = Some axes })
-with_domain settings (Err TooLarge) = Err M4
-with_domain settings (Err (BadAxis place)) = Err M3
-with_domain settings (Err (SameName place)) = Err M3
+abbrev pub with_mission_domain : Settings → Result (List Axis) DomainFault → Result Settings Cause
+with_mission_domain settings (Ok axes) = Ok (record settings { domain = Some axes })
+with_mission_domain settings (Err TooLarge) = Err M4
+with_mission_domain settings (Err (BadAxis place)) = Err M3
+with_mission_domain settings (Err (SameName place)) = Err M3
 
 -- one axis more: a fifth is refused, one of a name that an axis has, and one that makes no domain with those before it
-abbrev pub with_axis : Settings → Option Axis → Result Settings Cause
-with_axis settings None = Err M3
-with_axis settings (Some axis) =
-    if nat_le 4 (length (axes_in settings.domain)) || list_any (same_name axis) (axes_in settings.domain) then Err M3
-    else with_domain settings (domain_of (axes_in settings.domain ++ axis ∷ []))
+abbrev pub with_mission_axis : Settings → Option Axis → Result Settings Cause
+with_mission_axis settings None = Err M3
+with_mission_axis settings (Some axis) =
+    if nat_le 4 (length (mission_axes settings.domain)) || list_any (same_name axis) (mission_axes settings.domain) then Err M3
+    else with_mission_domain settings (domain_of (mission_axes settings.domain ++ axis ∷ []))
 
 -- what a line of the helm's block sets; a name that isn't the helm's is unread
 abbrev pub with_setting : Settings → Option Sides → Result Settings Cause
@@ -73,7 +73,7 @@ with_setting settings None = Err M1
 with_setting settings (Some set) =
     if str_eq_ignore_ascii_case set.name (codes "AppTick") then with_period settings (option_and_then period_of (milli_of set.value))
     else if str_eq_ignore_ascii_case set.name (codes "behaviors") then with_behaviors settings set.value
-    else if str_eq_ignore_ascii_case set.name (codes "domain") then with_axis settings (axis_set set.value)
+    else if str_eq_ignore_ascii_case set.name (codes "domain") then with_mission_axis settings (axis_set set.value)
     else Ok settings
 
 -- what is set, with a block whose end is to come, and whether it is the helm's

@@ -6,7 +6,7 @@ use Rattle.mission_reader.specs.declared.mission.Mission.{Mission}
 
 -- Its period is 1 to 1,000,000 milliseconds, its behaviour file has a name that isn't empty, its axes make a domain, and
 -- it has a last line.
-pub record IsValid (mission : Mission) : Type 0 where
+pub record IsValidMission (mission : Mission) : Type 0 where
   pub ticks : 1 ≤ mission.period
   pub slowest : mission.period ≤ 1000000
   pub named : 0 < length mission.behaviors

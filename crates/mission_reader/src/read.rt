@@ -1,7 +1,7 @@
 ghost use Rattle.std.specs.Prelude.{◌≡◌, ◌<◌, ◌^◌, length, Ok, IfOk, IfErr};
 ghost use Rattle.moos_text.specs.Refusals.{IsFirst};
 ghost use Rattle.mission_reader.specs.Missions.{mission_of};
-ghost use Rattle.mission_reader.specs.Validity.{IsValid};
+ghost use Rattle.mission_reader.specs.Validity.{IsValidMission};
 
 use crate::mission::Mission;
 use crate::reading::Reading;
@@ -13,7 +13,7 @@ pub fn read_mission(alloc: Global, bytes: &[u8]) -> Result<Mission, ReadFault>
     requires { length bytes.now < 2 ^ 32 }
     ensures read { IfOk result (λ mission. mission_of bytes.now ≡ Ok mission) }
     ensures refused { IfErr result (λ fault. IsFirst fault (mission_of bytes.now)) }
-    ensures valid { IfOk result IsValid }
+    ensures valid { IfOk result IsValidMission }
 {
     let mut reading = Reading::new();
     let mut lines: u32 = 0;

@@ -7,7 +7,7 @@ ghost use Rattle.moos_text.specs.Lines.{trimmed};
 ghost use Rattle.moos_text.specs.Numbers.{milli_of};
 ghost use Rattle.moos_text.specs.Pairs.{sides_of};
 ghost use Rattle.moos_text.specs.Refusals.{IsLineFault};
-ghost use Rattle.mission_reader.specs.Missions.{axes_in, axis_byte, axis_set, nothing_set, period_of, with_axis, with_behaviors, with_period, with_setting, begun_by, app_block, mission_with};
+ghost use Rattle.mission_reader.specs.Missions.{mission_axes, axis_byte, axis_set, nothing_set, period_of, with_mission_axis, with_behaviors, with_period, with_setting, begun_by, app_block, mission_with};
 
 use crate::mission::Mission;
 use axis_reader::{Fields, axis_of, extended, four_fields};
@@ -139,8 +139,8 @@ impl Settings {
 
     // One axis more.
     fn add_axis(&mut self, alloc: Global, value: &[u8]) -> Result<(), LineFault>
-        ensures added { IfOk result (λ _. with_axis self.old (axis_set value.now) ≡ Ok self.new) }
-        ensures refused { IfErr result (λ fault. IsLineFault fault (with_axis self.old (axis_set value.now))) }
+        ensures added { IfOk result (λ _. with_mission_axis self.old (axis_set value.now) ≡ Ok self.new) }
+        ensures refused { IfErr result (λ fault. IsLineFault fault (with_mission_axis self.old (axis_set value.now))) }
     {
         let axis = axis_in(alloc, value)?;
         let axis = axis.ok_or(Cause::M3)?;
@@ -149,8 +149,8 @@ impl Settings {
 
     // The same by the axis that stands there.
     fn extend(&mut self, axis: Axis) -> Result<(), Cause>
-        ensures added { IfOk result (λ _. with_axis self.old (Some axis) ≡ Ok self.new) }
-        ensures refused { IfErr result (λ cause. with_axis self.old (Some axis) ≡ Err cause) }
+        ensures added { IfOk result (λ _. with_mission_axis self.old (Some axis) ≡ Ok self.new) }
+        ensures refused { IfErr result (λ cause. with_mission_axis self.old (Some axis) ≡ Err cause) }
     {
         let axes = self.axes();
         if axes.len() >= MOST_AXES || is_name_of_one(axes, &axis) {
@@ -168,7 +168,7 @@ impl Settings {
 
     // The axes so far.
     fn axes(&self) -> &[Axis]
-        ensures { result.now ≡ axes_in self.now.domain }
+        ensures { result.now ≡ mission_axes self.now.domain }
     {
         match &self.domain {
             Some(domain) => domain.all(),

@@ -7,7 +7,7 @@ use Rattle.moos_text.specs.Refusals.{IsFirst}
 use Rattle.moos_text.specs.Standing.{after_raw, after_text, Outside}
 use Rattle.moos_text.proofs.Walks.{IsNext, one_read, one_refused, told_fault, told_value}
 use Rattle.mission_reader.specs.declared.mission.Mission.{Mission}
-use Rattle.mission_reader.specs.Validity.{IsValid}
+use Rattle.mission_reader.specs.Validity.{IsValidMission}
 use Rattle.mission_reader.proofs.Valid.{mission_valid}
 use Rattle.mission_reader.specs.Missions.{mission_form, mission_of, nothing_set}
 use Rattle.mission_reader.specs.Places.{standing}
@@ -45,6 +45,6 @@ returns-clause-refused c =
 
 pub returns-clause-valid : goal.returns-clause-valid
 returns-clause-valid c =
-    subst (λ (answer : Result Mission ReadFault). IfOk answer IsValid)
+    subst (λ (answer : Result Mission ReadFault). IfOk answer IsValidMission)
     (mission_whole c.args.bytes.now c.loop-said.lines c.max.result (standing c.loop-said.reading.settings c.loop-said.reading.place) c.loop-said.left.now c.loop-said.invariant c.in_default.ensures.none c.max.ensures ∙ sym c.mission.ensures)
     (mission_valid c.args.bytes.now)
