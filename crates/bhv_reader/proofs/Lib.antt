@@ -1,0 +1,9 @@
+pub mod Ending
+pub mod Examples
+pub mod Faults
+pub mod Following
+pub mod Naming
+pub mod PathsAt
+pub mod Splits
+pub mod Valid
+pub mod Within

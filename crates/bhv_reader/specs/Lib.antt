@@ -1,0 +1,4 @@
+pub mod Behaviors
+pub mod Paths
+pub mod Places
+pub mod Validity

@@ -1,0 +1,201 @@
+// A behaviour file line by line.
+ghost use Rattle.std.specs.Prelude.{◌≡◌, ◌<◌, ◌≤◌, ◌^◌, Ok, Err, IfOk, OnOk, IfErr, MatchOption, length, true, false, if◌then◌else◌, codes, bytes_eq};
+ghost use Rattle.moos_text.specs.Lines.{behind_word, ends_with, first_word, is_unclosed};
+ghost use Rattle.moos_text.specs.Pairs.{pair_of, sides_of};
+ghost use Rattle.moos_text.specs.Refusals.{IsFirst, IsLineFault};
+ghost use Rattle.moos_text.specs.Standing.{after_statement, after_text, at_end, Outside};
+ghost use Rattle.bhv_reader.specs.Behaviors.{begins_behavior, begins_by_brace, behavior_begun, behavior_form, behind_close, with_opening};
+ghost use Rattle.bhv_reader.specs.Places.{standing_at};
+ghost use Rattle.bhv_reader.specs.declared.file.BhvFile.{BhvFile};
+
+use crate::file::BhvFile;
+use crate::mode::{Mode, begin_mode};
+use moos_post::Pair;
+use moos_text::{
+    Cause, LineFault, PairFault, ReadFault, cut_at_equals, ends_with, is_named, next_word,
+    read_pair, trimmed, without_last,
+};
+use std::alloc::Global;
+
+// The most opening pairs.
+const MOST_PAIRS: usize = 256;
+
+/// Where the lines have come: outside blocks, behind a line that opens one, or between its braces.
+#[derive(Drop)]
+pub enum Position {
+    Loose,
+    Headed(Mode),
+    Braced(Mode),
+}
+
+/// Where the lines are behind one more, which has this number and says this; nothing where it is blank.
+pub fn after_line(
+    alloc: Global,
+    file: &mut BhvFile,
+    place: Position,
+    line: u32,
+    text: &[u8],
+    unclosed: bool,
+) -> Result<Position, ReadFault>
+    requires quotes { unclosed ≡ is_unclosed text.now }
+    requires text { length text.now < 2 ^ 32 }
+    requires few { length file.old.decls ≤ 256 }
+    ensures read { IfOk result (λ next. after_text behavior_form line (standing_at file.old place) text.now ≡ Ok (standing_at file.new next)) }
+    ensures refused { IfErr result (λ fault. IsFirst fault (after_text behavior_form line (standing_at file.old place) text.now)) }
+    ensures few { OnOk result (length file.new.decls ≤ 256) }
+{
+    if text.len() == 0 {
+        return Ok(place);
+    }
+    if unclosed {
+        return Err(ReadFault::At {
+            line,
+            cause: Cause::B1,
+        });
+    }
+    match after_statement(alloc, file, place, text) {
+        Ok(next) => Ok(next),
+        Err(fault) => Err(fault.at(line)),
+    }
+}
+
+// The same of a line that says something and leaves no quote open.
+fn after_statement(
+    alloc: Global,
+    file: &mut BhvFile,
+    place: Position,
+    text: &[u8],
+) -> Result<Position, LineFault>
+    requires text { length text.now < 2 ^ 32 }
+    requires few { length file.old.decls ≤ 256 }
+    ensures read { IfOk result (λ next. after_statement behavior_form (standing_at file.old place) (record { line = 0; text = text.now }) ≡ Ok (standing_at file.new next)) }
+    ensures refused { IfErr result (λ fault. IsLineFault fault (after_statement behavior_form (standing_at file.old place) (record { line = 0; text = text.now }))) }
+    ensures few { OnOk result (length file.new.decls ≤ 256) }
+{
+    match place {
+        Position::Loose => after_loose(alloc, file, text),
+        Position::Headed(mode) => Ok(braced(mode, text)?),
+        Position::Braced(mode) => match behind_close(text) {
+            Some(other) => {
+                mode.close(alloc, file, other)?;
+                Ok(Position::Loose)
+            },
+            None => Ok(Position::Braced(mode.with_condition(alloc, file, text)?)),
+        },
+    }
+}
+
+// A line outside blocks.
+fn after_loose(alloc: Global, file: &mut BhvFile, text: &[u8]) -> Result<Position, LineFault>
+    ensures read { IfOk result (λ next. after_statement behavior_form (Outside file.old) (record { line = 0; text = text.now }) ≡ Ok (standing_at file.new next)) }
+    ensures refused { IfErr result (λ fault. IsLineFault fault (after_statement behavior_form (Outside file.old) (record { line = 0; text = text.now }))) }
+    ensures decls { file.new.decls ≡ file.old.decls }
+{
+    let (word, rest) = split_word(text);
+    if is_named(word, b"set") {
+        let mode = begin_mode(alloc, file, rest)?;
+        return Ok(behind_head(text, mode));
+    }
+    if is_named(word, b"initialize") {
+        let pair = pair_in(alloc, rest)?;
+        add_pair(file, pair)?;
+        return Ok(Position::Loose);
+    }
+    Err(LineFault::Refused(other_line(text)))
+}
+
+// Why a line of neither keyword is refused: as a behaviour of no known type, or as no line of a behaviour file.
+fn other_line(text: &[u8]) -> Cause
+    ensures { result ≡ (if begins_behavior (sides_of text.now) then behavior_begun (sides_of text.now) else Cause.B1) }
+{
+    let Some((name, value)) = cut_at_equals(text) else {
+        return Cause::B1;
+    };
+    if is_named(name, b"Behavior") && trimmed(without_last(value, b'{')).len() > 0 {
+        Cause::B3
+    } else {
+        Cause::B1
+    }
+}
+
+// Where the lines are behind one that opens a block.
+fn behind_head(text: &[u8], mode: Mode) -> Position
+    ensures { result ≡ (if ends_with 123 text.now then Position.Braced mode else Position.Headed mode) }
+{
+    if ends_with(text, b'{') {
+        Position::Braced(mode)
+    } else {
+        Position::Headed(mode)
+    }
+}
+
+// Behind a line that opens a block stands its `{`.
+fn braced(mode: Mode, text: &[u8]) -> Result<Position, Cause>
+    ensures { result ≡ (if bytes_eq text.now (codes "{") then Ok (Position.Braced mode) else Err Cause.B1) }
+{
+    if text == b"{".as_slice() {
+        Ok(Position::Braced(mode))
+    } else {
+        Err(Cause::B1)
+    }
+}
+
+// What stands behind the `}` that a line begins with; `None` exactly where it doesn't.
+fn behind_close(text: &[u8]) -> Option<&[u8]>
+    ensures { MatchOption result (begins_by_brace text.now ≡ false) (λ rest. (begins_by_brace text.now ≡ true) × (rest.now ≡ behind_close text.now)) }
+{
+    match text {
+        [b'}', rest @ ..] => Some(trimmed(rest)),
+        _ => None,
+    }
+}
+
+// The first word, empty where there is none, and what stands behind it.
+fn split_word(text: &[u8]) -> (&[u8], &[u8])
+    ensures first { result.0.now ≡ first_word text.now }
+    ensures behind { result.1.now ≡ behind_word text.now }
+{
+    match next_word(text) {
+        Some(split) => split,
+        None => (b"".as_slice(), b"".as_slice()),
+    }
+}
+
+fn pair_in(alloc: Global, text: &[u8]) -> Result<Pair, LineFault>
+    ensures pair { IfOk result (λ pair. pair_of text.now ≡ Ok pair) }
+    ensures refused { (file : BhvFile) → IfErr result (λ fault. IsLineFault fault (with_opening file (pair_of text.now))) }
+{
+    match read_pair(alloc, text) {
+        Ok(pair) => Ok(pair),
+        Err(PairFault::NoMemory) => Err(LineFault::NoMemory),
+        Err(_) => Err(LineFault::Refused(Cause::B1)),
+    }
+}
+
+// One opening pair more.
+fn add_pair(file: &mut BhvFile, pair: Pair) -> Result<(), LineFault>
+    ensures read { IfOk result (λ _. with_opening file.old (Ok pair) ≡ Ok file.new) }
+    ensures refused { IfErr result (λ fault. IsLineFault fault (with_opening file.old (Ok pair))) }
+    ensures decls { file.new.decls ≡ file.old.decls }
+{
+    if file.opening.len() >= MOST_PAIRS {
+        return Err(LineFault::Refused(Cause::B9));
+    }
+    match file.opening.push(pair) {
+        Ok(()) => Ok(()),
+        Err(_) => Err(LineFault::NoMemory),
+    }
+}
+
+/// The file, where the lines end outside blocks; else its last line is refused.
+pub fn whole_file(file: BhvFile, place: Position, last: u32) -> Result<BhvFile, ReadFault>
+    ensures { result ≡ at_end behavior_form last (standing_at file place) }
+{
+    match place {
+        Position::Loose => Ok(file),
+        Position::Headed(_) | Position::Braced(_) => Err(ReadFault::At {
+            line: last,
+            cause: Cause::B2,
+        }),
+    }
+}
