@@ -14,7 +14,7 @@ use Rattle.ivp_func.specs.declared.func.FuncFault.{FuncFault}
 use Rattle.ivp_func.specs.declared.func.FuncFault.TheVariants.{TooMany, NotPartition, ValueOut, NoMemory}
 use Rattle.ivp_func.specs.Making.{MadeFunction}
 use Rattle.ivp_func.specs.Functions.{HasValues, IsPartition}
-use Rattle.ivp_func.specs.Pieces.{count_at, are_pieces_of, holds, is_piece_of, is_value, value_at, value_in}
+use Rattle.ivp_func.specs.Pieces.{count_at, are_pieces_of, piece_has, is_piece_of, is_value, value_at, value_in}
 use Rattle.ivp_build.specs.declared.profile.Profile.{Profile}
 use Rattle.ivp_build.specs.Builders.{flat_pieces, goes_on, level, piece_over, pieces_along}
 use Rattle.ivp_build.specs.Cuts.{Run, cuts_of}
@@ -48,14 +48,14 @@ fits axes number p lawful listed few profile =
 
 pub partition : (axes : List Axis) (number : ℕ) (p : Profile) → Fits axes number p → IsPartition axes (pieces_along axes number p)
 partition axes number p h point inside =
-    one_held (piece_over axes number p) (holds point) (slice_index point.at number) (size_on number axes) 0 (cuts_of (goes_on p) (size_on number axes))
+    one_held (piece_over axes number p) (piece_has point) (slice_index point.at number) (size_on number axes) 0 (cuts_of (goes_on p) (size_on number axes))
     (λ run. band_has axes number run point h.four inside) (tiles (goes_on p) (size_on number axes) h.some) (omega arith)
     (place_within axes number point h.four inside h.some)
 
 pub value : (axes : List Axis) (number : ℕ) (p : Profile) → Fits axes number p → (point : Point) → is_point axes point ≡ true
     → value_at (pieces_along axes number p) point ≡ pos (utility_along p (slice_index point.at number))
 value axes number p h point inside =
-    found (piece_over axes number p) (holds point) (λ piece. value_in piece point ≡ pos (utility_along p (slice_index point.at number)))
+    found (piece_over axes number p) (piece_has point) (λ piece. value_in piece point ≡ pos (utility_along p (slice_index point.at number)))
     (IsLine (λ x. pos (utility_along p x)) (change_at p)) (slice_index point.at number) (size_on number axes) 0 (cuts_of (goes_on p) (size_on number axes))
     (λ run. band_has axes number run point h.four inside) (tiles (goes_on p) (size_on number axes) h.some) (omega arith)
     (place_within axes number point h.four inside h.some) (lines p (size_on number axes) h.profile h.some)
@@ -127,7 +127,7 @@ made_anyhow axes number p h NoMemory made = tt
 
 -- nor in one piece of one value
 flat_count : (axes : List Axis) (value : ℤ) (point : Point) → is_point axes point ≡ true → count_at (flat_pieces axes value) point ≡ 1
-flat_count axes value point inside = count_more (holds point) (record { area = whole axes; base = value; slope = level }) [] inside
+flat_count axes value point inside = count_more (piece_has point) (record { area = whole axes; base = value; slope = level }) [] inside
 
 flat_sum : (value : ℤ) (i j k l : ℕ) → value +ℤ pos 0 *ℤ pos i +ℤ pos 0 *ℤ pos j +ℤ pos 0 *ℤ pos k +ℤ pos 0 *ℤ pos l ≡ value
 flat_sum value i j k l = omega (arith, ints)

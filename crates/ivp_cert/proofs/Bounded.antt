@@ -18,7 +18,8 @@ use Rattle.ivp_cert.specs.declared.phase.Phase.{Phase}
 use Rattle.ivp_cert.specs.declared.phase.Phase.TheVariants.{Done, OfCuts, OfProblem}
 use Rattle.ivp_cert.specs.declared.stage.Stage.{Stage}
 use Rattle.ivp_cert.specs.declared.stage.Stage.TheVariants.{Start, Begun, Axes, Functions, Ended}
-use Rattle.ivp_cert.specs.Decisions.{are_on, bound_with, claimed, decision_of, in_form, line_from, line_with, point_at, spelled, Spelled, spelled_with, sum_word, with_claim, with_cut, with_line}
+use Rattle.ivp_cert.specs.declared.claim.Spelled.{Spelled}
+use Rattle.ivp_cert.specs.Decisions.{are_on, bound_with, claimed, decision_of, in_form, line_from, line_with, point_at, spelled, spelled_with, sum_word, with_claim, with_cut, with_line}
 use Rattle.ivp_cert.specs.Problems.{nothing_behind, problem_of}
 use Rattle.ivp_cert.specs.Stages.{after_cuts, after_problem, after_stage, after_word, stage_after, as_now, phase_after, after_lines, whole_decision, whole_problem}
 use Rattle.moos_text.specs.Refusals.{and_then, at_line}

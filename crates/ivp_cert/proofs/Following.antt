@@ -17,17 +17,17 @@ use Rattle.ivp_cert.specs.declared.stage.Stage.TheVariants.{Axes, Begun, Ended, 
 use Rattle.ivp_cert.specs.Decisions.{claim_in, cuts_in, decision_of, with_claim, with_cut}
 use Rattle.ivp_cert.specs.Pieces.{piece_of}
 use Rattle.ivp_cert.specs.Problems.{axes_in, domain_in, nothing_behind, ended_early, finished, functions_in, is_first, problem_in, problem_of, with_domain, with_function, with_piece}
-use Rattle.ivp_cert.specs.Said.{last_of, Said, said_from, said_with}
+use Rattle.ivp_cert.specs.SaidLines.{last_of, SaidLine, said_from, said_with}
 use Rattle.ivp_cert.specs.Stages.{after_first, after_word, stage_after, as_now, phase_after, after_lines, whole_decision, whole_problem}
 use Rattle.ivp_cert.specs.Unfinished.{UnfinishedSum}
 use Rattle.ivp_cert.specs.Words.{line_words}
 
 -- what `next` makes of a problem and the lines behind it
 abbrev Next : Type 0 → Type 0
-Next A = WeightedSum → List Said → Result A ReadFault
+Next A = WeightedSum → List SaidLine → Result A ReadFault
 
 -- what the lines that are left come to, behind a stage
-abbrev behind : {A : Type 0} → ℕ → Next A → List Said → Stage → Result A ReadFault
+abbrev behind : {A : Type 0} → ℕ → Next A → List SaidLine → Stage → Result A ReadFault
 behind last next lines Start = problem_in last next lines
 behind last next lines Begun = domain_in last next lines
 behind last next lines (Axes axes) = axes_in last next axes lines
@@ -35,7 +35,7 @@ behind last next lines (Functions sum) = functions_in last next sum lines
 behind last next lines (Ended problem) = next problem lines
 
 -- and behind a phase
-abbrev behind_phase : ℕ → List Said → Phase → Result Decision ReadFault
+abbrev behind_phase : ℕ → List SaidLine → Phase → Result Decision ReadFault
 behind_phase last lines (OfProblem stage) = behind last (claim_in last) lines stage
 behind_phase last lines (OfCuts decision) = cuts_in last decision lines
 behind_phase last lines (Done decision) = last_of decision lines
@@ -58,30 +58,30 @@ then_each whole read rest (Ok x) same = same x
 then_each whole read rest (Err fault) same = refl
 
 -- a line of a problem
-line_begun : {A : Type 0} (last : ℕ) (next : Next A) (lines : List Said) (line : ℕ) (first : Bool) → and_then (behind last next lines) (at_line line (cond first (Ok Begun) (Err P1))) ≡ cond first (domain_in last next lines) (Err (At line P1))
+line_begun : {A : Type 0} (last : ℕ) (next : Next A) (lines : List SaidLine) (line : ℕ) (first : Bool) → and_then (behind last next lines) (at_line line (cond first (Ok Begun) (Err P1))) ≡ cond first (domain_in last next lines) (Err (At line P1))
 line_begun last next lines line true = refl
 line_begun last next lines line false = refl
 
-line_domain : {A : Type 0} (last : ℕ) (next : Next A) (lines : List Said) (line : ℕ) (words : List (List ℕ)) (domain : Bool) → and_then (behind last next lines) (at_line line (cond domain (as_now Axes (with_domain [] words)) (Err P1))) ≡ cond domain (and_then (λ axes. axes_in last next axes lines) (at_line line (with_domain [] words))) (Err (At line P1))
+line_domain : {A : Type 0} (last : ℕ) (next : Next A) (lines : List SaidLine) (line : ℕ) (words : List (List ℕ)) (domain : Bool) → and_then (behind last next lines) (at_line line (cond domain (as_now Axes (with_domain [] words)) (Err P1))) ≡ cond domain (and_then (λ axes. axes_in last next axes lines) (at_line line (with_domain [] words))) (Err (At line P1))
 line_domain last next lines line words true = one_line Axes (behind last next lines) line (with_domain [] words)
 line_domain last next lines line words false = refl
 
 abbrev no_function : List Axis → WeightedSum
 no_function axes = record { axes = axes; terms = [] }
 
-line_axes : {A : Type 0} (last : ℕ) (next : Next A) (lines : List Said) (axes : List Axis) (line : ℕ) (words : List (List ℕ)) (domain function end : Bool) → and_then (behind last next lines) (at_line line (cond domain (as_now Axes (with_domain axes words)) (cond function (as_now Functions (with_function (no_function axes) line words)) (cond end (Err (ended_early words)) (Err P1))))) ≡ cond domain (and_then (λ more. axes_in last next more lines) (at_line line (with_domain axes words))) (cond function (and_then (λ sum. functions_in last next sum lines) (at_line line (with_function (no_function axes) line words))) (cond end (Err (At line (ended_early words))) (Err (At line P1))))
+line_axes : {A : Type 0} (last : ℕ) (next : Next A) (lines : List SaidLine) (axes : List Axis) (line : ℕ) (words : List (List ℕ)) (domain function end : Bool) → and_then (behind last next lines) (at_line line (cond domain (as_now Axes (with_domain axes words)) (cond function (as_now Functions (with_function (no_function axes) line words)) (cond end (Err (ended_early words)) (Err P1))))) ≡ cond domain (and_then (λ more. axes_in last next more lines) (at_line line (with_domain axes words))) (cond function (and_then (λ sum. functions_in last next sum lines) (at_line line (with_function (no_function axes) line words))) (cond end (Err (At line (ended_early words))) (Err (At line P1))))
 line_axes last next lines axes line words true function end = one_line Axes (behind last next lines) line (with_domain axes words)
 line_axes last next lines axes line words false true end = one_line Functions (behind last next lines) line (with_function (no_function axes) line words)
 line_axes last next lines axes line words false false true = refl
 line_axes last next lines axes line words false false false = refl
 
-line_functions : {A : Type 0} (last : ℕ) (next : Next A) (lines : List Said) (sum : UnfinishedSum) (line : ℕ) (words : List (List ℕ)) (piece function end : Bool) → and_then (behind last next lines) (cond piece (at_line line (as_now Functions (with_piece sum (piece_of (length sum.before.axes) words)))) (cond function (and_then (λ before. at_line line (as_now Functions (with_function before line words))) (finished sum)) (cond end (and_then (λ whole. at_line line (as_now Ended (nothing_behind whole words))) (finished sum)) (Err (At line P1))))) ≡ cond piece (and_then (λ more. functions_in last next more lines) (at_line line (with_piece sum (piece_of (length sum.before.axes) words)))) (cond function (and_then (λ before. and_then (λ more. functions_in last next more lines) (at_line line (with_function before line words))) (finished sum)) (cond end (and_then (λ whole. and_then (λ problem. next problem lines) (at_line line (nothing_behind whole words))) (finished sum)) (Err (At line P1))))
+line_functions : {A : Type 0} (last : ℕ) (next : Next A) (lines : List SaidLine) (sum : UnfinishedSum) (line : ℕ) (words : List (List ℕ)) (piece function end : Bool) → and_then (behind last next lines) (cond piece (at_line line (as_now Functions (with_piece sum (piece_of (length sum.before.axes) words)))) (cond function (and_then (λ before. at_line line (as_now Functions (with_function before line words))) (finished sum)) (cond end (and_then (λ whole. at_line line (as_now Ended (nothing_behind whole words))) (finished sum)) (Err (At line P1))))) ≡ cond piece (and_then (λ more. functions_in last next more lines) (at_line line (with_piece sum (piece_of (length sum.before.axes) words)))) (cond function (and_then (λ before. and_then (λ more. functions_in last next more lines) (at_line line (with_function before line words))) (finished sum)) (cond end (and_then (λ whole. and_then (λ problem. next problem lines) (at_line line (nothing_behind whole words))) (finished sum)) (Err (At line P1))))
 line_functions last next lines sum line words true function end = one_line Functions (behind last next lines) line (with_piece sum (piece_of (length sum.before.axes) words))
 line_functions last next lines sum line words false true end = finished_line Functions (behind last next lines) line (λ before. with_function before line words) (finished sum)
 line_functions last next lines sum line words false false true = finished_line Ended (behind last next lines) line (λ whole. nothing_behind whole words) (finished sum)
 line_functions last next lines sum line words false false false = refl
 
-abbrev said : ℕ → List ℕ → List (List ℕ) → Said
+abbrev said : ℕ → List ℕ → List (List ℕ) → SaidLine
 said line word words = record { line = line; word = word; rest = words }
 
 -- before `end`
@@ -92,14 +92,14 @@ Open (Axes axes) = Unit {0}
 Open (Functions sum) = Unit {0}
 Open (Ended problem) = ⊥
 
-stage_line : {A : Type 0} (last : ℕ) (next : Next A) (lines : List Said) (stage : Stage) (line : ℕ) (word : List ℕ) (words : List (List ℕ)) → Open stage → and_then (behind last next lines) (after_word line stage word words) ≡ behind last next (said line word words ∷ lines) stage
+stage_line : {A : Type 0} (last : ℕ) (next : Next A) (lines : List SaidLine) (stage : Stage) (line : ℕ) (word : List ℕ) (words : List (List ℕ)) → Open stage → and_then (behind last next lines) (after_word line stage word words) ≡ behind last next (said line word words ∷ lines) stage
 stage_line last next lines Start line word words is = line_begun last next lines line (is_first word words)
 stage_line last next lines Begun line word words is = line_domain last next lines line words (bytes_eq word (codes "domain"))
 stage_line last next lines (Axes axes) line word words is = line_axes last next lines axes line words (bytes_eq word (codes "domain")) (bytes_eq word (codes "function")) (bytes_eq word (codes "end"))
 stage_line last next lines (Functions sum) line word words is = line_functions last next lines sum line words (bytes_eq word (codes "piece")) (bytes_eq word (codes "function")) (bytes_eq word (codes "end"))
 stage_line last next lines (Ended problem) line word words is = absurd is
 
-problem_line : (last : ℕ) (lines : List Said) (stage : Stage) (line : ℕ) (word : List ℕ) (words : List (List ℕ)) → and_then (behind last last_of lines) (after_word line stage word words) ≡ behind last last_of (said line word words ∷ lines) stage
+problem_line : (last : ℕ) (lines : List SaidLine) (stage : Stage) (line : ℕ) (word : List ℕ) (words : List (List ℕ)) → and_then (behind last last_of lines) (after_word line stage word words) ≡ behind last last_of (said line word words ∷ lines) stage
 problem_line last lines Start line word words = stage_line last last_of lines Start line word words tt
 problem_line last lines Begun line word words = stage_line last last_of lines Begun line word words tt
 problem_line last lines (Axes axes) line word words = stage_line last last_of lines (Axes axes) line word words tt
@@ -107,19 +107,19 @@ problem_line last lines (Functions sum) line word words = stage_line last last_o
 problem_line last lines (Ended problem) line word words = refl
 
 -- a line of a decision
-of_stage : (last : ℕ) (lines : List Said) (stage : Stage) (line : ℕ) (word : List ℕ) (words : List (List ℕ)) → Open stage → and_then (behind_phase last lines) (as_now OfProblem (after_word line stage word words)) ≡ behind last (claim_in last) (said line word words ∷ lines) stage
+of_stage : (last : ℕ) (lines : List SaidLine) (stage : Stage) (line : ℕ) (word : List ℕ) (words : List (List ℕ)) → Open stage → and_then (behind_phase last lines) (as_now OfProblem (after_word line stage word words)) ≡ behind last (claim_in last) (said line word words ∷ lines) stage
 of_stage last lines stage line word words is = one_formed OfProblem (behind_phase last lines) (after_word line stage word words) ∙ stage_line last (claim_in last) lines stage line word words is
 
-line_claim : (last : ℕ) (lines : List Said) (problem : WeightedSum) (line : ℕ) (words : List (List ℕ)) (claim : Bool) → and_then (behind_phase last lines) (at_line line (cond claim (as_now OfCuts (with_claim problem words)) (Err P1))) ≡ cond claim (and_then (λ decision. cuts_in last decision lines) (at_line line (with_claim problem words))) (Err (At line P1))
+line_claim : (last : ℕ) (lines : List SaidLine) (problem : WeightedSum) (line : ℕ) (words : List (List ℕ)) (claim : Bool) → and_then (behind_phase last lines) (at_line line (cond claim (as_now OfCuts (with_claim problem words)) (Err P1))) ≡ cond claim (and_then (λ decision. cuts_in last decision lines) (at_line line (with_claim problem words))) (Err (At line P1))
 line_claim last lines problem line words true = one_line OfCuts (behind_phase last lines) line (with_claim problem words)
 line_claim last lines problem line words false = refl
 
-line_cuts : (last : ℕ) (lines : List Said) (decision : Decision) (line : ℕ) (words : List (List ℕ)) (cut done : Bool) → and_then (behind_phase last lines) (at_line line (cond cut (as_now OfCuts (with_cut decision words)) (cond done (as_now Done (nothing_behind decision words)) (Err P1)))) ≡ cond cut (and_then (λ more. cuts_in last more lines) (at_line line (with_cut decision words))) (cond done (and_then (λ whole. last_of whole lines) (at_line line (nothing_behind decision words))) (Err (At line P1)))
+line_cuts : (last : ℕ) (lines : List SaidLine) (decision : Decision) (line : ℕ) (words : List (List ℕ)) (cut done : Bool) → and_then (behind_phase last lines) (at_line line (cond cut (as_now OfCuts (with_cut decision words)) (cond done (as_now Done (nothing_behind decision words)) (Err P1)))) ≡ cond cut (and_then (λ more. cuts_in last more lines) (at_line line (with_cut decision words))) (cond done (and_then (λ whole. last_of whole lines) (at_line line (nothing_behind decision words))) (Err (At line P1)))
 line_cuts last lines decision line words true done = one_line OfCuts (behind_phase last lines) line (with_cut decision words)
 line_cuts last lines decision line words false true = one_line Done (behind_phase last lines) line (nothing_behind decision words)
 line_cuts last lines decision line words false false = refl
 
-decision_line : (last : ℕ) (lines : List Said) (phase : Phase) (line : ℕ) (word : List ℕ) (words : List (List ℕ)) → and_then (behind_phase last lines) (after_first line phase word words) ≡ behind_phase last (said line word words ∷ lines) phase
+decision_line : (last : ℕ) (lines : List SaidLine) (phase : Phase) (line : ℕ) (word : List ℕ) (words : List (List ℕ)) → and_then (behind_phase last lines) (after_first line phase word words) ≡ behind_phase last (said line word words ∷ lines) phase
 decision_line last lines (OfProblem Start) line word words = of_stage last lines Start line word words tt
 decision_line last lines (OfProblem Begun) line word words = of_stage last lines Begun line word words tt
 decision_line last lines (OfProblem (Axes axes)) line word words = of_stage last lines (Axes axes) line word words tt

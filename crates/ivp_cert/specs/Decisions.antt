@@ -12,18 +12,14 @@ use Rattle.ivp_domain.specs.declared.boxes.Point.{Point}
 use Rattle.ivp_problem.specs.Problems.{WeightedSum}
 use Rattle.ivp_cert.specs.declared.cert.Line.{Line}
 use Rattle.ivp_cert.specs.declared.claim.Decision.{Decision}
+use Rattle.ivp_cert.specs.declared.claim.Spelled.{Spelled}
 use Rattle.ivp_cert.specs.Problems.{nothing_behind, problem_in}
-use Rattle.ivp_cert.specs.Said.{last_of, Said, said_from}
+use Rattle.ivp_cert.specs.SaidLines.{last_of, SaidLine, said_from}
 use Rattle.ivp_cert.specs.Words.{natural_of, place_of}
 
 -- a sum: digits, at most 64,000,000,000
 abbrev pub sum_word : List ℕ → Option ℕ
 sum_word word = natural_of 64000000000 word
-
--- the numbers of a `decision` line: places, and then a sum
-pub record Spelled : Type 0 where
-  pub places : List ℕ
-  pub sum : ℕ
 
 -- these places and this sum
 abbrev pub spelled_with : List ℕ → ℕ → Spelled
@@ -92,7 +88,7 @@ abbrev pub with_cut : Decision → List (List ℕ) → Result Decision Cause
 with_cut decision words = and_then (λ line. Ok (with_line decision line)) (in_form (line_from [] words))
 
 -- in a certificate stands one line more, or `done`, behind which no line says anything
-abbrev pub cuts_in : ℕ → Decision → List Said → Result Decision ReadFault
+abbrev pub cuts_in : ℕ → Decision → List SaidLine → Result Decision ReadFault
 cuts_in last decision [] = Err (At last P9)
 cuts_in last decision (said ∷ behind) =
     if bytes_eq said.word (codes "cut") then and_then (λ more. cuts_in last more behind) (at_line said.line (with_cut decision said.rest))
@@ -100,7 +96,7 @@ cuts_in last decision (said ∷ behind) =
     else Err (At said.line P1)
 
 -- behind a problem stands what is claimed of it, and then the certificate
-abbrev pub claim_in : ℕ → WeightedSum → List Said → Result Decision ReadFault
+abbrev pub claim_in : ℕ → WeightedSum → List SaidLine → Result Decision ReadFault
 claim_in last problem [] = Err (At last P9)
 claim_in last problem (said ∷ behind) =
     if bytes_eq said.word (codes "decision") then and_then (λ decision. cuts_in last decision behind) (at_line said.line (with_claim problem said.rest))

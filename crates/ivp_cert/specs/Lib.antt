@@ -2,7 +2,7 @@ pub mod Unfinished
 pub mod Words
 pub mod Making
 pub mod Pieces
-pub mod Said
+pub mod SaidLines
 pub mod Problems
 pub mod Certificates
 pub mod Walks

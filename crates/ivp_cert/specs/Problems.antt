@@ -16,7 +16,7 @@ use Rattle.ivp_func.specs.Functions.{has_values, is_partition}
 use Rattle.ivp_problem.specs.declared.term.Term.{Term}
 use Rattle.ivp_problem.specs.Problems.{is_weight, WeightedSum}
 use Rattle.ivp_cert.specs.Pieces.{piece_of}
-use Rattle.ivp_cert.specs.Said.{last_of, Said, said_from}
+use Rattle.ivp_cert.specs.SaidLines.{last_of, SaidLine, said_from}
 use Rattle.ivp_cert.specs.Unfinished.{UnfinishedSum}
 use Rattle.ivp_cert.specs.Words.{axis_of}
 use Rattle.moos_text.specs.Numbers.{whole_of}
@@ -87,7 +87,7 @@ ended_early (word ∷ rest) = P1
 
 -- Behind a function stands a piece of it, or the next function or `end`, which finish it first; behind `end` stands what
 -- `next` makes of the problem and the lines that are left.
-abbrev pub functions_in : {A : Type 0} → ℕ → (WeightedSum → List Said → Result A ReadFault) → UnfinishedSum → List Said → Result A ReadFault
+abbrev pub functions_in : {A : Type 0} → ℕ → (WeightedSum → List SaidLine → Result A ReadFault) → UnfinishedSum → List SaidLine → Result A ReadFault
 functions_in last next sum [] = Err (At last P9)
 functions_in last next sum (said ∷ behind) =
     if bytes_eq said.word (codes "piece") then
@@ -99,7 +99,7 @@ functions_in last next sum (said ∷ behind) =
     else Err (At said.line P1)
 
 -- behind an axis stands another one, the first function, or `end`, which comes too early
-abbrev pub axes_in : {A : Type 0} → ℕ → (WeightedSum → List Said → Result A ReadFault) → List Axis → List Said → Result A ReadFault
+abbrev pub axes_in : {A : Type 0} → ℕ → (WeightedSum → List SaidLine → Result A ReadFault) → List Axis → List SaidLine → Result A ReadFault
 axes_in last next axes [] = Err (At last P9)
 axes_in last next axes (said ∷ behind) =
     if bytes_eq said.word (codes "domain") then and_then (λ more. axes_in last next more behind) (at_line said.line (with_domain axes said.rest))
@@ -109,14 +109,14 @@ axes_in last next axes (said ∷ behind) =
     else Err (At said.line P1)
 
 -- behind `ivp 1` stands an axis
-abbrev pub domain_in : {A : Type 0} → ℕ → (WeightedSum → List Said → Result A ReadFault) → List Said → Result A ReadFault
+abbrev pub domain_in : {A : Type 0} → ℕ → (WeightedSum → List SaidLine → Result A ReadFault) → List SaidLine → Result A ReadFault
 domain_in last next [] = Err (At last P9)
 domain_in last next (said ∷ behind) =
     if bytes_eq said.word (codes "domain") then and_then (λ axes. axes_in last next axes behind) (at_line said.line (with_domain [] said.rest))
     else Err (At said.line P1)
 
 -- a problem begins with `ivp 1`
-abbrev pub problem_in : {A : Type 0} → ℕ → (WeightedSum → List Said → Result A ReadFault) → List Said → Result A ReadFault
+abbrev pub problem_in : {A : Type 0} → ℕ → (WeightedSum → List SaidLine → Result A ReadFault) → List SaidLine → Result A ReadFault
 problem_in last next [] = Err (At last P9)
 problem_in last next (said ∷ behind) = if is_first said.word said.rest then domain_in last next behind else Err (At said.line P1)
 

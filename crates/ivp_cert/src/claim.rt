@@ -1,12 +1,13 @@
 ghost use Rattle.std.specs.Prelude.{◌≡◌, ◌≤◌, [], length, Some, Ok, IfOk, IfErr};
 ghost use Rattle.moos_text.specs.Lines.{words_of};
 ghost use Rattle.moos_text.specs.Refusals.{IsLineFault};
-ghost use Rattle.ivp_cert.specs.Decisions.{are_on, in_form, point_at, spelled, spelled_with, sum_word};
+ghost use Rattle.ivp_cert.specs.Decisions.{are_on, in_form, point_at, spelled, sum_word};
 
 use crate::cert::Cert;
 use crate::words::{natural_of, place_of};
 use ivp_domain::{Axis, Point};
 use ivp_problem::{MOST_SUM, Problem};
+use moos_post::List;
 use moos_text::{Cause, LineFault, next_word};
 use std::alloc::Global;
 
@@ -28,7 +29,7 @@ pub struct Decision {
 /// The numbers of a `decision` line: places, and then a sum.
 #[derive(Drop)]
 pub struct Spelled {
-    pub places: Vec<u32>,
+    pub places: List<u32>,
     pub sum: u64,
 }
 
@@ -41,13 +42,13 @@ pub fn sum_word(word: &[u8]) -> Option<u64>
 
 /// The places and the sum that the words of a text spell: the last word is the sum.
 pub fn spelled_in(alloc: Global, text: &[u8]) -> Result<Spelled, LineFault>
-    ensures read { IfOk result (λ of. spelled [] (words_of text.now) ≡ Some (spelled_with of.places.items of.sum)) }
+    ensures read { IfOk result (λ of. spelled [] (words_of text.now) ≡ Some of) }
     ensures refused { IfErr result (λ fault. IsLineFault fault (in_form (spelled [] (words_of text.now)))) }
 {
     let Some((mut word, mut left)) = next_word(text) else {
         return Err(LineFault::Refused(Cause::P1));
     };
-    let mut places = Vec::new(alloc);
+    let mut places = List::new(alloc);
     while let Some((next, rest)) = next_word(left) {
         let Some(place) = place_of(word) else {
             return Err(LineFault::Refused(Cause::P1));

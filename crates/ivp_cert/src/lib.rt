@@ -7,7 +7,7 @@
 //!
 //! Reading order: `path`, `cert`, `claim`; `tree`, `trail`, `cutting`, `accept`, `law`; `words`, `piece`, `terms`,
 //! `unfinished`, `stage`, `read`; `line`, `phase`, `decision`; `put`, `put_problem`, `print`, `printed`. Of specs/ read
-//! `Certificates`, `Said`, `Problems`, `Decisions`, `Texts` and `Printed`; `Walks` serves the checker alone, and `Stages`
+//! `Certificates`, `SaidLines`, `Problems`, `Decisions`, `Texts` and `Printed`; `Walks` serves the checker alone, and `Stages`
 //! the reader.
 #![tactic(auto)]
 

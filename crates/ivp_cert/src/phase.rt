@@ -2,7 +2,7 @@ ghost use Rattle.std.specs.Prelude.{◌≡◌, Ok, IfOk, IfErr, IfSome, IsTrue};
 ghost use Rattle.moos_text.specs.Lines.{trimmed, words_of};
 ghost use Rattle.ivp_domain.specs.Domains.{is_point};
 ghost use Rattle.moos_text.specs.Refusals.{IsFirst, IsLineFault};
-ghost use Rattle.ivp_cert.specs.Decisions.{claimed, spelled_with, with_line};
+ghost use Rattle.ivp_cert.specs.Decisions.{claimed, with_line};
 ghost use Rattle.ivp_cert.specs.Stages.{HasPoint, after_cuts, after_first, after_problem, after_stage, phase_after, whole_decision};
 ghost use Rattle.ivp_cert.specs.Words.{without_prefix};
 
@@ -129,14 +129,14 @@ fn after_problem(
 
 // The decision on a problem, which has no line yet; a point outside the domain is refused.
 fn claimed(alloc: Global, problem: Problem, of: &Spelled) -> Result<Decision, Cause>
-    ensures claimed { result ≡ claimed problem (spelled_with of.now.places.items of.now.sum) }
+    ensures claimed { result ≡ claimed problem of.now }
     ensures point { IfOk result (λ decision. IsTrue (is_point decision.problem.axes decision.claim.point)) }
 {
-    if !are_on(problem.domain().all(), &of.places) {
+    if !are_on(problem.domain().all(), of.places.all()) {
         return Err(Cause::P10);
     }
     let claim = Claim {
-        point: point_at(&of.places),
+        point: point_at(of.places.all()),
         sum: of.sum,
     };
     Ok(Decision {

@@ -7,7 +7,7 @@ use Rattle.ivp_domain.specs.declared.boxes.Point.{Point}
 use Rattle.ivp_domain.specs.Boxes.{has_point, is_box, volume_of}
 use Rattle.ivp_func.specs.declared.piece.Piece.{Piece}
 use Rattle.ivp_func.specs.Covering.{covered_in, SameOn, Shorter}
-use Rattle.ivp_func.specs.Pieces.{count_at, holds}
+use Rattle.ivp_func.specs.Pieces.{count_at, piece_has}
 use Rattle.ivp_func.proofs.Counting.{count_at-cons}
 use Rattle.ivp_func.proofs.Cover.{covered_in-cut, covered_in-single, Cut, IsSingle, volume_of-cut, volume_of-single}
 use Rattle.ivp_func.proofs.Facts.{has_point-from, is_box-from, low_le_high, place_in, volume_positive}
@@ -43,7 +43,7 @@ pub record Bounded (xs : List Piece) (area : BoxN) : Type 0 where
   pub short : (p : Point) → has_point area p ≡ true → count_at xs p ≡ 0 → covered_in area xs < volume_of area
 
 -- points that agree on each axis are in the same pieces
-holds_same : (x : Piece) (p q : Point) → ((k : ℕ) → k < 4 → slice_index p.at k ≡ slice_index q.at k) → holds p x ≡ holds q x
+holds_same : (x : Piece) (p q : Point) → ((k : ℕ) → k < 4 → slice_index p.at k ≡ slice_index q.at k) → piece_has p x ≡ piece_has q x
 holds_same x p q h = rw (h 0 (omega arith), h 1 (omega arith), h 2 (omega arith), h 3 (omega arith)) refl
 
 count_same : (xs : List Piece) (p q : Point) → ((k : ℕ) → k < 4 → slice_index p.at k ≡ slice_index q.at k) → count_at xs p ≡ count_at xs q

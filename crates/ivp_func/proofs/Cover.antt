@@ -10,7 +10,7 @@ use Rattle.ivp_domain.specs.declared.boxes.Point.{Point}
 use Rattle.ivp_domain.specs.Boxes.{common, meet_of, is_box, side_of, volume_of}
 use Rattle.ivp_func.specs.declared.piece.Piece.{Piece}
 use Rattle.ivp_func.specs.Covering.{covered_in, shared_with, CutOn, SameOn}
-use Rattle.ivp_func.specs.Pieces.{count_at, holds}
+use Rattle.ivp_func.specs.Pieces.{count_at, piece_has}
 use Rattle.ivp_func.proofs.Counting.{count_at-cons, one_if}
 use Rattle.ivp_func.proofs.Facts.{is_box-from}
 
@@ -87,7 +87,7 @@ ones s t h =
 abbrev pub IsSingle : BoxN → Type 0
 IsSingle area = (k : ℕ) → k < 4 → slice_index area.low k ≡ slice_index area.high k
 
-pub shared_with-single : (area : BoxN) (p : Point) (x : Piece) → IsSingle area → p.at ≡ area.low → shared_with area x ≡ one_if (holds p x)
+pub shared_with-single : (area : BoxN) (p : Point) (x : Piece) → IsSingle area → p.at ≡ area.low → shared_with area x ≡ one_if (piece_has p x)
 shared_with-single area p x h e =
     let inside : ℕ → Bool = λ k. nat_le (slice_index x.area.low k) (slice_index area.low k) && nat_le (slice_index area.low k) (slice_index x.area.high k) in
     rw e (ones (shared_side area x.area) inside (λ k within. one_side (slice_index area.low k) (slice_index area.high k) (slice_index x.area.low k) (slice_index x.area.high k) (h k within)))

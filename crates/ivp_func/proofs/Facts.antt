@@ -14,7 +14,8 @@ use Rattle.ivp_domain.specs.Boxes.{has_place, has_point, is_box, volume_of, side
 use Rattle.ivp_domain.specs.Domains.{is_point, size_on}
 use Rattle.ivp_domain.proofs.Sizes.{is_point-from}
 use Rattle.ivp_func.specs.declared.piece.Piece.{Piece}
-use Rattle.ivp_func.specs.Pieces.{are_pieces_of, holds, is_box_of, is_flat_past, is_piece_of, is_small}
+use Rattle.ivp_func.specs.Cells.{lies_in, lies_on}
+use Rattle.ivp_func.specs.Pieces.{are_pieces_of, piece_has, is_box_of, is_flat_past, is_piece_of, is_small}
 
 -- four tests, one for each axis
 each_of : (t : ℕ → Bool) → (t 0 && t 1 && t 2 && t 3) ≡ true → (k : ℕ) → k < 4 → t k ≡ true
@@ -35,6 +36,16 @@ place_in area p h k within =
 
 pub has_point-from : (area : BoxN) (p : Point) → ((k : ℕ) → k < 4 → (slice_index area.low k ≤ slice_index p.at k) × (slice_index p.at k ≤ slice_index area.high k)) → has_point area p ≡ true
 has_point-from area p h = all_of (λ j. has_place j area p) (λ k within. let here = h k within in grind (arith, nat_tests))
+
+-- a point of a box that lies in another
+pub point_in : (area around : BoxN) (p : Point) → lies_in area around ≡ true → has_point area p ≡ true → has_point around p ≡ true
+point_in area around p h inside =
+    has_point-from around p (λ k within.
+    let here = and_parts (nat_le (slice_index around.low k) (slice_index area.low k)) (nat_le (slice_index area.high k) (slice_index around.high k)) (each_of (λ j. lies_on j area around) h k within) in
+    let place = place_in area p inside k within in
+    let low = leb-true (slice_index around.low k) (slice_index area.low k) here.0 in
+    let high = leb-true (slice_index area.high k) (slice_index around.high k) here.1 in
+    (omega (arith, low, place.0), omega (arith, place.1, high)))
 
 pub low_le_high : (area : BoxN) → is_box area ≡ true → (k : ℕ) → k < 4 → slice_index area.low k ≤ slice_index area.high k
 low_le_high area h k within = leb-true (slice_index area.low k) (slice_index area.high k) (each_of (λ j. nat_le (slice_index area.low j) (slice_index area.high j)) h k within)
@@ -86,7 +97,7 @@ area_point axes area p fits h =
     is_point-from axes p
     (omega (arith, (place_in area p h 0 (omega arith)).1, high.1)) (omega (arith, (place_in area p h 1 (omega arith)).1, high.2)) (omega (arith, (place_in area p h 2 (omega arith)).1, high.3)) (omega (arith, (place_in area p h 3 (omega arith)).1, high.4))
 
-pub piece_point : (axes : List Axis) (piece : Piece) (p : Point) → is_piece_of axes piece ≡ true → holds p piece ≡ true → is_point axes p ≡ true
+pub piece_point : (axes : List Axis) (piece : Piece) (p : Point) → is_piece_of axes piece ≡ true → piece_has p piece ≡ true → is_point axes p ≡ true
 piece_point axes piece p fits h = area_point axes piece.area p (piece_parts axes piece fits).0 h
 
 -- each of a list that passes

@@ -1,18 +1,18 @@
 -- Which pieces meet an area: the numbers that a cell lists, and the points that two boxes share.
 use Rattle.std.proofs.Common.{◌≡◌, ℕ, zero, suc, ◌+◌, ◌<◌, ◌≤◌, Bool, true, false, cond, Option, Some, None, List, [], ◌∷◌, ◌++◌, ◌⊎◌, length, refl, ap, sym, ◌∙◌, inl, inr, arith, add-one}
 use Rattle.std.specs.Prelude.{slice_get, slice_index}
-use Rattle.std.specs.List.{filter}
+use Rattle.std.specs.List.{All, filter}
 use Rattle.std.proofs.lemmas.Bool.{and_from, and_parts, cases_lt}
-use Rattle.std.proofs.lemmas.List.Elements.{filter-append}
 use Rattle.std.proofs.lemmas.Option.{slice_get_within}
 use Rattle.ivp_domain.specs.declared.boxes.BoxN.{BoxN}
 use Rattle.ivp_domain.specs.declared.boxes.Point.{Point}
 use Rattle.ivp_domain.specs.Boxes.{common, has_point, numbers_from}
 use Rattle.ivp_domain.proofs.BoxLemmas.{has_low_corner, has_point-common, is_box-from_point}
 use Rattle.ivp_func.specs.declared.piece.Piece.{Piece}
-use Rattle.ivp_func.specs.Cells.{IsRising}
+use Rattle.ivp_func.specs.Cells.{IsRising, lies_in}
+use Rattle.ivp_func.proofs.Facts.{point_in}
 use Rattle.ivp_func.specs.Grids.{meeting, meets, share}
-use Rattle.ivp_func.specs.Pieces.{holds}
+use Rattle.ivp_func.specs.Pieces.{piece_has}
 
 -- boxes that share a point, and the low corner of what they share
 pub share_from : (a b : BoxN) (p : Point) → has_point a p ≡ true → has_point b p ≡ true → share a b ≡ true
@@ -29,9 +29,9 @@ pub record Meets (pieces : List Piece) (area : BoxN) (number : ℕ) : Type 0 whe
   pub stands : slice_get pieces number ≡ Some piece
   pub point : Point
   pub inside : has_point area point ≡ true
-  pub held : holds point piece ≡ true
+  pub held : piece_has point piece ≡ true
 
-pub meets_from : (pieces : List Piece) (area : BoxN) (number : ℕ) (piece : Piece) (p : Point) → slice_get pieces number ≡ Some piece → has_point area p ≡ true → holds p piece ≡ true → meets pieces area number ≡ true
+pub meets_from : (pieces : List Piece) (area : BoxN) (number : ℕ) (piece : Piece) (p : Point) → slice_get pieces number ≡ Some piece → has_point area p ≡ true → piece_has p piece ≡ true → meets pieces area number ≡ true
 meets_from pieces area number piece p stands inside held = rw stands (share_from area piece.area p inside held)
 
 pub meets_piece_at : (pieces : List Piece) (area : BoxN) (number : ℕ) (piece : Piece) → slice_get pieces number ≡ Some piece → meets pieces area number ≡ share area piece.area
@@ -54,21 +54,28 @@ pub numbers_more : (low n : ℕ) → numbers_from low (suc n) ≡ numbers_from l
 numbers_more low zero = ap (λ k. k ∷ []) (omega arith)
 numbers_more low (suc n) = let same : suc low + n ≡ low + suc n = omega arith in ap (λ rest. low ∷ rest) (numbers_more (suc low) n ∙ ap (λ k. numbers_from (suc low) n ++ k ∷ []) same)
 
--- what a list keeps of the numbers from 0 on
-kept : (t : ℕ → Bool) (n : ℕ) → filter t (numbers_from 0 (n + 1)) ≡ filter t (numbers_from 0 n) ++ cond (t n) (n ∷ []) []
-kept t n =
-    let last : 0 + n ≡ n = omega arith in
-    ap (λ k. filter t (numbers_from 0 k)) (add-one n) ∙ (ap (filter t) (numbers_more 0 n ∙ ap (λ k. numbers_from 0 n ++ k ∷ []) last) ∙ filter-append t (numbers_from 0 n) (n ∷ []))
+pub numbers_up : (n : ℕ) → numbers_from 0 (n + 1) ≡ numbers_from 0 n ++ n ∷ []
+numbers_up n = let last : 0 + n ≡ n = omega arith in ap (numbers_from 0) (add-one n) ∙ (numbers_more 0 n ∙ ap (λ k. numbers_from 0 n ++ k ∷ []) last)
 
-pub kept_next : (t : ℕ → Bool) (n : ℕ) → t n ≡ true → filter t (numbers_from 0 (n + 1)) ≡ filter t (numbers_from 0 n) ++ n ∷ []
-kept_next t n h = kept t n ∙ ap (λ b. filter t (numbers_from 0 n) ++ cond b (n ∷ []) []) h
+-- each of the numbers from one on is below their end
+below_end : (low n : ℕ) → All (λ number. number < low + n) (numbers_from low n)
+below_end low zero k d h = absurd (omega arith)
+below_end low (suc n) zero d h = omega arith
+below_end low (suc n) (suc k) d h = let rest = below_end (suc low) n k d (omega arith) in omega (arith, rest)
 
-pub kept_same : (t : ℕ → Bool) (n : ℕ) → t n ≡ false → filter t (numbers_from 0 (n + 1)) ≡ filter t (numbers_from 0 n)
-kept_same t n h = kept t n ∙ (ap (λ b. filter t (numbers_from 0 n) ++ cond b (n ∷ []) []) h ∙ nil (filter t (numbers_from 0 n)))
+pub numbers_below : (n : ℕ) → All (λ number. number < n) (numbers_from 0 n)
+numbers_below n k d h = let rest = below_end 0 n k d h in omega (arith, rest)
+
+-- what is kept by one test of what another test keeps, which passes all that the first passes
+pub kept_of_kept : (t u : ℕ → Bool) (xs : List ℕ) → ((n : ℕ) → t n ≡ true → u n ≡ true) → filter t (filter u xs) ≡ filter t xs
+kept_of_kept t u [] wider = refl
+kept_of_kept t u (x ∷ xs) wider = by (t x) (u x) refl refl (kept_of_kept t u xs wider)
   where
-    nil : (xs : List ℕ) → xs ++ [] ≡ xs
-    nil [] = refl
-    nil (x ∷ xs) = ap (λ rest. x ∷ rest) (nil xs)
+    by : (b d : Bool) → t x ≡ b → u x ≡ d → filter t (filter u xs) ≡ filter t xs → filter t (cond d (x ∷ filter u xs) (filter u xs)) ≡ cond b (x ∷ filter t xs) (filter t xs)
+    by true true e f rest = rw e (ap (λ kept. x ∷ kept) rest)
+    by true false e f rest = let passes : u x ≡ true = wider x e in absurd (cc)
+    by false true e f rest = rw e rest
+    by false false e f rest = rest
 
 -- each number that is kept is one of them
 kept_from : (t : ℕ → Bool) (low n i : ℕ) → i < length (filter t (numbers_from low n)) → slice_index (filter t (numbers_from low n)) i < low + n
@@ -116,6 +123,12 @@ kept_rising t low (suc n) i j up h = by (t low) (kept_above t (suc low) n) (kept
     by true above rises (suc i) zero up within = absurd (omega arith)
     by true above rises (suc i) (suc j) up within = rises i j (omega arith) (omega arith)
     by false above rises i j up within = rises i j up within
+
+-- the pieces that meet a box, sought among those that meet a box around it
+pub listed_among : (pieces : List Piece) (area around : BoxN) → lies_in area around ≡ true → filter (meets pieces area) (meeting pieces around) ≡ meeting pieces area
+listed_among pieces area around inside =
+    kept_of_kept (meets pieces area) (meets pieces around) (numbers_from 0 (length pieces)) (λ n h.
+    let met = meets_to pieces area n h in meets_from pieces around n met.piece met.point met.stands (point_in area around met.point inside met.inside) met.held)
 
 pub listed_rising : (pieces : List Piece) (area : BoxN) → IsRising (meeting pieces area)
 listed_rising pieces area = kept_rising (meets pieces area) 0 (length pieces)

@@ -9,7 +9,7 @@ use Rattle.ivp_domain.specs.Domains.{is_point, points_of, whole}
 use Rattle.ivp_domain.proofs.BoxLemmas.{listed_point, point_listed}
 use Rattle.ivp_func.specs.declared.piece.Piece.{Piece}
 use Rattle.ivp_func.specs.Functions.{has_values, HasValues, is_partition, IsPartition}
-use Rattle.ivp_func.specs.Pieces.{count_at, holds, is_value, value_at, value_in}
+use Rattle.ivp_func.specs.Pieces.{count_at, piece_has, is_value, value_at, value_in}
 use Rattle.ivp_func.proofs.Facts.{passes_at, passes_each}
 
 -- the point with the same places that is listed
@@ -42,4 +42,4 @@ value_in-places (Some piece) p = refl
 
 pub passes_values : (axes : List Axis) (pieces : List Piece) → has_values axes pieces ≡ true → HasValues axes pieces
 passes_values axes pieces all p inside =
-    at_each (λ q. is_value (value_at pieces q)) axes (λ q. ap is_value (value_in-places (find (holds q) pieces) q)) all p inside
+    at_each (λ q. is_value (value_at pieces q)) axes (λ q. ap is_value (value_in-places (find (piece_has q) pieces) q)) all p inside

@@ -13,7 +13,7 @@ use Rattle.ivp_func.specs.declared.grid.Cell.{Cell}
 use Rattle.ivp_func.specs.declared.piece.Piece.{Piece}
 use Rattle.ivp_func.specs.Cells.{IsCell, IsLeast, IsMeeting, IsRising, NoneLess, NoneLessIn}
 use Rattle.ivp_func.specs.Grids.{cell_at, cell_box, meeting, meets, share}
-use Rattle.ivp_func.specs.Pieces.{holds, is_box_of}
+use Rattle.ivp_func.specs.Pieces.{piece_has, is_box_of}
 use Rattle.ivp_func.proofs.Cutting.{in_cell}
 use Rattle.ivp_func.proofs.Facts.{area_point}
 use Rattle.ivp_func.proofs.Meetings.{listed_all, listed_rising, listed_within, meets_from, meets_to, meets_within, share_from}
@@ -44,7 +44,7 @@ pub cell_rising : (pieces : List Piece) (place : BoxN) (cell : Cell) → IsCell 
 cell_rising pieces place cell is = subst IsRising (sym is.listed) (listed_rising pieces place)
 
 -- a piece that has a point of the area in the last cell
-in_last_cell : (axes : List Axis) (pieces : List Piece) (area : BoxN) (from next number n : ℕ) (cell : Cell) (piece : Piece) (p : Point) → is_box_of axes area ≡ true → IsCell pieces (cell_box axes number) cell → (share area cell.area ≡ true → NoneLess pieces area from next cell.numbers.items) → from ≤ n → slice_get pieces n ≡ Some piece → holds p piece ≡ true → has_point area p ≡ true → cell_at axes p ≡ number → next ≤ n
+in_last_cell : (axes : List Axis) (pieces : List Piece) (area : BoxN) (from next number n : ℕ) (cell : Cell) (piece : Piece) (p : Point) → is_box_of axes area ≡ true → IsCell pieces (cell_box axes number) cell → (share area cell.area ≡ true → NoneLess pieces area from next cell.numbers.items) → from ≤ n → slice_get pieces n ≡ Some piece → piece_has p piece ≡ true → has_point area p ≡ true → cell_at axes p ≡ number → next ≤ n
 in_last_cell axes pieces area from next number n cell piece p fits is looked above stands held inside same =
     let place = cell_box axes number in
     let in_place : has_point place p ≡ true = subst (λ k. has_point (cell_box axes k) p ≡ true) same (in_cell axes p (area_point axes area p fits inside)) in

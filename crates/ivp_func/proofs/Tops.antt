@@ -10,16 +10,16 @@ use Rattle.ivp_domain.specs.declared.boxes.Point.{Point}
 use Rattle.ivp_domain.specs.Domains.{is_point}
 use Rattle.ivp_func.specs.declared.piece.Piece.{Piece}
 use Rattle.ivp_func.specs.Functions.{IsPartition, IsTop}
-use Rattle.ivp_func.specs.Pieces.{are_pieces_of, holds, value_at, piece_value}
+use Rattle.ivp_func.specs.Pieces.{are_pieces_of, piece_has, value_at, piece_value}
 use Rattle.ivp_func.proofs.Counting.{find_at, value_at-only}
 use Rattle.ivp_func.proofs.Facts.{blank, each_more, fits_at, piece_point}
 
 -- the value is that at some point, and no value of the first pieces is greater
 pub record TopSoFar (axes : List Axis) (xs : List Piece) (i : ℕ) (top : ℤ) : Type 0 where
   pub attained : (p : Point) × IsTrue (is_point axes p) × (value_at xs p ≡ top)
-  pub greatest : (k : ℕ) (x : Piece) → k < i → slice_get xs k ≡ Some x → (p : Point) → IsTrue (holds p x) → piece_value x p ≤ℤ top
+  pub greatest : (k : ℕ) (x : Piece) → k < i → slice_get xs k ≡ Some x → (p : Point) → IsTrue (piece_has p x) → piece_value x p ≤ℤ top
 
-pub top_more : (axes : List Axis) (xs : List Piece) (i : ℕ) (top more : ℤ) (corner : Point) → IsPartition axes xs → are_pieces_of axes xs ≡ true → i < length xs → TopSoFar axes xs i top → holds corner (get_or xs i blank) ≡ true → ((p : Point) → IsTrue (holds p (get_or xs i blank)) → piece_value (get_or xs i blank) p ≤ℤ piece_value (get_or xs i blank) corner) → top ≤ℤ more → piece_value (get_or xs i blank) corner ≤ℤ more → (more ≡ top) ⊎ (more ≡ piece_value (get_or xs i blank) corner) → TopSoFar axes xs (i + 1) more
+pub top_more : (axes : List Axis) (xs : List Piece) (i : ℕ) (top more : ℤ) (corner : Point) → IsPartition axes xs → are_pieces_of axes xs ≡ true → i < length xs → TopSoFar axes xs i top → piece_has corner (get_or xs i blank) ≡ true → ((p : Point) → IsTrue (piece_has p (get_or xs i blank)) → piece_value (get_or xs i blank) p ≤ℤ piece_value (get_or xs i blank) corner) → top ≤ℤ more → piece_value (get_or xs i blank) corner ≤ℤ more → (more ≡ top) ⊎ (more ≡ piece_value (get_or xs i blank) corner) → TopSoFar axes xs (i + 1) more
 top_more axes xs i top more corner partition fit within keeps inside most above above' either =
     let piece = get_or xs i blank in
     let in_domain = piece_point axes piece corner (fits_at axes xs i fit within) inside in
@@ -29,7 +29,7 @@ top_more axes xs i top more corner partition fit within keeps inside most above 
         | inl same ↦ (keeps.attained.0, keeps.attained.1, keeps.attained.2 ∙ sym same)
         | inr same ↦ (corner, in_domain, value ∙ sym same)
       ];
-      greatest = each_more (λ x. (p : Point) → IsTrue (holds p x) → piece_value x p ≤ℤ more) xs i (λ k x below e p h. let old = keeps.greatest k x below e p h in omega (arith, ints)) (λ p h. let old = most p h in omega (arith, ints));
+      greatest = each_more (λ x. (p : Point) → IsTrue (piece_has p x) → piece_value x p ≤ℤ more) xs i (λ k x below e p h. let old = keeps.greatest k x below e p h in omega (arith, ints)) (λ p h. let old = most p h in omega (arith, ints));
     }
 
 pub top_of_all : (axes : List Axis) (xs : List Piece) (i : ℕ) (top : ℤ) → IsPartition axes xs → length xs ≤ i → TopSoFar axes xs i top → IsTop axes xs top

@@ -1,14 +1,15 @@
 -- What a grid keeps, and what is known of the least piece that meets an area while it is sought.
-use Rattle.std.specs.Prelude.{◌≡◌, ℕ, ◌<◌, ◌≤◌, IsTrue, Some, List, length, slice_get, slice_index}
+use Rattle.std.specs.Prelude.{◌≡◌, ℕ, ◌<◌, ◌≤◌, Bool, ◌&&◌, nat_le, IsTrue, Some, List, length, slice_get, slice_index}
 use Rattle.ivp_domain.specs.declared.axis.Axis.{Axis}
 use Rattle.ivp_domain.specs.declared.boxes.BoxN.{BoxN}
 use Rattle.ivp_domain.specs.declared.boxes.Point.{Point}
 use Rattle.ivp_domain.specs.Boxes.{has_point}
 use Rattle.ivp_func.specs.declared.grid.Cell.{Cell}
 use Rattle.ivp_func.specs.declared.grid.Grid.{Grid}
+use Rattle.ivp_func.specs.declared.grid.Near.{Near}
 use Rattle.ivp_func.specs.declared.piece.Piece.{Piece}
 use Rattle.ivp_func.specs.Grids.{cell_at, cell_box, cells_of, meeting, meets}
-use Rattle.ivp_func.specs.Pieces.{holds}
+use Rattle.ivp_func.specs.Pieces.{piece_has}
 
 -- a cell of this box has it, and the numbers of the pieces that share a point with it
 pub record IsCell (pieces : List Piece) (place : BoxN) (cell : Cell) : Type 0 where
@@ -19,6 +20,19 @@ pub record IsCell (pieces : List Piece) (place : BoxN) (cell : Cell) : Type 0 wh
 pub record IsGrid (pieces : List Piece) (grid : Grid) : Type 0 where
   pub count : length grid.cells.items ≡ cells_of grid.cuts
   pub each : (number : ℕ) (cell : Cell) → slice_get grid.cells.items number ≡ Some cell → IsCell pieces (cell_box grid.cuts number) cell
+
+-- each place of the area on this axis is one of the other box
+abbrev pub lies_on : ℕ → BoxN → BoxN → Bool
+lies_on axis area around =
+    nat_le (slice_index around.low axis) (slice_index area.low axis) && nat_le (slice_index area.high axis) (slice_index around.high axis)
+
+-- each point of the area is one of the other box
+abbrev pub lies_in : BoxN → BoxN → Bool
+lies_in area around = lies_on 0 area around && lies_on 1 area around && lies_on 2 area around && lies_on 3 area around
+
+-- what is near some cells are the pieces that share a point with its box
+abbrev pub IsNear : List Piece → Near → Type 0
+IsNear pieces near = near.numbers.items ≡ meeting pieces near.around
 
 -- no number is above one behind it
 abbrev pub IsRising : List ℕ → Type 0
@@ -36,7 +50,7 @@ NoneLess pieces area from next numbers = (place : ℕ) → place < length number
 -- none less of all that share a point with the area in one of the cells from the first on and below this one
 abbrev pub NoneLessIn : List Axis → List Piece → BoxN → ℕ → ℕ → ℕ → ℕ → Type 0
 NoneLessIn axes pieces area from next first cell =
-    (number : ℕ) (piece : Piece) (point : Point) → from ≤ number → slice_get pieces number ≡ Some piece → IsTrue (holds point piece) → IsTrue (has_point area point) → first ≤ cell_at axes point → cell_at axes point < cell → next ≤ number
+    (number : ℕ) (piece : Piece) (point : Point) → from ≤ number → slice_get pieces number ≡ Some piece → IsTrue (piece_has point piece) → IsTrue (has_point area point) → first ≤ cell_at axes point → cell_at axes point < cell → next ≤ number
 
 -- none less of all
 abbrev pub IsLeast : List Piece → BoxN → ℕ → ℕ → Type 0

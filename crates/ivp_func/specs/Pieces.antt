@@ -21,12 +21,12 @@ abbrev pub piece_value : Piece → Point → ℤ
 piece_value piece point = piece.base +ℤ rise_on 0 piece point +ℤ rise_on 1 piece point +ℤ rise_on 2 piece point +ℤ rise_on 3 piece point
 
 -- the piece's box has the point
-abbrev pub holds : Point → Piece → Bool
-holds point piece = has_point piece.area point
+abbrev pub piece_has : Point → Piece → Bool
+piece_has point piece = has_point piece.area point
 
 -- how many of the pieces hold the point
 abbrev pub count_at : List Piece → Point → ℕ
-count_at pieces point = count_by (holds point) pieces
+count_at pieces point = count_by (piece_has point) pieces
 
 -- the value of this piece, where there is one
 abbrev pub value_in : Option Piece → Point → ℤ
@@ -35,7 +35,7 @@ value_in (Some piece) point = piece_value piece point
 
 -- the value at a point: that of the first piece that holds it, in a partition the only one
 abbrev pub value_at : List Piece → Point → ℤ
-value_at pieces point = value_in (find (holds point) pieces) point
+value_at pieces point = value_in (find (piece_has point) pieces) point
 
 -- from 0 to 100,000
 abbrev pub is_value : ℤ → Bool

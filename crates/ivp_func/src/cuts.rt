@@ -84,6 +84,16 @@ impl Cuts {
         self.runs[0] * self.runs[1] * self.runs[2] * self.runs[3]
     }
 
+    /// How many cells, one behind the other, are made together: those of one run of the first axis, or, where no other axis
+    /// has two runs, sixteen.
+    pub(crate) fn cells_a_row(&self) -> usize
+        ensures some { 0 < result }
+        ensures few { result ≤ 2 ^ 22 }
+    {
+        let row = self.cells() / self.runs[0];
+        if row < 2 { 16 } else { row }
+    }
+
     /// The first place of a run.
     fn low(&self, axis: usize, run: usize) -> u32
         requires axis { axis < 4 }

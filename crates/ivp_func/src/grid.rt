@@ -1,8 +1,9 @@
 ghost use Rattle.std.specs.Prelude.{◌≡◌, ℕ, ◌+◌, ◌<◌, ◌≤◌, length, slice_index, IfOk, IfSome, IfNone, IsTrue, false};
+ghost use Rattle.std.specs.List.{All, filter};
 ghost use Rattle.ivp_domain.specs.declared.boxes.Point.{Point};
-ghost use Rattle.ivp_domain.specs.Boxes.{has_point};
-ghost use Rattle.ivp_func.specs.Cells.{IsGrid, IsLeast, IsMeeting, IsRising, NoneLess, NoneLessIn};
-ghost use Rattle.ivp_func.specs.Grids.{cell_at, cells_of, meeting, meets, share};
+ghost use Rattle.ivp_domain.specs.Boxes.{has_point, numbers_from};
+ghost use Rattle.ivp_func.specs.Cells.{IsGrid, IsLeast, IsMeeting, IsNear, IsRising, NoneLess, NoneLessIn, lies_in};
+ghost use Rattle.ivp_func.specs.Grids.{cell_at, cells_of, meets, share};
 ghost use Rattle.ivp_func.specs.Pieces.{is_box_of};
 
 use crate::cuts::Cuts;
@@ -48,18 +49,116 @@ fn meets(pieces: &[Piece], number: u32, area: &BoxN) -> bool
     share(area, &pieces[number as usize].area)
 }
 
-/// The numbers of the pieces that share a point with the area.
-fn meeting(alloc: Global, pieces: &[Piece], area: &BoxN) -> Result<Vec<u32>, AllocError>
-    requires { length pieces.now ≤ 4096 }
-    ensures { IfOk result (λ numbers. numbers.items ≡ meeting pieces.now area.now) }
+/// Those of these numbers whose pieces share a point with the area.
+fn meeting_of(
+    alloc: Global,
+    pieces: &[Piece],
+    numbers: &[u32],
+    area: &BoxN,
+) -> Result<Vec<u32>, AllocError>
+    requires { All (λ number. number < length pieces.now) numbers.now }
+    ensures { IfOk result (λ kept. kept.items ≡ filter (meets pieces.now area.now) numbers.now) }
 {
-    let mut numbers = Vec::new(alloc);
-    for number in 0..pieces.len() as u32 {
-        if meets(pieces, number, area) {
-            numbers.push(number)?;
+    let mut kept = Vec::new(alloc);
+    for number in numbers {
+        if meets(pieces, *number, area) {
+            kept.push(*number)?;
         }
     }
+    Ok(kept)
+}
+
+/// The numbers of all pieces.
+fn all_numbers(alloc: Global, pieces: &[Piece]) -> Result<Vec<u32>, AllocError>
+    requires { length pieces.now ≤ 4096 }
+    ensures { IfOk result (λ numbers. numbers.items ≡ numbers_from 0 (length pieces.now)) }
+{
+    let mut numbers = Vec::with_capacity(alloc, pieces.len())?;
+    for number in 0..pieces.len() as u32 {
+        numbers.push(number)?;
+    }
     Ok(numbers)
+}
+
+/// Whether all points of the area are points of the other box.
+fn lies_in(area: &BoxN, around: &BoxN) -> bool
+    ensures { result ≡ lies_in area.now around.now }
+{
+    around.low[0] <= area.low[0]
+        && area.high[0] <= around.high[0]
+        && around.low[1] <= area.low[1]
+        && area.high[1] <= around.high[1]
+        && around.low[2] <= area.low[2]
+        && area.high[2] <= around.high[2]
+        && around.low[3] <= area.low[3]
+        && area.high[3] <= around.high[3]
+}
+
+/// A box around several cells, and the numbers of the pieces that share a point with it, so that the pieces of each of
+/// these cells are found without a look at all.
+#[derive(Drop)]
+pub(crate) struct Near {
+    pub(crate) around: BoxN,
+    pub(crate) numbers: Vec<u32>,
+}
+
+/// The least box that has both.
+fn hull(one: &BoxN, other: &BoxN) -> BoxN
+    ensures { IsTrue (lies_in one.now result) }
+{
+    BoxN {
+        low: [
+            one.low[0].min(other.low[0]),
+            one.low[1].min(other.low[1]),
+            one.low[2].min(other.low[2]),
+            one.low[3].min(other.low[3]),
+        ],
+        high: [
+            one.high[0].max(other.high[0]),
+            one.high[1].max(other.high[1]),
+            one.high[2].max(other.high[2]),
+            one.high[3].max(other.high[3]),
+        ],
+    }
+}
+
+/// What is near the cells from one, whose box is given, to the last one that stands in its row.
+fn near_row(
+    alloc: Global,
+    pieces: &[Piece],
+    all: &[u32],
+    area: &BoxN,
+    last: &BoxN,
+) -> Result<Near, AllocError>
+    requires few { length pieces.now ≤ 4096 }
+    requires all { all.now ≡ numbers_from 0 (length pieces.now) }
+    ensures near { IfOk result (IsNear pieces.now) }
+    ensures around { IfOk result (λ near. IsTrue (lies_in area.now near.around)) }
+{
+    let around = hull(area, last);
+    let numbers = meeting_of(alloc, pieces, all, &around)?;
+    Ok(Near { around, numbers })
+}
+
+/// What is near a cell: the same as before where the cell lies there, or else what is near its row from it on.
+fn near_cell(
+    alloc: Global,
+    pieces: &[Piece],
+    all: &[u32],
+    near: Near,
+    area: &BoxN,
+    last: &BoxN,
+) -> Result<Near, AllocError>
+    requires few { length pieces.now ≤ 4096 }
+    requires all { all.now ≡ numbers_from 0 (length pieces.now) }
+    requires near { IsNear pieces.now near }
+    ensures near { IfOk result (IsNear pieces.now) }
+    ensures around { IfOk result (λ near. IsTrue (lies_in area.now near.around)) }
+{
+    if lies_in(area, &near.around) {
+        return Ok(near);
+    }
+    near_row(alloc, pieces, all, area, last)
 }
 
 impl Grid {
@@ -71,10 +170,21 @@ impl Grid {
     {
         let cuts = Cuts::of(domain);
         let count = cuts.cells();
+        let row = cuts.cells_a_row();
+        let all = all_numbers(alloc, pieces)?;
         let mut cells = Vec::with_capacity(alloc, count)?;
+        let mut near = near_row(
+            alloc,
+            pieces,
+            &all,
+            &cuts.cell_box(0),
+            &cuts.cell_box((row - 1).min(count - 1)),
+        )?;
         for number in 0..count {
             let area = cuts.cell_box(number);
-            let numbers = meeting(alloc, pieces, &area)?;
+            let last = cuts.cell_box((number + (row - 1)).min(count - 1));
+            near = near_cell(alloc, pieces, &all, near, &area, &last)?;
+            let numbers = meeting_of(alloc, pieces, &near.numbers, &area)?;
             cells.push(Cell { area, numbers })?;
         }
         Ok(Grid { cuts, cells })

@@ -5,7 +5,7 @@ ghost use Rattle.ivp_func.specs.Cells.{IsGrid};
 ghost use Rattle.ivp_func.specs.Covering.{covered_in, shared_with, CutOn, SameOn, Shorter};
 ghost use Rattle.ivp_func.specs.Functions.{IsPartition};
 ghost use Rattle.ivp_func.specs.Grids.{share};
-ghost use Rattle.ivp_func.specs.Pieces.{are_pieces_of, count_at, holds};
+ghost use Rattle.ivp_func.specs.Pieces.{are_pieces_of, count_at, piece_has};
 
 use crate::grid::{Grid, next_meet};
 use crate::piece::{Piece, holds};
@@ -29,8 +29,8 @@ fn first_point(area: &BoxN) -> Point
 /// The least point that two pieces share.
 fn shared_point(a: &Piece, b: &Piece) -> Point
     requires { IsTrue (share a.now.area b.now.area) }
-    ensures one { IsTrue (holds result a.now) }
-    ensures other { IsTrue (holds result b.now) }
+    ensures one { IsTrue (piece_has result a.now) }
+    ensures other { IsTrue (piece_has result b.now) }
 {
     let (one, other) = (a.area.low, b.area.low);
     Point {

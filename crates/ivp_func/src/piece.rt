@@ -1,6 +1,6 @@
 ghost use Rattle.std.specs.Prelude.{◌≡◌, ◌<◌, ◌≤ℤ◌, neg_ℤ, pos, ◌*◌, ◌^◌, IsTrue};
 ghost use Rattle.ivp_domain.specs.Boxes.{has_place};
-ghost use Rattle.ivp_func.specs.Pieces.{holds, is_slope, is_small, rise_on, slope_on, piece_value};
+ghost use Rattle.ivp_func.specs.Pieces.{piece_has, is_slope, is_small, rise_on, slope_on, piece_value};
 
 use ivp_domain::{BoxN, Point};
 
@@ -22,7 +22,7 @@ fn has_place(area: &BoxN, point: &Point, axis: usize) -> bool
 
 /// The piece's box has the point.
 pub(crate) fn holds(piece: &Piece, point: &Point) -> bool
-    ensures { result ≡ holds point.now piece.now }
+    ensures { result ≡ piece_has point.now piece.now }
 {
     has_place(&piece.area, point, 0)
         && has_place(&piece.area, point, 1)

@@ -2,7 +2,7 @@ ghost use Rattle.std.specs.Prelude.{◌≡◌, ℕ, ◌<◌, ◌≤◌, pos, ◌
 ghost use Rattle.ivp_domain.specs.Boxes.{is_box};
 ghost use Rattle.ivp_domain.specs.Domains.{is_point};
 ghost use Rattle.ivp_func.specs.Functions.{HasValues, IsPartition, IsTop};
-ghost use Rattle.ivp_func.specs.Pieces.{are_pieces_of, holds, is_small, is_value, slope_on, value_at, piece_value};
+ghost use Rattle.ivp_func.specs.Pieces.{are_pieces_of, piece_has, is_small, is_value, slope_on, value_at, piece_value};
 
 use crate::piece::{Piece, holds, value};
 use ivp_domain::{Domain, Point};
@@ -56,8 +56,8 @@ fn low_place(piece: &Piece, axis: usize) -> u32
 /// The corner of the piece's box where its value is greatest.
 fn high_corner(piece: &Piece) -> Point
     requires { IsTrue (is_box piece.now.area) }
-    ensures inside { IsTrue (holds result piece.now) }
-    ensures greatest { (p : Point) → IsTrue (holds p piece.now) → piece_value piece.now p ≤ℤ piece_value piece.now result }
+    ensures inside { IsTrue (piece_has result piece.now) }
+    ensures greatest { (p : Point) → IsTrue (piece_has p piece.now) → piece_value piece.now p ≤ℤ piece_value piece.now result }
 {
     let one = high_place(piece, 0);
     let two = high_place(piece, 1);
@@ -71,8 +71,8 @@ fn high_corner(piece: &Piece) -> Point
 /// The corner of the piece's box where its value is least.
 fn low_corner(piece: &Piece) -> Point
     requires { IsTrue (is_box piece.now.area) }
-    ensures inside { IsTrue (holds result piece.now) }
-    ensures least { (p : Point) → IsTrue (holds p piece.now) → piece_value piece.now result ≤ℤ piece_value piece.now p }
+    ensures inside { IsTrue (piece_has result piece.now) }
+    ensures least { (p : Point) → IsTrue (piece_has p piece.now) → piece_value piece.now result ≤ℤ piece_value piece.now p }
 {
     let one = low_place(piece, 0);
     let two = low_place(piece, 1);
@@ -87,8 +87,8 @@ fn low_corner(piece: &Piece) -> Point
 fn out_in(piece: &Piece) -> Option<Point>
     requires proper { IsTrue (is_box piece.now.area) }
     requires small { IsTrue (is_small piece.now) }
-    ensures some { IfSome result (λ p. IsTrue (holds p piece.now) × (is_value (piece_value piece.now p) ≡ false)) }
-    ensures none { IfNone result ((p : Point) → IsTrue (holds p piece.now) → IsTrue (is_value (piece_value piece.now p))) }
+    ensures some { IfSome result (λ p. IsTrue (piece_has p piece.now) × (is_value (piece_value piece.now p) ≡ false)) }
+    ensures none { IfNone result ((p : Point) → IsTrue (piece_has p piece.now) → IsTrue (is_value (piece_value piece.now p))) }
 {
     let high = high_corner(piece);
     if value(piece, &high) > MOST {

@@ -11,7 +11,7 @@ use Rattle.ivp_domain.specs.Boxes.{common, has_point, is_box, numbers_from}
 use Rattle.ivp_domain.proofs.BoxLemmas.{has_point-common, is_box-from_point}
 use Rattle.ivp_func.specs.declared.piece.Piece.{Piece}
 use Rattle.ivp_func.specs.Functions.{IsPartition}
-use Rattle.ivp_func.specs.Pieces.{count_at, holds}
+use Rattle.ivp_func.specs.Pieces.{count_at, piece_has}
 use Rattle.ivp_func.proofs.Counting.{count_at-cons, one_if}
 use Rattle.ivp_problem.specs.declared.node.Node.{Node}
 use Rattle.ivp_problem.specs.declared.term.Term.{Term}
@@ -36,13 +36,13 @@ count_append : (p : Point) (xs ys : List Node) → count_by (has p) (xs ++ ys) �
 count_append p xs ys = sum_by-append (λ (y : Node). one_if (has p y)) xs ys
 
 -- the child with one piece has the points of both boxes
-count_one : (weight : ℕ) (node : Node) (piece : Piece) (p : Point) → count_by (has p) (option_to_list (child_with weight node piece)) ≡ one_if (has_point node.area p && holds p piece)
+count_one : (weight : ℕ) (node : Node) (piece : Piece) (p : Point) → count_by (has p) (option_to_list (child_with weight node piece)) ≡ one_if (has_point node.area p && piece_has p piece)
 count_one weight node piece p =
     by (is_box (common node.area piece.area)) refl
   where
-    by : (b : Bool) → is_box (common node.area piece.area) ≡ b → count_by (has p) (option_to_list (option_map (with_chosen weight piece node) (cond b (Some (common node.area piece.area)) None))) ≡ one_if (has_point node.area p && holds p piece)
+    by : (b : Bool) → is_box (common node.area piece.area) ≡ b → count_by (has p) (option_to_list (option_map (with_chosen weight piece node) (cond b (Some (common node.area piece.area)) None))) ≡ one_if (has_point node.area p && piece_has p piece)
     by true e = sum_by-cons (λ (y : Node). one_if (has p y)) (with_chosen weight piece node (common node.area piece.area)) [] ∙ (let none : one_if (has_point (common node.area piece.area) p) + 0 ≡ one_if (has_point (common node.area piece.area) p) = omega arith in none ∙ ap one_if (has_point-common node.area piece.area p))
-    by false e = ap one_if (none (has_point node.area p && holds p piece) (λ both. sym e ∙ is_box-from_point (common node.area piece.area) p (has_point-common node.area piece.area p ∙ both)))
+    by false e = ap one_if (none (has_point node.area p && piece_has p piece) (λ both. sym e ∙ is_box-from_point (common node.area piece.area) p (has_point-common node.area piece.area p ∙ both)))
       where
         none : (t : Bool) → (t ≡ true → false ≡ true) → false ≡ t
         none true h = h refl
@@ -57,7 +57,7 @@ count_pieces weight node [] p = by (has_point node.area p)
     by false = refl
 count_pieces weight node (x ∷ xs) p =
     count_append p (option_to_list (child_with weight node x)) (flat_map (λ piece. option_to_list (child_with weight node piece)) xs)
-    ∙ joined (has_point node.area p) (holds p x) (count_by (has p) (option_to_list (child_with weight node x))) (count_by (has p) (flat_map (λ piece. option_to_list (child_with weight node piece)) xs)) (count_at xs p) (count_at (x ∷ xs) p) (count_one weight node x p) (count_pieces weight node xs p) (count_at-cons x xs p)
+    ∙ joined (has_point node.area p) (piece_has p x) (count_by (has p) (option_to_list (child_with weight node x))) (count_by (has p) (flat_map (λ piece. option_to_list (child_with weight node piece)) xs)) (count_at xs p) (count_at (x ∷ xs) p) (count_one weight node x p) (count_pieces weight node xs p) (count_at-cons x xs p)
   where
     joined : (t u : Bool) (a b m n : ℕ) → a ≡ one_if (t && u) → b ≡ cond t m 0 → n ≡ one_if u + m → a + b ≡ cond t n 0
     joined true u a b m n e e' e'' = omega arith

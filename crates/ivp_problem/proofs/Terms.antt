@@ -14,7 +14,7 @@ use Rattle.ivp_domain.specs.Domains.{is_point, points_of, whole}
 use Rattle.ivp_domain.proofs.BoxLemmas.{listed_point, point_listed}
 use Rattle.ivp_func.specs.declared.piece.Piece.{Piece}
 use Rattle.ivp_func.specs.Functions.{HasValues, IsTop}
-use Rattle.ivp_func.specs.Pieces.{holds, is_value, value_at, value_in}
+use Rattle.ivp_func.specs.Pieces.{piece_has, is_value, value_at, value_in}
 use Rattle.ivp_problem.specs.declared.term.Term.{Term}
 use Rattle.ivp_problem.specs.Problems.{IsTermOf}
 use Rattle.ivp_problem.specs.Sums.{greatest, weighted_at, weighted_sum}
@@ -49,7 +49,7 @@ listed_at area p h = point_listed area (at_places p) refl h
 pub value_places : (xs : List Piece) (p : Point) → value_at xs (at_places p) ≡ value_at xs p
 value_places [] p = refl
 value_places (x ∷ xs) p =
-    elim (holds p x) as (λ b. value_in (cond b (Some x) (find (holds (at_places p)) xs)) (at_places p) ≡ value_in (cond b (Some x) (find (holds p) xs)) p) [ true ↦ refl | false ↦ value_places xs p ]
+    elim (piece_has p x) as (λ b. value_in (cond b (Some x) (find (piece_has (at_places p)) xs)) (at_places p) ≡ value_in (cond b (Some x) (find (piece_has p) xs)) p) [ true ↦ refl | false ↦ value_places xs p ]
 
 pub weighted_places : (term : Term) (p : Point) → weighted_at (at_places p) term ≡ weighted_at p term
 weighted_places term p = ap (λ z. term.weight * nat_abs z) (value_places term.func.pieces p)

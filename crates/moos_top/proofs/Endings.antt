@@ -10,12 +10,12 @@ use Rattle.moos_top.specs.declared.status.Refusal.{Refusal}
 use Rattle.moos_top.specs.declared.status.Status.{Status}
 use Rattle.moos_top.specs.declared.status.Status.TheVariants.{Done, CheckNo, Usage, LoadFault, WriteFault, Refused, NoMemory}
 use Rattle.moos_top.specs.Jobs.{IsOutput, Task, file_of, job_named, kind_of, task_of}
-use Rattle.moos_top.specs.Run.{Completes, DidJob, HasBytes, IsServed, Ran, Refuses, Surroundings}
+use Rattle.moos_top.specs.Run.{Completes, DidJob, HasBytes, IsServed, EndsWith, Refuses, Surroundings}
 use Rattle.moos_top.specs.Steps.{Ended, Sinking, WroteAll}
 
 -- what was done with the bytes of a job's file is what the run did
 pub did : (run : Surroundings) (job : Job) (bytes : List ℕ) (status : Status) → job_named run.words ≡ Some job → HasBytes run.told (file_of job) bytes
-    → Ended (kind_of job) (task_of job bytes) run.sink status → Ran run status
+    → Ended (kind_of job) (task_of job bytes) run.sink status → EndsWith run status
 did run job bytes Done named content ended = record { job = job; named = named; bytes = bytes; content = content; ended = ended }
 did run job bytes CheckNo named content ended = record { job = job; named = named; bytes = bytes; content = content; ended = ended }
 did run job bytes Usage named content ended = absurd ended
@@ -44,7 +44,7 @@ output_of task status sink wrote =
     let same : wrote.task ≡ task = cc in
     subst (λ (one : Task). IsOutput one status wrote.text) same wrote.output
 
-pub completes : (run : Surroundings) (status : Status) → Ran run status → Completes run status
+pub completes : (run : Surroundings) (status : Status) → EndsWith run status → Completes run status
 completes run Done ran job bytes task served good = inl (ended_with run job bytes (Ok task) Done served good ran)
 completes run CheckNo ran job bytes task served good = inl (ended_with run job bytes (Ok task) CheckNo served good ran)
 completes run Usage ran job bytes task served good =
@@ -69,7 +69,7 @@ one_refusal read refusal kind line cause kind_same one other =
     let cause_same : refusal.cause ≡ cause = cc in
     λ i. Refused (record { file = kind_same i; line = line_same i; cause = cause_same i })
 
-pub refuses : (run : Surroundings) (status : Status) → Ran run status → Refuses run status
+pub refuses : (run : Surroundings) (status : Status) → EndsWith run status → Refuses run status
 refuses run Done ran job bytes line cause served bad = absurd (none_written (At line cause) Done run.sink (ended_with run job bytes (Err (At line cause)) Done served bad ran))
 refuses run CheckNo ran job bytes line cause served bad = absurd (none_written (At line cause) CheckNo run.sink (ended_with run job bytes (Err (At line cause)) CheckNo served bad ran))
 refuses run Usage ran job bytes line cause served bad =

@@ -14,7 +14,7 @@ use Rattle.moos_top.specs.declared.status.Status.{Status}
 use Rattle.moos_top.specs.declared.status.Status.TheVariants.{Done, CheckNo, Usage, LoadFault, WriteFault, Refused, NoMemory}
 use Rattle.moos_top.specs.Jobs.Task.{Checking, Playing, Solving}
 use Rattle.moos_top.specs.Jobs.{decision_on, file_of}
-use Rattle.moos_top.specs.Run.{Completes, DidJob, HasBytes, IsServed, Ran, Refuses, Surroundings, surroundings}
+use Rattle.moos_top.specs.Run.{Completes, DidJob, HasBytes, IsServed, EndsWith, Refuses, Surroundings, surroundings}
 use Rattle.moos_top.specs.Steps.{Ended, sinking, WroteAll}
 use Rattle.moos_top.proofs.Endings.{completes, ended_with, output_of, refuses}
 use Rattle.moos_top.proofs.Examples.{checks, plays, solves_by_one}
@@ -46,7 +46,7 @@ other_name : HasBytes (Some (folder (codes "p") problem_bytes)) (codes "q") prob
 other_name has = let bytes : None ≡ Some problem_bytes = has in cc
 
 -- Done: the whole decision was written, and not half of it, nor twice, nor nothing
-solved : Ran (solving problem_bytes decision_bytes 0) Done
+solved : EndsWith (solving problem_bytes decision_bytes 0) Done
 unfolding digits
 solved =
     record {
@@ -61,7 +61,7 @@ solved =
 solving_ended : (taken : List ℕ) (status : Status) → DidJob (solving problem_bytes taken 0) status → Ended ProblemFile (Ok (Solving problem)) (sinking (Some []) (Some taken) 0 0) status
 solving_ended taken status is = ended_with (solving problem_bytes taken 0) (Solve (codes "p") 1) problem_bytes (Ok (Solving problem)) status (served problem_bytes taken) refl is
 
-all_written : (taken : List ℕ) → Ran (solving problem_bytes taken 0) Done → taken ≡ decision_bytes
+all_written : (taken : List ℕ) → EndsWith (solving problem_bytes taken 0) Done → taken ≡ decision_bytes
 all_written taken is =
     let wrote : WroteAll (Ok (Solving problem)) Done (sinking (Some []) (Some taken) 0 0) = solving_ended taken Done is in
     let output : wrote.text ≡ decision_lines [] (decision_on problem) = output_of (Solving problem) Done (sinking (Some []) (Some taken) 0 0) wrote in
@@ -69,21 +69,21 @@ all_written taken is =
     let same : taken ≡ wrote.text = cc in
     same ∙ output ∙ printed
 
-half_written : Ran (solving problem_bytes (take 20 decision_bytes) 0) Done → ⊥
+half_written : EndsWith (solving problem_bytes (take 20 decision_bytes) 0) Done → ⊥
 half_written is = omega (arith, ap length (all_written (take 20 decision_bytes) is))
 
-twice_written : Ran (solving problem_bytes (decision_bytes ++ decision_bytes) 0) Done → ⊥
+twice_written : EndsWith (solving problem_bytes (decision_bytes ++ decision_bytes) 0) Done → ⊥
 twice_written is = omega (arith, ap length (all_written (decision_bytes ++ decision_bytes) is))
 
-nothing_written : Ran (solving problem_bytes [] 0) Done → ⊥
+nothing_written : EndsWith (solving problem_bytes [] 0) Done → ⊥
 nothing_written is = omega (arith, ap length (all_written [] is))
 
 -- CheckNo is no end of a job that solves a problem
-says_no : Ran (solving problem_bytes decision_bytes 0) CheckNo → ⊥
+says_no : EndsWith (solving problem_bytes decision_bytes 0) CheckNo → ⊥
 says_no is = output_of (Solving problem) CheckNo (sinking (Some []) (Some decision_bytes) 0 0) (solving_ended decision_bytes CheckNo is)
 
 -- WriteFault: the sink took a part and not the whole, and its fault was counted
-write_failed : Ran (solving problem_bytes (take 20 decision_bytes) 1) WriteFault
+write_failed : EndsWith (solving problem_bytes (take 20 decision_bytes) 1) WriteFault
 unfolding digits
 write_failed =
     record {
@@ -94,33 +94,33 @@ write_failed =
       ended = record { task = Solving problem; good = refl; status = Done; text = decision_bytes; output = refl; took = (20, omega arith, refl); rose = inl (omega arith) };
     }
 
-told_no_fault : Ran (solving problem_bytes (take 20 decision_bytes) 0) WriteFault → ⊥
+told_no_fault : EndsWith (solving problem_bytes (take 20 decision_bytes) 0) WriteFault → ⊥
 told_no_fault is = none_rose is.ended.rose
 
 -- NoMemory: nothing was written, and no sink failed
-no_memory : Ran (solving problem_bytes [] 0) NoMemory
+no_memory : EndsWith (solving problem_bytes [] 0) NoMemory
 no_memory = record { taken = refl; faults = refl }
 
-wrote_without_memory : Ran (solving problem_bytes (take 20 decision_bytes) 0) NoMemory → ⊥
+wrote_without_memory : EndsWith (solving problem_bytes (take 20 decision_bytes) 0) NoMemory → ⊥
 wrote_without_memory is = let taken : Some (take 20 decision_bytes) ≡ Some [] = is.taken in cc
 
 -- Usage: the words name no job, nothing was loaded, and nothing was written
 sails : (faults : ℕ) (taken : List ℕ) → Surroundings
 sails faults taken = surroundings (codes "sail" ∷ codes "p" ∷ []) None [] 0 faults (sinking (Some []) (Some taken) 0 0)
 
-usage : Ran (sails 0 []) Usage
+usage : EndsWith (sails 0 []) Usage
 unfolding sails
 usage = record { unnamed = refl; load_faults = refl; silent = record { taken = refl; faults = refl } }
 
-wrote_its_usage : Ran (sails 0 (codes "usage\n")) Usage → ⊥
+wrote_its_usage : EndsWith (sails 0 (codes "usage\n")) Usage → ⊥
 unfolding sails
 wrote_its_usage is = let taken : Some (codes "usage\n") ≡ Some [] = is.silent.taken in cc
 
-loaded_nothing : Ran (sails 1 []) Usage → ⊥
+loaded_nothing : EndsWith (sails 1 []) Usage → ⊥
 unfolding sails
 loaded_nothing is = omega (arith, is.load_faults)
 
-named_a_job : Ran (solving problem_bytes [] 0) Usage → ⊥
+named_a_job : EndsWith (solving problem_bytes [] 0) Usage → ⊥
 named_a_job is = let both : None ≡ Some (Solve (codes "p") 1) = sym is.unnamed ∙ solves_by_one in cc
 
 -- LoadFault: the folder failed at a file that it isn't sure of, its fault was counted, and nothing was written
@@ -128,30 +128,30 @@ abbrev loading : List (List ℕ) → ℕ → List ℕ → Surroundings
 loading sure load_faults taken =
     surroundings (codes "solve" ∷ codes "p" ∷ []) (Some (folder (codes "p") problem_bytes)) sure 0 load_faults (sinking (Some []) (Some taken) 0 0)
 
-not_loaded : Ran (loading [] 1 []) LoadFault
+not_loaded : EndsWith (loading [] 1 []) LoadFault
 not_loaded = record { rose = inl (omega arith); job = Solve (codes "p") 1; named = solves_by_one; unsure = refl; silent = record { taken = refl; faults = refl } }
 
-sure_of_it : Ran (loading (codes "p" ∷ []) 1 []) LoadFault → ⊥
+sure_of_it : EndsWith (loading (codes "p" ∷ []) 1 []) LoadFault → ⊥
 sure_of_it is =
     let both : Some is.job ≡ Some (Solve (codes "p") 1) = sym is.named ∙ solves_by_one in
     let same : is.job ≡ Solve (codes "p") 1 = cc in
     let unsure : true ≡ false = subst (λ job. is_among (codes "p" ∷ []) (file_of job) ≡ false) same is.unsure in
     cc
 
-no_load_fault : Ran (loading [] 0 []) LoadFault → ⊥
+no_load_fault : EndsWith (loading [] 0 []) LoadFault → ⊥
 no_load_fault is = none_rose is.rose
 
-wrote_unloaded : Ran (loading [] 1 decision_bytes) LoadFault → ⊥
+wrote_unloaded : EndsWith (loading [] 1 decision_bytes) LoadFault → ⊥
 wrote_unloaded is = let taken : Some decision_bytes ≡ Some [] = is.silent.taken in cc
 
 -- Refused: the file has this first refusal, and nothing was written
 abbrev refusal : FileKind → ℕ → Status
 refusal file line = Refused (record { file = file; line = line; cause = P1 })
 
-refused : Ran (solving (codes "ivp 2\n") [] 0) (refusal ProblemFile 1)
+refused : EndsWith (solving (codes "ivp 2\n") [] 0) (refusal ProblemFile 1)
 refused = record { job = Solve (codes "p") 1; named = solves_by_one; bytes = codes "ivp 2\n"; content = refl; ended = (refl, refl, record { taken = refl; faults = refl }) }
 
-refused_and_written : Ran (solving (codes "ivp 2\n") (codes "ivp 2\n") 0) (refusal ProblemFile 1) → ⊥
+refused_and_written : EndsWith (solving (codes "ivp 2\n") (codes "ivp 2\n") 0) (refusal ProblemFile 1) → ⊥
 refused_and_written is = let taken : Some (codes "ivp 2\n") ≡ Some [] = is.ended.2.taken in cc
 
 -- a good file isn't refused; a bad one isn't refused at another line, and its job isn't done
@@ -159,14 +159,14 @@ line_in : Status → ℕ
 line_in (Refused refusal) = refusal.line
 line_in status = 0
 
-refused_the_good : Ran (solving problem_bytes [] 0) (refusal ProblemFile 1) → ⊥
+refused_the_good : EndsWith (solving problem_bytes [] 0) (refusal ProblemFile 1) → ⊥
 refused_the_good is =
     elim (completes (solving problem_bytes [] 0) (refusal ProblemFile 1) is (Solve (codes "p") 1) problem_bytes (Solving problem) (served problem_bytes []) refl) [
       | inl wrote ↦ output_of (Solving problem) (refusal ProblemFile 1) (sinking (Some []) (Some []) 0 0) wrote
       | inr memory ↦ cc
     ]
 
-refused_elsewhere : Ran (solving (codes "ivp 2\n") [] 0) (refusal ProblemFile 2) → ⊥
+refused_elsewhere : EndsWith (solving (codes "ivp 2\n") [] 0) (refusal ProblemFile 2) → ⊥
 unfolding line_in
 refused_elsewhere is =
     elim (refuses (solving (codes "ivp 2\n") [] 0) (refusal ProblemFile 2) is (Solve (codes "p") 1) (codes "ivp 2\n") 1 P1 (served (codes "ivp 2\n") []) refl) [
@@ -174,7 +174,7 @@ refused_elsewhere is =
       | inr memory ↦ cc
     ]
 
-did_the_bad : Ran (solving (codes "ivp 2\n") decision_bytes 0) Done → ⊥
+did_the_bad : EndsWith (solving (codes "ivp 2\n") decision_bytes 0) Done → ⊥
 did_the_bad is =
     elim (refuses (solving (codes "ivp 2\n") decision_bytes 0) Done is (Solve (codes "p") 1) (codes "ivp 2\n") 1 P1 (served (codes "ivp 2\n") decision_bytes) refl) [
       | inl same ↦ cc
@@ -188,7 +188,7 @@ checking bytes taken = surroundings (codes "check" ∷ codes "d" ∷ []) (Some (
 asked : (bytes taken : List ℕ) → IsServed (checking bytes taken) (Check (codes "d")) bytes
 asked bytes taken = record { files = folder (codes "d") bytes; told = refl; named = checks; content = refl; loads = none_rose; puts = none_rose }
 
-checked : Ran (checking decision_bytes (codes "accepted\n")) Done
+checked : EndsWith (checking decision_bytes (codes "accepted\n")) Done
 checked =
     record {
       job = Check (codes "d");
@@ -198,7 +198,7 @@ checked =
       ended = record { task = Checking decision; good = refl; text = codes "accepted\n"; output = (accepted, refl); took = refl };
     }
 
-checked_poor : Ran (checking poor_bytes (codes "not accepted\n")) CheckNo
+checked_poor : EndsWith (checking poor_bytes (codes "not accepted\n")) CheckNo
 checked_poor =
     record {
       job = Check (codes "d");
@@ -208,12 +208,12 @@ checked_poor =
       ended = record { task = Checking poor; good = refl; text = codes "not accepted\n"; output = (not_accepted, refl); took = refl };
     }
 
-accepted_the_poor : Ran (checking poor_bytes (codes "accepted\n")) Done → ⊥
+accepted_the_poor : EndsWith (checking poor_bytes (codes "accepted\n")) Done → ⊥
 accepted_the_poor is =
     let wrote = ended_with (checking poor_bytes (codes "accepted\n")) (Check (codes "d")) poor_bytes (Ok (Checking poor)) Done (asked poor_bytes (codes "accepted\n")) refl is in
     not_accepted (output_of (Checking poor) Done (sinking (Some []) (Some (codes "accepted\n")) 0 0) wrote).0
 
-refused_the_best : Ran (checking decision_bytes (codes "not accepted\n")) CheckNo → ⊥
+refused_the_best : EndsWith (checking decision_bytes (codes "not accepted\n")) CheckNo → ⊥
 refused_the_best is =
     let wrote = ended_with (checking decision_bytes (codes "not accepted\n")) (Check (codes "d")) decision_bytes (Ok (Checking decision)) CheckNo (asked decision_bytes (codes "not accepted\n")) refl is in
     (output_of (Checking decision) CheckNo (sinking (Some []) (Some (codes "not accepted\n")) 0 0) wrote).0 accepted
@@ -222,7 +222,7 @@ refused_the_best is =
 abbrev playing : List ℕ → Surroundings
 playing taken = surroundings (codes "play" ∷ codes "survey.txt" ∷ []) (Some (folder (codes "survey.txt") (codes "0 a fetch\n"))) [] 0 0 (sinking (Some []) (Some taken) 0 0)
 
-played : Ran (playing (codes "%% moosdb play 1\n%% client 0 a\n%% entry 0 0 a fetch\n%% end 1 0\n")) Done
+played : EndsWith (playing (codes "%% moosdb play 1\n%% client 0 a\n%% entry 0 0 a fetch\n%% end 1 0\n")) Done
 unfolding digits
 played =
     record {
@@ -240,7 +240,7 @@ played =
           };
     }
 
-played_silently : Ran (playing []) Done → ⊥
+played_silently : EndsWith (playing []) Done → ⊥
 played_silently is =
     let served : IsServed (playing []) (Play (codes "survey.txt") Stamp) (codes "0 a fetch\n") = record { files = folder (codes "survey.txt") (codes "0 a fetch\n"); told = refl; named = plays; content = refl; loads = none_rose; puts = none_rose } in
     let wrote : WroteAll (Ok (Playing Stamp script)) Done (sinking (Some []) (Some []) 0 0) = ended_with (playing []) (Play (codes "survey.txt") Stamp) (codes "0 a fetch\n") (Ok (Playing Stamp script)) Done served refl is in

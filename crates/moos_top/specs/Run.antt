@@ -52,14 +52,14 @@ pub record FailsToLoad (run : Surroundings) : Type 0 where
   pub silent : IsUntouched run.sink
 
 -- What a run did that ended with this status. No memory: nothing is written.
-abbrev pub Ran : Surroundings → Status → Type 0
-Ran run Done = DidJob run Done
-Ran run CheckNo = DidJob run CheckNo
-Ran run Usage = HasNoJob run
-Ran run LoadFault = FailsToLoad run
-Ran run WriteFault = DidJob run WriteFault
-Ran run (Refused refusal) = DidJob run (Refused refusal)
-Ran run NoMemory = IsUntouched run.sink
+abbrev pub EndsWith : Surroundings → Status → Type 0
+EndsWith run Done = DidJob run Done
+EndsWith run CheckNo = DidJob run CheckNo
+EndsWith run Usage = HasNoJob run
+EndsWith run LoadFault = FailsToLoad run
+EndsWith run WriteFault = DidJob run WriteFault
+EndsWith run (Refused refusal) = DidJob run (Refused refusal)
+EndsWith run NoMemory = IsUntouched run.sink
 
 -- the words name this job, whose file the folder tells to have these bytes, and neither loading nor writing fails
 pub record IsServed (run : Surroundings) (job : Job) (bytes : List ℕ) : Type 0 where

@@ -4,7 +4,7 @@ ghost use Rattle.ivp_cert.specs.Decisions.{decision_of};
 ghost use Rattle.ivp_cert.specs.Problems.{problem_of};
 ghost use Rattle.moos_top.specs.Jobs.{HasFewWorkers, kind_of, task_of, task_with};
 ghost use Rattle.moos_top.specs.Jobs.Task.{Checking, Playing, Solving};
-ghost use Rattle.moos_top.specs.Run.{Completes, Ran, Refuses, Surroundings, surroundings};
+ghost use Rattle.moos_top.specs.Run.{Completes, EndsWith, Refuses, Surroundings, surroundings};
 ghost use Rattle.moos_top.specs.Steps.{Ended, sinking, status_of};
 ghost use Rattle.script_reader.specs.Script.{script_of};
 
@@ -34,7 +34,7 @@ pub fn run<R: Threads + Wait + Sync, F: Folder, K: Sink, G: Gate>(
     gate: &G,
 ) -> Status
     // What each status says of the words, the files, and what was written.
-    ensures ran { Ran (surroundings words.now (F.told folder.old) (F.sure folder.old) (F.faults folder.old) (F.faults folder.new)
+    ensures ran { EndsWith (surroundings words.now (F.told folder.old) (F.sure folder.old) (F.faults folder.old) (F.faults folder.new)
         (sinking (K.taken out.old) (K.taken out.new) (K.faults out.old) (K.faults out.new))) result }
 
     // The folder tells the same as before, and is sure of the same names.
@@ -56,8 +56,8 @@ pub fn run<R: Threads + Wait + Sync, F: Folder, K: Sink, G: Gate>(
 /// What holds of runs, whatever they did: where nothing fails, a job whose file is good is done, and another is refused with
 /// its file's first refusal. It does nothing.
 pub fn run_law()
-    ensures completes { (run : Surroundings) (status : Status) → Ran run status → Completes run status }
-    ensures refuses { (run : Surroundings) (status : Status) → Ran run status → Refuses run status }
+    ensures completes { (run : Surroundings) (status : Status) → EndsWith run status → Completes run status }
+    ensures refuses { (run : Surroundings) (status : Status) → EndsWith run status → Refuses run status }
 {}
 
 // Does the job with the bytes of its file.

@@ -7,7 +7,7 @@ use Rattle.ivp_func.specs.declared.grid.Grid.{Grid}
 use Rattle.ivp_func.specs.declared.piece.Piece.{Piece}
 use Rattle.ivp_func.specs.Cells.{IsGrid}
 use Rattle.ivp_func.specs.Grids.{meets}
-use Rattle.ivp_func.specs.Pieces.{are_pieces_of, holds, is_box_of}
+use Rattle.ivp_func.specs.Pieces.{are_pieces_of, piece_has, is_box_of}
 use Rattle.ivp_func.proofs.Counting.{no_two, two_hold}
 use Rattle.ivp_func.proofs.Facts.{blank, fits_at, piece_parts}
 use Rattle.ivp_func.proofs.Meetings.{meets_from, meets_piece_at}
@@ -56,7 +56,7 @@ pub returns-clause-none : goal.returns-clause-none
 returns-clause-none c = λ p.
     let pieces = c.args.pieces.now in
     no_two pieces p (λ i j x y below at at' held.
-    elim (cases_Bool (holds p y)) [
+    elim (cases_Bool (piece_has p y)) [
       | inl both ↦
           let apart : meets pieces x.area j ≡ false = c.loop-place.invariant i j x (omega (arith, slice_get_within pieces i x at, c.loop-place-test.false)) at below in
           let met : meets pieces x.area j ≡ true = meets_from pieces x.area j y p at' held both in

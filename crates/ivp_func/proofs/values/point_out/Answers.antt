@@ -1,7 +1,7 @@
 use Rattle.std.proofs.Common.{◌≡◌, IsTrue, get_or, sym, ap, subst, ◌∙◌, arith}
 use Rattle.std.proofs.lemmas.Option.{slice_get-get_or}
 use Rattle.ivp_domain.specs.declared.boxes.Point.{Point}
-use Rattle.ivp_func.specs.Pieces.{holds, is_value, value_at, piece_value}
+use Rattle.ivp_func.specs.Pieces.{piece_has, is_value, value_at, piece_value}
 use Rattle.ivp_func.proofs.Counting.{find_at, value_at-only}
 use Rattle.ivp_func.proofs.Facts.{blank, each_more, fits_at, piece_at, piece_point}
 use Rattle.ivp_func.proofs.values.point_out.Goals as goal
@@ -22,7 +22,7 @@ returns-in-Some-clause-some c =
     (inside, ap is_value same ∙ c.in-Some.ensures.some.1)
 
 pub loop-piece-preserved : goal.loop-piece-preserved
-loop-piece-preserved c = each_more (λ x. (p : Point) → IsTrue (holds p x) → IsTrue (is_value (piece_value x p))) c.args.pieces.now c.loop-piece.piece-index c.loop-piece.invariant c.in_default.ensures.none
+loop-piece-preserved c = each_more (λ x. (p : Point) → IsTrue (piece_has p x) → IsTrue (is_value (piece_value x p))) c.args.pieces.now c.loop-piece.piece-index c.loop-piece.invariant c.in_default.ensures.none
 
 pub returns-clause-none : goal.returns-clause-none
 returns-clause-none c = λ p inside.

@@ -6,22 +6,22 @@ use Rattle.moos_text.specs.declared.cause.ReadFault.TheVariants.{At}
 use Rattle.ivp_cert.specs.Words.{line_words}
 
 -- a line that says something: its number, its first word, and those behind
-pub record Said : Type 0 where
+pub record SaidLine : Type 0 where
   pub line : ℕ
   pub word : List ℕ
   pub rest : List (List ℕ)
 
 -- the line of this number and these words in front of the lines behind it; without a word it says nothing
-abbrev pub said_with : ℕ → List (List ℕ) → List Said → List Said
+abbrev pub said_with : ℕ → List (List ℕ) → List SaidLine → List SaidLine
 said_with line [] behind = behind
 said_with line (word ∷ rest) behind = record { line = line; word = word; rest = rest } ∷ behind
 
 -- the lines that say something, where so many lines stand before them
-abbrev pub said_from : ℕ → List (List ℕ) → List Said
+abbrev pub said_from : ℕ → List (List ℕ) → List SaidLine
 said_from before [] = []
 said_from before (raw ∷ raws) = said_with (suc before) (line_words raw) (said_from (suc before) raws)
 
 -- what was read, where no line behind it says anything
-abbrev pub last_of : {A : Type 0} → A → List Said → Result A ReadFault
+abbrev pub last_of : {A : Type 0} → A → List SaidLine → Result A ReadFault
 last_of value [] = Ok value
 last_of value (said ∷ behind) = Err (At said.line P1)
