@@ -2,6 +2,8 @@
 use Rattle.std.proofs.Common.{◌≡◌, ℕ, zero, suc, ◌+◌, ◌<◌, ◌≤◌, Bool, true, false, cond, Option, Some, None, List, [], ◌∷◌, ◌++◌, ◌⊎◌, length, refl, ap, sym, ◌∙◌, inl, inr, arith, add-one}
 use Rattle.std.specs.Prelude.{slice_get, slice_index}
 use Rattle.std.specs.List.{All, filter}
+use Rattle.std.specs.List.Sorted.{IsNonDecreasingBy}
+use Rattle.std.proofs.lemmas.List.{get_or_default}
 use Rattle.std.proofs.lemmas.Bool.{and_from, and_parts, cases_lt}
 use Rattle.std.proofs.lemmas.Option.{slice_get_within}
 use Rattle.ivp_domain.specs.declared.boxes.BoxN.{BoxN}
@@ -138,3 +140,10 @@ listed_within pieces area i h = omega (arith, kept_from (meets pieces area) 0 (l
 
 pub listed_all : (pieces : List Piece) (area : BoxN) (number : ℕ) → meets pieces area number ≡ true → IsKept (meeting pieces area) number
 listed_all pieces area number h = kept_in (meets pieces area) 0 (length pieces) number (omega arith) (omega (arith, meets_within pieces area number h)) h
+
+-- numbers that rise, whatever is read where there is none
+pub rises_by : (numbers : List ℕ) → IsRising numbers → IsNonDecreasingBy (λ number. number) numbers
+rises_by numbers rises i j d up within =
+    let first = get_or_default numbers i d 0 (omega arith) in
+    let later = get_or_default numbers j d 0 within in
+    rw (first, later) (rises i j up within)

@@ -26,7 +26,7 @@ pub(crate) struct Grid {
 }
 
 /// Where an area may lie in more cells than this, the pieces are looked at in order: it is large, and the next one is near.
-const FEW_CELLS: usize = 40;
+const FEW_CELLS: usize = 128;
 
 /// So many pieces are looked at in order as fast as one cell.
 const PIECES_A_CELL: usize = 4;
@@ -209,6 +209,16 @@ impl Grid {
     }
 }
 
+/// The first place of a number that is at least `from`, among numbers that rise.
+fn first_from(numbers: &[u32], from: u32) -> usize
+    requires { IsRising numbers.now }
+    ensures within { result ≤ length numbers.now }
+    ensures below { (place : ℕ) → place < result → slice_index numbers.now place < from }
+    ensures rest { (place : ℕ) → result ≤ place → place < length numbers.now → from ≤ slice_index numbers.now place }
+{
+    numbers.partition_point(|number| *number < from)
+}
+
 /// The least of a cell's numbers from `from` on and below `until` whose piece meets the area, else `until`.
 fn next_in(numbers: &[u32], pieces: &[Piece], area: &BoxN, from: u32, until: u32) -> u32
     requires inside { (place : ℕ) → place < length numbers.now → slice_index numbers.now place < length pieces.now }
@@ -216,12 +226,13 @@ fn next_in(numbers: &[u32], pieces: &[Piece], area: &BoxN, from: u32, until: u32
     ensures meeting { IsMeeting pieces.now area.now from until result }
     ensures least { NoneLess pieces.now area.now from result numbers.now }
 {
-    for number in numbers {
-        if *number >= until {
+    for place in first_from(numbers, from)..numbers.len() {
+        let number = numbers[place];
+        if number >= until {
             return until;
         }
-        if from <= *number && meets(pieces, *number, area) {
-            return *number;
+        if meets(pieces, number, area) {
+            return number;
         }
     }
     until
