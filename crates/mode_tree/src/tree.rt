@@ -7,7 +7,7 @@ ghost use Rattle.mode_tree.specs.Scans.{are_rooted};
 use crate::path::Path;
 use crate::text::{path_bytes, text_of};
 use crate::walk::Walk;
-use bhv_reader::Decls;
+use bhv_reader::{Decl, Decls};
 use helm_cond::Info;
 use moos_post::{NoMemory, Txt};
 use std::alloc::Global;
@@ -53,6 +53,14 @@ impl ModeTree {
     {
         Walk::over(self.decls.all(), info).end()
     }
+
+    /// The declarations, in order.
+    pub fn decls(&self) -> &[Decl]
+        ensures { result.now ≡ self.now }
+    {
+        self.decls.all()
+    }
+
     /// What a path prints as: its parts with `:` between.
     pub fn text(&self, alloc: Global, path: &Path) -> Result<Txt, NoMemory>
         requires { IsPathOf self.now path.now }
