@@ -1,0 +1,5 @@
+mod Examples
+pub mod Growing
+pub mod Learning
+pub mod Rooted
+pub mod Ticking

@@ -1,0 +1,45 @@
+-- What a helm is made of, and the variables that it registers for.
+use Rattle.std.specs.Prelude.{ℕ, ◌||◌, if◌then◌else◌, List, [], ◌∷◌, ◌++◌, map, fold, codes, bytes_eq}
+use Rattle.std.specs.List.{flat_map, list_any}
+use Rattle.moos_post.specs.declared.registration.Reg.{Reg}
+use Rattle.moos_post.specs.declared.value.Pair.{Pair}
+use Rattle.ivp_domain.specs.declared.axis.Axis.{Axis}
+use Rattle.helm_cond.specs.Conditions.{names_in}
+use Rattle.bhv_reader.specs.declared.decl.Decl.{Decl}
+use Rattle.bhv_reader.specs.declared.file.BhvFile.{BhvFile}
+use Rattle.mission_reader.specs.declared.mission.Mission.{Mission}
+
+-- what a helm is made of: its domain, the pairs that it posts at first, and its modes
+pub record Plan : Type 0 where
+  pub axes : List Axis
+  pub opening : List Pair
+  pub decls : List Decl
+
+-- the plan that a mission and a behaviour file make
+abbrev pub plan_made : Mission → BhvFile → Plan
+plan_made mission file = record { axes = mission.domain; opening = file.opening; decls = file.decls }
+
+-- the variables of the override, in both spellings, and of the position
+abbrev pub always_read : List (List ℕ)
+always_read =
+    codes "MOOS_MANUAL_OVERRIDE" ∷ codes "MOOS_MANUAL_OVERIDE" ∷ codes "NAV_X" ∷ codes "NAV_Y" ∷ codes "NAV_DEPTH" ∷ []
+
+-- the variables of a declaration's conditions, from left to right
+abbrev pub decl_names : Decl → List (List ℕ)
+decl_names decl = flat_map names_in decl.conds
+
+-- every variable that the helm reads, in order, some of them several times
+abbrev pub names_read : Plan → List (List ℕ)
+names_read plan = always_read ++ flat_map decl_names plan.decls
+
+-- the names, and this one where it isn't among them; MODE is the helm's own and never wanted
+abbrev pub with_wanted : List (List ℕ) → List ℕ → List (List ℕ)
+with_wanted names name = if bytes_eq name (codes "MODE") || list_any (bytes_eq name) names then names else names ++ name ∷ []
+
+-- a registration for a variable, from everybody and at any time
+abbrev pub reg_wanted : List ℕ → Reg
+reg_wanted name = record { var = name; source = codes "*"; interval = 0 }
+
+-- The helm registers for each variable that it reads, once.
+abbrev pub wants_of : Plan → List Reg
+wants_of plan = map reg_wanted (fold with_wanted [] (names_read plan))

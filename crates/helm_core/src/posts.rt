@@ -1,0 +1,58 @@
+// The pairs that the helm posts, one by one.
+ghost use Rattle.std.specs.Prelude.{◌≡◌, ◌++◌, ◌∷◌, [], OnOk, option_copied};
+ghost use Rattle.helm_core.specs.Posts.{changed, number_pair, text_pair};
+
+use moos_post::{Batch, Milli, Name, NoMemory, Pair, Txt, Value};
+use std::alloc::{AllocError, Global};
+
+// Adds the text where none was before, and where it isn't the one before.
+pub(crate) fn add_changed(
+    alloc: Global,
+    posts: &mut Batch,
+    var: &[u8],
+    before: Option<&[u8]>,
+    now: &[u8],
+) -> Result<(), NoMemory>
+    ensures { OnOk result (posts.new ≡ posts.old ++ changed var.now (option_copied before.entry) now.now) }
+{
+    match before {
+        Some(before) if before == now => Ok(()),
+        _ => add_text(alloc, posts, var, now),
+    }
+}
+
+fn add_text(alloc: Global, posts: &mut Batch, var: &[u8], text: &[u8]) -> Result<(), NoMemory>
+    ensures { OnOk result (posts.new ≡ posts.old ++ text_pair var.now text.now ∷ []) }
+{
+    let Ok(text) = Txt::new(alloc, text) else {
+        return Err(AllocError);
+    };
+    add(alloc, posts, var, Value::Text(text))
+}
+
+// Adds a number.
+pub(crate) fn add_number(
+    alloc: Global,
+    posts: &mut Batch,
+    var: &[u8],
+    thousandths: i64,
+) -> Result<(), NoMemory>
+    ensures { OnOk result (posts.new ≡ posts.old ++ number_pair var.now thousandths ∷ []) }
+{
+    let Some(number) = Milli::new(thousandths) else {
+        return Err(AllocError);
+    };
+    add(alloc, posts, var, Value::Num(number))
+}
+
+fn add(alloc: Global, posts: &mut Batch, var: &[u8], value: Value) -> Result<(), NoMemory>
+    ensures { OnOk result (posts.new ≡ posts.old ++ record { var = var.now; value = value } ∷ []) }
+{
+    let Ok(var) = Name::new(alloc, var) else {
+        return Err(AllocError);
+    };
+    match posts.push(Pair { var, value }) {
+        Ok(()) => Ok(()),
+        Err(_) => Err(AllocError),
+    }
+}

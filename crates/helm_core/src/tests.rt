@@ -1,0 +1,221 @@
+// Iterations worked by hand, and what they post.
+ghost use Rattle.std.specs.Prelude.{◌≡◌, ◌≤◌, IfOk, OnOk};
+ghost use Rattle.bhv_reader.specs.Validity.{IsValidFile};
+ghost use Rattle.mission_reader.specs.Validity.{IsValidMission};
+ghost use Rattle.helm_core.specs.Helms.{clock_of};
+
+use crate::{Helm, Iteration};
+use bhv_reader::{BhvFile, read_behaviors};
+use ivp_domain::Domain;
+use mission_reader::{Mission, read_mission};
+use moos_db::{Letter, Mail};
+use moos_io::NoGate;
+use moos_post::{Pair, Post, Value};
+use moos_text::{print_milli, print_seconds, read_pair};
+use std::alloc::{AllocError, Global};
+use std::process::Abort;
+use std::sync::Wait;
+use std::test::Fail;
+use std::thread::Threads;
+
+const MISSION: &[u8] =
+    b"ProcessConfig = pHelmIvP\n{\n  AppTick = 4\n  behaviors = a.bhv\n  domain = course:0:359:360\n}\n";
+
+const MODES: &[u8] =
+    b"initialize DEPLOY = false\nset MODE = ACTIVE {\n  DEPLOY = true\n} INACTIVE\n";
+
+fn mission_of(rt: &impl Abort, alloc: Global) -> Result<Mission, Fail>
+    ensures { IfOk result IsValidMission }
+{
+    assert!(rt; MISSION.len() < 4_000_000_000);
+    match read_mission(alloc, MISSION) {
+        Ok(mission) => Ok(mission),
+        Err(_) => Err(Fail::from("no mission")),
+    }
+}
+
+fn file_of(rt: &impl Abort, alloc: Global, text: &[u8], domain: &Domain) -> Result<BhvFile, Fail>
+    ensures { IfOk result IsValidFile }
+{
+    assert!(rt; text.len() < 4_000_000_000);
+    match read_behaviors(alloc, text, domain) {
+        Ok(file) => Ok(file),
+        Err(_) => Err(Fail::from("no behaviour file")),
+    }
+}
+
+fn helm_of(rt: &impl Abort, alloc: Global, text: &[u8]) -> Result<Helm, Fail>
+    ensures { IfOk result (λ helm. clock_of helm ≡ 0) }
+{
+    let mission = mission_of(rt, alloc)?;
+    let file = file_of(rt, alloc, text, &mission.domain)?;
+    Ok(Helm::make(alloc, &mission, file)?)
+}
+
+// The mail of these pairs, which are written as in a script.
+fn mail_of(alloc: Global, pairs: &[&[u8]]) -> Result<Mail, Fail> {
+    let mut mail = Mail::new(alloc);
+    for text in pairs {
+        let Ok(pair) = read_pair(alloc, *text) else {
+            return Err(Fail::from("no pair"));
+        };
+        let Pair { var, value } = pair;
+        let post = Post {
+            stamp: 0,
+            source: 0,
+            var,
+            value,
+        };
+        let number = mail.len() as u64;
+        mail.push(Letter { number, post })?;
+    }
+    Ok(mail)
+}
+
+fn append(text: &mut Vec<u8>, pieces: &[&[u8]]) -> Result<(), AllocError> {
+    for piece in pieces {
+        text.extend_from_slice(*piece)?;
+    }
+    Ok(())
+}
+
+fn show_value(text: &mut Vec<u8>, value: &Value) -> Result<(), AllocError> {
+    match value {
+        Value::Num(number) => append(text, &[print_milli(*number).bytes()]),
+        Value::Text(said) => append(text, &[b"<", said.bytes(), b">"]),
+    }
+}
+
+// The stamp in seconds, whether it is parked, the mode, and the posts.
+fn shown(alloc: Global, iteration: &Iteration) -> Result<Vec<u8>, AllocError> {
+    let mut text = Vec::new(alloc);
+    let state = if iteration.parked {
+        b"PARK".as_slice()
+    } else {
+        b"DRIVE"
+    };
+    append(
+        &mut text,
+        &[
+            print_seconds(iteration.stamp).bytes(),
+            b" ",
+            state,
+            b" ",
+            iteration.mode.bytes(),
+            b":",
+        ],
+    )?;
+    for pair in iteration.posts.all() {
+        append(&mut text, &[b" ", pair.var.bytes(), b"="])?;
+        show_value(&mut text, &pair.value)?;
+    }
+    Ok(text)
+}
+
+// At a stamp, in milliseconds, the helm answers this to a mail of these pairs.
+fn answers<R: Abort + Threads + Wait + Sync>(
+    rt: &R,
+    alloc: Global,
+    helm: &mut Helm,
+    stamp: u64,
+    pairs: &[&[u8]],
+    wanted: &[u8],
+) -> Result<(), Fail>
+    requires { clock_of helm.old ≤ stamp }
+    ensures { OnOk result (clock_of helm.new ≡ stamp) }
+{
+    let mail = mail_of(alloc, pairs)?;
+    let iteration = helm.tick(rt, alloc, stamp, &mail, 1, &NoGate)?;
+    let text = shown(alloc, &iteration)?;
+    assert_eq!(rt; text.as_slice(), wanted);
+    Ok(())
+}
+
+#[test]
+fn deployed_at_once(rt: HostRuntime) -> Result<(), Fail> {
+    let alloc = rt.alloc();
+    let mut helm = helm_of(&rt, alloc, MODES)?;
+    let pairs = [b"DEPLOY=true".as_slice(), b"MOOS_MANUAL_OVERRIDE=false"];
+    let first =
+        b"0 DRIVE ACTIVE: IVPHELM_STATE=<DRIVE> MODE=<ACTIVE> DESIRED_SPEED=0 IVPHELM_ALLSTOP=<NothingToDo>";
+    answers(&rt, alloc, &mut helm, 0, &pairs, first)?;
+    answers(
+        &rt,
+        alloc,
+        &mut helm,
+        250,
+        &[],
+        b"0.25 DRIVE ACTIVE: DESIRED_SPEED=0",
+    )
+}
+
+#[test]
+fn parked_and_given_back(rt: HostRuntime) -> Result<(), Fail> {
+    let alloc = rt.alloc();
+    let mut helm = helm_of(&rt, alloc, MODES)?;
+    let parked =
+        b"0 PARK ACTIVE: IVPHELM_STATE=<PARK> MODE=<ACTIVE> DESIRED_SPEED=0 IVPHELM_ALLSTOP=<ManualOverride>";
+    answers(&rt, alloc, &mut helm, 0, &[b"DEPLOY=true"], parked)?;
+    let given =
+        b"0.25 DRIVE ACTIVE: IVPHELM_STATE=<DRIVE> DESIRED_SPEED=0 IVPHELM_ALLSTOP=<NothingToDo>";
+    answers(
+        &rt,
+        alloc,
+        &mut helm,
+        250,
+        &[b"MOOS_MANUAL_OVERIDE=False"],
+        given,
+    )?;
+    let taken =
+        b"0.25 PARK INACTIVE: IVPHELM_STATE=<PARK> MODE=<INACTIVE> DESIRED_SPEED=0 IVPHELM_ALLSTOP=<ManualOverride>";
+    let pairs = [b"MOOS_MANUAL_OVERRIDE=true".as_slice(), b"DEPLOY=false"];
+    answers(&rt, alloc, &mut helm, 250, &pairs, taken)?;
+    let back =
+        b"1 DRIVE INACTIVE: IVPHELM_STATE=<DRIVE> DESIRED_SPEED=0 IVPHELM_ALLSTOP=<NothingToDo>";
+    let pairs = [
+        b"MOOS_MANUAL_OVERIDE=true".as_slice(),
+        b"MOOS_MANUAL_OVERRIDE=false",
+    ];
+    answers(&rt, alloc, &mut helm, 1000, &pairs, back)?;
+    let again =
+        b"1.25 PARK INACTIVE: IVPHELM_STATE=<PARK> DESIRED_SPEED=0 IVPHELM_ALLSTOP=<ManualOverride>";
+    let pairs = [
+        b"MOOS_MANUAL_OVERRIDE=false".as_slice(),
+        b"MOOS_MANUAL_OVERIDE=true",
+    ];
+    answers(&rt, alloc, &mut helm, 1250, &pairs, again)
+}
+
+#[test]
+fn without_modes(rt: HostRuntime) -> Result<(), Fail> {
+    let alloc = rt.alloc();
+    let mut helm = helm_of(&rt, alloc, b"")?;
+    let first = b"0 PARK : IVPHELM_STATE=<PARK> DESIRED_SPEED=0 IVPHELM_ALLSTOP=<ManualOverride>";
+    answers(&rt, alloc, &mut helm, 0, &[], first)
+}
+
+// The variables that it registers for, and those that it posts at first.
+#[test]
+fn wants_and_opening(rt: HostRuntime) -> Result<(), Fail> {
+    let alloc = rt.alloc();
+    let helm = helm_of(
+        &rt,
+        alloc,
+        b"initialize A = 1\ninitialize B = x\nset MODE = ON {\nDEPLOY = true and NAV_X < 3\n}\nset MODE = NEAR {\nMODE = ON\nC > D or DEPLOY = true or C < 1\n}\n",
+    )?;
+    let mut text = Vec::new(alloc);
+    for reg in helm.wants(alloc)?.all() {
+        append(
+            &mut text,
+            &[reg.var.bytes(), b" ", reg.source.bytes(), b", "],
+        )?;
+        assert!(rt; reg.interval == 0);
+    }
+    for pair in helm.opening(alloc)?.all() {
+        append(&mut text, &[pair.var.bytes(), b" "])?;
+    }
+    let wanted =
+        b"MOOS_MANUAL_OVERRIDE *, MOOS_MANUAL_OVERIDE *, NAV_X *, NAV_Y *, NAV_DEPTH *, DEPLOY *, C *, A B ";
+    assert_eq!(rt; text.as_slice(), wanted.as_slice());
+    Ok(())
+}

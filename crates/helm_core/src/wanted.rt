@@ -1,0 +1,117 @@
+// The variables that the helm registers for.
+ghost use Rattle.std.specs.Prelude.{◌≡◌, [], ◌<◌, fold, length, map, slice_get, Some, IfOk, OnOk};
+ghost use Rattle.helm_cond.specs.Conditions.{names_in};
+ghost use Rattle.helm_core.specs.Plans.{always_read, decl_names, reg_wanted, with_wanted};
+
+use bhv_reader::Decl;
+use helm_cond::Cond;
+use indexmap::IndexSet;
+use moos_post::{Copied, Name, NoMemory, Pattern, Reg, Regs};
+use std::alloc::{AllocError, Global};
+use std::marker::Model;
+
+// The variables that are wanted so far, each once, in the order of their first mention. Contracts see the list.
+#[derive(Drop)]
+pub(crate) struct Wanted {
+    names: IndexSet<Name>,
+}
+
+impl Model for Wanted {
+    ghost use Rattle.std.specs.Prelude.{List, ℕ};
+
+    ghost Value = { List (List ℕ) };
+
+    ghost view = { λ w. w.names.keys };
+}
+
+impl Wanted {
+    // The variables that the helm reads in any case.
+    pub fn always(alloc: Global) -> Result<Wanted, NoMemory>
+        ensures { IfOk result (λ wanted. wanted ≡ fold with_wanted [] always_read) }
+    {
+        let mut wanted = Wanted {
+            names: IndexSet::new(alloc),
+        };
+        wanted.want_bytes(alloc, b"MOOS_MANUAL_OVERRIDE")?;
+        wanted.want_bytes(alloc, b"MOOS_MANUAL_OVERIDE")?;
+        wanted.want_bytes(alloc, b"NAV_X")?;
+        wanted.want_bytes(alloc, b"NAV_Y")?;
+        wanted.want_bytes(alloc, b"NAV_DEPTH")?;
+        Ok(wanted)
+    }
+
+    // Those of a declaration's conditions too.
+    pub fn want_decl(&mut self, alloc: Global, decl: &Decl) -> Result<(), NoMemory>
+        ensures { OnOk result (self.new ≡ fold with_wanted self.old (decl_names decl.now)) }
+    {
+        for cond in decl.conds.all() {
+            self.want_cond(alloc, cond)?;
+        }
+        Ok(())
+    }
+
+    fn want_cond(&mut self, alloc: Global, cond: &Cond) -> Result<(), NoMemory>
+        ensures { OnOk result (self.new ≡ fold with_wanted self.old (names_in cond.now)) }
+    {
+        for place in 0..cond.variables() {
+            self.want(alloc, cond.variable(place))?;
+        }
+        Ok(())
+    }
+
+    // The variable that these bytes name; they are a name, so nothing but memory is ever missing.
+    fn want_bytes(&mut self, alloc: Global, name: &[u8]) -> Result<(), NoMemory>
+        ensures { OnOk result (self.new ≡ with_wanted self.old name.now) }
+    {
+        let Ok(name) = Name::new(alloc, name) else {
+            return Err(AllocError);
+        };
+        self.want(alloc, &name)
+    }
+
+    fn want(&mut self, alloc: Global, name: &Name) -> Result<(), NoMemory>
+        ensures { OnOk result (self.new ≡ with_wanted self.old name.now) }
+    {
+        if name.bytes() == b"MODE".as_slice() {
+            return Ok(());
+        }
+        self.names.insert(name.copy(alloc)?)?;
+        Ok(())
+    }
+
+    fn name(&self, place: usize) -> &Name
+        requires { place < length self.now }
+        ensures { slice_get self.now place ≡ Some result.now }
+    {
+        &self.names[place]
+    }
+
+    // A registration for each.
+    pub fn regs(&self, alloc: Global) -> Result<Regs, NoMemory>
+        ensures { IfOk result (λ regs. regs ≡ map reg_wanted self.now) }
+    {
+        let mut regs = Vec::with_capacity(alloc, self.names.len())?;
+        for place in 0..self.names.len() {
+            regs.push(reg_of(alloc, self.name(place))?)?;
+        }
+        Ok(Regs::of(regs))
+    }
+}
+
+// A registration for a variable, from everybody and at any time. A name is a pattern of itself, so nothing but memory is
+// ever missing.
+fn reg_of(alloc: Global, name: &Name) -> Result<Reg, NoMemory>
+    ensures { IfOk result (λ reg. reg ≡ reg_wanted name.now) }
+{
+    let Ok(var) = Pattern::read(alloc, name.bytes()) else {
+        return Err(AllocError);
+    };
+    let Ok(source) = Pattern::read(alloc, b"*") else {
+        return Err(AllocError);
+    };
+    Ok(Reg {
+        var,
+        source,
+        interval: 0,
+    })
+}
