@@ -1,0 +1,166 @@
+-- The start of a core, lists of steps, and what holds where no node is left.
+use Rattle.std.proofs.Common.{◌≡◌, ℕ, zero, suc, ◌<◌, ◌≤◌, inl, inr, Some, List, [], ◌∷◌, map, replicate, refl, sym, ap, subst, arith}
+use Rattle.std.specs.Prelude.{slice_get}
+use Rattle.std.specs.List.{flat_map}
+use Rattle.std.proofs.lemmas.Bool.{cases_lt}
+use Rattle.ivp_domain.specs.declared.boxes.Point.{Point}
+use Rattle.ivp_func.proofs.Counting.{one_if}
+use Rattle.best_word.specs.Known.{IsKnownKey}
+use Rattle.ivp_problem.specs.declared.node.Node.{Node}
+use Rattle.ivp_problem.specs.Problems.{IsProblem, WeightedSum}
+use Rattle.ivp_problem.specs.Sums.{best_of, key_at}
+use Rattle.ivp_problem.specs.Trees.{IsNode, root_of}
+use Rattle.ivp_problem.proofs.KeyOrder.{best_most, best_point}
+use Rattle.ivp_problem.proofs.Pieces.{child_depth}
+use Rattle.ivp_pool.specs.Cores.{Core, fresh, holder_of, Member, StepsTo, start_of, Step}
+use Rattle.ivp_pool.specs.Places.{InDeque, InDone, InHand, IsDoneOnce, IsFinished, IsIn, IsOver, nodes_in, NodePlace, places_in, node_places}
+use Rattle.ivp_pool.proofs.Moving.{beside, Lows, weigh_member}
+use Rattle.ivp_pool.proofs.Opening.{held_fresh, same_places, Stand}
+use Rattle.ivp_pool.proofs.Sounding.{in_some, some_in}
+use Rattle.ivp_pool.proofs.Stepping.{Keeps, step_keeps, step_stays}
+use Rattle.ivp_pool.proofs.SameNodes.{is_same}
+use Rattle.ivp_pool.proofs.Weighing.{alike, at, has_at, one_at_most, self, weigh, weigh_append}
+
+-- workers that hold nothing
+no_places : (h : NodePlace → ℕ) (others : ℕ) → weigh h (flat_map places_in (replicate others (holder_of []))) ≡ 0
+no_places h zero = refl
+no_places h (suc others) = no_places h others
+
+low_start : (others worker : ℕ) (member : Member) → slice_get (replicate others (holder_of [])) worker ≡ Some member → member.low ≤ 0
+low_start zero worker member e = absurd (cc)
+low_start (suc others) zero member e = let same : holder_of [] ≡ member = cc in omega (arith, ap (λ (m : Member). m.low) same)
+low_start (suc others) (suc worker) member e = low_start others worker member e
+
+lows_start : (problem : WeightedSum) (others : ℕ) → Lows 0 (start_of problem others).members
+lows_start problem others zero member e = let same : holder_of (fresh (root_of problem) ∷ []) ≡ member = cc in omega (arith, ap (λ (m : Member). m.low) same)
+lows_start problem others (suc worker) member e = low_start others worker member e
+
+root_stand : (problem : WeightedSum) → IsProblem problem → Stand problem 0 (InHand (fresh (root_of problem)) ∷ [])
+root_stand problem h =
+    let root = root_of problem in
+    let is : IsNode problem root = record { path = []; reached = refl } in
+    record {
+      once = λ node. omega (arith, one_at_most (is_same root node));
+      linked = λ node some. elim (alike root node) [ inl (same, _, _) ↦ inl (sym same) | inr (other, _) ↦ absurd (omega (arith, some, other)) ];
+      ahead = λ node number child of some.
+          elim (alike root child) [
+            | inl (same, _, _) ↦ absurd (omega (arith, child_depth problem node child number of, ap (λ (n : Node). n.depth) same))
+            | inr (other, _) ↦ omega (arith, other)
+          ];
+      covered = λ p inside. inr (omega (arith, held_fresh problem h p root is, ap one_if inside));
+    }
+
+pub start_keeps : (problem : WeightedSum) → IsProblem problem → (others : ℕ) → Keeps problem (start_of problem others)
+start_keeps problem h others =
+    record {
+      known = inl refl;
+      lows = lows_start problem others;
+      stand = same_places problem 0 (InHand (fresh (root_of problem)) ∷ []) (node_places (start_of problem others)) (λ g. omega (arith, no_places g others)) (root_stand problem h);
+    }
+
+-- so each list of steps from there keeps it too
+pub ran_keeps : (problem : WeightedSum) → IsProblem problem → (steps : List Step) (core core' : Core) → StepsTo problem steps core core' → Keeps problem core → Keeps problem core'
+ran_keeps problem h [] core core' e keeps = subst (Keeps problem) (sym e) keeps
+ran_keeps problem h (step ∷ steps) core core' (next, stepped, ran) keeps = ran_keeps problem h steps next core' ran (step_keeps problem h step core next stepped keeps)
+
+weight_stays : (problem : WeightedSum) (steps : List Step) (core core' : Core) → StepsTo problem steps core core' → (node : Node) → weigh (at node) (node_places core) ≤ weigh (at node) (node_places core')
+weight_stays problem [] core core' e node = subst (λ (c : Core). weigh (at node) (node_places core) ≤ weigh (at node) (node_places c)) (sym e) (omega arith)
+weight_stays problem (step ∷ steps) core core' (next, stepped, ran) node = omega (arith, step_stays problem step core next stepped node, weight_stays problem steps next core' ran node)
+
+pub ran_stays : (problem : WeightedSum) (steps : List Step) (core core' : Core) → StepsTo problem steps core core' → (node : Node) → IsIn (nodes_in core) node → IsIn (nodes_in core') node
+ran_stays problem steps core core' ran node there = some_in (node_places core') node (omega (arith, weight_stays problem steps core core' ran node, in_some (node_places core) node there))
+
+-- nodes that are done
+abbrev AllOver : List Member → Type 0
+AllOver members = (worker : ℕ) (member : Member) → slice_get members worker ≡ Some member → (member.deque ≡ []) × (member.hand ≡ [])
+
+over_member : (h : NodePlace → ℕ) (m : Member) → m.deque ≡ [] → m.hand ≡ [] → weigh h (places_in m) ≡ weigh h (map InDone m.done)
+over_member h m deque hand = omega (arith, weigh_member h m, ap (λ nodes. weigh h (map InDeque nodes)) deque, ap (λ frames. weigh h (map InHand frames)) hand)
+
+done_in : (node : Node) (nodes : List Node) → 0 < weigh (at node) (map InDone nodes) → IsIn nodes node
+done_in node [] some = absurd (omega (arith, some))
+done_in node (x ∷ xs) some =
+    elim (alike x node) [
+      | inl (same, _, _) ↦ (0, ap Some same)
+      | inr (other, _) ↦ let rest = done_in node xs (omega (arith, some, other)) in (suc rest.0, rest.1)
+    ]
+
+in_done : (node : Node) (nodes : List Node) (k : ℕ) → slice_get nodes k ≡ Some node → 0 < weigh (at node) (map InDone nodes)
+in_done node [] k e = absurd (cc)
+in_done node (x ∷ xs) zero e = let same : x ≡ node = cc in omega (arith, self node, ap (λ (n : Node). one_if (is_same n node)) same)
+in_done node (x ∷ xs) (suc k) e = omega (arith, in_done node xs k e)
+
+done_weighs : (node : Node) (m : Member) → IsIn m.done node → 0 < weigh (at node) (places_in m)
+done_weighs node m (k, e) = omega (arith, weigh_member (at node) m, in_done node m.done k e)
+
+-- a node that is there is done by a worker
+record DoneBy (members : List Member) (node : Node) : Type 0 where
+  worker : ℕ
+  member : Member
+  has : slice_get members worker ≡ Some member
+  done : IsIn member.done node
+
+done_by : (node : Node) (members : List Member) → AllOver members → 0 < weigh (at node) (flat_map places_in members) → DoneBy members node
+done_by node [] over some = absurd (omega (arith, some))
+done_by node (m ∷ members) over some =
+    elim (cases_lt 0 (weigh (at node) (places_in m))) [
+      | inl here ↦ let is = over 0 m refl in record { worker = 0; member = m; has = refl; done = done_in node m.done (omega (arith, here, over_member (at node) m is.0 is.1)) }
+      | inr none ↦
+          let rest = done_by node members (λ k n e. over (suc k) n e) (omega (arith, some, none, weigh_append (at node) (places_in m) (flat_map places_in members))) in
+          record { worker = suc rest.worker; member = rest.member; has = rest.has; done = rest.done }
+    ]
+
+-- and by one only
+one_worker : (node : Node) (members : List Member) (i j : ℕ) (m n : Member) → slice_get members i ≡ Some m → IsIn m.done node → slice_get members j ≡ Some n → IsIn n.done node → weigh (at node) (flat_map places_in members) ≤ 1 → i ≡ j
+one_worker node [] i j m n e in_m e' in_n once = absurd (cc)
+one_worker node (x ∷ members) zero zero m n e in_m e' in_n once = refl
+one_worker node (x ∷ members) zero (suc j) m n e in_m e' in_n once =
+    let same : x ≡ m = cc in
+    absurd (omega (arith, once, weigh_append (at node) (places_in x) (flat_map places_in members), ap (λ (y : Member). weigh (at node) (places_in y)) same, done_weighs node m in_m, (beside members j n e').old (at node), done_weighs node n in_n))
+one_worker node (x ∷ members) (suc i) zero m n e in_m e' in_n once =
+    let same : x ≡ n = cc in
+    absurd (omega (arith, once, weigh_append (at node) (places_in x) (flat_map places_in members), ap (λ (y : Member). weigh (at node) (places_in y)) same, done_weighs node n in_n, (beside members i m e).old (at node), done_weighs node m in_m))
+one_worker node (x ∷ members) (suc i) (suc j) m n e in_m e' in_n once =
+    ap suc (one_worker node members i j m n e in_m e' in_n (omega (arith, once, weigh_append (at node) (places_in x) (flat_map places_in members))))
+
+-- nothing is open there
+none_in_done : (problem : WeightedSum) (p : Point) (nodes : List Node) → weigh (has_at problem p) (map InDone nodes) ≡ 0
+none_in_done problem p [] = refl
+none_in_done problem p (x ∷ xs) = omega (arith, none_in_done problem p xs)
+
+none_open : (problem : WeightedSum) (p : Point) (members : List Member) → AllOver members → weigh (has_at problem p) (flat_map places_in members) ≡ 0
+none_open problem p [] over = refl
+none_open problem p (m ∷ members) over =
+    let is = over 0 m refl in
+    omega (
+      arith,
+      weigh_append (has_at problem p) (places_in m) (flat_map places_in members),
+      over_member (has_at problem p) m is.0 is.1,
+      none_in_done problem p m.done,
+      none_open problem p members (λ k n e. over (suc k) n e),
+    )
+
+best_word : (problem : WeightedSum) (core : Core) → IsKnownKey problem core.word → key_at problem (best_of problem) ≤ core.word → core.word ≡ key_at problem (best_of problem)
+best_word problem core (inl none) least = omega (arith, none, least)
+best_word problem core (inr (p, inside, is)) least = omega (arith, is, best_most problem p inside, least)
+
+pub finished : (problem : WeightedSum) (steps : List Step) (earlier core : Core) → Keeps problem core → StepsTo problem steps earlier core → IsOver core → IsFinished problem earlier core
+finished problem steps earlier core keeps ran over = record { done = done; best = best_word problem core keeps.known known }
+  where
+    known : key_at problem (best_of problem) ≤ core.word
+    known =
+        let stand = keeps.stand in
+        elim (stand.covered (best_of problem) (best_point problem)) [
+          | inl less ↦ less
+          | inr one ↦ absurd (omega (arith, one, none_open problem (best_of problem) core.members over))
+        ]
+
+    done : (node : Node) → IsIn (nodes_in earlier) node → IsDoneOnce core node
+    done node there =
+        let by = done_by node core.members over (omega (arith, weight_stays problem steps earlier core ran node, in_some (node_places earlier) node there)) in
+        let stand = keeps.stand in
+        record {
+          worker = by.worker;
+          by = (by.member, by.has, by.done);
+          only = λ other (m, has, is). one_worker node core.members other by.worker m by.member has is by.has by.done (stand.once node);
+        }
