@@ -1,17 +1,29 @@
 -- Reports worked by hand.
-use Rattle.std.proofs.Common.{◌≡◌, ℕ, zero, suc, ◌<◌, List, [], ◌∷◌, refl, ap, arith}
+use Rattle.std.proofs.Common.{◌≡◌, ℕ, zero, suc, ◌<◌, Bool, true, false, List, [], ◌∷◌, refl, ap, arith}
 use Rattle.std.specs.Prelude.{codes, pos, negsuc, IsTrue, slice_index, slice_index_or}
 use Rattle.std.specs.List.{All}
 use Rattle.std.proofs.lemmas.List.Elements.{All-cons, All-nil}
 use Rattle.std.specs.Fmt.{digits}
 use Rattle.moos_post.specs.declared.entry.Call.TheVariants.{Register, Unregister, Post as Posts, Fetch}
 use Rattle.moos_post.specs.declared.entry.Entry.{Entry}
+use Rattle.moos_post.specs.declared.registration.Reg.{Reg}
+use Rattle.moos_post.specs.declared.value.Pair.{Pair}
 use Rattle.moos_post.specs.declared.value.Value.TheVariants.{Num, Text}
-use Rattle.moos_post.specs.Words.{is_name}
+use Rattle.moos_post.specs.Words.{is_name, is_text}
 use Rattle.std.proofs.lemmas.Bool.{false≢true}
 use Rattle.moos_post.specs.Entries.{IsEntry, IsPair, IsReg}
-use Rattle.moos_report.specs.Community.{HaveOwnNames, IsCommunity}
+use Rattle.helm_core.specs.declared.iteration.Iteration.{Iteration}
+use Rattle.moos_report.specs.declared.setup.Setup.{Setup}
+use Rattle.moos_report.specs.Community.{HaveModes, HaveOwnNames, IsCommunity}
+use Rattle.moos_report.specs.IterationLines.{outcome_text}
 use Rattle.moos_report.specs.Report.{report_text}
+
+-- modes are declared, or not
+abbrev with_modes : Setup
+with_modes = record { modes = true }
+
+abbrev no_modes : Setup
+no_modes = record { modes = false }
 
 abbrev first_lines : List Entry
 first_lines =
@@ -19,12 +31,12 @@ first_lines =
     ∷ record { stamp = 1000; client = 0; call = Posts (record { var = codes "X"; value = Num (pos 5000) } ∷ []) }
     ∷ record { stamp = 2000; client = 0; call = Fetch } ∷ record { stamp = 3000; client = 0; call = Fetch } ∷ []
 
-first_report : report_text (codes "pA" ∷ []) first_lines
+first_report : report_text no_modes (codes "pA" ∷ []) first_lines []
     ≡ codes "%% moosdb play 1\n%% client 0 pA\n%% entry 0 0 pA register\n%% reg X * 0\n%% entry 1 1 pA post 0 1\n1 X pA 5\n%% entry 2 2 pA fetch\n%% mail 0 1 X pA 5\n%% entry 3 3 pA fetch\n%% end 4 1\n"
 unfolding digits
 first_report = refl
 
-empty_report : report_text [] [] ≡ codes "%% moosdb play 1\n%% end 0 0\n"
+empty_report : report_text no_modes [] [] [] ≡ codes "%% moosdb play 1\n%% end 0 0\n"
 unfolding digits
 empty_report = refl
 
@@ -37,10 +49,81 @@ second_lines =
     ∷ record { stamp = 1500; client = 1; call = Posts (record { var = codes "T"; value = Text said } ∷ record { var = codes "U"; value = Num (negsuc 1049) } ∷ []) }
     ∷ record { stamp = 2000; client = 0; call = Unregister (codes "T*") (codes "a") } ∷ record { stamp = 2250; client = 0; call = Fetch } ∷ []
 
-second_report : report_text (codes "b" ∷ codes "a" ∷ []) second_lines
+second_report : report_text no_modes (codes "b" ∷ codes "a" ∷ []) second_lines []
     ≡ codes "%% moosdb play 1\n%% client 0 b\n%% client 1 a\n%% entry 0 0 b register\n%% reg T* a 0.5\n%% entry 1 1.5 a post 0 2\n1.5 T a \"say \\\"\\\\\\\"\"\n1.5 U a -1.05\n%% entry 2 2 b unregister\n%% reg T* a\n%% entry 3 2.25 b fetch\n%% mail 0 1.5 T a \"say \\\"\\\\\\\"\"\n%% end 4 2\n"
 unfolding digits
 second_report = refl
+
+-- A helm that registers, and then twice fetches and posts. One letter takes the override off, and the other gives it a mode;
+-- it hears both in its first iteration.
+abbrev wanted : List ℕ → Reg
+wanted var = record { var = var; source = codes "*"; interval = 0 }
+
+abbrev speed : Pair
+speed = record { var = codes "DESIRED_SPEED"; value = Num (pos 0) }
+
+abbrev text : List ℕ → List ℕ → Pair
+text var said = record { var = var; value = Text said }
+
+abbrev ticks : List Entry
+ticks =
+    record { stamp = 0; client = 1; call = Register (wanted (codes "MOOS_MANUAL_OVERRIDE") ∷ wanted (codes "DEPLOY") ∷ []) }
+    ∷ record { stamp = 0; client = 0; call = Posts (text (codes "DEPLOY") (codes "true") ∷ text (codes "MOOS_MANUAL_OVERRIDE") (codes "false") ∷ []) }
+    ∷ record { stamp = 0; client = 1; call = Fetch }
+    ∷ record { stamp = 0; client = 1; call = Posts (text (codes "IVPHELM_STATE") (codes "DRIVE") ∷ text (codes "MODE") (codes "ACTIVE") ∷ speed ∷ text (codes "IVPHELM_ALLSTOP") (codes "NothingToDo") ∷ []) }
+    ∷ record { stamp = 250; client = 1; call = Fetch } ∷ record { stamp = 250; client = 1; call = Posts (speed ∷ []) } ∷ []
+
+abbrev in_mode : ℕ → Bool → List ℕ → Iteration
+in_mode stamp parked mode = record { stamp = stamp; parked = parked; mode = mode; posts = [] }
+
+abbrev vehicle : List (List ℕ)
+vehicle = codes "nav" ∷ codes "pHelmIvP" ∷ []
+
+helm_report : report_text with_modes vehicle ticks (in_mode 0 false (codes "ACTIVE") ∷ in_mode 250 false (codes "ACTIVE") ∷ [])
+    ≡ codes "%% moosdb play 1\n%% client 0 nav\n%% client 1 pHelmIvP\n%% entry 0 0 pHelmIvP register\n%% reg MOOS_MANUAL_OVERRIDE * 0\n%% reg DEPLOY * 0\n%% entry 1 0 nav post 0 2\n0 DEPLOY nav \"true\"\n0 MOOS_MANUAL_OVERRIDE nav \"false\"\n%% entry 2 0 pHelmIvP fetch\n%% mail 0 0 DEPLOY nav \"true\"\n%% mail 1 0 MOOS_MANUAL_OVERRIDE nav \"false\"\n%% entry 3 0 pHelmIvP post 2 4\n0 IVPHELM_STATE pHelmIvP \"DRIVE\"\n0 MODE pHelmIvP \"ACTIVE\"\n0 DESIRED_SPEED pHelmIvP 0\n0 IVPHELM_ALLSTOP pHelmIvP \"NothingToDo\"\n%% iteration 0 0 DRIVE\n%% mode ACTIVE\n%% none\n%% entry 4 0.25 pHelmIvP fetch\n%% entry 5 0.25 pHelmIvP post 6 1\n0.25 DESIRED_SPEED pHelmIvP 0\n%% iteration 1 0.25 DRIVE\n%% mode ACTIVE\n%% none\n%% end 6 7\n"
+unfolding digits
+helm_report = refl
+
+-- what follows an entry: what the helm posts before its first fetch is part of no iteration, and each fetch begins the next
+abbrev helm_posts_now : Entry
+helm_posts_now = record { stamp = 0; client = 1; call = Posts [] }
+
+abbrev fetched : ℕ → Entry
+fetched client = record { stamp = 0; client = client; call = Fetch }
+
+abbrev follows : Setup → List Entry → Entry → List ℕ
+follows setup past entry = outcome_text setup (in_mode 0 true [] ∷ in_mode 500 false (codes "A:B") ∷ []) vehicle past entry
+
+opening_is_no_iteration : follows with_modes (helm_posts_now ∷ fetched 0 ∷ []) helm_posts_now ≡ []
+opening_is_no_iteration = refl
+
+parked_iteration : follows with_modes (fetched 0 ∷ fetched 1 ∷ []) helm_posts_now ≡ codes "%% iteration 0 0 PARK\n%% mode -\n%% none\n"
+unfolding digits
+parked_iteration = refl
+
+second_iteration : follows with_modes (fetched 1 ∷ helm_posts_now ∷ fetched 1 ∷ []) helm_posts_now ≡ codes "%% iteration 1 0.5 DRIVE\n%% mode A:B\n%% none\n"
+unfolding digits
+second_iteration = refl
+
+iteration_without_modes : follows no_modes (fetched 1 ∷ fetched 1 ∷ []) helm_posts_now ≡ codes "%% iteration 1 0.5 DRIVE\n%% none\n"
+unfolding digits
+iteration_without_modes = refl
+
+other_posts : follows with_modes (fetched 1 ∷ []) (record { stamp = 0; client = 0; call = Posts [] }) ≡ []
+other_posts = refl
+
+helm_fetches_again : follows with_modes (fetched 1 ∷ []) (fetched 1) ≡ []
+helm_fetches_again = refl
+
+iteration_not_given : follows with_modes (fetched 1 ∷ fetched 1 ∷ fetched 1 ∷ []) helm_posts_now ≡ []
+iteration_not_given = refl
+
+-- a mode with a line end in it is none, since a line could be read there that isn't printed
+no_mode : HaveModes (in_mode 0 false (codes "A\n%% end 1 0") ∷ []) → ⊥
+no_mode modes = false≢true (modes 0 (in_mode 0 true []) (omega arith))
+
+some_modes : HaveModes (in_mode 0 false (codes "A:B") ∷ [])
+some_modes = All-cons (λ iteration. IsTrue (is_text iteration.mode)) (in_mode 0 false (codes "A:B")) [] refl (All-nil (λ iteration. IsTrue (is_text iteration.mode)))
 
 abbrev Named : List ℕ → Type 0
 Named name = IsTrue (is_name name)

@@ -17,6 +17,7 @@ use Rattle.moos_post.specs.Words.{begins_name, is_name, is_name_byte, is_pattern
 use Rattle.moos_text.specs.Numbers.{unsigned_text}
 use Rattle.moos_report.specs.Report.{call_text, letters_text, reg_text, said_text, value_text}
 use Rattle.moos_report.proofs.Cuts.{cut_at, Lacks, lacks_all}
+use Rattle.moos_report.proofs.NextEntries.{Differs}
 use Rattle.moos_report.proofs.PrintedValues.{decimal_lacks, unsigned_lacks, unsigned_same, value_lacks, value_same}
 use Rattle.moos_report.proofs.Reporting.{batch_is}
 
@@ -47,14 +48,10 @@ reg_cut one other after later h k e =
     let interval = unsigned_same one.interval other.interval h.interval k.interval intervals.0 in
     (λ i. record { var = vars.0 i; source = sources.0 i; interval = interval i }, intervals.1)
 
--- what stands behind an entry: another one, or the end
-abbrev pub Follows : List ℕ → Type 0
-Follows text = (rest : List ℕ) × (text ≡ codes "%% e" ++ rest)
-
-regs_cut : (one other : List Reg) (after later : List ℕ) → All IsReg one → All IsReg other → Follows after → Follows later → flat_map reg_text one ++ after ≡ flat_map reg_text other ++ later → (one ≡ other) × (after ≡ later)
+regs_cut : (one other : List Reg) (after later : List ℕ) → All IsReg one → All IsReg other → Differs 114 after → Differs 114 later → flat_map reg_text one ++ after ≡ flat_map reg_text other ++ later → (one ≡ other) × (after ≡ later)
 regs_cut [] [] after later h k f g e = (refl, e)
-regs_cut [] (y ∷ other) after later h k f g e = absurd (omega (arith, ap (λ l. get_or l 3 0) (sym f.1 ∙ e)))
-regs_cut (x ∷ one) [] after later h k f g e = absurd (omega (arith, ap (λ l. get_or l 3 0) (e ∙ g.1)))
+regs_cut [] (y ∷ other) after later h k f g e = absurd (f (ap (λ l. get_or l 3 0) e))
+regs_cut (x ∷ one) [] after later h k f g e = absurd (g (sym (ap (λ l. get_or l 3 0) e)))
 regs_cut (x ∷ one) (y ∷ other) after later h k f g e =
     let first = reg_cut x y (flat_map reg_text one ++ after) (flat_map reg_text other ++ later) (All-head IsReg x one h) (All-head IsReg y other k)
     (sym (append_assoc (reg_text x) (flat_map reg_text one) after) ∙ e ∙ append_assoc (reg_text y) (flat_map reg_text other) later) in
@@ -121,7 +118,7 @@ withdrawal_cut var var' source source' after later h k e =
     (λ i. Unregister (vars.0 i) (sources.0 i), sources.1)
 
 -- the calls of two entries by one client, at one stamp and behind the same entries
-pub call_cut : (names : List (List ℕ)) (past : History) (stamp client : ℕ) (one other : Call) (after later : List ℕ) → IsCall one → IsCall other → Follows after → Follows later
+pub call_cut : (names : List (List ℕ)) (past : History) (stamp client : ℕ) (one other : Call) (after later : List ℕ) → IsCall one → IsCall other → Differs 114 after → Differs 114 later
     → call_text names past (record { stamp = stamp; client = client; call = one }) one ++ after ≡ call_text names past (record { stamp = stamp; client = client; call = other }) other ++ later
     → (one ≡ other) × (after ≡ later)
 call_cut names past stamp client (Register one) (Register other) after later h k f g e =

@@ -1,5 +1,5 @@
 -- Histories of which one report is printed are the same.
-use Rattle.std.proofs.Common.{◌≡◌, ℕ, suc, ◌<◌, List, [], ◌∷◌, ◌++◌, length, drop, get_or, refl, ap, sym, ◌∙◌, subst, arith, append_assoc}
+use Rattle.std.proofs.Common.{◌≡◌, ◌≢◌, true, ℕ, suc, ◌<◌, List, [], ◌∷◌, ◌++◌, length, drop, get_or, refl, ap, sym, ◌∙◌, subst, arith, append_assoc}
 use Rattle.std.specs.Prelude.{codes, decimal, IsTrue}
 use Rattle.std.specs.List.{All, concat}
 use Rattle.std.proofs.lemmas.List.{append_cancel_left}
@@ -11,10 +11,14 @@ use Rattle.moos_post.specs.History.{History, name_of}
 use Rattle.moos_post.specs.Words.{is_name}
 use Rattle.moos_text.specs.Numbers.{unsigned_text}
 use Rattle.moos_post.specs.Entries.{IsEntry}
-use Rattle.moos_report.specs.Community.{HaveClients, HaveOwnNames, IsCommunity}
-use Rattle.moos_report.specs.Report.{call_text, client_text, clients_text, end_text, entries_text, entry_text, report_text}
+use Rattle.helm_core.specs.declared.iteration.Iteration.{Iteration}
+use Rattle.moos_report.specs.declared.setup.Setup.{Setup}
+use Rattle.moos_report.specs.Community.{HaveClients, HaveModes, HaveOwnNames}
+use Rattle.moos_report.specs.IterationLines.{outcome_text}
+use Rattle.moos_report.specs.Report.{call_text, client_text, clients_text, end_text, entries_text, entry_text, ReportsTell}
 use Rattle.moos_report.proofs.Cuts.{cut_at, Lacks}
-use Rattle.moos_report.proofs.PrintedCalls.{call_cut, Follows, name_lacks}
+use Rattle.moos_report.proofs.NextEntries.{Differs, IsNext, next_differs, next_entry, outcome_differs, outcome_skipped}
+use Rattle.moos_report.proofs.PrintedCalls.{call_cut, name_lacks}
 use Rattle.moos_report.proofs.PrintedValues.{unsigned_lacks, unsigned_same}
 
 -- a client's name
@@ -44,7 +48,7 @@ entry_open names past entry after =
     ∙ asking_open (decimal (length past)) (unsigned_text entry.stamp) (name_of names entry.client) (drop 1 (call_text names past entry entry.call)) after
 
 entry_cut : (names : List (List ℕ)) (past : History) (one other : Entry) (after later : List ℕ) → All Named names → HaveOwnNames names
-    → IsEntry one → IsEntry other → one.client < length names → other.client < length names → Follows after → Follows later
+    → IsEntry one → IsEntry other → one.client < length names → other.client < length names → Differs 114 after → Differs 114 later
     → entry_text names past one ++ after ≡ entry_text names past other ++ later → (one ≡ other) × (after ≡ later)
 entry_cut names past one other after later named own h k within within' f g e =
     let heads = append_cancel_left (codes "%% entry " ++ (decimal (length past) ++ codes " ")) _ _ (sym (entry_open names past one after) ∙ e ∙ entry_open names past other later) in
@@ -63,36 +67,51 @@ entry_cut names past one other after later named own h k within within' f g e =
 abbrev Ends : List ℕ → Type 0
 Ends text = (rest : List ℕ) × (text ≡ codes "%% end " ++ rest)
 
--- entries and the end follow an entry
-entries_follow : (names : List (List ℕ)) (past history : History) (end : List ℕ) → Ends end → Follows (entries_text names past history ++ end)
-entries_follow names past [] end ends = (codes "nd " ++ ends.0, ends.1)
-entries_follow names past (entry ∷ later) end ends = (_, refl)
+-- entries and the end are what is found
+entries_next : (setup : Setup) (iterations : List Iteration) (names : List (List ℕ)) (past history : History) (end : List ℕ) → Ends end → IsNext (entries_text setup iterations names past history ++ end)
+entries_next setup iterations names past [] end ends = record {
+  letter = ap (λ text. get_or text 3 0) ends.1;
+  found = ap (next_entry true) ends.1 ∙ sym ends.1;
+}
+entries_next setup iterations names past (entry ∷ later) end ends = record { letter = refl; found = refl }
 
-entries_cut : (names : List (List ℕ)) (past one other : History) (end end' : List ℕ) → All Named names → HaveOwnNames names → All IsEntry one → All IsEntry other
-    → HaveClients (length names) one → HaveClients (length names) other → Ends end → Ends end' → entries_text names past one ++ end ≡ entries_text names past other ++ end' → one ≡ other
-entries_cut names past [] [] end end' named own h k within within' f g e = refl
-entries_cut names past [] (y ∷ other) end end' named own h k within within' f g e = absurd (omega (arith, ap (λ l. get_or l 5 0) (sym f.1 ∙ e)))
-entries_cut names past (x ∷ one) [] end end' named own h k within within' f g e = absurd (omega (arith, ap (λ l. get_or l 5 0) (e ∙ g.1)))
-entries_cut names past (x ∷ one) (y ∷ other) end end' named own h k within within' f g e =
-    let behind : History → Entry → List ℕ → List ℕ = λ history entry end. entries_text names (past ++ entry ∷ []) history ++ end in
-    let first = entry_cut names past x y (behind one x end) (behind other y end') named own (All-head IsEntry x one h) (All-head IsEntry y other k)
+entries_cut : (setup setup' : Setup) (iterations iterations' : List Iteration) (names : List (List ℕ)) (past one other : History) (end end' : List ℕ) → All Named names → HaveOwnNames names
+    → All IsEntry one → All IsEntry other → HaveClients (length names) one → HaveClients (length names) other → HaveModes iterations → HaveModes iterations' → Ends end → Ends end'
+    → entries_text setup iterations names past one ++ end ≡ entries_text setup' iterations' names past other ++ end' → one ≡ other
+entries_cut setup setup' iterations iterations' names past [] [] end end' named own h k within within' modes modes' f g e = refl
+entries_cut setup setup' iterations iterations' names past [] (y ∷ other) end end' named own h k within within' modes modes' f g e = absurd (omega (arith, ap (λ l. get_or l 5 0) (sym f.1 ∙ e)))
+entries_cut setup setup' iterations iterations' names past (x ∷ one) [] end end' named own h k within within' modes modes' f g e = absurd (omega (arith, ap (λ l. get_or l 5 0) (e ∙ g.1)))
+entries_cut setup setup' iterations iterations' names past (x ∷ one) (y ∷ other) end end' named own h k within within' modes modes' f g e =
+    let outcome = outcome_text setup iterations names past x in
+    let outcome' = outcome_text setup' iterations' names past y in
+    let left = entries_text setup iterations names (past ++ x ∷ []) one in
+    let left' = entries_text setup' iterations' names (past ++ y ∷ []) other in
+    let next = entries_next setup iterations names (past ++ x ∷ []) one end f in
+    let next' = entries_next setup' iterations' names (past ++ y ∷ []) other end' g in
+    let first = entry_cut names past x y (outcome ++ (left ++ end)) (outcome' ++ (left' ++ end')) named own (All-head IsEntry x one h) (All-head IsEntry y other k)
     (All-head (λ entry. entry.client < length names) x one within) (All-head (λ entry. entry.client < length names) y other within')
-    (entries_follow names (past ++ x ∷ []) one end f) (entries_follow names (past ++ y ∷ []) other end' g)
-    (sym (append_assoc (entry_text names past x) (entries_text names (past ++ x ∷ []) one) end) ∙ e ∙ append_assoc (entry_text names past y) (entries_text names (past ++ y ∷ []) other) end') in
-    let rest = entries_cut names (past ++ x ∷ []) one other end end' named own (All-tail IsEntry x one h) (All-tail IsEntry y other k)
-    (All-tail (λ entry. entry.client < length names) x one within) (All-tail (λ entry. entry.client < length names) y other within') f g
-    (first.1 ∙ (λ i. behind other (sym first.0 i) end')) in
+    (outcome_differs setup iterations names past x (left ++ end) modes next) (outcome_differs setup' iterations' names past y (left' ++ end') modes' next')
+    (sym (parted (entry_text names past x) outcome left end) ∙ e ∙ parted (entry_text names past y) outcome' left' end') in
+    let behind : left ++ end ≡ left' ++ end' =
+    sym next.found ∙ sym (outcome_skipped setup iterations names past x (left ++ end) modes) ∙ ap (next_entry true) first.1
+    ∙ outcome_skipped setup' iterations' names past y (left' ++ end') modes' ∙ next'.found in
+    let rest = entries_cut setup setup' iterations iterations' names (past ++ x ∷ []) one other end end' named own (All-tail IsEntry x one h) (All-tail IsEntry y other k)
+    (All-tail (λ entry. entry.client < length names) x one within) (All-tail (λ entry. entry.client < length names) y other within') modes modes' f g
+    (behind ∙ (λ i. entries_text setup' iterations' names (past ++ sym first.0 i ∷ []) other ++ end')) in
     λ i. first.0 i ∷ rest i
+  where
+    parted : (entry outcome left end : List ℕ) → (entry ++ (outcome ++ left)) ++ end ≡ entry ++ (outcome ++ (left ++ end))
+    parted entry outcome left end = append_assoc entry (outcome ++ left) end ∙ ap (λ behind. entry ++ behind) (append_assoc outcome left end)
 
 -- the line of a client, and what stands behind it
 client_open : (number : ℕ) (name after : List ℕ) → client_text number name ++ after ≡ (codes "%% client " ++ (decimal number ++ codes " ")) ++ (name ++ 10 ∷ after)
 client_open number name after = simp append_assoc refl
 
-clients_cut : (number : ℕ) (one other : List (List ℕ)) (after later : List ℕ) → All Named one → All Named other → Follows after → Follows later
+clients_cut : (number : ℕ) (one other : List (List ℕ)) (after later : List ℕ) → All Named one → All Named other → Differs 99 after → Differs 99 later
     → clients_text number one ++ after ≡ clients_text number other ++ later → (one ≡ other) × (after ≡ later)
 clients_cut number [] [] after later h k f g e = (refl, e)
-clients_cut number [] (y ∷ other) after later h k f g e = absurd (omega (arith, ap (λ l. get_or l 3 0) (sym f.1 ∙ e)))
-clients_cut number (x ∷ one) [] after later h k f g e = absurd (omega (arith, ap (λ l. get_or l 3 0) (e ∙ g.1)))
+clients_cut number [] (y ∷ other) after later h k f g e = absurd (f (ap (λ l. get_or l 3 0) e))
+clients_cut number (x ∷ one) [] after later h k f g e = absurd (g (sym (ap (λ l. get_or l 3 0) e)))
 clients_cut number (x ∷ one) (y ∷ other) after later h k f g e =
     let lines = append_cancel_left (codes "%% client " ++ (decimal number ++ codes " ")) _ _
     (sym (client_open number x (clients_text (suc number) one ++ after)) ∙ sym (append_assoc (client_text number x) (clients_text (suc number) one) after)
@@ -105,14 +124,16 @@ end_is : (history : History) → Ends (end_text history)
 end_is history = (_, refl)
 
 -- clients and histories of which one report is printed
-pub report_same : (names others : List (List ℕ)) (history other : History) → IsCommunity names history → IsCommunity others other
-    → report_text others other ≡ report_text names history → (others ≡ names) × (other ≡ history)
-report_same names others history other h k e =
-    let clients = clients_cut 0 others names (entries_text others [] other ++ end_text other) (entries_text names [] history ++ end_text history) k.named h.named
-    (entries_follow others [] other (end_text other) (end_is other)) (entries_follow names [] history (end_text history) (end_is history))
-    (append_cancel_left (codes "%% moosdb play 1\n") _ _ e) in
-    let entries : entries_text names [] other ++ end_text other ≡ entries_text names [] history ++ end_text history = ap (λ ns. entries_text ns [] other ++ end_text other) (sym clients.0) ∙ clients.1 in (
+pub report_same : ReportsTell
+report_same setup setup' names others history other iterations iterations' h k modes modes' e =
+    let behind : List (List ℕ) → List ℕ = λ names. entries_text setup' iterations' names [] other ++ end_text other in
+    let behind' = entries_text setup iterations names [] history ++ end_text history in
+    let apart : 101 ≢ 99 = λ same. absurd (omega (arith, same)) in
+    let clients = clients_cut 0 others names (behind others) behind' k.named h.named
+    (next_differs 99 (behind others) apart (entries_next setup' iterations' others [] other (end_text other) (end_is other)))
+    (next_differs 99 behind' apart (entries_next setup iterations names [] history (end_text history) (end_is history)))
+    (append_cancel_left (codes "%% moosdb play 1\n") _ _ e) in (
       clients.0,
-      entries_cut names [] other history (end_text other) (end_text history) h.named h.own k.entries h.entries
-          (subst (λ ns. HaveClients (length ns) other) clients.0 k.clients) h.clients (end_is other) (end_is history) entries,
+      entries_cut setup' setup iterations' iterations names [] other history (end_text other) (end_text history) h.named h.own k.entries h.entries
+          (subst (λ ns. HaveClients (length ns) other) clients.0 k.clients) h.clients modes' modes (end_is other) (end_is history) (ap behind (sym clients.0) ∙ clients.1),
     )

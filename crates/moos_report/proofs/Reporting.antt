@@ -1,8 +1,10 @@
 -- Lemmas on the parts of a report.
-use Rattle.std.proofs.Common.{◌≡◌, ℕ, zero, suc, ◌+◌, ◌<◌, ◌≤◌, Some, None, List, [], ◌∷◌, ◌++◌, map, flat_map, length, take, drop, refl, ap, arith, add-one, codes, decimal, length-take, length-take-le}
-use Rattle.std.specs.Prelude.{slice_get, option_map}
-use Rattle.std.specs.List.{concat}
+use Rattle.std.proofs.Common.{◌≡◌, ℕ, zero, suc, ◌+◌, ◌-◌, ◌<◌, ◌≤◌, cond, Some, None, List, [], ◌∷◌, ◌++◌, map, flat_map, length, take, drop, refl, ap, sym, ◌∙◌, arith, add-one, codes, decimal, length-take, length-take-le}
+use Rattle.std.specs.Prelude.{slice_get, option_map, if◌then◌else◌}
+use Rattle.std.specs.List.{concat, filter}
 use Rattle.std.proofs.Math.Seq.{drop-cons, take-suc}
+use Rattle.std.proofs.lemmas.List.Filters.{length-filter_more}
+use Rattle.std.proofs.lemmas.List.Sums.{count_by-le-length, length-filter}
 use Rattle.std.proofs.lemmas.Option.{get_or_from_slice_get, slice_get_past, slice_get_within}
 use Rattle.moos_post.specs.declared.entry.Call.TheVariants.{Post as Posts, Fetch}
 use Rattle.moos_post.specs.declared.entry.Entry.{Entry}
@@ -13,6 +15,9 @@ use Rattle.moos_post.specs.History.{History, posts_of, post_of, name_of}
 use Rattle.moos_db.specs.declared.mail.Origin.{Origin}
 use Rattle.moos_db.specs.Database.{pair_posted, origin_of}
 use Rattle.moos_db.proofs.Growth.{posts-front}
+use Rattle.helm_core.specs.declared.iteration.Iteration.{Iteration}
+use Rattle.moos_report.specs.declared.setup.Setup.{Setup}
+use Rattle.moos_report.specs.IterationLines.{current_text, helm_fetches, is_helm_fetch, listed_text, outcome_text}
 use Rattle.moos_report.specs.Report.{client_text, clients_text, entry_text, entries_text, said_text, post_text, letter_text, letters_text, call_text}
 
 -- the first elements stand in the front where they stand in the list
@@ -29,13 +34,33 @@ clients_due names number {name = name} at =
     let within = slice_get_within names number name at in
     rw (drop-cons names number name within, get_or_from_slice_get names number name name at, add-one) refl
 
--- the entry that is due
-pub entries_due : (names : List (List ℕ)) (history : History) (k : ℕ) {entry : Entry} → slice_get history k ≡ Some entry
-    → entries_text names (take k history) (drop k history)
-    ≡ entry_text names (take k history) entry ++ entries_text names (take (k + 1) history) (drop (k + 1) history)
-entries_due names history k {entry = entry} at =
+-- the entry that is due, and what follows it
+pub entries_due : (setup : Setup) (iterations : List Iteration) (names : List (List ℕ)) (history : History) (k : ℕ) {entry : Entry} → slice_get history k ≡ Some entry
+    → entries_text setup iterations names (take k history) (drop k history)
+    ≡ entry_text names (take k history) entry
+    ++ (outcome_text setup iterations names (take k history) entry ++ entries_text setup iterations names (take (k + 1) history) (drop (k + 1) history))
+entries_due setup iterations names history k {entry = entry} at =
     let within = slice_get_within history k entry at in
     rw (drop-cons history k entry within, add-one, take-suc history k entry within, get_or_from_slice_get history k entry entry at) refl
+
+-- how often the helm has fetched once one entry more is there
+pub fetches_more : (names : List (List ℕ)) (history : History) (k : ℕ) {entry : Entry} → slice_get history k ≡ Some entry
+    → helm_fetches names (take (k + 1) history) ≡ helm_fetches names (take k history) + (if is_helm_fetch names entry then 1 else 0)
+fetches_more names history k {entry = entry} at =
+    sym (length-filter (is_helm_fetch names) (take (k + 1) history))
+    ∙ length-filter_more (is_helm_fetch names) history k entry (slice_get_within history k entry at)
+    ∙ ap (λ it. length (filter (is_helm_fetch names) (take k history)) + cond (is_helm_fetch names it) 1 0) (get_or_from_slice_get history k entry entry at)
+    ∙ ap (λ fetches. fetches + (if is_helm_fetch names entry then 1 else 0)) (length-filter (is_helm_fetch names) (take k history))
+
+-- the iteration behind a fetch
+pub current_is : (setup : Setup) (iterations : List Iteration) (fetches : ℕ) → (fetches ≡ 0 → ⊥)
+    → current_text setup iterations fetches ≡ listed_text setup (fetches - 1) (slice_get iterations (fetches - 1))
+current_is setup iterations zero some = absurd (some refl)
+current_is setup iterations (suc number) some = let e : suc number - 1 ≡ number = omega arith in rw e refl
+
+-- it fetches in some of the entries at most
+pub fetches_few : (names : List (List ℕ)) (history : History) (k : ℕ) → helm_fetches names (take k history) ≤ k
+fetches_few names history k = omega (arith, count_by-le-length (is_helm_fetch names) (take k history), length-take k history)
 
 -- the lines of a batch
 pub batch_is : (names : List (List ℕ)) (stamp client : ℕ) (batch : List Pair)

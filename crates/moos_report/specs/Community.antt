@@ -1,9 +1,11 @@
--- What a report is printed of: names and entries as their types let them be, where each client has a name of its own.
+-- What a report is printed of: names, entries and iterations as their types let them be, where each client has a name of its
+-- own.
 use Rattle.std.specs.Prelude.{◌≡◌, ℕ, ◌<◌, IsTrue, List, length}
 use Rattle.std.specs.List.{All}
 use Rattle.moos_post.specs.Entries.{IsEntry}
 use Rattle.moos_post.specs.History.{History, name_of}
-use Rattle.moos_post.specs.Words.{is_name}
+use Rattle.moos_post.specs.Words.{is_name, is_text}
+use Rattle.helm_core.specs.declared.iteration.Iteration.{Iteration}
 
 -- each entry is by one of this many clients
 abbrev pub HaveClients : ℕ → History → Type 0
@@ -19,3 +21,7 @@ pub record IsCommunity (names : List (List ℕ)) (history : History) : Type 0 wh
   pub own : HaveOwnNames names
   pub entries : All IsEntry history
   pub clients : HaveClients (length names) history
+
+-- the mode of each iteration is a text
+abbrev pub HaveModes : List Iteration → Type 0
+HaveModes iterations = All (λ iteration. IsTrue (is_text iteration.mode)) iterations

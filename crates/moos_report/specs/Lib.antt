@@ -1,2 +1,3 @@
 pub mod Community
+pub mod IterationLines
 pub mod Report

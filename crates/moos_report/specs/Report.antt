@@ -1,5 +1,5 @@
--- The report of a history: what is printed of it, line by line.
-use Rattle.std.specs.Prelude.{ℕ, suc, Bool, ◌==◌, ◌||◌, List, [], ◌∷◌, ◌++◌, length, codes, decimal, if◌then◌else◌, Option, Some, None, slice_get, flat_map}
+-- The report of a history and the helm's iterations in it: what is printed, line by line.
+use Rattle.std.specs.Prelude.{◌≡◌, ℕ, suc, Bool, ◌==◌, ◌||◌, List, [], ◌∷◌, ◌++◌, length, codes, decimal, if◌then◌else◌, Option, Some, None, slice_get, flat_map}
 use Rattle.std.specs.List.{concat}
 use Rattle.moos_post.specs.declared.entry.Call.{Call}
 use Rattle.moos_post.specs.declared.entry.Call.TheVariants.{Register, Unregister, Post as Posts, Fetch}
@@ -11,6 +11,10 @@ use Rattle.moos_post.specs.declared.value.Value.TheVariants.{Num, Text}
 use Rattle.moos_post.specs.Delivery.{mail_after}
 use Rattle.moos_post.specs.History.{History, posts_of, posts_of_entry, name_of}
 use Rattle.moos_text.specs.Numbers.{milli_text, unsigned_text}
+use Rattle.helm_core.specs.declared.iteration.Iteration.{Iteration}
+use Rattle.moos_report.specs.declared.setup.Setup.{Setup}
+use Rattle.moos_report.specs.Community.{HaveModes, IsCommunity}
+use Rattle.moos_report.specs.IterationLines.{outcome_text}
 
 -- `"` and `\`
 abbrev pub is_sign : ℕ → Bool
@@ -63,10 +67,11 @@ entry_text names past entry =
     concat (codes "%% entry " ∷ decimal (length past) ∷ codes " " ∷ unsigned_text entry.stamp ∷ codes " " ∷ name_of names entry.client ∷ [])
     ++ call_text names past entry entry.call
 
--- these entries, where `past` stands before them
-abbrev pub entries_text : List (List ℕ) → History → History → List ℕ
-entries_text names past [] = []
-entries_text names past (entry ∷ later) = entry_text names past entry ++ entries_text names (past ++ entry ∷ []) later
+-- these entries, where `past` stands before them, each with what follows it
+abbrev pub entries_text : Setup → List Iteration → List (List ℕ) → History → History → List ℕ
+entries_text setup iterations names past [] = []
+entries_text setup iterations names past (entry ∷ later) =
+    entry_text names past entry ++ (outcome_text setup iterations names past entry ++ entries_text setup iterations names (past ++ entry ∷ []) later)
 
 -- the line of a client: its number and its name
 abbrev pub client_text : ℕ → List ℕ → List ℕ
@@ -81,7 +86,15 @@ clients_text number (name ∷ names) = client_text number name ++ clients_text (
 abbrev pub end_text : History → List ℕ
 end_text history = concat (codes "%% end " ∷ decimal (length history) ∷ codes " " ∷ decimal (length (posts_of history)) ∷ codes "\n" ∷ [])
 
--- What is printed of a history and its clients.
-abbrev pub report_text : List (List ℕ) → History → List ℕ
-report_text names history =
-    codes "%% moosdb play 1\n" ++ (clients_text 0 names ++ (entries_text names [] history ++ end_text history))
+-- What is printed of a history, its clients and the helm's iterations.
+abbrev pub report_text : Setup → List (List ℕ) → History → List Iteration → List ℕ
+report_text setup names history iterations =
+    codes "%% moosdb play 1\n" ++ (clients_text 0 names ++ (entries_text setup iterations names [] history ++ end_text history))
+
+-- Communities of which one report is printed have the same clients and the same history, whatever the iterations that are
+-- printed with them, and whether these tell their modes.
+abbrev pub ReportsTell : Type 0
+ReportsTell =
+    (setup setup' : Setup) (names others : List (List ℕ)) (history other : History) (iterations iterations' : List Iteration)
+    → IsCommunity names history → IsCommunity others other → HaveModes iterations → HaveModes iterations'
+    → report_text setup' others other iterations' ≡ report_text setup names history iterations → (others ≡ names) × (other ≡ history)

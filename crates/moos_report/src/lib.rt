@@ -1,10 +1,11 @@
-// The report of a database's history: what is printed of its clients, of each entry, and of what each fetch gave.
+// The report of a database's history: what is printed of its clients, of each entry, of what each fetch gave, and of each
+// iteration of the helm.
 //
 // The contract for the layers above: the report goes to a sink whole, or a front of it where the sink fails, and then the
 // sink's faults rose. No memory is taken: the text is gathered in a buffer on the stack, and what is full goes on.
 //
-// Reading order: `specs/Report` says what each line is; here are the entries and their parts, in `lines` the lines. `law`
-// says that a report tells its history.
+// Reading order: `specs/Report` and `specs/IterationLines` say what each line is; here are the entries and their parts, in
+// `iterations` what follows an entry of the helm, in `lines` the lines. `law` says that a report tells its history.
 #![tactic(auto)]
 
 ghost use Rattle.std.specs.Prelude.{◌≡◌, ◌+◌, ◌<◌, ◌≤◌, ◌++◌, [], ◌∷◌, Some, OnOk, OnErr, length, take, flat_map, codes, decimal, slice_get};
@@ -16,27 +17,38 @@ ghost use Rattle.moos_post.specs.History.{name_of, posts_of, posts_of_entry};
 ghost use Rattle.moos_text.specs.Numbers.{unsigned_text};
 ghost use Rattle.moos_report.specs.Report.{report_text, said_text, clients_text, entries_text, entry_text, call_text, reg_text, letter_text, letters_text};
 
+mod iterations;
 mod law;
 mod lines;
+mod setup;
 #[cfg(test)]
 mod tests;
 
+use self::iterations::{fetches_after, put_outcome};
 pub use self::law::report_law;
 use self::lines::{put, put_client, put_end, put_mail, put_post, put_reg};
+pub use self::setup::Setup;
+use helm_core::Iteration;
 use moos_db::Db;
 use moos_io::{Buffer, Failed, Sink};
 use moos_post::{Call, Entry, Pair, Pattern, Reg};
 use moos_text::print_seconds;
 
-/// Writes the report of the database's history. Where the sink fails, it took a front of the report, not the whole.
-pub fn report<K: Sink>(db: &Db, out: &mut K) -> Result<(), Failed>
-    ensures ok { OnOk result (Took (K.taken out.old) (K.taken out.new) (report_text db.now.names db.now.history)) }
-    ensures front { OnErr result (TookFront (K.taken out.old) (K.taken out.new) (report_text db.now.names db.now.history)) }
+/// Writes the report of the database's history, and behind what the helm posts its iterations, each by its number. Where the
+/// sink fails, it took a front of the report, not the whole.
+pub fn report<K: Sink>(
+    setup: &Setup,
+    db: &Db,
+    iterations: &[Iteration],
+    out: &mut K,
+) -> Result<(), Failed>
+    ensures ok { OnOk result (Took (K.taken out.old) (K.taken out.new) (report_text setup.now db.now.names db.now.history iterations.now)) }
+    ensures front { OnErr result (TookFront (K.taken out.old) (K.taken out.new) (report_text setup.now db.now.names db.now.history iterations.now)) }
     ensures later { K.faults out.old ≤ K.faults out.new }
     ensures rose { OnErr result (Rose (K.faults out.old) (K.faults out.new)) }
 {
     let mut buffer = Buffer::new();
-    if let Err(failed) = put_report(db, &mut buffer, out) {
+    if let Err(failed) = put_report(setup, db, iterations, &mut buffer, out) {
         return Err(failed);
     }
     if let Err(failed) = buffer.flush(out) {
@@ -45,9 +57,15 @@ pub fn report<K: Sink>(db: &Db, out: &mut K) -> Result<(), Failed>
     Ok(())
 }
 
-fn put_report<K: Sink>(db: &Db, buffer: &mut Buffer, out: &mut K) -> Result<(), Failed>
+fn put_report<K: Sink>(
+    setup: &Setup,
+    db: &Db,
+    iterations: &[Iteration],
+    buffer: &mut Buffer,
+    out: &mut K,
+) -> Result<(), Failed>
     ensures { Wrote (way (K.taken out.old) buffer.old (K.faults out.old)) (way (K.taken out.new) buffer.new (K.faults out.new))
-        result (report_text db.now.names db.now.history) }
+        result (report_text setup.now db.now.names db.now.history iterations.now) }
 {
     if let Err(failed) = put(&[b"%% moosdb play 1\n"], buffer, out) {
         return Err(failed);
@@ -55,7 +73,7 @@ fn put_report<K: Sink>(db: &Db, buffer: &mut Buffer, out: &mut K) -> Result<(), 
     if let Err(failed) = put_clients(db, buffer, out) {
         return Err(failed);
     }
-    if let Err(failed) = put_entries(db, buffer, out) {
+    if let Err(failed) = put_entries(setup, db, iterations, buffer, out) {
         return Err(failed);
     }
     put_end(db.entries(), db.posts(), buffer, out)
@@ -73,18 +91,29 @@ fn put_clients<K: Sink>(db: &Db, buffer: &mut Buffer, out: &mut K) -> Result<(),
     Ok(())
 }
 
-fn put_entries<K: Sink>(db: &Db, buffer: &mut Buffer, out: &mut K) -> Result<(), Failed>
+fn put_entries<K: Sink>(
+    setup: &Setup,
+    db: &Db,
+    iterations: &[Iteration],
+    buffer: &mut Buffer,
+    out: &mut K,
+) -> Result<(), Failed>
     ensures { Wrote (way (K.taken out.old) buffer.old (K.faults out.old)) (way (K.taken out.new) buffer.new (K.faults out.new))
-        result (entries_text db.now.names [] db.now.history) }
+        result (entries_text setup.now iterations.now db.now.names [] db.now.history) }
 {
     let posts = db.posts();
     let mut first = 0;
+    let mut fetches = 0;
     for k in 0..db.entries() {
         let entry = db.entry(k);
         if let Err(failed) = put_entry(db, k, entry, first, buffer, out) {
             return Err(failed);
         }
+        if let Err(failed) = put_outcome(setup, db, iterations, entry, fetches, buffer, out) {
+            return Err(failed);
+        }
         first = posts_after(first, entry, posts);
+        fetches = fetches_after(db, entry, fetches);
     }
     Ok(())
 }

@@ -181,26 +181,101 @@ const ALL_KINDS: &str = "%% moosdb play 1
 %% end 6 3
 ";
 
-fn is_reported_in_one_put(rt: &impl Abort, alloc: Global, db: &Db, text: &str) -> Result<(), Fail> {
+fn iteration(alloc: Global, stamp: u64, parked: bool, mode: &str) -> Result<Iteration, Fail> {
+    Ok(Iteration {
+        stamp,
+        parked,
+        mode: Txt::new(alloc, mode.as_bytes())?,
+        posts: Batch::new(alloc),
+    })
+}
+
+// A helm whose opening posts something, and that is parked in its first iteration.
+fn helm(rt: &impl Abort, alloc: Global) -> Result<Db, Fail> {
+    let off = [
+        ("DEPLOY", Said::Text("true")),
+        ("MOOS_MANUAL_OVERRIDE", Said::Text("false")),
+    ];
+    let steps = [
+        (0, 1, Step::Register("MOOS_MANUAL_OVERRIDE", "*", 0)),
+        (0, 1, Step::Post(&[("READY", Said::Number(1000))])),
+        (0, 1, Step::Fetch),
+        (0, 1, Step::Post(&[("DESIRED_SPEED", Said::Number(0))])),
+        (200, 0, Step::Post(&off)),
+        (250, 0, Step::Fetch),
+        (250, 1, Step::Fetch),
+        (250, 1, Step::Post(&[])),
+    ];
+    play(rt, alloc, &["nav", "pHelmIvP"], &steps)
+}
+
+const HELM: &str = "%% moosdb play 1
+%% client 0 nav
+%% client 1 pHelmIvP
+%% entry 0 0 pHelmIvP register
+%% reg MOOS_MANUAL_OVERRIDE * 0
+%% entry 1 0 pHelmIvP post 0 1
+0 READY pHelmIvP 1
+%% entry 2 0 pHelmIvP fetch
+%% entry 3 0 pHelmIvP post 1 1
+0 DESIRED_SPEED pHelmIvP 0
+%% iteration 0 0 PARK
+%% mode -
+%% none
+%% entry 4 0.2 nav post 2 2
+0.2 DEPLOY nav \"true\"
+0.2 MOOS_MANUAL_OVERRIDE nav \"false\"
+%% entry 5 0.25 nav fetch
+%% entry 6 0.25 pHelmIvP fetch
+%% mail 3 0.2 MOOS_MANUAL_OVERRIDE nav \"false\"
+%% entry 7 0.25 pHelmIvP post 4 0
+%% iteration 1 0.25 DRIVE
+%% mode ACTIVE:SURVEYING
+%% none
+%% end 8 4
+";
+
+// The text goes out in one put.
+fn is_reported(
+    rt: &impl Abort,
+    alloc: Global,
+    setup: &Setup,
+    db: &Db,
+    iterations: &[Iteration],
+    text: &str,
+) -> Result<(), Fail> {
     let mut sink = MemSink::make(alloc, 2000, 4096)?;
     sink.fail_at(1)?;
-    assert_eq!(rt; report(db, &mut sink), Ok(()));
+    assert_eq!(rt; report(setup, db, iterations, &mut sink), Ok(()));
     assert_eq!(rt; sink.bytes(), text.as_bytes());
     Ok(())
 }
 
 #[test]
 fn reports_in_one_put(rt: HostRuntime) -> Result<(), Fail> {
-    is_reported_in_one_put(&rt, rt.alloc(), &first(&rt, rt.alloc())?, FIRST)?;
-    is_reported_in_one_put(&rt, rt.alloc(), &all_kinds(&rt, rt.alloc())?, ALL_KINDS)
+    let setup = Setup { modes: false };
+    let (first, all) = (first(&rt, rt.alloc())?, all_kinds(&rt, rt.alloc())?);
+    is_reported(&rt, rt.alloc(), &setup, &first, &[], FIRST)?;
+    is_reported(&rt, rt.alloc(), &setup, &all, &[], ALL_KINDS)
+}
+
+#[test]
+fn reports_iterations(rt: HostRuntime) -> Result<(), Fail> {
+    let db = helm(&rt, rt.alloc())?;
+    let iterations = [
+        iteration(rt.alloc(), 0, true, "")?,
+        iteration(rt.alloc(), 250, false, "ACTIVE:SURVEYING")?,
+    ];
+    let setup = Setup { modes: true };
+    is_reported(&rt, rt.alloc(), &setup, &db, &iterations, HELM)
 }
 
 #[test]
 fn full_sink_has_a_front(rt: HostRuntime) -> Result<(), Fail> {
-    let db = all_kinds(&rt, rt.alloc())?;
+    let (db, setup) = (all_kinds(&rt, rt.alloc())?, Setup { modes: false });
     for room in [0, 1, 100, 400] {
         let mut sink = MemSink::make(rt.alloc(), room, 7)?;
-        assert_eq!(rt; report(&db, &mut sink), Err(Failed));
+        assert_eq!(rt; report(&setup, &db, &[], &mut sink), Err(Failed));
         assert_eq!(rt;
             sink.bytes(),
             ALL_KINDS.as_bytes().get(..room).unwrap_or(b"")

@@ -11,8 +11,8 @@ use Rattle.moos_post.specs.History.{History, name_of}
 use Rattle.moos_client.specs.Calls.{entries_of}
 use Rattle.moos_play.specs.Lawful.{IsLawful}
 use Rattle.moos_report.specs.Community.{HaveOwnNames, IsCommunity}
-use Rattle.moos_report.specs.Report.{report_text}
-use Rattle.moos_top.specs.Jobs.{IsReport}
+use Rattle.moos_report.specs.Report.{report_text, ReportsTell}
+use Rattle.moos_top.specs.Jobs.{IsReport, no_modes}
 use Rattle.script_reader.specs.declared.script.Order.{Order}
 use Rattle.script_reader.specs.declared.script.Script.{Script}
 use Rattle.script_reader.specs.Validity.{are_clients, are_lines, keeps_limits, IsValid}
@@ -77,22 +77,17 @@ lawful_community order script history valid lawful = record {
         (λ client. subst (All (IsBy (length script.names))) (sym (lawful.own client))
         (All-filter (λ entry. nat_eq entry.client client) (IsBy (length script.names)) script.lines (lines_by (length script.names) 0 script.stop script.lines valid.lines valid.entries)))
 
--- what is known of reports
-abbrev ReportsTell : Type 0
-ReportsTell =
-    (names others : List (List ℕ)) (history other : History) → IsCommunity names history → IsCommunity others other → report_text others other ≡ report_text names history
-    → (others ≡ names) × (other ≡ history)
-
 -- the report of a lawful history of the script
 pub reported : (order : Order) (script : Script) (names : List (List ℕ)) (history : History) → ReportsTell → IsValid script → names ≡ script.names → IsLawful order script history
-    → IsReport order script (report_text names history)
+    → IsReport order script (report_text no_modes names history [])
 reported order script names history tell valid same lawful = record {
   history = history;
   lawful = lawful;
   printed = printed;
   listed = λ other is text.
-      (tell script.names script.names history other (lawful_community order script history valid lawful) (lawful_community order script other valid is) (sym text ∙ printed)).1;
+      (tell no_modes no_modes script.names script.names history other [] [] (lawful_community order script history valid lawful) (lawful_community order script other valid is)
+          (λ i d within. absurd (omega (arith, within))) (λ i d within. absurd (omega (arith, within))) (sym text ∙ printed)).1;
 }
   where
-    printed : report_text names history ≡ report_text script.names history
-    printed = ap (λ names. report_text names history) same
+    printed : report_text no_modes names history [] ≡ report_text no_modes script.names history []
+    printed = ap (λ names. report_text no_modes names history []) same

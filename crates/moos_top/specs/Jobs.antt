@@ -1,5 +1,5 @@
 -- What a command line asks for, what is to be done with the file of a job, and what the job may write.
-use Rattle.std.specs.Prelude.{◌≡◌, ℕ, ◌≤◌, if◌then◌else◌, List, [], ◌∷◌, codes, bytes_eq, Option, None, option_map, option_and_then, Result, Ok, Err}
+use Rattle.std.specs.Prelude.{◌≡◌, ℕ, ◌≤◌, if◌then◌else◌, List, [], ◌∷◌, codes, bytes_eq, Option, None, option_map, option_and_then, Result, Ok, Err, false}
 use Rattle.clap.specs.Words.{Row, Text}
 use Rattle.ivp_cert.specs.declared.claim.Decision.{Decision}
 use Rattle.ivp_cert.specs.Certificates.{Accepts, certificate_of}
@@ -9,6 +9,7 @@ use Rattle.ivp_cert.specs.Texts.{decision_lines}
 use Rattle.ivp_problem.specs.Sums.{best_of, sum_at}
 use Rattle.ivp_problem.specs.Problems.{WeightedSum}
 use Rattle.moos_post.specs.History.{History}
+use Rattle.moos_report.specs.declared.setup.Setup.{Setup}
 use Rattle.moos_report.specs.Report.{report_text}
 use Rattle.moos_text.specs.declared.cause.ReadFault.{ReadFault}
 use Rattle.moos_top.specs.Commands.{check_command, file_in, found_in, is_set, play_command, solve_command, workers_in}
@@ -89,12 +90,16 @@ task_of (Play script order) bytes = task_with (Playing order) (script_of bytes)
 task_of (Solve problem workers) bytes = task_with Solving (problem_of bytes)
 task_of (Check decision) bytes = task_with Checking (decision_of bytes)
 
+-- a setup without modes
+abbrev pub no_modes : Setup
+no_modes = record { modes = false }
+
 -- the text is the report of a lawful history of the script, the one that it lists: no other lawful history has this text
 pub record IsReport (order : Order) (script : Script) (text : List ℕ) : Type 0 where
   pub history : History
   pub lawful : IsLawful order script history
-  pub printed : text ≡ report_text script.names history
-  pub listed : (other : History) → IsLawful order script other → text ≡ report_text script.names other → other ≡ history
+  pub printed : text ≡ report_text no_modes script.names history []
+  pub listed : (other : History) → IsLawful order script other → text ≡ report_text no_modes script.names other [] → other ≡ history
 
 -- the decision on a problem: its best point, the sum there, and its certificate
 abbrev pub decision_on : WeightedSum → Decision

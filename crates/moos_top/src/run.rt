@@ -15,7 +15,7 @@ use crate::words::Words;
 use ivp_cert::{accepts, print_decision, read_decision, read_problem};
 use moos_io::{Failed, Folder, Gate, LoadFault, Sink, put_all};
 use moos_play::{Order, play};
-use moos_report::{report, report_law};
+use moos_report::{report, report_law, Setup};
 use moos_text::ReadFault;
 use script_reader::read_script;
 use std::alloc::Global;
@@ -101,7 +101,8 @@ fn play_script<R: Threads + Wait + Sync, K: Sink, G: Gate>(
     match play(rt, alloc, &script, order, gate) {
         Ok(ran) => {
             report_law();
-            written(Status::Done, report(&ran.db, out))
+            let setup = Setup { modes: false };
+            written(Status::Done, report(&setup, &ran.db, &[], out))
         }
         Err(_) => Status::NoMemory,
     }

@@ -8,12 +8,12 @@ pub returns-in-Err : goal.returns-in-Err
 returns-in-Err g c =
     let names = c.args.db.now.names in
     let history = c.args.db.now.history in
-    record { ok = tt; front = stopped_before (clients_text 0 names ++ (entries_text names [] history ++ end_text history)) c.in-Err.ensures.front }
+    record { ok = tt; front = stopped_before (clients_text 0 names ++ (entries_text c.args.setup.now c.args.iterations.now names [] history ++ end_text history)) c.in-Err.ensures.front }
 
 pub returns-in-Err-put_clients : goal.returns-in-Err-put_clients
 returns-in-Err-put_clients g c =
     let history = c.args.db.now.history in
-    let failed = stopped_before (entries_text c.args.db.now.names [] history ++ end_text history) c.in-Err-put_clients.ensures.front in
+    let failed = stopped_before (entries_text c.args.setup.now c.args.iterations.now c.args.db.now.names [] history ++ end_text history) c.in-Err-put_clients.ensures.front in
     record { ok = tt; front = stopped_later c.in_default.ensures.ok failed }
 
 pub returns-in-Err-put_entries : goal.returns-in-Err-put_entries

@@ -1,0 +1,70 @@
+-- What is printed of the helm's iterations, each behind the Post entry that it ended in.
+use Rattle.std.specs.Prelude.{ℕ, zero, suc, Bool, true, false, ◌&&◌, bytes_eq, List, [], ◌∷◌, ◌++◌, codes, decimal, if◌then◌else◌, Option, Some, None, slice_get}
+use Rattle.std.specs.List.{concat, count_by}
+use Rattle.moos_post.specs.declared.entry.Call.{Call}
+use Rattle.moos_post.specs.declared.entry.Call.TheVariants.{Register, Unregister, Post as Posts, Fetch}
+use Rattle.moos_post.specs.declared.entry.Entry.{Entry}
+use Rattle.moos_post.specs.Delivery.{is_fetch}
+use Rattle.moos_post.specs.History.{History, name_of}
+use Rattle.moos_text.specs.Numbers.{unsigned_text}
+use Rattle.helm_core.specs.declared.iteration.Iteration.{Iteration}
+use Rattle.moos_report.specs.declared.setup.Setup.{Setup}
+
+-- the client has the helm's name
+abbrev pub is_helm : List (List ℕ) → ℕ → Bool
+is_helm names client = bytes_eq (name_of names client) (codes "pHelmIvP")
+
+-- the call posts, be it nothing
+abbrev pub is_posting : Call → Bool
+is_posting (Register regs) = false
+is_posting (Unregister var source) = false
+is_posting (Posts batch) = true
+is_posting Fetch = false
+
+-- the helm fetches
+abbrev pub is_helm_fetch : List (List ℕ) → Entry → Bool
+is_helm_fetch names entry = is_fetch entry.call && is_helm names entry.client
+
+-- the helm posts
+abbrev pub is_helm_post : List (List ℕ) → Entry → Bool
+is_helm_post names entry = is_posting entry.call && is_helm names entry.client
+
+-- how often the helm has fetched
+abbrev pub helm_fetches : List (List ℕ) → History → ℕ
+helm_fetches names past = count_by (is_helm_fetch names) past
+
+-- whether the vehicle is the helm's to drive
+abbrev pub drive_text : Bool → List ℕ
+drive_text parked = if parked then codes "PARK" else codes "DRIVE"
+
+-- a mode as it prints, the empty one as `-`
+abbrev pub shown_mode : List ℕ → List ℕ
+shown_mode [] = codes "-"
+shown_mode (first ∷ rest) = first ∷ rest
+
+-- the line of the mode, where modes are declared
+abbrev pub mode_line : Setup → List ℕ → List ℕ
+mode_line setup mode = if setup.modes then concat (codes "%% mode " ∷ shown_mode mode ∷ codes "\n" ∷ []) else []
+
+-- the lines of an iteration: its number, its stamp in seconds and whether the helm drives; the mode; and that nothing was
+-- decided
+abbrev pub iteration_text : Setup → ℕ → Iteration → List ℕ
+iteration_text setup number iteration =
+    concat (codes "%% iteration " ∷ decimal number ∷ codes " " ∷ unsigned_text iteration.stamp ∷ codes " " ∷ drive_text iteration.parked ∷ codes "\n" ∷ [])
+    ++ (mode_line setup iteration.mode ++ codes "%% none\n")
+
+-- the iteration of this number, where there is one
+abbrev pub listed_text : Setup → ℕ → Option Iteration → List ℕ
+listed_text setup number None = []
+listed_text setup number (Some iteration) = iteration_text setup number iteration
+
+-- The iteration that the helm is in after so many fetches: with its first fetch iteration 0 begins, and what it posts before
+-- is part of none.
+abbrev pub current_text : Setup → List Iteration → ℕ → List ℕ
+current_text setup iterations zero = []
+current_text setup iterations (suc number) = listed_text setup number (slice_get iterations number)
+
+-- What follows an entry, where `past` stands before it: behind what the helm posts the iteration that it is in.
+abbrev pub outcome_text : Setup → List Iteration → List (List ℕ) → History → Entry → List ℕ
+outcome_text setup iterations names past entry =
+    if is_helm_post names entry then current_text setup iterations (helm_fetches names past) else []

@@ -1,0 +1,157 @@
+// The helm's iterations, each behind the Post entry that it ended in.
+ghost use Rattle.std.specs.Prelude.{◌≡◌, ◌+◌, ◌<◌, ◌^◌, ◌-◌, [], ◌∷◌, codes, decimal, if◌then◌else◌};
+ghost use Rattle.std.specs.List.{concat};
+ghost use Rattle.moos_io.specs.Writing.{Wrote, way};
+ghost use Rattle.moos_text.specs.Numbers.{unsigned_text};
+ghost use Rattle.moos_report.specs.IterationLines.{is_helm, is_helm_fetch, is_helm_post, drive_text, shown_mode, mode_line, iteration_text, current_text};
+
+use super::lines::put;
+use super::name_of;
+use crate::setup::Setup;
+use helm_core::Iteration;
+use moos_db::Db;
+use moos_io::{Buffer, Failed, Sink};
+use moos_post::{Call, Entry};
+use moos_text::print_seconds;
+
+// What follows an entry, before which the helm has fetched so often.
+pub(super) fn put_outcome<K: Sink>(
+    setup: &Setup,
+    db: &Db,
+    iterations: &[Iteration],
+    entry: &Entry,
+    fetches: u64,
+    buffer: &mut Buffer,
+    out: &mut K,
+) -> Result<(), Failed>
+    ensures { Wrote (way (K.taken out.old) buffer.old (K.faults out.old)) (way (K.taken out.new) buffer.new (K.faults out.new))
+        result (if is_helm_post db.now.names entry.now then current_text setup.now iterations.now fetches else []) }
+{
+    if !is_helm_post(db, entry) {
+        return Ok(());
+    }
+    put_current(setup, iterations, fetches, buffer, out)
+}
+
+// How often the helm has fetched once this entry is there too.
+pub(super) fn fetches_after(db: &Db, entry: &Entry, fetches: u64) -> u64
+    requires { fetches + 1 < 2 ^ 64 }
+    ensures { result ≡ fetches + (if is_helm_fetch db.now.names entry.now then 1 else 0) }
+{
+    if matches!(&entry.call, Call::Fetch) && is_helm(db, entry.client) {
+        fetches + 1
+    } else {
+        fetches
+    }
+}
+
+fn is_helm_post(db: &Db, entry: &Entry) -> bool
+    ensures { result ≡ is_helm_post db.now.names entry.now }
+{
+    matches!(&entry.call, Call::Post(_)) && is_helm(db, entry.client)
+}
+
+fn is_helm(db: &Db, client: u32) -> bool
+    ensures { result ≡ is_helm db.now.names client }
+{
+    name_of(db, client) == b"pHelmIvP".as_slice()
+}
+
+// The iteration that the helm is in after so many fetches.
+fn put_current<K: Sink>(
+    setup: &Setup,
+    iterations: &[Iteration],
+    fetches: u64,
+    buffer: &mut Buffer,
+    out: &mut K,
+) -> Result<(), Failed>
+    ensures { Wrote (way (K.taken out.old) buffer.old (K.faults out.old)) (way (K.taken out.new) buffer.new (K.faults out.new))
+        result (current_text setup.now iterations.now fetches) }
+{
+    if fetches == 0 {
+        return Ok(());
+    }
+    let number = fetches - 1;
+    match iterations.get(number as usize) {
+        Some(iteration) => put_iteration(setup, number, iteration, buffer, out),
+        None => Ok(()),
+    }
+}
+
+// The lines of the iteration with this number.
+fn put_iteration<K: Sink>(
+    setup: &Setup,
+    number: u64,
+    iteration: &Iteration,
+    buffer: &mut Buffer,
+    out: &mut K,
+) -> Result<(), Failed>
+    ensures { Wrote (way (K.taken out.old) buffer.old (K.faults out.old)) (way (K.taken out.new) buffer.new (K.faults out.new))
+        result (iteration_text setup.now number iteration.now) }
+{
+    if let Err(failed) = put_state(number, iteration.stamp, iteration.parked, buffer, out) {
+        return Err(failed);
+    }
+    if let Err(failed) = put_mode(setup, iteration.mode.bytes(), buffer, out) {
+        return Err(failed);
+    }
+    put(&[b"%% none\n"], buffer, out)
+}
+
+// The line that says when an iteration was, and whether the helm drove.
+fn put_state<K: Sink>(
+    number: u64,
+    stamp: u64,
+    parked: bool,
+    buffer: &mut Buffer,
+    out: &mut K,
+) -> Result<(), Failed>
+    ensures { Wrote (way (K.taken out.old) buffer.old (K.faults out.old)) (way (K.taken out.new) buffer.new (K.faults out.new))
+        result (concat (codes "%% iteration " ∷ decimal number ∷ codes " " ∷ unsigned_text stamp ∷ codes " " ∷ drive_text parked ∷ codes "\n" ∷ [])) }
+{
+    let mut digits = itoa::Buffer::new();
+    let number = digits.format(number).as_bytes();
+    let stamp = print_seconds(stamp);
+    put(
+        &[
+            b"%% iteration ",
+            number,
+            b" ",
+            stamp.bytes(),
+            b" ",
+            drive_text(parked),
+            b"\n",
+        ],
+        buffer,
+        out,
+    )
+}
+
+fn drive_text(parked: bool) -> &'static [u8]
+    ensures { result.now ≡ drive_text parked }
+{
+    if parked { b"PARK" } else { b"DRIVE" }
+}
+
+// The line of the mode, where modes are declared.
+fn put_mode<K: Sink>(
+    setup: &Setup,
+    mode: &[u8],
+    buffer: &mut Buffer,
+    out: &mut K,
+) -> Result<(), Failed>
+    ensures { Wrote (way (K.taken out.old) buffer.old (K.faults out.old)) (way (K.taken out.new) buffer.new (K.faults out.new))
+        result (mode_line setup.now mode.now) }
+{
+    if !setup.modes {
+        return Ok(());
+    }
+    put(&[b"%% mode ", shown_mode(mode), b"\n"], buffer, out)
+}
+
+// What a mode prints as: the empty one as `-`.
+fn shown_mode(mode: &[u8]) -> &[u8]
+    ensures { result.now ≡ shown_mode mode.now }
+{
+    if mode.len() > 0 { mode } else { b"-" }
+}
