@@ -18,17 +18,19 @@ is var text = Compare (record { var = var; operator = Equal; literal = Text text
 abbrev survey : List ℕ
 survey = codes "initialize DEPLOY = 1 // off\nset MODE = ACTIVE {\n DEPLOY = true\n} INACTIVE\nSet MODE = SURVEYING\n\n{\n MODE = active\n}\n"
 
-two_modes : behaviors_of survey
+two_modes : behaviors_of [] survey
     ≡ Ok (record {
       opening = record { var = codes "DEPLOY"; value = Num (pos 1000) } ∷ [];
       decls = record { name = codes "ACTIVE"; parent = None; conds = is (codes "DEPLOY") (codes "true") ∷ []; other = Some (codes "INACTIVE") }
           ∷ record { name = codes "SURVEYING"; parent = Some 0; conds = is (codes "MODE") (codes "active") ∷ []; other = None } ∷ [];
+      blocks = [];
+      unused = [];
     })
 two_modes = refl
 
 -- behind these modes, of which the last line is line 9
 abbrev behind : List ℕ → Result BhvFile ReadFault
-behind lines = behaviors_of (survey ++ lines)
+behind lines = behaviors_of [] (survey ++ lines)
 
 path_of_two_parts : behind (codes "set MODE = A {\nMODE = Active:Surveying\n}\nset MODE = B {\nMODE = ACTIVE\n} C:D\n") ≡ Err (At 15 B1)
 path_of_two_parts = refl
@@ -51,5 +53,5 @@ no_end = refl
 no_type : behind (codes "Behavior = {") ≡ Err (At 10 B1)
 no_type = refl
 
-unknown_type : behind (codes "behavior = BHV_Waypoint\n{") ≡ Err (At 10 B3)
+unknown_type : behind (codes "behavior = BHV_Way\n{") ≡ Err (At 10 B3)
 unknown_type = refl

@@ -4,13 +4,15 @@ use Rattle.std.specs.Prelude.{Result, Ok, Err, ok_or, slice_get, codes, bytes_eq
 use Rattle.std.specs.List.{list_any}
 use Rattle.std.proofs.lemmas.Bool.{lt-leb}
 use Rattle.moos_post.specs.declared.value.Value.{Value}
-use Rattle.moos_text.specs.Lines.{is_unclosed}
-use Rattle.moos_text.specs.Standing.{after_statement, after_text, behind_head, Outside, Standing}
+use Rattle.moos_text.specs.Lines.{behind_word, ends_with, is_unclosed}
+use Rattle.moos_text.specs.Standing.{after_statement, after_text, behind_head, Inside, Opened, Outside, Standing}
 use Rattle.helm_cond.specs.Conditions.{Condition, parent_of}
-use Rattle.bhv_reader.specs.declared.reading.Position.{Position}
-use Rattle.bhv_reader.specs.declared.reading.Position.TheVariants.{Loose, Headed, Braced}
+use Rattle.bhv_reader.specs.declared.behavior.Behavior.{Behavior}
+use Rattle.bhv_reader.specs.declared.reading.Position.TheVariants.{Headed, Braced}
+use Rattle.bhv_reader.specs.declared.reading.Unclosed.{Unclosed}
+use Rattle.ivp_domain.specs.declared.axis.Axis.{Axis}
 use Rattle.bhv_reader.specs.Paths.{meant_by, parent_path, paths_of}
-use Rattle.bhv_reader.specs.Places.{parent_behind, standing_at}
+use Rattle.bhv_reader.specs.Places.{behavior_block, behavior_in, open_block, parent_behind, standing_at}
 use Rattle.moos_post.specs.Words.{is_name}
 use Rattle.moos_text.specs.declared.cause.Cause.{Cause}
 use Rattle.moos_text.specs.declared.cause.Cause.TheVariants.{B1, B5, B9}
@@ -19,7 +21,7 @@ use Rattle.moos_text.specs.declared.cause.LineFault.TheVariants.{Refused, NoMemo
 use Rattle.moos_text.specs.Pairs.{Sides, sides_of}
 use Rattle.moos_text.specs.Refusals.{and_then, IsLineFault}
 use Rattle.bhv_reader.specs.declared.file.BhvFile.{BhvFile}
-use Rattle.bhv_reader.specs.Behaviors.{after_condition, begins_behavior, begins_by, behavior_begun, behavior_form, fits_mode, mode_begun, ModeBlock, named_by, other_of, the_one, with_condition, with_parent}
+use Rattle.bhv_reader.specs.Behaviors.{after_condition, begins_behavior, begins_by, behavior_begun, behavior_form, fits_mode, mode_begun, ModeBlock, named_by, OfBehavior, OfMode, OpenBlock, other_of, the_one, with_condition, with_parent}
 
 -- what a name is refused for, as the whole
 named_fault : {A B : Type 0} (b : Bool) (one : A) (other : B) (fault : LineFault) → IsLineFault fault (cond b (Ok one) (Err B1)) → IsLineFault fault (cond b (Ok other) (Err B1))
@@ -63,24 +65,48 @@ parent_fault block said one cause same fits few is =
     at None e = absurd cc
     at (Some literal) e = found (the_one (meant_by block.file.decls literal)) e
 
--- a line of neither keyword
-pub other_said : (file : BhvFile) (text : List ℕ) (cause : Cause) → begins_by (codes "set") text ≡ false → begins_by (codes "initialize") text ≡ false → cause ≡ cond (begins_behavior (sides_of text)) (behavior_begun (sides_of text)) B1 → after_statement behavior_form (Outside file) (record { line = 0; text = text }) ≡ Err cause
-other_said file text cause set initialize is = rw (set, initialize, is) (at (begins_behavior (sides_of text)))
+-- where the reader stands behind a line that opens a block
+pub head_placed : (file : BhvFile) (text : List ℕ) (block : Unclosed) → standing_at file (cond (ends_with 123 text) (Braced block) (Headed block)) ≡ behind_head text (open_block file block)
+head_placed file text block = at (ends_with 123 text)
   where
-    at : (b : Bool) → cond b (and_then {A = ModeBlock} {B = Standing BhvFile ModeBlock} {E = Cause} (λ block. Ok (behind_head text block)) (Err (behavior_begun (sides_of text)))) (and_then {A = BhvFile} {B = Standing BhvFile ModeBlock} {E = Cause} (λ more. Ok (Outside more)) (Err B1)) ≡ Err (cond b (behavior_begun (sides_of text)) B1)
+    at : (b : Bool) → standing_at file (cond b (Braced block) (Headed block)) ≡ cond b (Inside (open_block file block)) (Opened (open_block file block))
     at true = refl
     at false = refl
 
--- a line is read in the same way whatever its number
-pub any_line : (file : BhvFile) (place : Position) (text : List ℕ) (one other : ℕ) → after_statement behavior_form (standing_at file place) (record { line = one; text = text }) ≡ after_statement behavior_form (standing_at file place) (record { line = other; text = text })
-any_line file Loose text one other = refl
-any_line file (Headed mode) text one other = refl
-any_line file (Braced mode) text one other = refl
+-- a line that begins a mode
+pub mode_said : (domain : List Axis) (file : BhvFile) (text : List ℕ) (line : ℕ) (block : ModeBlock) → begins_by (codes "set") text ≡ true → mode_begun file (sides_of (behind_word text)) ≡ Ok block → after_statement (behavior_form domain) (Outside file) (record { line = line; text = text }) ≡ Ok (behind_head text (OfMode block))
+mode_said domain file text line block set begun = rw (set, begun) refl
+
+-- behind the line that opens a block
+abbrev pub place_behind : List ℕ → OpenBlock → Result (Standing BhvFile OpenBlock) Cause
+place_behind text block = Ok (behind_head text block)
+
+-- a line of neither keyword begins a behaviour
+abbrev pub behavior_place : BhvFile → List ℕ → Result Behavior Cause → Result (Standing BhvFile OpenBlock) Cause
+behavior_place file text begun = and_then (λ behavior. place_behind text (OfBehavior (behavior_block file behavior))) begun
+
+pub behavior_said : (domain : List Axis) (file : BhvFile) (text : List ℕ) (line : ℕ) → begins_by (codes "set") text ≡ false → begins_by (codes "initialize") text ≡ false → after_statement (behavior_form domain) (Outside file) (record { line = line; text = text }) ≡ behavior_place file text (cond (begins_behavior (sides_of text)) (behavior_in (sides_of text)) (Err B1))
+behavior_said domain file text line set initialize = rw (set, initialize) (at (sides_of text))
+  where
+    neither : Result (Standing BhvFile OpenBlock) Cause
+    neither = and_then {A = BhvFile} (λ more. Ok (Outside more)) (Err B1)
+
+    placed : (r : Result Behavior Cause) → and_then (place_behind text) (and_then (λ block. Ok (OfBehavior block)) (and_then (λ behavior. Ok (behavior_block file behavior)) r)) ≡ behavior_place file text r
+    placed (Ok behavior) = refl
+    placed (Err cause) = refl
+
+    named : (sides : Sides) (b : Bool) → cond b (and_then (place_behind text) (and_then (λ block. Ok (OfBehavior block)) (behavior_begun file (Some sides)))) neither ≡ behavior_place file text (cond b (behavior_in (Some sides)) (Err B1))
+    named sides true = placed (behavior_in (Some sides))
+    named sides false = refl
+
+    at : (o : Option Sides) → cond (begins_behavior o) (and_then (place_behind text) (and_then (λ block. Ok (OfBehavior block)) (behavior_begun file o))) neither ≡ behavior_place file text (cond (begins_behavior o) (behavior_in o) (Err B1))
+    at None = refl
+    at (Some sides) = named sides (begins_behavior (Some sides))
 
 -- a line that says something and leaves no quote open
-pub line_read : (line : ℕ) (place next : Standing BhvFile ModeBlock) (text : List ℕ) → 0 < length text → is_unclosed text ≡ false → after_statement behavior_form place (record { line = line; text = text }) ≡ Ok next → after_text behavior_form line place text ≡ Ok next
-line_read line place next [] some closed is = absurd (omega arith)
-line_read line place next (byte ∷ bytes) some closed is = rw (closed, is) refl
+pub line_read : (domain : List Axis) (line : ℕ) (place next : Standing BhvFile OpenBlock) (text : List ℕ) → 0 < length text → is_unclosed text ≡ false → after_statement (behavior_form domain) place (record { line = line; text = text }) ≡ Ok next → after_text (behavior_form domain) line place text ≡ Ok next
+line_read domain line place next [] some closed is = absurd (omega arith)
+line_read domain line place next (byte ∷ bytes) some closed is = rw (closed, is) refl
 
 -- a test that one element passes, and that one more fails
 pub any_at : {X : Type 0} (test : X → Bool) (xs : List X) (i : ℕ) (x : X) → slice_get xs i ≡ Some x → test x ≡ true → list_any test xs ≡ true

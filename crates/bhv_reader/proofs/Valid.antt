@@ -1,8 +1,9 @@
 -- Every behaviour file that is read is valid.
 use Rattle.std.proofs.Common.{◌≡◌, ℕ, suc, ◌+◌, ◌<◌, ◌≤◌, Bool, true, false, ◌&&◌, ◌||◌, cond, not, nat_le, List, [], ◌∷◌, ◌++◌, length, Option, Some, None, refl, sym, ap, subst, ◌∙◌, arith, length-append, append_assoc, append-nil, codes, bytes_eq}
-use Rattle.std.specs.Prelude.{Result, Ok, Err, IfOk, IfSome, is_some, reverse}
+use Rattle.std.specs.Prelude.{Result, Ok, Err, IfOk, IfSome, IsTrue, is_some, reverse}
 use Rattle.std.specs.Option.{option_or}
 use Rattle.std.proofs.lemmas.Bool.{and_from, and_parts, leb-false}
+use Rattle.ivp_domain.specs.declared.axis.Axis.{Axis}
 use Rattle.moos_post.specs.declared.value.Pair.{Pair}
 use Rattle.moos_post.specs.declared.value.Value.{Value}
 use Rattle.moos_post.specs.declared.value.Value.TheVariants.{Num, Text}
@@ -13,6 +14,7 @@ use Rattle.moos_text.specs.declared.cause.Cause.TheVariants.{B1, B5, B9}
 use Rattle.moos_text.specs.declared.pair.PairFault.{PairFault}
 use Rattle.moos_text.specs.Lines.{behind_word}
 use Rattle.moos_text.specs.Pairs.{pair_of, Sides, sides_of}
+use Rattle.moos_text.specs.Sections.{Statement}
 use Rattle.moos_text.specs.Refusals.{and_then}
 use Rattle.moos_text.proofs.Judging.{and_then_good, cond_good, file_good, Keeps}
 use Rattle.helm_cond.specs.declared.comparison.Comparison.{Comparison}
@@ -22,9 +24,11 @@ use Rattle.helm_cond.specs.Conditions.{And, Compare, Condition, is_of_mode, mode
 use Rattle.helm_cond.specs.Grammar.{condition_of}
 use Rattle.bhv_reader.specs.declared.decl.Decl.{Decl}
 use Rattle.bhv_reader.specs.declared.file.BhvFile.{BhvFile}
-use Rattle.bhv_reader.specs.Behaviors.{after_condition, begins_by, behavior_begun, behavior_form, behaviors_of, behind_close, block_begun, fits_mode, has_parent_line, line_outside, mode_begun, ModeBlock, named_by, names_mode, nothing_said, other_of, the_one, with_condition, with_decl, with_opening, with_parent}
+use Rattle.bhv_reader.specs.Behaviors.{after_condition, begins_by, behavior_begun, behavior_form, behaviors_of, block_closed, behind_close, block_begun, fits_mode, has_parent_line, line_outside, mode_begun, ModeBlock, named_by, names_mode, OfBehavior, OfMode, OpenBlock, nothing_said, other_of, the_one, with_condition, with_decl, with_block_line, with_opening, with_parent}
 use Rattle.bhv_reader.specs.Paths.{meant_by, named_from, parent_path, paths_of}
-use Rattle.bhv_reader.specs.Validity.{AreDecls, fit_mode, IsDecl, IsValidFile, parent_line, parent_said}
+use Rattle.bhv_reader.specs.Validity.{AreDecls, fit_mode, IsDecl, IsValidFile, parent_line, parent_said, serves}
+use Rattle.bhv_reader.specs.Blocks.{behavior_of_type, with_sides}
+use Rattle.bhv_reader.proofs.Blocked.{begun_drafted, behavior_sound, IsDraft, IsSoundBehavior, IsSoundFile, line_sound}
 use Rattle.bhv_reader.proofs.PathsAt.{length-paths_of}
 
 -- an unfinished declaration behind a valid file
@@ -42,21 +46,21 @@ opening_sound file (Ok pair) valid =
     cond_good IsValidFile (nat_le 256 (length file.opening)) (Err B9) (Ok (record file { opening = file.opening ++ pair ∷ [] })) (λ _. tt)
     (λ room.
     let below = leb-false 256 (length file.opening) room in
-    record { few_pairs = omega (arith, below, length-append file.opening (pair ∷ [])); few_decls = valid.few_decls; decls = valid.decls })
+    record { few_pairs = omega (arith, below, length-append file.opening (pair ∷ [])); few_decls = valid.few_decls; decls = valid.decls; few_blocks = valid.few_blocks; blocks = valid.blocks })
 
 outside_sound : (file : BhvFile) (text : List ℕ) → IsValidFile file → IfOk (line_outside file text) IsValidFile
 outside_sound file text valid =
     cond_good IsValidFile (begins_by (codes "initialize") text) (with_opening file (pair_of (behind_word text))) (Err B1) (λ _. opening_sound file (pair_of (behind_word text)) valid) (λ _. tt)
 
-mode_sound : (file : BhvFile) (sides : Option Sides) → IsValidFile file → IfOk (mode_begun file sides) IsSound
-mode_sound file None valid = tt
-mode_sound file (Some sides) valid =
-    cond_good IsSound (bytes_eq sides.name (codes "MODE") && is_name (named_by sides)) (Ok (record { file = file; name = named_by sides; parent = None; conds = [] })) (Err B1)
-    (λ _. record { file = valid; few = omega arith; fit = refl; parent = refl; before = tt; short = omega arith }) (λ _. tt)
+-- an unfinished declaration behind a file that its domain serves
+abbrev IsSoundMode : List Axis → ModeBlock → Type 0
+IsSoundMode domain block = IsSound block × (serves domain block.file.blocks ≡ true)
 
-begun_sound : (file : BhvFile) (text : List ℕ) → IsValidFile file → IfOk (block_begun file text) IsSound
-begun_sound file text valid =
-    cond_good IsSound (begins_by (codes "set") text) (mode_begun file (sides_of (behind_word text))) (Err (behavior_begun (sides_of text))) (λ _. mode_sound file (sides_of (behind_word text)) valid) (λ _. tt)
+mode_sound : (domain : List Axis) (file : BhvFile) (sides : Option Sides) → IsSoundFile domain file → IfOk (mode_begun file sides) (IsSoundMode domain)
+mode_sound domain file None sound = tt
+mode_sound domain file (Some sides) sound =
+    cond_good (IsSoundMode domain) (bytes_eq sides.name (codes "MODE") && is_name (named_by sides)) (Ok (record { file = file; name = named_by sides; parent = None; conds = [] })) (Err B1)
+    (λ _. (record { file = sound.valid; few = omega arith; fit = refl; parent = refl; before = tt; short = omega arith }, sound.served)) (λ _. tt)
 
 -- one condition more fits behind those that do
 fit_more : (before conds : List Condition) (more : Condition) → fit_mode before conds ≡ true → fits_mode (before ++ conds) more ≡ true → fit_mode before (conds ++ more ∷ []) ≡ true
@@ -198,17 +202,102 @@ close_sound block text sound =
     record {
       few_pairs = sound.file.few_pairs;
       few_decls = omega (arith, below, length-append block.file.decls (new ∷ []));
+      few_blocks = sound.file.few_blocks;
+      blocks = sound.file.blocks;
       decls = decls_more [] block.file.decls new sound.file.decls (record { few = sound.few; fit = sound.fit; parent = sound.parent; before = sound.before; short = sound.short });
     }))
 
-sound_form : Keeps behavior_form IsValidFile IsSound
-sound_form = record {
-  loose = λ file said valid. outside_sound file said.text valid;
-  begin = λ file said valid. begun_sound file said.text valid;
-  inside = λ block said sound. condition_sound block (condition_of said.text) sound;
-  close = λ block said sound. close_sound block (behind_close said.text) sound;
+-- an unfinished block behind a good file
+abbrev IsSoundBlock : List Axis → OpenBlock → Type 0
+IsSoundBlock domain (OfMode block) = IsSoundMode domain block
+IsSoundBlock domain (OfBehavior block) = IsSoundBehavior domain block
+
+both_ok : {A E : Type 0} (P Q : A → Type 0) (r : Result A E) → IfOk r P → IfOk r Q → IfOk r (λ a. P a × Q a)
+both_ok P Q (Err fault) p q = tt
+both_ok P Q (Ok a) p q = (p, q)
+
+if_ok : {A E : Type 0} (P Q : A → Type 0) (r : Result A E) → IfOk r P → ((a : A) → P a → Q a) → IfOk r Q
+if_ok P Q (Err fault) h good = tt
+if_ok P Q (Ok a) h good = good a h
+
+-- a condition changes nothing before the block
+parent_served : (domain : List Axis) (block : ModeBlock) (o : Option Value) → serves domain block.file.blocks ≡ true → IfOk (after_condition block o) (λ more. serves domain more.file.blocks ≡ true)
+parent_served domain block None served = served
+parent_served domain block (Some literal) served =
+    and_then_good (λ number. Unit {0}) (λ more. serves domain more.file.blocks ≡ true) (with_parent block) (the_one (meant_by block.file.decls literal)) (anything (the_one (meant_by block.file.decls literal)))
+    (λ number any. cond_good (λ more. serves domain more.file.blocks ≡ true) (nat_le 16 (length (parent_path (paths_of block.file.decls) (Some number)))) (Err B9) (Ok (record block { parent = Some number })) (λ _. tt) (λ _. served))
+
+condition_served : (domain : List Axis) (block : ModeBlock) (said : Option Condition) → serves domain block.file.blocks ≡ true → IfOk (with_condition block said) (λ more. serves domain more.file.blocks ≡ true)
+condition_served domain block None served = tt
+condition_served domain block (Some one) served =
+    cond_good (λ more. serves domain more.file.blocks ≡ true) (not (fits_mode block.conds one)) (Err B5) (cond (nat_le 64 (length block.conds)) (Err B9) (after_condition (record block { conds = block.conds ++ one ∷ [] }) (parent_of one))) (λ _. tt)
+    (λ fits. cond_good (λ more. serves domain more.file.blocks ≡ true) (nat_le 64 (length block.conds)) (Err B9) (after_condition (record block { conds = block.conds ++ one ∷ [] }) (parent_of one)) (λ _. tt)
+    (λ room. parent_served domain (record block { conds = block.conds ++ one ∷ [] }) (parent_of one) served))
+
+-- nor does the end of a mode, or an opening pair
+decl_served : (domain : List Axis) (block : ModeBlock) (other : Result (Option (List ℕ)) Cause) → serves domain block.file.blocks ≡ true → IfOk (and_then (with_decl block) other) (λ file. serves domain file.blocks ≡ true)
+decl_served domain block (Err cause) served = tt
+decl_served domain block (Ok other) served =
+    cond_good (λ file. serves domain file.blocks ≡ true) (nat_le 256 (length block.file.decls)) (Err B9)
+    (Ok (record block.file { decls = block.file.decls ++ record { name = block.name; parent = block.parent; conds = block.conds; other = other } ∷ [] })) (λ _. tt) (λ _. served)
+
+pair_served : (domain : List Axis) (file : BhvFile) (pair : Result Pair PairFault) → serves domain file.blocks ≡ true → IfOk (with_opening file pair) (λ more. serves domain more.blocks ≡ true)
+pair_served domain file (Err fault) served = tt
+pair_served domain file (Ok pair) served =
+    cond_good (λ more. serves domain more.blocks ≡ true) (nat_le 256 (length file.opening)) (Err B9) (Ok (record file { opening = file.opening ++ pair ∷ [] })) (λ _. tt) (λ _. served)
+
+outside_served : (domain : List Axis) (file : BhvFile) (text : List ℕ) → serves domain file.blocks ≡ true → IfOk (line_outside file text) (λ more. serves domain more.blocks ≡ true)
+outside_served domain file text served =
+    cond_good (λ more. serves domain more.blocks ≡ true) (begins_by (codes "initialize") text) (with_opening file (pair_of (behind_word text))) (Err B1) (λ _. pair_served domain file (pair_of (behind_word text)) served) (λ _. tt)
+
+behavior_begun_sound : (domain : List Axis) (file : BhvFile) (sides : Option Sides) → IsSoundFile domain file → IfOk (behavior_begun file sides) (IsSoundBehavior domain)
+behavior_begun_sound domain file None sound = tt
+behavior_begun_sound domain file (Some sides) sound =
+    and_then_good (IsDraft file.blocks) (IsSoundBehavior domain) (λ behavior. Ok (record { file = file; behavior = behavior })) (behavior_of_type (named_by sides)) (begun_drafted file.blocks (named_by sides))
+    (λ behavior draft. record { file = sound.valid; served = sound.served; draft = draft })
+
+begun_sound : (domain : List Axis) (file : BhvFile) (text : List ℕ) → IsSoundFile domain file → IfOk (block_begun file text) (IsSoundBlock domain)
+begun_sound domain file text sound =
+    cond_good (IsSoundBlock domain) (begins_by (codes "set") text) (and_then (λ block. Ok (OfMode block)) (mode_begun file (sides_of (behind_word text)))) (and_then (λ block. Ok (OfBehavior block)) (behavior_begun file (sides_of text)))
+    (λ _. and_then_good (IsSoundMode domain) (IsSoundBlock domain) (λ block. Ok (OfMode block)) (mode_begun file (sides_of (behind_word text))) (mode_sound domain file (sides_of (behind_word text)) sound) (λ block is. is))
+    (λ _. and_then_good (IsSoundBehavior domain) (IsSoundBlock domain) (λ block. Ok (OfBehavior block)) (behavior_begun file (sides_of text)) (behavior_begun_sound domain file (sides_of text) sound) (λ block is. is))
+
+line_good : (domain : List Axis) (block : OpenBlock) (said : Statement) → IsSoundBlock domain block → IfOk (with_block_line block said) (IsSoundBlock domain)
+line_good domain (OfMode block) said sound =
+    and_then_good (IsSoundMode domain) (IsSoundBlock domain) (λ more. Ok (OfMode more)) (with_condition block (condition_of said.text))
+    (both_ok IsSound (λ more. serves domain more.file.blocks ≡ true) (with_condition block (condition_of said.text)) (condition_sound block (condition_of said.text) sound.0) (condition_served domain block (condition_of said.text) sound.1)) (λ more is. is)
+line_good domain (OfBehavior block) said sound = and_then_good (IsSoundBehavior domain) (IsSoundBlock domain) (λ more. Ok (OfBehavior more)) (with_sides block said.line (sides_of said.text)) (line_sound domain block said.line (sides_of said.text) sound) (λ more is. is)
+
+closed_good : (domain : List Axis) (block : OpenBlock) (said : Statement) → IsSoundBlock domain block → IfOk (block_closed domain block said) (IsSoundFile domain)
+closed_good domain (OfMode block) said sound =
+    if_ok (λ file. IsValidFile file × (serves domain file.blocks ≡ true)) (IsSoundFile domain) (and_then (with_decl block) (other_of (behind_close said.text)))
+    (both_ok IsValidFile (λ file. serves domain file.blocks ≡ true) (and_then (with_decl block) (other_of (behind_close said.text))) (close_sound block (behind_close said.text) sound.0) (decl_served domain block (other_of (behind_close said.text)) sound.1))
+    (λ file is. record { valid = is.0; served = is.1 })
+closed_good domain (OfBehavior block) said sound = behavior_sound domain block (behind_close said.text) sound
+
+outside_good : (domain : List Axis) (file : BhvFile) (text : List ℕ) → IsSoundFile domain file → IfOk (line_outside file text) (IsSoundFile domain)
+outside_good domain file text sound =
+    if_ok (λ more. IsValidFile more × (serves domain more.blocks ≡ true)) (IsSoundFile domain) (line_outside file text)
+    (both_ok IsValidFile (λ more. serves domain more.blocks ≡ true) (line_outside file text) (outside_sound file text sound.valid) (outside_served domain file text sound.served)) (λ more is. record { valid = is.0; served = is.1 })
+
+sound_form : (domain : List Axis) → Keeps (behavior_form domain) (IsSoundFile domain) (IsSoundBlock domain)
+sound_form domain = record {
+  loose = λ file said sound. outside_good domain file said.text sound;
+  begin = λ file said sound. begun_sound domain file said.text sound;
+  inside = λ block said sound. line_good domain block said sound;
+  close = λ block said sound. closed_good domain block said sound;
 }
 
--- what the bytes of a behaviour file stand for is valid
-pub behaviors_valid : (bytes : List ℕ) → IfOk (behaviors_of bytes) IsValidFile
-behaviors_valid bytes = file_good behavior_form IsValidFile IsSound sound_form nothing_said bytes (record { few_pairs = omega arith; few_decls = omega arith; decls = tt })
+-- what the bytes of a behaviour file stand for is valid, and served by its domain
+behaviors_sound : (domain : List Axis) (bytes : List ℕ) → IfOk (behaviors_of domain bytes) (IsSoundFile domain)
+behaviors_sound domain bytes = file_good (behavior_form domain) (IsSoundFile domain) (IsSoundBlock domain) (sound_form domain) nothing_said bytes (record { valid = record { few_pairs = omega arith; few_decls = omega arith; decls = tt; few_blocks = omega arith; blocks = tt }; served = refl })
+
+pub behaviors_valid : (domain : List Axis) (bytes : List ℕ) → IfOk (behaviors_of domain bytes) IsValidFile
+behaviors_valid domain bytes = if_ok (IsSoundFile domain) IsValidFile (behaviors_of domain bytes) (behaviors_sound domain bytes) (λ file sound. sound.valid)
+
+-- the domain has the axes that the behaviours of a file need
+abbrev pub IsServed : List Axis → BhvFile → Type 0
+IsServed domain file = IsTrue (serves domain file.blocks)
+
+pub behaviors_served : (domain : List Axis) (bytes : List ℕ) → IfOk (behaviors_of domain bytes) (IsServed domain)
+behaviors_served domain bytes = if_ok (IsSoundFile domain) (IsServed domain) (behaviors_of domain bytes) (behaviors_sound domain bytes) (λ file sound. sound.served)

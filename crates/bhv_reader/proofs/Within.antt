@@ -1,9 +1,10 @@
 -- What a line says is no longer than the text in which the line stands.
-use Rattle.std.proofs.Common.{◌≡◌, ℕ, ◌≤◌, Bool, true, false, ◌&&◌, ◌==◌, cond, not, List, [], ◌∷◌, length, take, arith}
+use Rattle.std.proofs.Common.{◌≡◌, ℕ, ◌+◌, ◌-◌, ◌≤◌, Bool, true, false, ◌&&◌, ◌==◌, cond, not, nat_lt, List, [], ◌∷◌, length, take, Some, None, subst, arith}
 use Rattle.std.specs.Prelude.{reverse}
-use Rattle.std.proofs.lemmas.List.{length-reverse, length-take}
+use Rattle.std.proofs.lemmas.List.{length-drop, length-reverse, length-take}
 use Rattle.moos_text.specs.Lines.{begins_comment, content_of, first_line, is_blank, is_quoted_after, trimmed, uncommented, without_front_blanks, without_last, without_return}
-use Rattle.std.specs.List.{position_or_len}
+use Rattle.moos_text.specs.Pairs.{is_equals, Sides, sides_of}
+use Rattle.std.specs.List.{after_first, before_first, position_or_len}
 
 front_within : (bytes : List ℕ) → length (without_front_blanks bytes) ≤ length bytes
 front_within [] = omega arith
@@ -48,3 +49,20 @@ said_within text =
     let three : length (without_return line) ≤ length line = last_within 13 line in
     let four : length line ≤ length text = take_within (position_or_len (λ byte. byte == 10) text) text in
     omega (arith, one, two, three, four)
+
+-- what stands behind the first `=` is no longer than the text
+pub value_within : (text : List ℕ) (sides : Sides) → sides_of text ≡ Some sides → length sides.value ≤ length text
+value_within text sides is = at (nat_lt (position_or_len is_equals text) (length text)) is
+  where
+    behind : List ℕ
+    behind = after_first is_equals text
+
+    both : Sides
+    both = record { name = trimmed (before_first is_equals text); value = trimmed behind }
+
+    at : (b : Bool) → cond b (Some both) None ≡ Some sides → length sides.value ≤ length text
+    at false e = absurd cc
+    at true e =
+        let same : both ≡ sides = cc in
+        let short : length behind ≡ length text - (position_or_len is_equals text + 1) = length-drop (position_or_len is_equals text + 1) text in
+        subst (λ (s : Sides). length s.value ≤ length text) same (omega (arith, short, trimmed_within behind))

@@ -1,27 +1,29 @@
--- What the bytes of a behaviour file stand for: its opening pairs and its modes, or the first refusal with its line and
--- cause.
+-- What the bytes of a behaviour file stand for: its opening pairs, its modes and its behaviours, or the first refusal with
+-- its line and cause.
 use Rattle.std.specs.Prelude.{ℕ, Bool, false, not, ◌&&◌, ◌||◌, ◌==◌, nat_le, if◌then◌else◌, List, [], ◌∷◌, ◌++◌, length, codes, bytes_eq, Option, Some, None, is_some, Result, Ok, Err}
 use Rattle.std.specs.List.{list_any}
 use Rattle.std.specs.Str.{str_eq_ignore_ascii_case}
+use Rattle.ivp_domain.specs.declared.axis.Axis.{Axis}
 use Rattle.moos_post.specs.declared.value.Pair.{Pair}
 use Rattle.moos_post.specs.declared.value.Value.{Value}
 use Rattle.moos_post.specs.Words.{is_name}
 use Rattle.moos_text.specs.declared.cause.Cause.{Cause}
-use Rattle.moos_text.specs.declared.cause.Cause.TheVariants.{B1, B2, B3, B5, B7, B8, B9}
+use Rattle.moos_text.specs.declared.cause.Cause.TheVariants.{B1, B2, B5, B7, B8, B9}
 use Rattle.moos_text.specs.declared.cause.ReadFault.{ReadFault}
 use Rattle.moos_text.specs.declared.pair.PairFault.{PairFault}
 use Rattle.moos_text.specs.Lines.{behind_word, first_word, trimmed, without_last}
 use Rattle.moos_text.specs.Pairs.{pair_of, Sides, sides_of}
 use Rattle.moos_text.specs.Refusals.{and_then}
-use Rattle.moos_text.specs.Sections.{Form, made_of_file}
+use Rattle.moos_text.specs.Sections.{Form, made_of_file, Statement}
 use Rattle.helm_cond.specs.Conditions.{Condition, names_in, parent_of}
 use Rattle.helm_cond.specs.Grammar.{condition_of}
 use Rattle.bhv_reader.specs.declared.file.BhvFile.{BhvFile}
+use Rattle.bhv_reader.specs.Blocks.{behavior_closed, behavior_of_type, BehaviorBlock, with_sides}
 use Rattle.bhv_reader.specs.Paths.{meant_by, parent_path, paths_of}
 
 -- what stands before the first line
 abbrev pub nothing_said : BhvFile
-nothing_said = record { opening = []; decls = [] }
+nothing_said = record { opening = []; decls = []; blocks = []; unused = [] }
 
 -- a mode declaration without its OTHER name, whose block isn't closed yet, and the file before it
 pub record ModeBlock : Type 0 where
@@ -60,15 +62,21 @@ mode_begun file (Some sides) =
     then Ok (record { file = file; name = named_by sides; parent = None; conds = [] })
     else Err B1
 
--- a behaviour has a type, and none is known yet
-abbrev pub behavior_begun : Option Sides → Cause
-behavior_begun None = B1
-behavior_begun (Some sides) = if length (named_by sides) == 0 then B1 else B3
+-- a block that isn't closed yet: of a mode or of a behaviour
+pub data OpenBlock : Type 0 where
+  OfMode : ModeBlock → OpenBlock
+  OfBehavior : BehaviorBlock → OpenBlock
+
+-- a behaviour is begun by its type
+abbrev pub behavior_begun : BhvFile → Option Sides → Result BehaviorBlock Cause
+behavior_begun file None = Err B1
+behavior_begun file (Some sides) = and_then (λ behavior. Ok (record { file = file; behavior = behavior })) (behavior_of_type (named_by sides))
 
 -- a block is begun
-abbrev pub block_begun : BhvFile → List ℕ → Result ModeBlock Cause
+abbrev pub block_begun : BhvFile → List ℕ → Result OpenBlock Cause
 block_begun file text =
-    if begins_by (codes "set") text then mode_begun file (sides_of (behind_word text)) else Err (behavior_begun (sides_of text))
+    if begins_by (codes "set") text then and_then (λ block. Ok (OfMode block)) (mode_begun file (sides_of (behind_word text)))
+    else and_then (λ block. Ok (OfBehavior block)) (behavior_begun file (sides_of text))
 
 -- outside blocks a line is `initialize PAIR`
 abbrev pub line_outside : BhvFile → List ℕ → Result BhvFile Cause
@@ -131,9 +139,19 @@ abbrev pub behind_close : List ℕ → List ℕ
 behind_close [] = []
 behind_close (byte ∷ bytes) = trimmed bytes
 
--- how a behaviour file is read, section after section
-abbrev pub behavior_form : Form BhvFile ModeBlock
-behavior_form =
+-- a block with one line more
+abbrev pub with_block_line : OpenBlock → Statement → Result OpenBlock Cause
+with_block_line (OfMode block) said = and_then (λ more. Ok (OfMode more)) (with_condition block (condition_of said.text))
+with_block_line (OfBehavior block) said = and_then (λ more. Ok (OfBehavior more)) (with_sides block said.line (sides_of said.text))
+
+-- a block at the line that closes it, in a file over this domain
+abbrev pub block_closed : List Axis → OpenBlock → Statement → Result BhvFile Cause
+block_closed domain (OfMode block) said = and_then (with_decl block) (other_of (behind_close said.text))
+block_closed domain (OfBehavior block) said = behavior_closed domain block (behind_close said.text)
+
+-- how a behaviour file is read over this domain, section after section
+abbrev pub behavior_form : List Axis → Form BhvFile OpenBlock
+behavior_form domain =
     record {
       opens = opens_mode_or_behavior;
       closes = begins_by_brace;
@@ -141,10 +159,10 @@ behavior_form =
       unclosed = B2;
       loose = λ file said. line_outside file said.text;
       begin = λ file said. block_begun file said.text;
-      inside = λ block said. with_condition block (condition_of said.text);
-      close = λ block said. and_then (with_decl block) (other_of (behind_close said.text));
+      inside = with_block_line;
+      close = block_closed domain;
     }
 
--- What the bytes of a behaviour file stand for. Lines are counted from 1.
-abbrev pub behaviors_of : List ℕ → Result BhvFile ReadFault
-behaviors_of bytes = made_of_file behavior_form nothing_said bytes
+-- What the bytes of a behaviour file stand for, over this domain. Lines are counted from 1.
+abbrev pub behaviors_of : List Axis → List ℕ → Result BhvFile ReadFault
+behaviors_of domain bytes = made_of_file (behavior_form domain) nothing_said bytes

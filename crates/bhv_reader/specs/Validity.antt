@@ -1,13 +1,21 @@
 -- What every behaviour file keeps that was read.
-use Rattle.std.specs.Prelude.{◌≡◌, ℕ, ◌<◌, ◌≤◌, Bool, true, ◌&&◌, List, [], ◌∷◌, ◌++◌, length, IsTrue, IfSome, Option, Some, None, Result, Ok}
+use Rattle.std.specs.Prelude.{◌≡◌, ℕ, ◌+◌, ◌^◌, ◌<◌, ◌≤◌, Bool, true, false, ◌&&◌, List, [], ◌∷◌, ◌++◌, length, IsTrue, IfSome, Option, Some, None, Result, Ok}
+use Rattle.std.specs.List.{list_all}
 use Rattle.std.specs.Option.{option_or}
 use Rattle.moos_post.specs.declared.value.Value.{Value}
 use Rattle.moos_text.specs.declared.cause.Cause.{Cause}
 use Rattle.moos_text.specs.Refusals.{and_then}
 use Rattle.helm_cond.specs.Conditions.{Condition, parent_of}
+use Rattle.ivp_domain.specs.declared.axis.Axis.{Axis}
+use Rattle.bhv_reader.specs.declared.common.Common.{Common}
 use Rattle.bhv_reader.specs.declared.decl.Decl.{Decl}
 use Rattle.bhv_reader.specs.declared.file.BhvFile.{BhvFile}
+use Rattle.bhv_reader.specs.declared.file.Block.{Block}
+use Rattle.bhv_reader.specs.declared.spec.Spec.{Spec}
 use Rattle.bhv_reader.specs.Behaviors.{fits_mode, the_one}
+use Rattle.bhv_reader.specs.Blocks.{is_taken}
+use Rattle.bhv_reader.specs.Params.{has_axes, keeps_relations, lacks_places}
+use Rattle.bhv_reader.specs.Ranges.{KeepsRanges}
 use Rattle.bhv_reader.specs.Paths.{meant_by, parent_path, paths_of}
 
 -- each of the conditions fits a mode that has those before it
@@ -39,8 +47,41 @@ abbrev pub AreDecls : List Decl → List Decl → Type 0
 AreDecls earlier [] = Unit {0}
 AreDecls earlier (decl ∷ decls) = IsDecl earlier decl × AreDecls (earlier ++ decl ∷ []) decls
 
--- It has at most 256 opening pairs and as many declarations, each of which is one behind those before it.
+-- how many flags of all kinds a behaviour has
+abbrev pub flags_of : Common → ℕ
+flags_of common = length common.runflags + length common.idleflags + length common.activeflags + length common.inactiveflags + length common.endflags
+
+-- It has at most 64 conditions and 32 flags, and lasts at most 1,000,000 seconds or for ever.
+pub record IsValidCommon (common : Common) : Type 0 where
+  pub few_conds : length common.conds ≤ 64
+  pub few_flags : flags_of common ≤ 32
+  pub lasts : IfSome common.duration (λ time. time ≤ 10 ^ 9)
+
+-- Its parameters are in their ranges, its places are given, and the relations between its parameters hold.
+pub record IsValidSpec (spec : Spec) : Type 0 where
+  pub ranges : KeepsRanges spec
+  pub given : lacks_places spec.shape ≡ false
+  pub relations : IsTrue (keeps_relations spec.shape)
+
+-- A behaviour behind earlier ones: it is valid, and none of them has its name.
+pub record IsBlock (earlier : List Block) (block : Block) : Type 0 where
+  pub common : IsValidCommon block.common
+  pub spec : IsValidSpec block.spec
+  pub named : is_taken earlier block.common.name ≡ false
+
+-- each of these is a behaviour behind those before it
+abbrev pub AreBlocks : List Block → List Block → Type 0
+AreBlocks earlier [] = Unit {0}
+AreBlocks earlier (block ∷ blocks) = IsBlock earlier block × AreBlocks (earlier ++ block ∷ []) blocks
+
+-- It has at most 256 opening pairs, as many declarations and 64 behaviours, each of which is one behind those before it.
 pub record IsValidFile (file : BhvFile) : Type 0 where
   pub few_pairs : length file.opening ≤ 256
   pub few_decls : length file.decls ≤ 256
   pub decls : AreDecls [] file.decls
+  pub few_blocks : length file.blocks ≤ 64
+  pub blocks : AreBlocks [] file.blocks
+
+-- the domain has the axes that each of these behaviours needs
+abbrev pub serves : List Axis → List Block → Bool
+serves domain blocks = list_all (λ block. has_axes domain block.spec.shape) blocks

@@ -1,5 +1,29 @@
+use crate::common::Common;
 use crate::decl::Decls;
-use moos_post::Batch;
+use crate::spec::Spec;
+use moos_post::{Batch, List, Txt};
+
+/// A behaviour.
+#[derive(Debug, Drop)]
+pub struct Block {
+    pub common: Common,
+    pub spec: Spec,
+}
+
+/// Behaviours, in order.
+pub type Blocks = List<Block>;
+
+/// A parameter that the type of its behaviour doesn't have.
+#[derive(Debug, Drop)]
+pub struct Unused {
+    /// The number of its line, counted from 1.
+    pub line: u32,
+    /// Its name as it is written.
+    pub name: Txt,
+}
+
+/// Unused parameters, in order.
+pub type UnusedList = List<Unused>;
 
 /// What a behaviour file says.
 #[derive(Drop)]
@@ -8,4 +32,7 @@ pub struct BhvFile {
     pub opening: Batch,
     /// Its mode declarations.
     pub decls: Decls,
+    /// Its behaviours.
+    pub blocks: Blocks,
+    pub unused: UnusedList,
 }

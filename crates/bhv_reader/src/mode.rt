@@ -132,7 +132,8 @@ fn parent_behind(file: &BhvFile, parent: Option<u32>, cond: &Cond) -> Result<Opt
     Ok(Some(number))
 }
 
-fn condition_in(alloc: Global, text: &[u8]) -> Result<Cond, LineFault>
+/// The condition that a text says.
+pub fn condition_in(alloc: Global, text: &[u8]) -> Result<Cond, LineFault>
     requires { length text.now < 2 ^ 32 }
     ensures cond { IfOk result (λ cond. condition_of text.now ≡ Some cond) }
     ensures refused { IfErr result (λ fault. IsLineFault fault (ok_or (condition_of text.now) Cause.B5)) }

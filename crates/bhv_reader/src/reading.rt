@@ -4,12 +4,15 @@ ghost use Rattle.moos_text.specs.Lines.{behind_word, ends_with, first_word, is_u
 ghost use Rattle.moos_text.specs.Pairs.{pair_of, sides_of};
 ghost use Rattle.moos_text.specs.Refusals.{IsFirst, IsLineFault};
 ghost use Rattle.moos_text.specs.Standing.{after_statement, after_text, at_end, Outside};
-ghost use Rattle.bhv_reader.specs.Behaviors.{begins_behavior, begins_by_brace, behavior_begun, behavior_form, behind_close, with_opening};
-ghost use Rattle.bhv_reader.specs.Places.{standing_at};
+ghost use Rattle.bhv_reader.specs.Behaviors.{begins_behavior, begins_by_brace, behavior_form, behind_close, block_closed, with_block_line, with_opening};
+ghost use Rattle.bhv_reader.specs.Places.{behavior_in, open_block, standing_at};
+ghost use Rattle.moos_text.specs.Sections.{Statement};
 ghost use Rattle.bhv_reader.specs.declared.file.BhvFile.{BhvFile};
 
+use crate::behavior::Behavior;
 use crate::file::BhvFile;
 use crate::mode::{Mode, begin_mode};
+use ivp_domain::Domain;
 use moos_post::Pair;
 use moos_text::{
     Cause, LineFault, PairFault, ReadFault, cut_at_equals, ends_with, is_named, next_word,
@@ -20,17 +23,25 @@ use std::alloc::Global;
 // The most opening pairs.
 const MOST_PAIRS: usize = 256;
 
+/// A block that isn't closed yet: of a mode or of a behaviour.
+#[derive(Drop)]
+pub enum Unclosed {
+    OfMode(Mode),
+    OfBehavior(Behavior),
+}
+
 /// Where the lines have come: outside blocks, behind a line that opens one, or between its braces.
 #[derive(Drop)]
 pub enum Position {
     Loose,
-    Headed(Mode),
-    Braced(Mode),
+    Headed(Unclosed),
+    Braced(Unclosed),
 }
 
 /// Where the lines are behind one more, which has this number and says this; nothing where it is blank.
 pub fn after_line(
     alloc: Global,
+    domain: &Domain,
     file: &mut BhvFile,
     place: Position,
     line: u32,
@@ -40,8 +51,8 @@ pub fn after_line(
     requires quotes { unclosed ≡ is_unclosed text.now }
     requires text { length text.now < 2 ^ 32 }
     requires few { length file.old.decls ≤ 256 }
-    ensures read { IfOk result (λ next. after_text behavior_form line (standing_at file.old place) text.now ≡ Ok (standing_at file.new next)) }
-    ensures refused { IfErr result (λ fault. IsFirst fault (after_text behavior_form line (standing_at file.old place) text.now)) }
+    ensures read { IfOk result (λ next. after_text (behavior_form domain.now) line (standing_at file.old place) text.now ≡ Ok (standing_at file.new next)) }
+    ensures refused { IfErr result (λ fault. IsFirst fault (after_text (behavior_form domain.now) line (standing_at file.old place) text.now)) }
     ensures few { OnOk result (length file.new.decls ≤ 256) }
 {
     if text.len() == 0 {
@@ -53,7 +64,7 @@ pub fn after_line(
             cause: Cause::B1,
         });
     }
-    match after_statement(alloc, file, place, text) {
+    match after_statement(alloc, domain, file, place, line, text) {
         Ok(next) => Ok(next),
         Err(fault) => Err(fault.at(line)),
     }
@@ -62,79 +73,136 @@ pub fn after_line(
 // The same of a line that says something and leaves no quote open.
 fn after_statement(
     alloc: Global,
+    domain: &Domain,
     file: &mut BhvFile,
     place: Position,
+    line: u32,
     text: &[u8],
 ) -> Result<Position, LineFault>
     requires text { length text.now < 2 ^ 32 }
     requires few { length file.old.decls ≤ 256 }
-    ensures read { IfOk result (λ next. after_statement behavior_form (standing_at file.old place) (record { line = 0; text = text.now }) ≡ Ok (standing_at file.new next)) }
-    ensures refused { IfErr result (λ fault. IsLineFault fault (after_statement behavior_form (standing_at file.old place) (record { line = 0; text = text.now }))) }
+    ensures read { IfOk result (λ next. after_statement (behavior_form domain.now) (standing_at file.old place) (record { line = line; text = text.now }) ≡ Ok (standing_at file.new next)) }
+    ensures refused { IfErr result (λ fault. IsLineFault fault (after_statement (behavior_form domain.now) (standing_at file.old place) (record { line = line; text = text.now }))) }
     ensures few { OnOk result (length file.new.decls ≤ 256) }
 {
     match place {
-        Position::Loose => after_loose(alloc, file, text),
-        Position::Headed(mode) => Ok(braced(mode, text)?),
-        Position::Braced(mode) => match behind_close(text) {
-            Some(other) => {
-                mode.close(alloc, file, other)?;
+        Position::Loose => after_loose(alloc, domain, file, line, text),
+        Position::Headed(block) => Ok(braced(block, text)?),
+        Position::Braced(block) => match behind_close(text) {
+            Some(behind) => {
+                close(alloc, domain, file, block, behind)?;
                 Ok(Position::Loose)
             },
-            None => Ok(Position::Braced(mode.with_condition(alloc, file, text)?)),
+            None => Ok(Position::Braced(inside(alloc, file, block, line, text)?)),
         },
     }
 }
 
+// A line of a block that doesn't close it.
+fn inside(
+    alloc: Global,
+    file: &mut BhvFile,
+    block: Unclosed,
+    line: u32,
+    text: &[u8],
+) -> Result<Unclosed, LineFault>
+    requires text { length text.now < 2 ^ 32 }
+    requires few { length file.old.decls ≤ 256 }
+    ensures read { IfOk result (λ next. with_block_line (open_block file.old block) (record { line = line; text = text.now }) ≡ Ok (open_block file.new next)) }
+    ensures refused { IfErr result (λ fault. IsLineFault fault (with_block_line (open_block file.old block) (record { line = line; text = text.now }))) }
+    ensures few { OnOk result (length file.new.decls ≤ 256) }
+{
+    match block {
+        Unclosed::OfMode(mode) => {
+            let mode = mode.with_condition(alloc, file, text)?;
+            Ok(Unclosed::OfMode(mode))
+        },
+        Unclosed::OfBehavior(behavior) => {
+            let mut behavior = behavior;
+            behavior.read_line(alloc, file, line, text)?;
+            Ok(Unclosed::OfBehavior(behavior))
+        },
+    }
+}
+
+// The end of a block, behind whose `}` this stands.
+fn close(
+    alloc: Global,
+    domain: &Domain,
+    file: &mut BhvFile,
+    block: Unclosed,
+    behind: &[u8],
+) -> Result<(), LineFault>
+    requires few { length file.old.decls ≤ 256 }
+    ensures read { (said : Statement) → behind_close said.text ≡ behind.now → IfOk result (λ _. block_closed domain.now (open_block file.old block) said ≡ Ok file.new) }
+    ensures refused { (said : Statement) → behind_close said.text ≡ behind.now → IfErr result (λ fault. IsLineFault fault (block_closed domain.now (open_block file.old block) said)) }
+    ensures few { OnOk result (length file.new.decls ≤ 256) }
+{
+    match block {
+        Unclosed::OfMode(mode) => mode.close(alloc, file, behind),
+        Unclosed::OfBehavior(behavior) => behavior.close(domain, file, behind),
+    }
+}
+
 // A line outside blocks.
-fn after_loose(alloc: Global, file: &mut BhvFile, text: &[u8]) -> Result<Position, LineFault>
-    ensures read { IfOk result (λ next. after_statement behavior_form (Outside file.old) (record { line = 0; text = text.now }) ≡ Ok (standing_at file.new next)) }
-    ensures refused { IfErr result (λ fault. IsLineFault fault (after_statement behavior_form (Outside file.old) (record { line = 0; text = text.now }))) }
+fn after_loose(
+    alloc: Global,
+    domain: &Domain,
+    file: &mut BhvFile,
+    line: u32,
+    text: &[u8],
+) -> Result<Position, LineFault>
+    ensures read { IfOk result (λ next. after_statement (behavior_form domain.now) (Outside file.old) (record { line = line; text = text.now }) ≡ Ok (standing_at file.new next)) }
+    ensures refused { IfErr result (λ fault. IsLineFault fault (after_statement (behavior_form domain.now) (Outside file.old) (record { line = line; text = text.now }))) }
     ensures decls { file.new.decls ≡ file.old.decls }
 {
     let (word, rest) = split_word(text);
     if is_named(word, b"set") {
         let mode = begin_mode(alloc, file, rest)?;
-        return Ok(behind_head(text, mode));
+        return Ok(behind_head(text, Unclosed::OfMode(mode)));
     }
     if is_named(word, b"initialize") {
         let pair = pair_in(alloc, rest)?;
         add_pair(file, pair)?;
         return Ok(Position::Loose);
     }
-    Err(LineFault::Refused(other_line(text)))
-}
-
-// Why a line of neither keyword is refused: as a behaviour of no known type, or as no line of a behaviour file.
-fn other_line(text: &[u8]) -> Cause
-    ensures { result ≡ (if begins_behavior (sides_of text.now) then behavior_begun (sides_of text.now) else Cause.B1) }
-{
-    let Some((name, value)) = cut_at_equals(text) else {
-        return Cause::B1;
-    };
-    if is_named(name, b"Behavior") && trimmed(without_last(value, b'{')).len() > 0 {
-        Cause::B3
-    } else {
-        Cause::B1
+    match begin_behavior(alloc, text) {
+        Ok(behavior) => Ok(behind_head(text, Unclosed::OfBehavior(behavior))),
+        Err(cause) => Err(LineFault::Refused(cause)),
     }
 }
 
+// The behaviour that a line `Behavior = TYPE` begins. Other lines are refused.
+fn begin_behavior(alloc: Global, text: &[u8]) -> Result<Behavior, Cause>
+    ensures { result ≡ (if begins_behavior (sides_of text.now) then behavior_in (sides_of text.now) else Err Cause.B1) }
+{
+    let Some((name, value)) = cut_at_equals(text) else {
+        return Err(Cause::B1);
+    };
+    if !is_named(name, b"Behavior") {
+        return Err(Cause::B1);
+    }
+    let behavior = Behavior::begin(alloc, trimmed(without_last(value, b'{')))?;
+    Ok(behavior)
+}
+
 // Where the lines are behind one that opens a block.
-fn behind_head(text: &[u8], mode: Mode) -> Position
-    ensures { result ≡ (if ends_with 123 text.now then Position.Braced mode else Position.Headed mode) }
+fn behind_head(text: &[u8], block: Unclosed) -> Position
+    ensures { result ≡ (if ends_with 123 text.now then Position.Braced block else Position.Headed block) }
 {
     if ends_with(text, b'{') {
-        Position::Braced(mode)
+        Position::Braced(block)
     } else {
-        Position::Headed(mode)
+        Position::Headed(block)
     }
 }
 
 // Behind a line that opens a block stands its `{`.
-fn braced(mode: Mode, text: &[u8]) -> Result<Position, Cause>
-    ensures { result ≡ (if bytes_eq text.now (codes "{") then Ok (Position.Braced mode) else Err Cause.B1) }
+fn braced(block: Unclosed, text: &[u8]) -> Result<Position, Cause>
+    ensures { result ≡ (if bytes_eq text.now (codes "{") then Ok (Position.Braced block) else Err Cause.B1) }
 {
     if text == b"{".as_slice() {
-        Ok(Position::Braced(mode))
+        Ok(Position::Braced(block))
     } else {
         Err(Cause::B1)
     }
@@ -188,8 +256,13 @@ fn add_pair(file: &mut BhvFile, pair: Pair) -> Result<(), LineFault>
 }
 
 /// The file, where the lines end outside blocks; else its last line is refused.
-pub fn whole_file(file: BhvFile, place: Position, last: u32) -> Result<BhvFile, ReadFault>
-    ensures { result ≡ at_end behavior_form last (standing_at file place) }
+pub fn whole_file(
+    domain: &Domain,
+    file: BhvFile,
+    place: Position,
+    last: u32,
+) -> Result<BhvFile, ReadFault>
+    ensures { result ≡ at_end (behavior_form domain.now) last (standing_at file place) }
 {
     match place {
         Position::Loose => Ok(file),

@@ -115,7 +115,7 @@ fn refusals(rt: HostRuntime) {
         (b"Behavior = {\n}", 1, Cause::B1),
         (b"set MODE = A", 1, Cause::B2),
         (b"set MODE = A {\nX = 1\n\n", 3, Cause::B2),
-        (b"\nbehavior = BHV_Waypoint\n{", 2, Cause::B3),
+        (b"\nbehavior = BHV_Way\n{", 2, Cause::B3),
         (b"Behavior = BHV Waypoint", 1, Cause::B3),
         (b"set MODE = A {\nX 1\n}", 2, Cause::B5),
         (b"set MODE = A {\nX = 1 and MODE = A\n}", 2, Cause::B5),

@@ -7,7 +7,7 @@ use Rattle.bhv_reader.proofs.read.read_behaviors.Given as goal
 
 abbrev pub invariant-loop-said : goal.invariant-loop-said
 invariant-loop-said l = record {
-  read : IsRead (after_raw behavior_form) (Outside nothing_said) l.bytes l.lines (standing_at l.file l.place) l.left;
+  read : IsRead (after_raw (behavior_form l.domain)) (Outside nothing_said) l.bytes l.lines (standing_at l.file l.place) l.left;
   few : length l.file.decls ≤ 256;
 }
 

@@ -1,0 +1,128 @@
+-- A behaviour's own parameters: what one more of them makes of it, and what has to hold of all of them together.
+use Rattle.std.specs.Prelude.{ℕ, ℤ, int_lt, Bool, true, false, ◌||◌, not, if◌then◌else◌, List, [], ◌∷◌, codes, bytes_eq, Option, Some, is_some, option_map, option_and_then}
+use Rattle.std.specs.List.{list_all, list_any}
+use Rattle.helm_geo.specs.declared.spot.Spot.{Spot}
+use Rattle.ivp_domain.specs.declared.axis.Axis.{Axis}
+use Rattle.bhv_reader.specs.declared.setting.Setting.{Setting}
+use Rattle.bhv_reader.specs.declared.setting.Setting.TheVariants.{Number, Time, Flag, Repeat, Places, Place}
+use Rattle.bhv_reader.specs.declared.spec.Shape.{Shape}
+use Rattle.bhv_reader.specs.declared.spec.Shape.TheVariants.{Heading, Speed, Depth, MaxDepth, Timer, Waypoint, Loiter, StationKeep, OpRegion}
+use Rattle.bhv_reader.specs.declared.spec.Spec.{Spec}
+use Rattle.bhv_reader.specs.declared.table.Parameter.{Parameter}
+use Rattle.bhv_reader.specs.declared.table.Parameter.TheVariants.{Heading as OfHeading, Speed as OfSpeed, Depth as OfDepth, PeakWidth, BaseWidth, SummitDelta, MaxDepth as OfMaxDepth, CaptureRadius, SlipRadius, InnerRadius, OuterRadius, OuterSpeed}
+use Rattle.bhv_reader.specs.Table.{parameter_of, range_of, states_common}
+use Rattle.bhv_reader.specs.declared.table.CommonParameter.TheVariants.{Weight}
+use Rattle.bhv_reader.specs.Values.{setting_of, weight_of}
+
+-- a behaviour with this number in the field of a parameter
+abbrev pub with_number : Shape → Parameter → ℤ → Shape
+with_number (Heading summit peak base delta) OfHeading n = Heading n peak base delta
+with_number (Heading summit peak base delta) PeakWidth n = Heading summit n base delta
+with_number (Heading summit peak base delta) BaseWidth n = Heading summit peak n delta
+with_number (Heading summit peak base delta) SummitDelta n = Heading summit peak base n
+with_number (Speed summit peak base delta) OfSpeed n = Speed n peak base delta
+with_number (Speed summit peak base delta) PeakWidth n = Speed summit n base delta
+with_number (Speed summit peak base delta) BaseWidth n = Speed summit peak n delta
+with_number (Speed summit peak base delta) SummitDelta n = Speed summit peak base n
+with_number (Depth summit peak base delta) OfDepth n = Depth n peak base delta
+with_number (Depth summit peak base delta) PeakWidth n = Depth summit n base delta
+with_number (Depth summit peak base delta) BaseWidth n = Depth summit peak n delta
+with_number (Depth summit peak base delta) SummitDelta n = Depth summit peak base n
+with_number (MaxDepth depth base) OfMaxDepth n = MaxDepth n base
+with_number (MaxDepth depth base) BaseWidth n = MaxDepth depth n
+with_number (Waypoint points speed capture slip reverse repeat) OfSpeed n = Waypoint points n capture slip reverse repeat
+with_number (Waypoint points speed capture slip reverse repeat) CaptureRadius n = Waypoint points speed n slip reverse repeat
+with_number (Waypoint points speed capture slip reverse repeat) SlipRadius n = Waypoint points speed capture n reverse repeat
+with_number (Loiter polygon speed capture slip clockwise) OfSpeed n = Loiter polygon n capture slip clockwise
+with_number (Loiter polygon speed capture slip clockwise) CaptureRadius n = Loiter polygon speed n slip clockwise
+with_number (Loiter polygon speed capture slip clockwise) SlipRadius n = Loiter polygon speed capture n clockwise
+with_number (StationKeep point anew inner outer speed) InnerRadius n = StationKeep point anew n outer speed
+with_number (StationKeep point anew inner outer speed) OuterRadius n = StationKeep point anew inner n speed
+with_number (StationKeep point anew inner outer speed) OuterSpeed n = StationKeep point anew inner outer n
+with_number (OpRegion polygon depth time) OfMaxDepth n = OpRegion polygon (Some n) time
+with_number shape parameter n = shape
+
+-- a behaviour with this time; a type has at most one, and likewise with what follows
+abbrev pub with_time : Shape → ℕ → Shape
+with_time (OpRegion polygon depth time) t = OpRegion polygon depth (Some t)
+with_time shape t = shape
+
+-- a behaviour with this flag
+abbrev pub with_flag : Shape → Bool → Shape
+with_flag (Waypoint points speed capture slip reverse repeat) flag = Waypoint points speed capture slip flag repeat
+with_flag (Loiter polygon speed capture slip clockwise) flag = Loiter polygon speed capture slip flag
+with_flag (StationKeep point anew inner outer speed) flag = StationKeep point flag inner outer speed
+with_flag shape flag = shape
+
+-- a behaviour with this number of repeats
+abbrev pub with_repeat : Shape → Option ℕ → Shape
+with_repeat (Waypoint points speed capture slip reverse repeat) n = Waypoint points speed capture slip reverse n
+with_repeat shape n = shape
+
+-- a behaviour with these places
+abbrev pub with_places : Shape → List Spot → Shape
+with_places (Waypoint points speed capture slip reverse repeat) spots = Waypoint spots speed capture slip reverse repeat
+with_places (Loiter polygon speed capture slip clockwise) spots = Loiter spots speed capture slip clockwise
+with_places (OpRegion polygon depth time) spots = OpRegion (Some spots) depth time
+with_places shape spots = shape
+
+-- a behaviour with this one place
+abbrev pub with_place : Shape → Spot → Shape
+with_place (StationKeep point anew inner outer speed) spot = StationKeep (Some spot) anew inner outer speed
+with_place shape spot = shape
+
+-- a behaviour with this value in the field of a parameter
+abbrev pub with_setting : Shape → Parameter → Setting → Shape
+with_setting shape parameter (Number n) = with_number shape parameter n
+with_setting shape parameter (Time t) = with_time shape t
+with_setting shape parameter (Flag flag) = with_flag shape flag
+with_setting shape parameter (Repeat n) = with_repeat shape n
+with_setting shape parameter (Places spots) = with_places shape spots
+with_setting shape parameter (Place spot) = with_place shape spot
+
+-- a behaviour with a parameter's value as it stands in a file, where it is one of its range
+abbrev pub with_value_of : Shape → Parameter → List ℕ → Option Shape
+with_value_of shape parameter value = option_map (with_setting shape parameter) (setting_of (range_of parameter) value)
+
+-- a behaviour with the value of the parameter of its type that has this name
+abbrev pub with_own : Shape → List ℕ → List ℕ → Option Shape
+with_own shape name value = option_and_then (λ parameter. with_value_of shape parameter value) (parameter_of shape name)
+
+-- A behaviour with one pair more: its weight or a parameter of its type, with a value of its range. The relations between
+-- parameters aren't judged.
+abbrev pub with_param : Spec → List ℕ → List ℕ → Option Spec
+with_param spec name value =
+    if states_common name Weight then option_map (λ weight. record spec { weight = weight }) (weight_of value)
+    else option_map (λ shape. record spec { shape = shape }) (with_own spec.shape name value)
+
+-- a list of places isn't given, or a station that isn't taken anew
+abbrev pub lacks_places : Shape → Bool
+lacks_places (Waypoint [] speed capture slip reverse repeat) = true
+lacks_places (Loiter [] speed capture slip clockwise) = true
+lacks_places (StationKeep point anew inner outer speed) = not (is_some point || anew)
+lacks_places other = false
+
+-- the outer radius of a station is above the inner one
+abbrev pub keeps_relations : Shape → Bool
+keeps_relations (StationKeep point anew inner outer speed) = int_lt inner outer
+keeps_relations other = true
+
+-- the names of the axes that a behaviour's function mentions
+abbrev pub axes_of : Shape → List (List ℕ)
+axes_of (Heading summit peak base delta) = codes "course" ∷ []
+axes_of (Speed summit peak base delta) = codes "speed" ∷ []
+axes_of (Depth summit peak base delta) = codes "depth" ∷ []
+axes_of (MaxDepth depth base) = codes "depth" ∷ []
+axes_of Timer = []
+axes_of (Waypoint points speed capture slip reverse repeat) = codes "course" ∷ codes "speed" ∷ []
+axes_of (Loiter polygon speed capture slip clockwise) = codes "course" ∷ codes "speed" ∷ []
+axes_of (StationKeep point anew inner outer speed) = codes "course" ∷ codes "speed" ∷ []
+axes_of (OpRegion polygon depth time) = []
+
+-- the domain has an axis of this name
+abbrev pub has_axis : List Axis → List ℕ → Bool
+has_axis domain name = list_any (λ axis. bytes_eq axis.name name) domain
+
+-- the domain has the axes that a behaviour needs
+abbrev pub has_axes : List Axis → Shape → Bool
+has_axes domain shape = list_all (has_axis domain) (axes_of shape)

@@ -1,0 +1,154 @@
+-- The table of the parameters of behaviours: under which names each stands in a file, which values it may have, which
+-- types have it, and what it is where it isn't given.
+use Rattle.std.specs.Prelude.{ℕ, pos, Bool, true, false, if◌then◌else◌, List, [], ◌∷◌, codes, bytes_eq, find, Option, Some, None}
+use Rattle.std.specs.List.{list_any}
+use Rattle.std.specs.Str.{str_eq_ignore_ascii_case}
+use Rattle.bhv_reader.specs.declared.spec.Shape.{Shape}
+use Rattle.bhv_reader.specs.declared.spec.Shape.TheVariants.{Heading, Speed, Depth, MaxDepth, Timer, Waypoint, Loiter, StationKeep, OpRegion}
+use Rattle.bhv_reader.specs.declared.table.Parameter.{Parameter}
+use Rattle.bhv_reader.specs.declared.table.Parameter.TheVariants.{Heading as OfHeading, Speed as OfSpeed, Depth as OfDepth, PeakWidth, BaseWidth, SummitDelta, MaxDepth as OfMaxDepth, Points, CaptureRadius, SlipRadius, Order, Repeat, Polygon, Clockwise, StationPoint, CenterActivate, InnerRadius, OuterRadius, OuterSpeed, MaxTime}
+use Rattle.bhv_reader.specs.declared.table.CommonParameter.{CommonParameter}
+use Rattle.bhv_reader.specs.declared.table.CommonParameter.TheVariants.{Name, Weight, Condition, RunFlag, IdleFlag, ActiveFlag, InactiveFlag, EndFlag, Updates, Duration, IdleDecay, Perpetual, Templating}
+use Rattle.bhv_reader.specs.declared.table.Range.{Range}
+use Rattle.bhv_reader.specs.declared.table.Range.TheVariants.{Number, Time, Flag, Order as OrderWord, Repeat as Repeats, Places, Polygon as PolygonOf, Place}
+
+-- the names of a parameter, the first of them its own
+abbrev pub names_of : Parameter → List (List ℕ)
+names_of OfHeading = codes "heading" ∷ []
+names_of OfSpeed = codes "speed" ∷ []
+names_of OfDepth = codes "depth" ∷ []
+names_of PeakWidth = codes "peakwidth" ∷ []
+names_of BaseWidth = codes "basewidth" ∷ []
+names_of SummitDelta = codes "summitdelta" ∷ []
+names_of OfMaxDepth = codes "max_depth" ∷ []
+names_of Points = codes "points" ∷ codes "point" ∷ codes "polygon" ∷ []
+names_of CaptureRadius = codes "capture_radius" ∷ codes "radius" ∷ []
+names_of SlipRadius = codes "slip_radius" ∷ []
+names_of Order = codes "order" ∷ []
+names_of Repeat = codes "repeat" ∷ []
+names_of Polygon = codes "polygon" ∷ []
+names_of Clockwise = codes "clockwise" ∷ []
+names_of StationPoint = codes "station_pt" ∷ codes "point" ∷ []
+names_of CenterActivate = codes "center_activate" ∷ []
+names_of InnerRadius = codes "inner_radius" ∷ []
+names_of OuterRadius = codes "outer_radius" ∷ []
+names_of OuterSpeed = codes "outer_speed" ∷ []
+names_of MaxTime = codes "max_time" ∷ []
+
+-- numbers from `low` to `high`, in thousandths
+abbrev pub numbers : ℕ → ℕ → Range
+numbers low high = Number (pos low) (pos high)
+
+-- the values that a parameter may have: widths and radii are up to 1,000,000, speeds up to 1,000, depths up to 10,000
+abbrev pub range_of : Parameter → Range
+range_of OfHeading = numbers 0 360000
+range_of OfSpeed = numbers 0 1000000
+range_of OfDepth = numbers 0 10000000
+range_of PeakWidth = numbers 0 1000000000
+range_of BaseWidth = numbers 0 1000000000
+range_of SummitDelta = numbers 0 100000
+range_of OfMaxDepth = numbers 0 10000000
+range_of Points = Places
+range_of CaptureRadius = numbers 1 1000000000
+range_of SlipRadius = numbers 0 1000000000
+range_of Order = OrderWord
+range_of Repeat = Repeats
+range_of Polygon = PolygonOf
+range_of Clockwise = Flag
+range_of StationPoint = Place
+range_of CenterActivate = Flag
+range_of InnerRadius = numbers 1 1000000000
+range_of OuterRadius = numbers 0 1000000000
+range_of OuterSpeed = numbers 0 1000000
+range_of MaxTime = Time
+
+-- the parameters of a type
+abbrev pub parameters_of : Shape → List Parameter
+parameters_of (Heading summit peak base delta) = OfHeading ∷ PeakWidth ∷ BaseWidth ∷ SummitDelta ∷ []
+parameters_of (Speed summit peak base delta) = OfSpeed ∷ PeakWidth ∷ BaseWidth ∷ SummitDelta ∷ []
+parameters_of (Depth summit peak base delta) = OfDepth ∷ PeakWidth ∷ BaseWidth ∷ SummitDelta ∷ []
+parameters_of (MaxDepth depth base) = OfMaxDepth ∷ BaseWidth ∷ []
+parameters_of Timer = []
+parameters_of (Waypoint points speed capture slip reverse repeat) = Points ∷ OfSpeed ∷ CaptureRadius ∷ SlipRadius ∷ Order ∷ Repeat ∷ []
+parameters_of (Loiter polygon speed capture slip clockwise) = Polygon ∷ OfSpeed ∷ CaptureRadius ∷ SlipRadius ∷ Clockwise ∷ []
+parameters_of (StationKeep point anew inner outer speed) = StationPoint ∷ CenterActivate ∷ InnerRadius ∷ OuterRadius ∷ OuterSpeed ∷ []
+parameters_of (OpRegion polygon depth time) = Polygon ∷ OfMaxDepth ∷ MaxTime ∷ []
+
+-- a type by its name in a file, and its parameters where they aren't given
+pub record TypeRow : Type 0 where
+  pub type : List ℕ
+  pub defaults : Shape
+
+-- the types; what has no default is 0, or no place, until it is given
+abbrev pub types : List TypeRow
+types =
+    record { type = codes "BHV_ConstantHeading"; defaults = Heading (pos 0) (pos 10000) (pos 170000) (pos 25000) }
+    ∷ record { type = codes "BHV_ConstantSpeed"; defaults = Speed (pos 0) (pos 100) (pos 1000) (pos 25000) }
+    ∷ record { type = codes "BHV_ConstantDepth"; defaults = Depth (pos 0) (pos 2000) (pos 20000) (pos 25000) }
+    ∷ record { type = codes "BHV_MaxDepth"; defaults = MaxDepth (pos 0) (pos 20000) }
+    ∷ record { type = codes "BHV_Timer"; defaults = Timer }
+    ∷ record { type = codes "BHV_Waypoint"; defaults = Waypoint [] (pos 0) (pos 3000) (pos 15000) false (Some 0) }
+    ∷ record { type = codes "BHV_Loiter"; defaults = Loiter [] (pos 0) (pos 10000) (pos 20000) true }
+    ∷ record { type = codes "BHV_StationKeep"; defaults = StationKeep None false (pos 4000) (pos 15000) (pos 1200) }
+    ∷ record { type = codes "BHV_OpRegion"; defaults = OpRegion None None None } ∷ []
+
+-- the defaults of the type of this name among these; the case of letters counts
+abbrev pub defaults_among : List ℕ → List TypeRow → Option Shape
+defaults_among name [] = None
+defaults_among name (row ∷ rows) = if bytes_eq name row.type then Some row.defaults else defaults_among name rows
+
+-- the defaults of the type of this name
+abbrev pub defaults_of : List ℕ → Option Shape
+defaults_of name = defaults_among name types
+
+-- the type has a number without a default
+abbrev pub needs_number : Shape → Bool
+needs_number Timer = false
+needs_number (StationKeep point anew inner outer speed) = false
+needs_number (OpRegion polygon depth time) = false
+needs_number other = true
+
+-- that number is one of these
+abbrev pub is_needed : Parameter → Bool
+is_needed OfHeading = true
+is_needed OfSpeed = true
+is_needed OfDepth = true
+is_needed OfMaxDepth = true
+is_needed other = false
+
+-- the parameter has this name; letters of both cases are the same
+abbrev pub is_called : Parameter → List ℕ → Bool
+is_called parameter name = list_any (str_eq_ignore_ascii_case name) (names_of parameter)
+
+-- the parameter of a type that has this name
+abbrev pub parameter_of : Shape → List ℕ → Option Parameter
+parameter_of shape name = find (λ parameter. is_called parameter name) (parameters_of shape)
+
+-- the parameters that all types have
+abbrev pub common_parameters : List CommonParameter
+common_parameters =
+    Name ∷ Weight ∷ Condition ∷ RunFlag ∷ IdleFlag ∷ ActiveFlag ∷ InactiveFlag ∷ EndFlag ∷ Updates ∷ Duration ∷ IdleDecay ∷ Perpetual ∷ Templating ∷ []
+
+-- the name of a common parameter
+abbrev pub common_name : CommonParameter → List ℕ
+common_name Name = codes "name"
+common_name Weight = codes "pwt"
+common_name Condition = codes "condition"
+common_name RunFlag = codes "runflag"
+common_name IdleFlag = codes "idleflag"
+common_name ActiveFlag = codes "activeflag"
+common_name InactiveFlag = codes "inactiveflag"
+common_name EndFlag = codes "endflag"
+common_name Updates = codes "updates"
+common_name Duration = codes "duration"
+common_name IdleDecay = codes "duration_idle_decay"
+common_name Perpetual = codes "perpetual"
+common_name Templating = codes "templating"
+
+-- the common parameter has this name; letters of both cases are the same
+abbrev pub states_common : List ℕ → CommonParameter → Bool
+states_common name parameter = str_eq_ignore_ascii_case name (common_name parameter)
+
+-- the common parameter of this name
+abbrev pub common_named : List ℕ → Option CommonParameter
+common_named name = find (states_common name) common_parameters

@@ -1,0 +1,385 @@
+// One behaviour, line by line.
+ghost use Rattle.std.specs.Prelude.{◌≡◌, ◌<◌, ◌^◌, ◌++◌, ◌∷◌, [], length, ok_or, Ok, Err, IfOk, OnOk, IfErr, Some, None, true, false, if◌then◌else◌};
+ghost use Rattle.moos_post.specs.Words.{is_name};
+ghost use Rattle.moos_text.specs.Pairs.{pair_of, sides_of};
+ghost use Rattle.moos_text.specs.Refusals.{and_then, IsLineFault};
+ghost use Rattle.bhv_reader.specs.Blocks.{behavior_closed, closing_fault, with_block, behavior_of_type, flag_value, flags_in, is_taken, name_value, one_flag, with_behavior_condition, with_behavior_name, with_common, with_parameter, with_sides};
+ghost use Rattle.helm_cond.specs.Grammar.{condition_of};
+ghost use Rattle.bhv_reader.specs.Places.{behavior_block};
+
+use crate::common::Common;
+use crate::decl::Conds;
+use crate::file::{BhvFile, Block, Unused};
+use crate::judging::{has_axes, keeps_relations, lacks_places};
+use crate::mode::condition_in;
+use crate::name::is_name;
+use crate::put::set_value;
+use crate::setting::{read_duration, read_flag, read_weight};
+use crate::spec::Spec;
+use crate::table::{CommonParameter, Parameter, common_named, is_needed, parameter_named};
+use crate::types::{defaults, needs_number};
+use ivp_domain::Domain;
+use moos_post::{Batch, Name, NameFault, Pair, Txt};
+use moos_text::{Cause, LineFault, PairFault, cut_at_equals, read_pair};
+use std::alloc::Global;
+
+// The most conditions and the most flags of a behaviour.
+const MOST_CONDITIONS: usize = 64;
+
+// The most behaviours of a file.
+const MOST_BEHAVIORS: usize = 64;
+
+const MOST_FLAGS: u128 = 32;
+
+/// A behaviour whose block isn't closed yet.
+#[derive(Drop)]
+pub struct Behavior {
+    pub name: Option<Name>,
+    pub conds: Conds,
+    pub runflags: Batch,
+    pub idleflags: Batch,
+    pub activeflags: Batch,
+    pub inactiveflags: Batch,
+    pub endflags: Batch,
+    pub updates: Option<Name>,
+    pub duration: Option<u64>,
+    pub idle_decay: bool,
+    pub perpetual: bool,
+    /// Whether the number without a default was given, or its type has none.
+    pub given: bool,
+    pub spec: Spec,
+}
+
+impl Behavior {
+    /// A behaviour of the type of this name before its first parameter.
+    pub fn begin(alloc: Global, type_: &[u8]) -> Result<Behavior, Cause>
+        ensures { result ≡ behavior_of_type type_.now }
+    {
+        if type_.len() == 0 {
+            return Err(Cause::B1);
+        }
+        let Some(shape) = defaults(alloc, type_) else {
+            return Err(Cause::B3);
+        };
+        Ok(Behavior {
+            name: None,
+            conds: Conds::new(alloc),
+            runflags: Batch::new(alloc),
+            idleflags: Batch::new(alloc),
+            activeflags: Batch::new(alloc),
+            inactiveflags: Batch::new(alloc),
+            endflags: Batch::new(alloc),
+            updates: None,
+            duration: None,
+            idle_decay: true,
+            perpetual: false,
+            given: !needs_number(&shape),
+            spec: Spec { weight: 100, shape },
+        })
+    }
+
+    /// Reads one line more, `param = value`, which has this number.
+    pub fn read_line(
+        &mut self,
+        alloc: Global,
+        file: &mut BhvFile,
+        line: u32,
+        text: &[u8],
+    ) -> Result<(), LineFault>
+        requires text { length text.now < 2 ^ 32 }
+        ensures read { IfOk result (λ _. with_sides (behavior_block file.old self.old) line (sides_of text.now) ≡ Ok (behavior_block file.new self.new)) }
+        ensures refused { IfErr result (λ fault. IsLineFault fault (with_sides (behavior_block file.old self.old) line (sides_of text.now))) }
+        ensures decls { file.new.decls ≡ file.old.decls }
+    {
+        let Some((name, value)) = cut_at_equals(text) else {
+            return Err(LineFault::Refused(Cause::B1));
+        };
+        if !is_name(name) {
+            return Err(LineFault::Refused(Cause::B1));
+        }
+        if let Some(parameter) = common_named(name) {
+            return self.set_common(alloc, file.blocks.all(), parameter, value);
+        }
+        match parameter_named(&self.spec.shape, name) {
+            Some(parameter) => self.set_own(alloc, parameter, value),
+            None => add_unused(alloc, file, line, name),
+        }
+    }
+
+    /// Closes the block, behind whose `}` this stands, in a file over this domain.
+    pub fn close(self, domain: &Domain, file: &mut BhvFile, behind: &[u8]) -> Result<(), LineFault>
+        ensures read { IfOk result (λ _. behavior_closed domain.now (behavior_block file.old self) behind.now ≡ Ok file.new) }
+        ensures refused { IfErr result (λ fault. IsLineFault fault (behavior_closed domain.now (behavior_block file.old self) behind.now)) }
+        ensures decls { file.new.decls ≡ file.old.decls }
+    {
+        if behind.len() > 0 {
+            return Err(LineFault::Refused(Cause::B1));
+        }
+        if let Some(cause) = self.closing_fault(domain) {
+            return Err(LineFault::Refused(cause));
+        }
+        self.add_to(file)
+    }
+
+    // Why it is refused at the end of its block, where it is.
+    fn closing_fault(&self, domain: &Domain) -> Option<Cause>
+        ensures { result ≡ closing_fault domain.now self.now }
+    {
+        let shape = &self.spec.shape;
+        if self.name.is_none() || !self.given || lacks_places(shape) {
+            return Some(Cause::B11);
+        }
+        if !keeps_relations(shape) {
+            return Some(Cause::B6);
+        }
+        if !has_axes(domain, shape) {
+            return Some(Cause::B10);
+        }
+        None
+    }
+
+    // One behaviour more of the file.
+    fn add_to(self, file: &mut BhvFile) -> Result<(), LineFault>
+        ensures read { IfOk result (λ _. with_block (behavior_block file.old self) self.name ≡ Ok file.new) }
+        ensures refused { IfErr result (λ fault. IsLineFault fault (with_block (behavior_block file.old self) self.name)) }
+        ensures decls { file.new.decls ≡ file.old.decls }
+    {
+        let Behavior {
+            name,
+            conds,
+            runflags,
+            idleflags,
+            activeflags,
+            inactiveflags,
+            endflags,
+            updates,
+            duration,
+            idle_decay,
+            perpetual,
+            given: _,
+            spec,
+        } = self;
+        let Some(name) = name else {
+            return Err(LineFault::Refused(Cause::B11));
+        };
+        if file.blocks.len() >= MOST_BEHAVIORS {
+            return Err(LineFault::Refused(Cause::B9));
+        }
+        let common = Common {
+            name,
+            conds,
+            runflags,
+            idleflags,
+            activeflags,
+            inactiveflags,
+            endflags,
+            updates,
+            duration,
+            idle_decay,
+            perpetual,
+        };
+        match file.blocks.push(Block { common, spec }) {
+            Ok(()) => Ok(()),
+            Err(_) => Err(LineFault::NoMemory),
+        }
+    }
+
+    // A parameter of its type.
+    fn set_own(
+        &mut self,
+        alloc: Global,
+        parameter: Parameter,
+        value: &[u8],
+    ) -> Result<(), LineFault>
+        ensures read { IfOk result (λ _. with_parameter self.old value.now parameter ≡ Ok self.new) }
+        ensures refused { IfErr result (λ fault. IsLineFault fault (with_parameter self.old value.now parameter)) }
+    {
+        match set_value(alloc, &mut self.spec.shape, parameter, value) {
+            Ok(true) => {
+                self.given = self.given || is_needed(parameter);
+                Ok(())
+            },
+            Ok(false) => Err(LineFault::Refused(Cause::B6)),
+            Err(_) => Err(LineFault::NoMemory),
+        }
+    }
+
+    // A parameter that all types have, behind these behaviours.
+    fn set_common(
+        &mut self,
+        alloc: Global,
+        blocks: &[Block],
+        parameter: CommonParameter,
+        value: &[u8],
+    ) -> Result<(), LineFault>
+        requires text { length value.now < 2 ^ 32 }
+        ensures read { IfOk result (λ _. with_common blocks.now self.old value.now parameter ≡ Ok self.new) }
+        ensures refused { IfErr result (λ fault. IsLineFault fault (with_common blocks.now self.old value.now parameter)) }
+    {
+        match parameter {
+            CommonParameter::Name => self.set_name(alloc, blocks, value),
+            CommonParameter::Weight => {
+                self.spec.weight = good(read_weight(value))?;
+                Ok(())
+            },
+            CommonParameter::Condition => self.add_condition(alloc, value),
+            CommonParameter::RunFlag => {
+                let pair = self.one_flag(alloc, value)?;
+                add_flag(&mut self.runflags, pair)
+            },
+            CommonParameter::IdleFlag => {
+                let pair = self.one_flag(alloc, value)?;
+                add_flag(&mut self.idleflags, pair)
+            },
+            CommonParameter::ActiveFlag => {
+                let pair = self.one_flag(alloc, value)?;
+                add_flag(&mut self.activeflags, pair)
+            },
+            CommonParameter::InactiveFlag => {
+                let pair = self.one_flag(alloc, value)?;
+                add_flag(&mut self.inactiveflags, pair)
+            },
+            CommonParameter::EndFlag => {
+                let pair = self.one_flag(alloc, value)?;
+                add_flag(&mut self.endflags, pair)
+            },
+            CommonParameter::Updates => {
+                self.updates = Some(name_in(alloc, value)?);
+                Ok(())
+            },
+            CommonParameter::Duration => {
+                self.duration = good(read_duration(value))?;
+                Ok(())
+            },
+            CommonParameter::IdleDecay => {
+                self.idle_decay = good(read_flag(value))?;
+                Ok(())
+            },
+            CommonParameter::Perpetual => {
+                self.perpetual = good(read_flag(value))?;
+                Ok(())
+            },
+            CommonParameter::Templating => {
+                if value != b"disallowed".as_slice() {
+                    return Err(LineFault::Refused(Cause::B6));
+                }
+                Ok(())
+            },
+        }
+    }
+
+    fn set_name(&mut self, alloc: Global, blocks: &[Block], value: &[u8]) -> Result<(), LineFault>
+        ensures read { IfOk result (λ _. and_then (with_behavior_name blocks.now self.old) (name_value value.now) ≡ Ok self.new) }
+        ensures refused { IfErr result (λ fault. IsLineFault fault (and_then (with_behavior_name blocks.now self.old) (name_value value.now))) }
+    {
+        let name = name_in(alloc, value)?;
+        if is_taken(blocks, value) {
+            return Err(LineFault::Refused(Cause::B4));
+        }
+        self.name = Some(name);
+        Ok(())
+    }
+
+    fn add_condition(&mut self, alloc: Global, value: &[u8]) -> Result<(), LineFault>
+        requires { length value.now < 2 ^ 32 }
+        ensures read { IfOk result (λ _. and_then (with_behavior_condition self.old) (ok_or (condition_of value.now) Cause.B5) ≡ Ok self.new) }
+        ensures refused { IfErr result (λ fault. IsLineFault fault (and_then (with_behavior_condition self.old) (ok_or (condition_of value.now) Cause.B5))) }
+    {
+        let cond = condition_in(alloc, value)?;
+        if self.conds.len() >= MOST_CONDITIONS {
+            return Err(LineFault::Refused(Cause::B9));
+        }
+        match self.conds.push(cond) {
+            Ok(()) => Ok(()),
+            Err(_) => Err(LineFault::NoMemory),
+        }
+    }
+
+    // One flag more, for which there is room.
+    fn one_flag(&self, alloc: Global, value: &[u8]) -> Result<Pair, LineFault>
+        ensures pair { IfOk result (λ pair. one_flag self.now value.now ≡ Ok pair) }
+        ensures refused { IfErr result (λ fault. IsLineFault fault (one_flag self.now value.now)) }
+    {
+        let pair = flag_in(alloc, value)?;
+        if self.flags() >= MOST_FLAGS {
+            return Err(LineFault::Refused(Cause::B9));
+        }
+        Ok(pair)
+    }
+
+    // How many flags of all kinds it has.
+    fn flags(&self) -> u128
+        ensures { result ≡ flags_in self.now }
+    {
+        self.runflags.len() as u128
+            + self.idleflags.len() as u128
+            + self.activeflags.len() as u128
+            + self.inactiveflags.len() as u128
+            + self.endflags.len() as u128
+    }
+}
+
+// What a value says, where it is a good one.
+fn good<T: Drop>(value: Option<T>) -> Result<T, LineFault>
+    ensures { result ≡ ok_or value (LineFault.Refused Cause.B6) }
+{
+    value.ok_or(LineFault::Refused(Cause::B6))
+}
+
+fn name_in(alloc: Global, value: &[u8]) -> Result<Name, LineFault>
+    ensures name { IfOk result (λ name. name_value value.now ≡ Ok name) }
+    ensures refused { IfErr result (λ fault. IsLineFault fault (name_value value.now)) }
+{
+    match Name::new(alloc, value) {
+        Ok(name) => Ok(name),
+        Err(NameFault::BadName) => Err(LineFault::Refused(Cause::B6)),
+        Err(NameFault::NoMemory) => Err(LineFault::NoMemory),
+    }
+}
+
+fn flag_in(alloc: Global, value: &[u8]) -> Result<Pair, LineFault>
+    ensures pair { IfOk result (λ pair. flag_value (pair_of value.now) ≡ Ok pair) }
+    ensures refused { IfErr result (λ fault. IsLineFault fault (flag_value (pair_of value.now))) }
+{
+    match read_pair(alloc, value) {
+        Ok(pair) => Ok(pair),
+        Err(PairFault::NoMemory) => Err(LineFault::NoMemory),
+        Err(_) => Err(LineFault::Refused(Cause::B6)),
+    }
+}
+
+fn add_flag(flags: &mut Batch, pair: Pair) -> Result<(), LineFault>
+    ensures ok { OnOk result (flags.new ≡ flags.old ++ pair ∷ []) }
+    ensures refused { IfErr result (λ fault. fault ≡ LineFault.NoMemory) }
+{
+    match flags.push(pair) {
+        Ok(()) => Ok(()),
+        Err(_) => Err(LineFault::NoMemory),
+    }
+}
+
+// Whether one of these behaviours has this name.
+fn is_taken(blocks: &[Block], name: &[u8]) -> bool
+    ensures { result ≡ is_taken blocks.now name.now }
+{
+    blocks.iter().any(|block| block.common.name.bytes() == name)
+}
+
+// A parameter that the type of its behaviour doesn't have.
+fn add_unused(alloc: Global, file: &mut BhvFile, line: u32, name: &[u8]) -> Result<(), LineFault>
+    requires { is_name name.now ≡ true }
+    ensures added { OnOk result (file.new ≡ record file.old { unused = file.old.unused ++ record { line = line; name = name.now } ∷ [] }) }
+    ensures refused { IfErr result (λ fault. fault ≡ LineFault.NoMemory) }
+    ensures decls { file.new.decls ≡ file.old.decls }
+{
+    let Ok(name) = Txt::new(alloc, name) else {
+        return Err(LineFault::NoMemory);
+    };
+    match file.unused.push(Unused { line, name }) {
+        Ok(()) => Ok(()),
+        Err(_) => Err(LineFault::NoMemory),
+    }
+}
+
+#[cfg(test)]
+mod tests;

@@ -1,0 +1,118 @@
+// What the values of parameters say.
+ghost use Rattle.std.specs.Prelude.{◌≡◌, IfOk};
+ghost use Rattle.bhv_reader.specs.Values.{flag_of, number_of, order_of, repeat_of, setting_of, time_of, weight_of, duration_of};
+
+use crate::places::{read_only_place, read_places, read_polygon};
+use crate::spec::Spots;
+use crate::table::Range;
+use helm_geo::Spot;
+use moos_post::NoMemory;
+use moos_text::{read_milli, read_whole};
+use std::alloc::Global;
+
+/// A value of a parameter. A number is in thousandths, a time in milliseconds, and no number of repeats is for ever.
+#[derive(Drop)]
+pub enum Setting {
+    Number(i64),
+    Time(u64),
+    Flag(bool),
+    Repeat(Option<u32>),
+    Places(Spots),
+    Place(Spot),
+}
+
+/// What a value of a parameter says; None exactly where it isn't in the range.
+pub fn read_setting(alloc: Global, range: Range, text: &[u8]) -> Result<Option<Setting>, NoMemory>
+    ensures { IfOk result (λ setting. setting ≡ setting_of range text.now) }
+{
+    Ok(match range {
+        Range::Number { low, high } => read_number(low, high, text).map(Setting::Number),
+        Range::Time => read_time(text).map(Setting::Time),
+        Range::Flag => read_flag(text).map(Setting::Flag),
+        Range::Order => read_order(text).map(Setting::Flag),
+        Range::Repeat => read_repeat(text).map(Setting::Repeat),
+        Range::Places => read_places(alloc, text)?.map(Setting::Places),
+        Range::Polygon => read_polygon(alloc, text)?.map(Setting::Places),
+        Range::Place => read_only_place(alloc, text)?.map(Setting::Place),
+    })
+}
+
+// A number from `low` to `high`, in thousandths.
+fn read_number(low: i64, high: i64, text: &[u8]) -> Option<i64>
+    ensures { result ≡ number_of low high text.now }
+{
+    let number = read_milli(text)?.get();
+    if low <= number && number <= high {
+        Some(number)
+    } else {
+        None
+    }
+}
+
+// A number of seconds up to 1,000,000, in milliseconds.
+fn read_time(text: &[u8]) -> Option<u64>
+    ensures { result ≡ time_of text.now }
+{
+    let number = read_number(0, 1_000_000_000, text)?;
+    Some(number as u64)
+}
+
+/// How long a behaviour lasts, in milliseconds, where it isn't for ever.
+pub fn read_duration(text: &[u8]) -> Option<Option<u64>>
+    ensures { result ≡ duration_of text.now }
+{
+    if text == b"no-time-limit".as_slice() {
+        Some(None)
+    } else {
+        Some(Some(read_time(text)?))
+    }
+}
+
+/// A weight up to 10,000: the whole part of a number.
+pub fn read_weight(text: &[u8]) -> Option<u32>
+    ensures { result ≡ weight_of text.now }
+{
+    let number = read_number(0, 10_000_000, text)?;
+    Some((number / 1000) as u32)
+}
+
+/// `true` or `false`.
+pub fn read_flag(text: &[u8]) -> Option<bool>
+    ensures { result ≡ flag_of text.now }
+{
+    if text == b"true".as_slice() {
+        Some(true)
+    } else if text == b"false".as_slice() {
+        Some(false)
+    } else {
+        None
+    }
+}
+
+// Whether places are taken from the last to the first.
+fn read_order(text: &[u8]) -> Option<bool>
+    ensures { result ≡ order_of text.now }
+{
+    if text == b"reverse".as_slice() || text == b"reversed".as_slice() {
+        Some(true)
+    } else if text == b"normal".as_slice() {
+        Some(false)
+    } else {
+        None
+    }
+}
+
+// How often places are begun again.
+fn read_repeat(text: &[u8]) -> Option<Option<u32>>
+    ensures { result ≡ repeat_of text.now }
+{
+    if text == b"forever".as_slice() {
+        return Some(None);
+    }
+    let number = read_whole(text)?;
+    if number <= 1_000_000 {
+        Some(Some(number))
+    } else {
+        None
+    }
+}

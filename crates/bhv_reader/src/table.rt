@@ -1,0 +1,246 @@
+// The table of the parameters of behaviours: under which names each stands in a file, which values it may have, and which
+// types have it. `put` says in which field it is, and `types` what it is where it isn't given.
+ghost use Rattle.std.specs.Prelude.{◌≡◌, find};
+ghost use Rattle.bhv_reader.specs.Table.{common_named, is_called, is_needed, parameter_of, parameters_of, range_of, states_common};
+
+use crate::spec::Shape;
+use moos_text::is_named;
+
+/// A parameter that some types of behaviours have.
+#[derive(Clone, Copy)]
+pub enum Parameter {
+    Heading,
+    Speed,
+    Depth,
+    PeakWidth,
+    BaseWidth,
+    SummitDelta,
+    MaxDepth,
+    Points,
+    CaptureRadius,
+    SlipRadius,
+    Order,
+    Repeat,
+    Polygon,
+    Clockwise,
+    StationPoint,
+    CenterActivate,
+    InnerRadius,
+    OuterRadius,
+    OuterSpeed,
+    MaxTime,
+}
+
+/// A parameter that all types of behaviours have.
+#[derive(Clone, Copy)]
+pub enum CommonParameter {
+    Name,
+    Weight,
+    Condition,
+    RunFlag,
+    IdleFlag,
+    ActiveFlag,
+    InactiveFlag,
+    EndFlag,
+    Updates,
+    Duration,
+    IdleDecay,
+    Perpetual,
+    Templating,
+}
+
+/// What the values of a parameter may be.
+#[derive(Clone, Copy)]
+pub enum Range {
+    /// A number of thousandths from `low` to `high`.
+    Number { low: i64, high: i64 },
+    /// A number of seconds from 0 to 1,000,000.
+    Time,
+    /// `true` or `false`.
+    Flag,
+    /// `normal`, or `reverse` or `reversed`.
+    Order,
+    /// A whole number from 0 to 1,000,000, or `forever`.
+    Repeat,
+    /// 1 to 64 places.
+    Places,
+    /// The vertices of a convex polygon.
+    Polygon,
+    /// One place.
+    Place,
+}
+
+/// The parameters of a behaviour's type.
+pub fn parameters(shape: &Shape) -> &'static [Parameter]
+    ensures { result.now ≡ parameters_of shape.now }
+{
+    match shape {
+        Shape::Heading { .. } => &[
+            Parameter::Heading,
+            Parameter::PeakWidth,
+            Parameter::BaseWidth,
+            Parameter::SummitDelta,
+        ],
+        Shape::Speed { .. } => &[
+            Parameter::Speed,
+            Parameter::PeakWidth,
+            Parameter::BaseWidth,
+            Parameter::SummitDelta,
+        ],
+        Shape::Depth { .. } => &[
+            Parameter::Depth,
+            Parameter::PeakWidth,
+            Parameter::BaseWidth,
+            Parameter::SummitDelta,
+        ],
+        Shape::MaxDepth { .. } => &[Parameter::MaxDepth, Parameter::BaseWidth],
+        Shape::Timer => &[],
+        Shape::Waypoint { .. } => &[
+            Parameter::Points,
+            Parameter::Speed,
+            Parameter::CaptureRadius,
+            Parameter::SlipRadius,
+            Parameter::Order,
+            Parameter::Repeat,
+        ],
+        Shape::Loiter { .. } => &[
+            Parameter::Polygon,
+            Parameter::Speed,
+            Parameter::CaptureRadius,
+            Parameter::SlipRadius,
+            Parameter::Clockwise,
+        ],
+        Shape::StationKeep { .. } => &[
+            Parameter::StationPoint,
+            Parameter::CenterActivate,
+            Parameter::InnerRadius,
+            Parameter::OuterRadius,
+            Parameter::OuterSpeed,
+        ],
+        Shape::OpRegion { .. } => &[Parameter::Polygon, Parameter::MaxDepth, Parameter::MaxTime],
+    }
+}
+
+/// Whether a name in a file is that of a parameter.
+fn is_called(parameter: Parameter, name: &[u8]) -> bool
+    ensures { result ≡ is_called parameter name.now }
+{
+    match parameter {
+        Parameter::Heading => is_named(name, b"heading"),
+        Parameter::Speed => is_named(name, b"speed"),
+        Parameter::Depth => is_named(name, b"depth"),
+        Parameter::PeakWidth => is_named(name, b"peakwidth"),
+        Parameter::BaseWidth => is_named(name, b"basewidth"),
+        Parameter::SummitDelta => is_named(name, b"summitdelta"),
+        Parameter::MaxDepth => is_named(name, b"max_depth"),
+        Parameter::Points => {
+            is_named(name, b"points") || is_named(name, b"point") || is_named(name, b"polygon")
+        },
+        Parameter::CaptureRadius => {
+            is_named(name, b"capture_radius") || is_named(name, b"radius")
+        },
+        Parameter::SlipRadius => is_named(name, b"slip_radius"),
+        Parameter::Order => is_named(name, b"order"),
+        Parameter::Repeat => is_named(name, b"repeat"),
+        Parameter::Polygon => is_named(name, b"polygon"),
+        Parameter::Clockwise => is_named(name, b"clockwise"),
+        Parameter::StationPoint => is_named(name, b"station_pt") || is_named(name, b"point"),
+        Parameter::CenterActivate => is_named(name, b"center_activate"),
+        Parameter::InnerRadius => is_named(name, b"inner_radius"),
+        Parameter::OuterRadius => is_named(name, b"outer_radius"),
+        Parameter::OuterSpeed => is_named(name, b"outer_speed"),
+        Parameter::MaxTime => is_named(name, b"max_time"),
+    }
+}
+
+/// What the values of a parameter may be.
+pub fn range_of(parameter: Parameter) -> Range
+    ensures { result ≡ range_of parameter }
+{
+    let (low, high) = match parameter {
+        Parameter::Heading => (0, 360_000),
+        Parameter::Speed | Parameter::OuterSpeed => (0, 1_000_000),
+        Parameter::Depth | Parameter::MaxDepth => (0, 10_000_000),
+        Parameter::PeakWidth
+        | Parameter::BaseWidth
+        | Parameter::SlipRadius
+        | Parameter::OuterRadius => (0, 1_000_000_000),
+        Parameter::CaptureRadius | Parameter::InnerRadius => (1, 1_000_000_000),
+        Parameter::SummitDelta => (0, 100_000),
+        Parameter::MaxTime => return Range::Time,
+        Parameter::Clockwise | Parameter::CenterActivate => return Range::Flag,
+        Parameter::Order => return Range::Order,
+        Parameter::Repeat => return Range::Repeat,
+        Parameter::Points => return Range::Places,
+        Parameter::Polygon => return Range::Polygon,
+        Parameter::StationPoint => return Range::Place,
+    };
+    Range::Number { low, high }
+}
+
+/// Whether a parameter is a number without a default, in the types that need a number.
+pub fn is_needed(parameter: Parameter) -> bool
+    ensures { result ≡ is_needed parameter }
+{
+    matches!(
+        parameter,
+        Parameter::Heading | Parameter::Speed | Parameter::Depth | Parameter::MaxDepth
+    )
+}
+
+/// The parameter of a behaviour's type that has this name, where one does.
+pub fn parameter_named(shape: &Shape, name: &[u8]) -> Option<Parameter>
+    ensures { result ≡ parameter_of shape.now name.now }
+{
+    parameters(shape)
+        .iter()
+        .copied()
+        .find(|parameter| is_called(*parameter, name))
+}
+
+// The common parameters.
+const COMMON: [CommonParameter; 13] = [
+    CommonParameter::Name,
+    CommonParameter::Weight,
+    CommonParameter::Condition,
+    CommonParameter::RunFlag,
+    CommonParameter::IdleFlag,
+    CommonParameter::ActiveFlag,
+    CommonParameter::InactiveFlag,
+    CommonParameter::EndFlag,
+    CommonParameter::Updates,
+    CommonParameter::Duration,
+    CommonParameter::IdleDecay,
+    CommonParameter::Perpetual,
+    CommonParameter::Templating,
+];
+
+pub fn is_common_name(parameter: CommonParameter, name: &[u8]) -> bool
+    ensures { result ≡ states_common name.now parameter }
+{
+    match parameter {
+        CommonParameter::Name => is_named(name, b"name"),
+        CommonParameter::Weight => is_named(name, b"pwt"),
+        CommonParameter::Condition => is_named(name, b"condition"),
+        CommonParameter::RunFlag => is_named(name, b"runflag"),
+        CommonParameter::IdleFlag => is_named(name, b"idleflag"),
+        CommonParameter::ActiveFlag => is_named(name, b"activeflag"),
+        CommonParameter::InactiveFlag => is_named(name, b"inactiveflag"),
+        CommonParameter::EndFlag => is_named(name, b"endflag"),
+        CommonParameter::Updates => is_named(name, b"updates"),
+        CommonParameter::Duration => is_named(name, b"duration"),
+        CommonParameter::IdleDecay => is_named(name, b"duration_idle_decay"),
+        CommonParameter::Perpetual => is_named(name, b"perpetual"),
+        CommonParameter::Templating => is_named(name, b"templating"),
+    }
+}
+
+/// The common parameter of this name, where one has it.
+pub fn common_named(name: &[u8]) -> Option<CommonParameter>
+    ensures { result ≡ common_named name.now }
+{
+    COMMON
+        .iter()
+        .copied()
+        .find(|parameter| is_common_name(*parameter, name))
+}
