@@ -21,12 +21,12 @@ use Rattle.bhv_reader.specs.declared.spec.Shape.TheVariants.{Heading, Speed, Dep
 use Rattle.bhv_reader.specs.declared.table.CommonParameter.{CommonParameter}
 use Rattle.bhv_reader.specs.declared.table.CommonParameter.TheVariants.{Name, Weight, Condition as OfCondition, RunFlag, IdleFlag, ActiveFlag, InactiveFlag, EndFlag, Updates, Duration, IdleDecay, Perpetual, Templating}
 use Rattle.bhv_reader.specs.declared.table.Parameter.{Parameter}
-use Rattle.bhv_reader.specs.Blocks.{after_known, behavior_closed, behavior_of_type, BehaviorBlock, block_of, flag_value, flag_with_room, flags_in, if_good, is_taken, is_unfinished, name_value, of_shape, one_flag, when_good, with_behavior_condition, with_behavior_name, with_block, with_common, with_known, with_parameter, with_sides}
+use Rattle.bhv_reader.specs.Blocks.{after_known, behavior_closed, behavior_of_type, BehaviorBlock, block_of, flag_value, flag_with_room, flags_in, if_good, is_taken, is_unfinished, name_value, of_shape, one_flag, when_good, with_behavior_condition, with_behavior_name, with_block, with_common, with_found, with_parameter, with_sides}
 use Rattle.bhv_reader.specs.Params.{has_axes, keeps_relations, lacks_places, with_value_of}
 use Rattle.bhv_reader.specs.Ranges.{are_places, are_vertices, InRanges}
 use Rattle.bhv_reader.specs.Table.{common_named, defaults_among, defaults_of, is_needed, parameter_of, TypeRow, types}
 use Rattle.bhv_reader.specs.Validity.{AreBlocks, IsBlock, IsValidFile, serves}
-use Rattle.bhv_reader.specs.Values.{duration_of, flag_of, time_of, weight_of}
+use Rattle.bhv_reader.specs.Values.{duration_of, flag_of, time_value, weight_of}
 use Rattle.bhv_reader.proofs.Ranged.{own_kept, time_within, weight_within}
 
 -- what an unfinished behaviour keeps behind these
@@ -84,7 +84,7 @@ some_weaker P Q None h weaker = tt
 some_weaker P Q (Some a) h weaker = weaker a h
 
 duration_within : (text : List ℕ) → IfSome (duration_of text) (λ duration. IfSome duration (λ time. time ≤ 10 ^ 9))
-duration_within text = at (bytes_eq text (codes "no-time-limit")) (time_of text) (time_within text)
+duration_within text = at (bytes_eq text (codes "no-time-limit")) (time_value text) (time_within text)
   where
     at : (b : Bool) (o : Option ℕ) → IfSome o (λ time. time ≤ 10 ^ 9) → IfSome (cond b (Some None) (option_map (λ time. Some time) o)) (λ duration. IfSome duration (λ time. time ≤ 10 ^ 9))
     at true o h = tt
@@ -153,7 +153,7 @@ parameter_drafted blocks b value parameter h in' =
     (some_weaker (InRanges false) (λ shape. IsDraft blocks (record b { spec = record b.spec { shape = shape }; given = b.given || is_needed parameter })) (with_value_of b.spec.shape parameter value) in'
     (λ shape ranges. record { few_conds = h.few_conds; few_flags = h.few_flags; lasts = h.lasts; weight = h.weight; ranges = ranges; named = h.named }))
 
-known_drafted : (blocks : List Block) (b : Behavior) (value : List ℕ) (common : Option CommonParameter) (own : Option Parameter) → IsDraft blocks b → IfSome own (λ parameter. IfSome (with_value_of b.spec.shape parameter value) (InRanges false)) → IfSome (with_known blocks b value common own) (λ known. IfOk known (IsDraft blocks))
+known_drafted : (blocks : List Block) (b : Behavior) (value : List ℕ) (common : Option CommonParameter) (own : Option Parameter) → IsDraft blocks b → IfSome own (λ parameter. IfSome (with_value_of b.spec.shape parameter value) (InRanges false)) → IfSome (with_found blocks b value common own) (λ known. IfOk known (IsDraft blocks))
 known_drafted blocks b value (Some common) own h in' = common_drafted blocks b value common h
 known_drafted blocks b value None (Some own) h in' = parameter_drafted blocks b value own h in'
 known_drafted blocks b value None None h in' = tt
@@ -180,7 +180,7 @@ line_sound domain block line (Some sides) sound =
     (known_drafted block.file.blocks block.behavior sides.value (common_named sides.name) (parameter_of block.behavior.spec.shape sides.name) sound.draft (own_kept false block.behavior.spec.shape sides.name sides.value sound.draft.ranges))) (λ _. tt)
   where
     known : Option (Result Behavior Cause)
-    known = with_known block.file.blocks block.behavior sides.value (common_named sides.name) (parameter_of block.behavior.spec.shape sides.name)
+    known = with_found block.file.blocks block.behavior sides.value (common_named sides.name) (parameter_of block.behavior.spec.shape sides.name)
 
 -- places that needn't be given, but are
 given_places : (spot : Spot) (spots : List Spot) → are_places false (spot ∷ spots) ≡ true → are_places true (spot ∷ spots) ≡ true

@@ -15,24 +15,24 @@ use Rattle.bhv_reader.specs.declared.spec.Shape.TheVariants.{Heading, Speed, Dep
 use Rattle.bhv_reader.specs.declared.spec.Spec.{Spec}
 use Rattle.bhv_reader.specs.declared.table.Parameter.{Parameter}
 use Rattle.bhv_reader.specs.declared.table.Parameter.TheVariants.{Heading as OfHeading, Speed as OfSpeed, Depth as OfDepth, PeakWidth, BaseWidth, SummitDelta, MaxDepth as OfMaxDepth, Points, CaptureRadius, SlipRadius, Order as OrderParameter, Repeat as RepeatParameter, Polygon, Clockwise, StationPoint, CenterActivate, InnerRadius, OuterRadius, OuterSpeed, MaxTime}
-use Rattle.bhv_reader.specs.declared.table.Range.TheVariants.{Number as OfNumber, Time as OfTime, Flag as OfFlag, Order as OfOrder, Repeat as OfRepeat, Places as OfPlaces, Polygon as OfPolygon, Place as OfPlace}
-use Rattle.bhv_reader.specs.Params.{with_setting, with_value_of}
+use Rattle.bhv_reader.specs.declared.table.ValueRange.TheVariants.{Number as OfNumber, Time as OfTime, Flag as OfFlag, Order as OfOrder, Repeat as OfRepeat, Places as OfPlaces, Polygon as OfPolygon, Place as OfPlace}
+use Rattle.bhv_reader.specs.Params.{with_field, with_value_of}
 use Rattle.bhv_reader.specs.Ranges.{are_places, are_vertices, InRanges, KeepsRanges}
 use Rattle.bhv_reader.specs.Table.{is_called, parameter_of, parameters_of}
-use Rattle.bhv_reader.specs.Values.{all_of, flag_of, is_between, kept_if, number_of, only_spot, order_of, polygon_of, repeat_of, setting_of, spot_of, spot_of_numbers, spot_of_parts, spot_of_text, spots_between, spots_of, time_of, weight_of, without_blanks, without_pts}
+use Rattle.bhv_reader.specs.Values.{all_of, flag_of, lies_between, kept_if, number_value, only_spot, order_of, polygon_of, repeat_of, setting_of, spot_of, spot_of_numbers, spot_of_parts, spot_of_text, spots_between, spots_of, time_value, weight_of, without_blanks, without_pts}
 use Rattle.bhv_reader.proofs.Listed.{some_part}
 
 -- a number that was read is in its range
-number_in : (Q : ℤ → Type 0) (low high : ℤ) (text : List ℕ) → ((n : ℤ) → is_between low high n ≡ true → Q n) → IfSome (number_of low high text) Q
+number_in : (Q : ℤ → Type 0) (low high : ℤ) (text : List ℕ) → ((n : ℤ) → lies_between low high n ≡ true → Q n) → IfSome (number_value low high text) Q
 number_in Q low high text good = at (milli_of text)
   where
-    test : (n : ℤ) (b : Bool) → is_between low high n ≡ b → IfSome (cond b (Some n) None) Q
+    test : (n : ℤ) (b : Bool) → lies_between low high n ≡ b → IfSome (cond b (Some n) None) Q
     test n true e = good n e
     test n false e = tt
 
-    at : (o : Option ℤ) → IfSome (kept_if (is_between low high) o) Q
+    at : (o : Option ℤ) → IfSome (kept_if (lies_between low high) o) Q
     at None = tt
-    at (Some n) = test n (is_between low high n) refl
+    at (Some n) = test n (lies_between low high n) refl
 
 -- what holds of a value's own, of what is made of it
 mapped : {A B : Type 0} (Q : A → Type 0) (P : B → Type 0) (f : A → B) (o : Option A) → IfSome o Q → ((a : A) → Q a → P (f a)) → IfSome (option_map f o) P
@@ -48,16 +48,16 @@ anything None = tt
 anything (Some a) = tt
 
 -- a number from 0 up to a bound, without its sign
-abs_within : (high : ℕ) (n : ℤ) → is_between (pos 0) (pos high) n ≡ true → nat_abs n ≤ high
+abs_within : (high : ℕ) (n : ℤ) → lies_between (pos 0) (pos high) n ≡ true → nat_abs n ≤ high
 abs_within high (pos n) in' = leb-true n high (and_parts (int_le (pos 0) (pos n)) (int_le (pos n) (pos high)) in').1
 abs_within high (negsuc n) in' = absurd cc
 
-pub time_within : (text : List ℕ) → IfSome (time_of text) (λ time. time ≤ 10 ^ 9)
-time_within text = mapped (λ n. is_between (pos 0) (pos (10 ^ 9)) n ≡ true) (λ time. time ≤ 10 ^ 9) nat_abs (number_of (pos 0) (pos (10 ^ 9)) text) (number_in (λ n. is_between (pos 0) (pos (10 ^ 9)) n ≡ true) (pos 0) (pos (10 ^ 9)) text (λ n e. e)) (abs_within (10 ^ 9))
+pub time_within : (text : List ℕ) → IfSome (time_value text) (λ time. time ≤ 10 ^ 9)
+time_within text = mapped (λ n. lies_between (pos 0) (pos (10 ^ 9)) n ≡ true) (λ time. time ≤ 10 ^ 9) nat_abs (number_value (pos 0) (pos (10 ^ 9)) text) (number_in (λ n. lies_between (pos 0) (pos (10 ^ 9)) n ≡ true) (pos 0) (pos (10 ^ 9)) text (λ n e. e)) (abs_within (10 ^ 9))
 
 pub weight_within : (text : List ℕ) → IfSome (weight_of text) (λ weight. weight ≤ 10000)
 weight_within text =
-    mapped (λ n. is_between (pos 0) (pos 10000000) n ≡ true) (λ weight. weight ≤ 10000) (λ n. nat_abs n / 1000) (number_of (pos 0) (pos 10000000) text) (number_in (λ n. is_between (pos 0) (pos 10000000) n ≡ true) (pos 0) (pos 10000000) text (λ n e. e))
+    mapped (λ n. lies_between (pos 0) (pos 10000000) n ≡ true) (λ weight. weight ≤ 10000) (λ n. nat_abs n / 1000) (number_value (pos 0) (pos 10000000) text) (number_in (λ n. lies_between (pos 0) (pos 10000000) n ≡ true) (pos 0) (pos 10000000) text (λ n e. e))
     (λ n e. let h = abs_within 10000000 n e in omega (arith, h))
 
 -- what was kept passes its test
@@ -206,11 +206,11 @@ found P test (first ∷ more) all = at (test first) (found P test more all.1)
 abbrev pub Keeps : (Shape → Type 0) → Shape → Parameter → Type 0
 Keeps P shape parameter = (value : List ℕ) → IfSome (with_value_of shape parameter value) P
 
-number_kept : (P : Shape → Type 0) (put : Setting → Shape) (low high : ℤ) (value : List ℕ) → ((n : ℤ) → is_between low high n ≡ true → P (put (Number n))) → IfSome (option_map put (setting_of (OfNumber low high) value)) P
-number_kept P put low high value good = mapped_twice (λ n. is_between low high n ≡ true) P Number put (number_of low high value) (number_in (λ n. is_between low high n ≡ true) low high value (λ n e. e)) good
+number_kept : (P : Shape → Type 0) (put : Setting → Shape) (low high : ℤ) (value : List ℕ) → ((n : ℤ) → lies_between low high n ≡ true → P (put (Number n))) → IfSome (option_map put (setting_of (OfNumber low high) value)) P
+number_kept P put low high value good = mapped_twice (λ n. lies_between low high n ≡ true) P Number put (number_value low high value) (number_in (λ n. lies_between low high n ≡ true) low high value (λ n e. e)) good
 
 time_kept : (P : Shape → Type 0) (put : Setting → Shape) (value : List ℕ) → ((t : ℕ) → t ≤ 10 ^ 9 → P (put (Time t))) → IfSome (option_map put (setting_of OfTime value)) P
-time_kept P put value good = mapped_twice (λ t. t ≤ 10 ^ 9) P Time put (time_of value) (time_within value) good
+time_kept P put value good = mapped_twice (λ t. t ≤ 10 ^ 9) P Time put (time_value value) (time_within value) good
 
 flag_kept : (P : Shape → Type 0) (put : Setting → Shape) (value : List ℕ) → ((b : Bool) → P (put (Flag b))) → IfSome (option_map put (setting_of OfFlag value)) P
 flag_kept P put value good = mapped_twice (λ b. Unit {0}) P Flag put (flag_of value) (anything (flag_of value)) (λ b h. good b)
@@ -235,7 +235,7 @@ all_kept : (given : Bool) (shape : Shape) → InRanges given shape → AllKeep (
 unfolding AllKeep
 all_kept given (Heading a b c d) h =
     let P = InRanges given in
-    let put = with_setting (Heading a b c d) in (
+    let put = with_field (Heading a b c d) in (
       λ v. number_kept P (put OfHeading) (pos 0) (pos 360000) v (λ n e. (e, h.1, h.2, h.3)),
       (
         λ v. number_kept P (put PeakWidth) (pos 0) (pos 1000000000) v (λ n e. (h.0, e, h.2, h.3)),
@@ -247,7 +247,7 @@ all_kept given (Heading a b c d) h =
     )
 all_kept given (Speed a b c d) h =
     let P = InRanges given in
-    let put = with_setting (Speed a b c d) in (
+    let put = with_field (Speed a b c d) in (
       λ v. number_kept P (put OfSpeed) (pos 0) (pos 1000000) v (λ n e. (e, h.1, h.2, h.3)),
       (
         λ v. number_kept P (put PeakWidth) (pos 0) (pos 1000000000) v (λ n e. (h.0, e, h.2, h.3)),
@@ -259,7 +259,7 @@ all_kept given (Speed a b c d) h =
     )
 all_kept given (Depth a b c d) h =
     let P = InRanges given in
-    let put = with_setting (Depth a b c d) in (
+    let put = with_field (Depth a b c d) in (
       λ v. number_kept P (put OfDepth) (pos 0) (pos 10000000) v (λ n e. (e, h.1, h.2, h.3)),
       (
         λ v. number_kept P (put PeakWidth) (pos 0) (pos 1000000000) v (λ n e. (h.0, e, h.2, h.3)),
@@ -271,12 +271,12 @@ all_kept given (Depth a b c d) h =
     )
 all_kept given (MaxDepth a b) h =
     let P = InRanges given in
-    let put = with_setting (MaxDepth a b) in
+    let put = with_field (MaxDepth a b) in
     (λ v. number_kept P (put OfMaxDepth) (pos 0) (pos 10000000) v (λ n e. (e, h.1)), (λ v. number_kept P (put BaseWidth) (pos 0) (pos 1000000000) v (λ n e. (h.0, e)), tt))
 all_kept given Timer h = tt
 all_kept given (Waypoint a b c d e f) h =
     let P = InRanges given in
-    let put = with_setting (Waypoint a b c d e f) in (
+    let put = with_field (Waypoint a b c d e f) in (
       λ v. places_kept P (put Points) v (λ s good. (fewer_places given s good, h.1, h.2, h.3, h.4)),
       (
         λ v. number_kept P (put OfSpeed) (pos 0) (pos 1000000) v (λ n good. (h.0, good, h.2, h.3, h.4)),
@@ -294,7 +294,7 @@ all_kept given (Waypoint a b c d e f) h =
     )
 all_kept given (Loiter a b c d e) h =
     let P = InRanges given in
-    let put = with_setting (Loiter a b c d e) in (
+    let put = with_field (Loiter a b c d e) in (
       λ v. polygon_kept P (put Polygon) v (λ s good. (fewer_vertices given s good, h.1, h.2, h.3)),
       (
         λ v. number_kept P (put OfSpeed) (pos 0) (pos 1000000) v (λ n good. (h.0, good, h.2, h.3)),
@@ -309,7 +309,7 @@ all_kept given (Loiter a b c d e) h =
     )
 all_kept given (StationKeep a b c d e) h =
     let P = InRanges given in
-    let put = with_setting (StationKeep a b c d e) in (
+    let put = with_field (StationKeep a b c d e) in (
       λ v. place_kept P (put StationPoint) v (λ s good. (good, h.1, h.2, h.3)),
       (
         λ v. flag_kept P (put CenterActivate) v (λ flag. h),
@@ -324,7 +324,7 @@ all_kept given (StationKeep a b c d e) h =
     )
 all_kept given (OpRegion a b c) h =
     let P = InRanges given in
-    let put = with_setting (OpRegion a b c) in (
+    let put = with_field (OpRegion a b c) in (
       λ v. polygon_kept P (put Polygon) v (λ s good. (good, h.1, h.2)),
       (
         λ v. number_kept P (put OfMaxDepth) (pos 0) (pos 10000000) v (λ n good. (h.0, good, h.2)),

@@ -110,10 +110,10 @@ with_parameter behavior value parameter =
     (with_value_of behavior.spec.shape parameter value)
 
 -- a behaviour with a parameter, and none where this one is no parameter of its type
-abbrev pub with_known : List Block → Behavior → List ℕ → Option CommonParameter → Option Parameter → Option (Result Behavior Cause)
-with_known blocks behavior value (Some common) own = Some (with_common blocks behavior value common)
-with_known blocks behavior value None (Some own) = Some (with_parameter behavior value own)
-with_known blocks behavior value None None = None
+abbrev pub with_found : List Block → Behavior → List ℕ → Option CommonParameter → Option Parameter → Option (Result Behavior Cause)
+with_found blocks behavior value (Some common) own = Some (with_common blocks behavior value common)
+with_found blocks behavior value None (Some own) = Some (with_parameter behavior value own)
+with_found blocks behavior value None None = None
 
 -- a behaviour with one line more in its block: a parameter, or one that is unused
 abbrev pub after_known : BehaviorBlock → ℕ → List ℕ → Option (Result Behavior Cause) → Result BehaviorBlock Cause
@@ -125,7 +125,7 @@ abbrev pub with_sides : BehaviorBlock → ℕ → Option Sides → Result Behavi
 with_sides block line None = Err B1
 with_sides block line (Some sides) =
     if is_name sides.name
-    then after_known block line sides.name (with_known block.file.blocks block.behavior sides.value (common_named sides.name) (parameter_of block.behavior.spec.shape sides.name))
+    then after_known block line sides.name (with_found block.file.blocks block.behavior sides.value (common_named sides.name) (parameter_of block.behavior.spec.shape sides.name))
     else Err B1
 
 -- a required parameter is missing

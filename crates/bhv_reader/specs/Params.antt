@@ -10,37 +10,37 @@ use Rattle.bhv_reader.specs.declared.spec.Shape.TheVariants.{Heading, Speed, Dep
 use Rattle.bhv_reader.specs.declared.spec.Spec.{Spec}
 use Rattle.bhv_reader.specs.declared.table.Parameter.{Parameter}
 use Rattle.bhv_reader.specs.declared.table.Parameter.TheVariants.{Heading as OfHeading, Speed as OfSpeed, Depth as OfDepth, PeakWidth, BaseWidth, SummitDelta, MaxDepth as OfMaxDepth, CaptureRadius, SlipRadius, InnerRadius, OuterRadius, OuterSpeed}
-use Rattle.bhv_reader.specs.Table.{parameter_of, range_of, states_common}
+use Rattle.bhv_reader.specs.Table.{parameter_of, value_range, states_common}
 use Rattle.bhv_reader.specs.declared.table.CommonParameter.TheVariants.{Weight}
 use Rattle.bhv_reader.specs.Values.{setting_of, weight_of}
 
 -- a behaviour with this number in the field of a parameter
-abbrev pub with_number : Shape → Parameter → ℤ → Shape
-with_number (Heading summit peak base delta) OfHeading n = Heading n peak base delta
-with_number (Heading summit peak base delta) PeakWidth n = Heading summit n base delta
-with_number (Heading summit peak base delta) BaseWidth n = Heading summit peak n delta
-with_number (Heading summit peak base delta) SummitDelta n = Heading summit peak base n
-with_number (Speed summit peak base delta) OfSpeed n = Speed n peak base delta
-with_number (Speed summit peak base delta) PeakWidth n = Speed summit n base delta
-with_number (Speed summit peak base delta) BaseWidth n = Speed summit peak n delta
-with_number (Speed summit peak base delta) SummitDelta n = Speed summit peak base n
-with_number (Depth summit peak base delta) OfDepth n = Depth n peak base delta
-with_number (Depth summit peak base delta) PeakWidth n = Depth summit n base delta
-with_number (Depth summit peak base delta) BaseWidth n = Depth summit peak n delta
-with_number (Depth summit peak base delta) SummitDelta n = Depth summit peak base n
-with_number (MaxDepth depth base) OfMaxDepth n = MaxDepth n base
-with_number (MaxDepth depth base) BaseWidth n = MaxDepth depth n
-with_number (Waypoint points speed capture slip reverse repeat) OfSpeed n = Waypoint points n capture slip reverse repeat
-with_number (Waypoint points speed capture slip reverse repeat) CaptureRadius n = Waypoint points speed n slip reverse repeat
-with_number (Waypoint points speed capture slip reverse repeat) SlipRadius n = Waypoint points speed capture n reverse repeat
-with_number (Loiter polygon speed capture slip clockwise) OfSpeed n = Loiter polygon n capture slip clockwise
-with_number (Loiter polygon speed capture slip clockwise) CaptureRadius n = Loiter polygon speed n slip clockwise
-with_number (Loiter polygon speed capture slip clockwise) SlipRadius n = Loiter polygon speed capture n clockwise
-with_number (StationKeep point anew inner outer speed) InnerRadius n = StationKeep point anew n outer speed
-with_number (StationKeep point anew inner outer speed) OuterRadius n = StationKeep point anew inner n speed
-with_number (StationKeep point anew inner outer speed) OuterSpeed n = StationKeep point anew inner outer n
-with_number (OpRegion polygon depth time) OfMaxDepth n = OpRegion polygon (Some n) time
-with_number shape parameter n = shape
+abbrev pub with_number_field : Shape → Parameter → ℤ → Shape
+with_number_field (Heading summit peak base delta) OfHeading n = Heading n peak base delta
+with_number_field (Heading summit peak base delta) PeakWidth n = Heading summit n base delta
+with_number_field (Heading summit peak base delta) BaseWidth n = Heading summit peak n delta
+with_number_field (Heading summit peak base delta) SummitDelta n = Heading summit peak base n
+with_number_field (Speed summit peak base delta) OfSpeed n = Speed n peak base delta
+with_number_field (Speed summit peak base delta) PeakWidth n = Speed summit n base delta
+with_number_field (Speed summit peak base delta) BaseWidth n = Speed summit peak n delta
+with_number_field (Speed summit peak base delta) SummitDelta n = Speed summit peak base n
+with_number_field (Depth summit peak base delta) OfDepth n = Depth n peak base delta
+with_number_field (Depth summit peak base delta) PeakWidth n = Depth summit n base delta
+with_number_field (Depth summit peak base delta) BaseWidth n = Depth summit peak n delta
+with_number_field (Depth summit peak base delta) SummitDelta n = Depth summit peak base n
+with_number_field (MaxDepth depth base) OfMaxDepth n = MaxDepth n base
+with_number_field (MaxDepth depth base) BaseWidth n = MaxDepth depth n
+with_number_field (Waypoint points speed capture slip reverse repeat) OfSpeed n = Waypoint points n capture slip reverse repeat
+with_number_field (Waypoint points speed capture slip reverse repeat) CaptureRadius n = Waypoint points speed n slip reverse repeat
+with_number_field (Waypoint points speed capture slip reverse repeat) SlipRadius n = Waypoint points speed capture n reverse repeat
+with_number_field (Loiter polygon speed capture slip clockwise) OfSpeed n = Loiter polygon n capture slip clockwise
+with_number_field (Loiter polygon speed capture slip clockwise) CaptureRadius n = Loiter polygon speed n slip clockwise
+with_number_field (Loiter polygon speed capture slip clockwise) SlipRadius n = Loiter polygon speed capture n clockwise
+with_number_field (StationKeep point anew inner outer speed) InnerRadius n = StationKeep point anew n outer speed
+with_number_field (StationKeep point anew inner outer speed) OuterRadius n = StationKeep point anew inner n speed
+with_number_field (StationKeep point anew inner outer speed) OuterSpeed n = StationKeep point anew inner outer n
+with_number_field (OpRegion polygon depth time) OfMaxDepth n = OpRegion polygon (Some n) time
+with_number_field shape parameter n = shape
 
 -- a behaviour with this time; a type has at most one, and likewise with what follows
 abbrev pub with_time : Shape → ℕ → Shape
@@ -72,28 +72,28 @@ with_place (StationKeep point anew inner outer speed) spot = StationKeep (Some s
 with_place shape spot = shape
 
 -- a behaviour with this value in the field of a parameter
-abbrev pub with_setting : Shape → Parameter → Setting → Shape
-with_setting shape parameter (Number n) = with_number shape parameter n
-with_setting shape parameter (Time t) = with_time shape t
-with_setting shape parameter (Flag flag) = with_flag shape flag
-with_setting shape parameter (Repeat n) = with_repeat shape n
-with_setting shape parameter (Places spots) = with_places shape spots
-with_setting shape parameter (Place spot) = with_place shape spot
+abbrev pub with_field : Shape → Parameter → Setting → Shape
+with_field shape parameter (Number n) = with_number_field shape parameter n
+with_field shape parameter (Time t) = with_time shape t
+with_field shape parameter (Flag flag) = with_flag shape flag
+with_field shape parameter (Repeat n) = with_repeat shape n
+with_field shape parameter (Places spots) = with_places shape spots
+with_field shape parameter (Place spot) = with_place shape spot
 
 -- a behaviour with a parameter's value as it stands in a file, where it is one of its range
 abbrev pub with_value_of : Shape → Parameter → List ℕ → Option Shape
-with_value_of shape parameter value = option_map (with_setting shape parameter) (setting_of (range_of parameter) value)
+with_value_of shape parameter value = option_map (with_field shape parameter) (setting_of (value_range parameter) value)
 
 -- a behaviour with the value of the parameter of its type that has this name
-abbrev pub with_own : Shape → List ℕ → List ℕ → Option Shape
-with_own shape name value = option_and_then (λ parameter. with_value_of shape parameter value) (parameter_of shape name)
+abbrev pub with_named : Shape → List ℕ → List ℕ → Option Shape
+with_named shape name value = option_and_then (λ parameter. with_value_of shape parameter value) (parameter_of shape name)
 
 -- A behaviour with one pair more: its weight or a parameter of its type, with a value of its range. The relations between
 -- parameters aren't judged.
 abbrev pub with_param : Spec → List ℕ → List ℕ → Option Spec
 with_param spec name value =
     if states_common name Weight then option_map (λ weight. record spec { weight = weight }) (weight_of value)
-    else option_map (λ shape. record spec { shape = shape }) (with_own spec.shape name value)
+    else option_map (λ shape. record spec { shape = shape }) (with_named spec.shape name value)
 
 -- a list of places isn't given, or a station that isn't taken anew
 abbrev pub lacks_places : Shape → Bool

@@ -8,19 +8,19 @@ use Rattle.bhv_reader.specs.declared.spec.Shape.TheVariants.{Heading, Speed, Dep
 use Rattle.bhv_reader.specs.declared.spec.Spec.{Spec}
 use Rattle.bhv_reader.specs.declared.table.Parameter.{Parameter}
 use Rattle.bhv_reader.specs.declared.table.Parameter.TheVariants.{Heading as OfHeading, Speed as OfSpeed, Depth as OfDepth, PeakWidth, BaseWidth, SummitDelta, MaxDepth as OfMaxDepth, CaptureRadius, SlipRadius, InnerRadius, OuterRadius, OuterSpeed}
-use Rattle.bhv_reader.specs.declared.table.Range.{Range}
-use Rattle.bhv_reader.specs.declared.table.Range.TheVariants.{Number}
-use Rattle.bhv_reader.specs.Table.{range_of}
-use Rattle.bhv_reader.specs.Values.{is_between}
+use Rattle.bhv_reader.specs.declared.table.ValueRange.{ValueRange}
+use Rattle.bhv_reader.specs.declared.table.ValueRange.TheVariants.{Number}
+use Rattle.bhv_reader.specs.Table.{value_range}
+use Rattle.bhv_reader.specs.Values.{lies_between}
 
 -- the number is one of a range of numbers
-abbrev pub InRange : Range → ℤ → Type 0
-InRange (Number low high) number = IsTrue (is_between low high number)
+abbrev pub InRange : ValueRange → ℤ → Type 0
+InRange (Number low high) number = IsTrue (lies_between low high number)
 InRange other number = Unit {0}
 
 -- the number is one that the table allows the parameter
-abbrev pub IsOf : Parameter → ℤ → Type 0
-IsOf parameter number = InRange (range_of parameter) number
+abbrev pub IsAllowed : Parameter → ℤ → Type 0
+IsAllowed parameter number = InRange (value_range parameter) number
 
 -- up to 64 places, and at least one where they must be given
 abbrev pub are_places : Bool → List Spot → Bool
@@ -32,19 +32,19 @@ are_vertices given spots = (convex spots || (not given && nat_le (length spots) 
 
 -- Each parameter is in its range. A list of places may be empty where it needn't be given yet.
 abbrev pub InRanges : Bool → Shape → Type 0
-InRanges given (Heading summit peak base delta) = IsOf OfHeading summit × IsOf PeakWidth peak × IsOf BaseWidth base × IsOf SummitDelta delta
-InRanges given (Speed summit peak base delta) = IsOf OfSpeed summit × IsOf PeakWidth peak × IsOf BaseWidth base × IsOf SummitDelta delta
-InRanges given (Depth summit peak base delta) = IsOf OfDepth summit × IsOf PeakWidth peak × IsOf BaseWidth base × IsOf SummitDelta delta
-InRanges given (MaxDepth depth base) = IsOf OfMaxDepth depth × IsOf BaseWidth base
+InRanges given (Heading summit peak base delta) = IsAllowed OfHeading summit × IsAllowed PeakWidth peak × IsAllowed BaseWidth base × IsAllowed SummitDelta delta
+InRanges given (Speed summit peak base delta) = IsAllowed OfSpeed summit × IsAllowed PeakWidth peak × IsAllowed BaseWidth base × IsAllowed SummitDelta delta
+InRanges given (Depth summit peak base delta) = IsAllowed OfDepth summit × IsAllowed PeakWidth peak × IsAllowed BaseWidth base × IsAllowed SummitDelta delta
+InRanges given (MaxDepth depth base) = IsAllowed OfMaxDepth depth × IsAllowed BaseWidth base
 InRanges given Timer = Unit {0}
 InRanges given (Waypoint points speed capture slip reverse repeat) =
-    IsTrue (are_places given points) × IsOf OfSpeed speed × IsOf CaptureRadius capture × IsOf SlipRadius slip × IfSome repeat (λ times. times ≤ 10 ^ 6)
+    IsTrue (are_places given points) × IsAllowed OfSpeed speed × IsAllowed CaptureRadius capture × IsAllowed SlipRadius slip × IfSome repeat (λ times. times ≤ 10 ^ 6)
 InRanges given (Loiter polygon speed capture slip clockwise) =
-    IsTrue (are_vertices given polygon) × IsOf OfSpeed speed × IsOf CaptureRadius capture × IsOf SlipRadius slip
+    IsTrue (are_vertices given polygon) × IsAllowed OfSpeed speed × IsAllowed CaptureRadius capture × IsAllowed SlipRadius slip
 InRanges given (StationKeep point anew inner outer speed) =
-    IfSome point (λ spot. IsTrue (is_spot spot)) × IsOf InnerRadius inner × IsOf OuterRadius outer × IsOf OuterSpeed speed
+    IfSome point (λ spot. IsTrue (is_spot spot)) × IsAllowed InnerRadius inner × IsAllowed OuterRadius outer × IsAllowed OuterSpeed speed
 InRanges given (OpRegion polygon depth time) =
-    IfSome polygon (λ vertices. IsTrue (are_vertices true vertices)) × IfSome depth (λ number. IsOf OfMaxDepth number) × IfSome time (λ milliseconds. milliseconds ≤ 10 ^ 9)
+    IfSome polygon (λ vertices. IsTrue (are_vertices true vertices)) × IfSome depth (λ number. IsAllowed OfMaxDepth number) × IfSome time (λ milliseconds. milliseconds ≤ 10 ^ 9)
 
 -- A behaviour's weight is at most 10,000, and each of its parameters is in its range.
 pub record KeepsRanges (spec : Spec) : Type 0 where

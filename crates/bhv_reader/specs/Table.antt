@@ -9,58 +9,58 @@ use Rattle.bhv_reader.specs.declared.table.Parameter.{Parameter}
 use Rattle.bhv_reader.specs.declared.table.Parameter.TheVariants.{Heading as OfHeading, Speed as OfSpeed, Depth as OfDepth, PeakWidth, BaseWidth, SummitDelta, MaxDepth as OfMaxDepth, Points, CaptureRadius, SlipRadius, Order, Repeat, Polygon, Clockwise, StationPoint, CenterActivate, InnerRadius, OuterRadius, OuterSpeed, MaxTime}
 use Rattle.bhv_reader.specs.declared.table.CommonParameter.{CommonParameter}
 use Rattle.bhv_reader.specs.declared.table.CommonParameter.TheVariants.{Name, Weight, Condition, RunFlag, IdleFlag, ActiveFlag, InactiveFlag, EndFlag, Updates, Duration, IdleDecay, Perpetual, Templating}
-use Rattle.bhv_reader.specs.declared.table.Range.{Range}
-use Rattle.bhv_reader.specs.declared.table.Range.TheVariants.{Number, Time, Flag, Order as OrderWord, Repeat as Repeats, Places, Polygon as PolygonOf, Place}
+use Rattle.bhv_reader.specs.declared.table.ValueRange.{ValueRange}
+use Rattle.bhv_reader.specs.declared.table.ValueRange.TheVariants.{Number, Time, Flag, Order as OrderWord, Repeat as Repeats, Places, Polygon as PolygonOf, Place}
 
 -- the names of a parameter, the first of them its own
-abbrev pub names_of : Parameter → List (List ℕ)
-names_of OfHeading = codes "heading" ∷ []
-names_of OfSpeed = codes "speed" ∷ []
-names_of OfDepth = codes "depth" ∷ []
-names_of PeakWidth = codes "peakwidth" ∷ []
-names_of BaseWidth = codes "basewidth" ∷ []
-names_of SummitDelta = codes "summitdelta" ∷ []
-names_of OfMaxDepth = codes "max_depth" ∷ []
-names_of Points = codes "points" ∷ codes "point" ∷ codes "polygon" ∷ []
-names_of CaptureRadius = codes "capture_radius" ∷ codes "radius" ∷ []
-names_of SlipRadius = codes "slip_radius" ∷ []
-names_of Order = codes "order" ∷ []
-names_of Repeat = codes "repeat" ∷ []
-names_of Polygon = codes "polygon" ∷ []
-names_of Clockwise = codes "clockwise" ∷ []
-names_of StationPoint = codes "station_pt" ∷ codes "point" ∷ []
-names_of CenterActivate = codes "center_activate" ∷ []
-names_of InnerRadius = codes "inner_radius" ∷ []
-names_of OuterRadius = codes "outer_radius" ∷ []
-names_of OuterSpeed = codes "outer_speed" ∷ []
-names_of MaxTime = codes "max_time" ∷ []
+abbrev pub parameter_names : Parameter → List (List ℕ)
+parameter_names OfHeading = codes "heading" ∷ []
+parameter_names OfSpeed = codes "speed" ∷ []
+parameter_names OfDepth = codes "depth" ∷ []
+parameter_names PeakWidth = codes "peakwidth" ∷ []
+parameter_names BaseWidth = codes "basewidth" ∷ []
+parameter_names SummitDelta = codes "summitdelta" ∷ []
+parameter_names OfMaxDepth = codes "max_depth" ∷ []
+parameter_names Points = codes "points" ∷ codes "point" ∷ codes "polygon" ∷ []
+parameter_names CaptureRadius = codes "capture_radius" ∷ codes "radius" ∷ []
+parameter_names SlipRadius = codes "slip_radius" ∷ []
+parameter_names Order = codes "order" ∷ []
+parameter_names Repeat = codes "repeat" ∷ []
+parameter_names Polygon = codes "polygon" ∷ []
+parameter_names Clockwise = codes "clockwise" ∷ []
+parameter_names StationPoint = codes "station_pt" ∷ codes "point" ∷ []
+parameter_names CenterActivate = codes "center_activate" ∷ []
+parameter_names InnerRadius = codes "inner_radius" ∷ []
+parameter_names OuterRadius = codes "outer_radius" ∷ []
+parameter_names OuterSpeed = codes "outer_speed" ∷ []
+parameter_names MaxTime = codes "max_time" ∷ []
 
 -- numbers from `low` to `high`, in thousandths
-abbrev pub numbers : ℕ → ℕ → Range
+abbrev pub numbers : ℕ → ℕ → ValueRange
 numbers low high = Number (pos low) (pos high)
 
 -- the values that a parameter may have: widths and radii are up to 1,000,000, speeds up to 1,000, depths up to 10,000
-abbrev pub range_of : Parameter → Range
-range_of OfHeading = numbers 0 360000
-range_of OfSpeed = numbers 0 1000000
-range_of OfDepth = numbers 0 10000000
-range_of PeakWidth = numbers 0 1000000000
-range_of BaseWidth = numbers 0 1000000000
-range_of SummitDelta = numbers 0 100000
-range_of OfMaxDepth = numbers 0 10000000
-range_of Points = Places
-range_of CaptureRadius = numbers 1 1000000000
-range_of SlipRadius = numbers 0 1000000000
-range_of Order = OrderWord
-range_of Repeat = Repeats
-range_of Polygon = PolygonOf
-range_of Clockwise = Flag
-range_of StationPoint = Place
-range_of CenterActivate = Flag
-range_of InnerRadius = numbers 1 1000000000
-range_of OuterRadius = numbers 0 1000000000
-range_of OuterSpeed = numbers 0 1000000
-range_of MaxTime = Time
+abbrev pub value_range : Parameter → ValueRange
+value_range OfHeading = numbers 0 360000
+value_range OfSpeed = numbers 0 1000000
+value_range OfDepth = numbers 0 10000000
+value_range PeakWidth = numbers 0 1000000000
+value_range BaseWidth = numbers 0 1000000000
+value_range SummitDelta = numbers 0 100000
+value_range OfMaxDepth = numbers 0 10000000
+value_range Points = Places
+value_range CaptureRadius = numbers 1 1000000000
+value_range SlipRadius = numbers 0 1000000000
+value_range Order = OrderWord
+value_range Repeat = Repeats
+value_range Polygon = PolygonOf
+value_range Clockwise = Flag
+value_range StationPoint = Place
+value_range CenterActivate = Flag
+value_range InnerRadius = numbers 1 1000000000
+value_range OuterRadius = numbers 0 1000000000
+value_range OuterSpeed = numbers 0 1000000
+value_range MaxTime = Time
 
 -- the parameters of a type
 abbrev pub parameters_of : Shape → List Parameter
@@ -118,7 +118,7 @@ is_needed other = false
 
 -- the parameter has this name; letters of both cases are the same
 abbrev pub is_called : Parameter → List ℕ → Bool
-is_called parameter name = list_any (str_eq_ignore_ascii_case name) (names_of parameter)
+is_called parameter name = list_any (str_eq_ignore_ascii_case name) (parameter_names parameter)
 
 -- the parameter of a type that has this name
 abbrev pub parameter_of : Shape → List ℕ → Option Parameter

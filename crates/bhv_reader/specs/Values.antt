@@ -7,8 +7,8 @@ use Rattle.helm_geo.specs.declared.spot.Spot.{Spot}
 use Rattle.helm_geo.specs.Polygons.{convex}
 use Rattle.bhv_reader.specs.declared.setting.Setting.{Setting}
 use Rattle.bhv_reader.specs.declared.setting.Setting.TheVariants.{Number, Time, Flag, Repeat, Places, Place}
-use Rattle.bhv_reader.specs.declared.table.Range.{Range}
-use Rattle.bhv_reader.specs.declared.table.Range.TheVariants.{Number as OfNumber, Time as OfTime, Flag as OfFlag, Order as OfOrder, Repeat as OfRepeat, Places as OfPlaces, Polygon as OfPolygon, Place as OfPlace}
+use Rattle.bhv_reader.specs.declared.table.ValueRange.{ValueRange}
+use Rattle.bhv_reader.specs.declared.table.ValueRange.TheVariants.{Number as OfNumber, Time as OfTime, Flag as OfFlag, Order as OfOrder, Repeat as OfRepeat, Places as OfPlaces, Polygon as OfPolygon, Place as OfPlace}
 
 -- what was read, where it passes a test
 abbrev pub kept_if : {A : Type 0} → (A → Bool) → Option A → Option A
@@ -16,24 +16,24 @@ kept_if test None = None
 kept_if test (Some x) = if test x then Some x else None
 
 -- a number from low to high
-abbrev pub is_between : ℤ → ℤ → ℤ → Bool
-is_between low high number = int_le low number && int_le number high
+abbrev pub lies_between : ℤ → ℤ → ℤ → Bool
+lies_between low high number = int_le low number && int_le number high
 
 -- a number from low to high, in thousandths
-abbrev pub number_of : ℤ → ℤ → List ℕ → Option ℤ
-number_of low high text = kept_if (is_between low high) (milli_of text)
+abbrev pub number_value : ℤ → ℤ → List ℕ → Option ℤ
+number_value low high text = kept_if (lies_between low high) (milli_of text)
 
 -- a number of seconds up to 1,000,000, in milliseconds
-abbrev pub time_of : List ℕ → Option ℕ
-time_of text = option_map nat_abs (number_of (pos 0) (pos (10 ^ 9)) text)
+abbrev pub time_value : List ℕ → Option ℕ
+time_value text = option_map nat_abs (number_value (pos 0) (pos (10 ^ 9)) text)
 
 -- a time, or `no-time-limit`
 abbrev pub duration_of : List ℕ → Option (Option ℕ)
-duration_of text = if bytes_eq text (codes "no-time-limit") then Some None else option_map (λ time. Some time) (time_of text)
+duration_of text = if bytes_eq text (codes "no-time-limit") then Some None else option_map (λ time. Some time) (time_value text)
 
 -- a weight: a number up to 10,000, of which the whole part counts
 abbrev pub weight_of : List ℕ → Option ℕ
-weight_of text = option_map (λ number. nat_abs number / 1000) (number_of (pos 0) (pos 10000000) text)
+weight_of text = option_map (λ number. nat_abs number / 1000) (number_value (pos 0) (pos 10000000) text)
 
 -- `true` or `false`
 abbrev pub flag_of : List ℕ → Option Bool
@@ -99,9 +99,9 @@ abbrev pub polygon_of : List ℕ → Option (List Spot)
 polygon_of text = kept_if convex (spots_of text)
 
 -- What a value of a parameter says, where it is one of its range.
-abbrev pub setting_of : Range → List ℕ → Option Setting
-setting_of (OfNumber low high) text = option_map Number (number_of low high text)
-setting_of OfTime text = option_map Time (time_of text)
+abbrev pub setting_of : ValueRange → List ℕ → Option Setting
+setting_of (OfNumber low high) text = option_map Number (number_value low high text)
+setting_of OfTime text = option_map Time (time_value text)
 setting_of OfFlag text = option_map Flag (flag_of text)
 setting_of OfOrder text = option_map Flag (order_of text)
 setting_of OfRepeat text = option_map Repeat (repeat_of text)

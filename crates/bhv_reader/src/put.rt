@@ -1,19 +1,19 @@
 // A value in its field, and one more pair of a behaviour.
 ghost use Rattle.std.specs.Prelude.{◌≡◌, IfOk, OnErr, Some, None, true, false, if◌then◌else◌};
 ghost use Rattle.bhv_reader.specs.declared.table.CommonParameter.TheVariants.{Weight};
-ghost use Rattle.bhv_reader.specs.Params.{with_flag, with_number, with_param, with_place, with_places, with_repeat, with_setting, with_time, with_value_of};
+ghost use Rattle.bhv_reader.specs.Params.{with_flag, with_number_field, with_param, with_place, with_places, with_repeat, with_field, with_time, with_value_of};
 ghost use Rattle.bhv_reader.specs.Ranges.{KeepsRanges};
 
 use crate::setting::{Setting, read_setting, read_weight};
 use crate::spec::{Shape, Spec, Spots};
-use crate::table::{CommonParameter, Parameter, is_common_name, parameter_named, range_of};
+use crate::table::{CommonParameter, Parameter, is_common_name, parameter_named, value_range};
 use helm_geo::Spot;
 use moos_post::NoMemory;
 use std::alloc::Global;
 
 // The field of a parameter.
 fn put(shape: &mut Shape, parameter: Parameter, setting: Setting)
-    ensures { shape.new ≡ with_setting shape.old parameter setting }
+    ensures { shape.new ≡ with_field shape.old parameter setting }
 {
     match setting {
         Setting::Number(n) => put_number(shape, parameter, n),
@@ -26,7 +26,7 @@ fn put(shape: &mut Shape, parameter: Parameter, setting: Setting)
 }
 
 fn put_number(shape: &mut Shape, parameter: Parameter, n: i64)
-    ensures { shape.new ≡ with_number shape.old parameter n }
+    ensures { shape.new ≡ with_number_field shape.old parameter n }
 {
     match (shape, parameter) {
         (Shape::Heading { heading, .. }, Parameter::Heading) => *heading = n,
@@ -117,7 +117,7 @@ pub fn set_value(
     ensures bad { IfOk result (λ good. good ≡ false → shape.new ≡ shape.old) }
     ensures same { OnErr result (shape.new ≡ shape.old) }
 {
-    match read_setting(alloc, range_of(parameter), value)? {
+    match read_setting(alloc, value_range(parameter), value)? {
         Some(setting) => {
             put(shape, parameter, setting);
             Ok(true)

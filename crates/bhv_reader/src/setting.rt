@@ -1,10 +1,10 @@
 // What the values of parameters say.
 ghost use Rattle.std.specs.Prelude.{◌≡◌, IfOk};
-ghost use Rattle.bhv_reader.specs.Values.{flag_of, number_of, order_of, repeat_of, setting_of, time_of, weight_of, duration_of};
+ghost use Rattle.bhv_reader.specs.Values.{flag_of, number_value, order_of, repeat_of, setting_of, time_value, weight_of, duration_of};
 
 use crate::places::{read_only_place, read_places, read_polygon};
 use crate::spec::Spots;
-use crate::table::Range;
+use crate::table::ValueRange;
 use helm_geo::Spot;
 use moos_post::NoMemory;
 use moos_text::{read_milli, read_whole};
@@ -22,24 +22,28 @@ pub enum Setting {
 }
 
 /// What a value of a parameter says; None exactly where it isn't in the range.
-pub fn read_setting(alloc: Global, range: Range, text: &[u8]) -> Result<Option<Setting>, NoMemory>
+pub fn read_setting(
+    alloc: Global,
+    range: ValueRange,
+    text: &[u8],
+) -> Result<Option<Setting>, NoMemory>
     ensures { IfOk result (λ setting. setting ≡ setting_of range text.now) }
 {
     Ok(match range {
-        Range::Number { low, high } => read_number(low, high, text).map(Setting::Number),
-        Range::Time => read_time(text).map(Setting::Time),
-        Range::Flag => read_flag(text).map(Setting::Flag),
-        Range::Order => read_order(text).map(Setting::Flag),
-        Range::Repeat => read_repeat(text).map(Setting::Repeat),
-        Range::Places => read_places(alloc, text)?.map(Setting::Places),
-        Range::Polygon => read_polygon(alloc, text)?.map(Setting::Places),
-        Range::Place => read_only_place(alloc, text)?.map(Setting::Place),
+        ValueRange::Number { low, high } => read_number(low, high, text).map(Setting::Number),
+        ValueRange::Time => read_time(text).map(Setting::Time),
+        ValueRange::Flag => read_flag(text).map(Setting::Flag),
+        ValueRange::Order => read_order(text).map(Setting::Flag),
+        ValueRange::Repeat => read_repeat(text).map(Setting::Repeat),
+        ValueRange::Places => read_places(alloc, text)?.map(Setting::Places),
+        ValueRange::Polygon => read_polygon(alloc, text)?.map(Setting::Places),
+        ValueRange::Place => read_only_place(alloc, text)?.map(Setting::Place),
     })
 }
 
 // A number from `low` to `high`, in thousandths.
 fn read_number(low: i64, high: i64, text: &[u8]) -> Option<i64>
-    ensures { result ≡ number_of low high text.now }
+    ensures { result ≡ number_value low high text.now }
 {
     let number = read_milli(text)?.get();
     if low <= number && number <= high {
@@ -51,7 +55,7 @@ fn read_number(low: i64, high: i64, text: &[u8]) -> Option<i64>
 
 // A number of seconds up to 1,000,000, in milliseconds.
 fn read_time(text: &[u8]) -> Option<u64>
-    ensures { result ≡ time_of text.now }
+    ensures { result ≡ time_value text.now }
 {
     let number = read_number(0, 1_000_000_000, text)?;
     Some(number as u64)

@@ -1,7 +1,7 @@
 // The table of the parameters of behaviours: under which names each stands in a file, which values it may have, and which
 // types have it. `put` says in which field it is, and `types` what it is where it isn't given.
 ghost use Rattle.std.specs.Prelude.{◌≡◌, find};
-ghost use Rattle.bhv_reader.specs.Table.{common_named, is_called, is_needed, parameter_of, parameters_of, range_of, states_common};
+ghost use Rattle.bhv_reader.specs.Table.{common_named, is_called, is_needed, parameter_of, parameters_of, value_range, states_common};
 
 use crate::spec::Shape;
 use moos_text::is_named;
@@ -51,7 +51,7 @@ pub enum CommonParameter {
 
 /// What the values of a parameter may be.
 #[derive(Clone, Copy)]
-pub enum Range {
+pub enum ValueRange {
     /// A number of thousandths from `low` to `high`.
     Number { low: i64, high: i64 },
     /// A number of seconds from 0 to 1,000,000.
@@ -154,8 +154,8 @@ fn is_called(parameter: Parameter, name: &[u8]) -> bool
 }
 
 /// What the values of a parameter may be.
-pub fn range_of(parameter: Parameter) -> Range
-    ensures { result ≡ range_of parameter }
+pub fn value_range(parameter: Parameter) -> ValueRange
+    ensures { result ≡ value_range parameter }
 {
     let (low, high) = match parameter {
         Parameter::Heading => (0, 360_000),
@@ -167,15 +167,15 @@ pub fn range_of(parameter: Parameter) -> Range
         | Parameter::OuterRadius => (0, 1_000_000_000),
         Parameter::CaptureRadius | Parameter::InnerRadius => (1, 1_000_000_000),
         Parameter::SummitDelta => (0, 100_000),
-        Parameter::MaxTime => return Range::Time,
-        Parameter::Clockwise | Parameter::CenterActivate => return Range::Flag,
-        Parameter::Order => return Range::Order,
-        Parameter::Repeat => return Range::Repeat,
-        Parameter::Points => return Range::Places,
-        Parameter::Polygon => return Range::Polygon,
-        Parameter::StationPoint => return Range::Place,
+        Parameter::MaxTime => return ValueRange::Time,
+        Parameter::Clockwise | Parameter::CenterActivate => return ValueRange::Flag,
+        Parameter::Order => return ValueRange::Order,
+        Parameter::Repeat => return ValueRange::Repeat,
+        Parameter::Points => return ValueRange::Places,
+        Parameter::Polygon => return ValueRange::Polygon,
+        Parameter::StationPoint => return ValueRange::Place,
     };
-    Range::Number { low, high }
+    ValueRange::Number { low, high }
 }
 
 /// Whether a parameter is a number without a default, in the types that need a number.
