@@ -1,2 +1,4 @@
 mod Examples
+pub mod Bearings
+pub mod Roots
 pub mod Rounds

@@ -1,5 +1,5 @@
 -- Convex polygons, as the list of their vertices in order.
-use Rattle.std.specs.Prelude.{ℕ, Bool, true, false, ◌&&◌, ◌||◌, not, nat_le, List, [], ◌∷◌, ◌++◌, length, take, drop}
+use Rattle.std.specs.Prelude.{ℕ, Bool, false, ◌&&◌, ◌||◌, not, nat_le, List, [], ◌∷◌, ◌++◌, length, take, drop}
 use Rattle.std.specs.List.{list_all, range_with_len}
 use Rattle.helm_geo.specs.declared.spot.Spot.{Spot}
 use Rattle.helm_geo.specs.Plane.{is_left_of, is_right_of, is_spot}
@@ -22,22 +22,22 @@ is_bent (a ∷ b ∷ others) = list_all (is_left_of a b) others || list_all (is_
 abbrev pub convex : List Spot → Bool
 convex vertices = nat_le 3 (length vertices) && nat_le (length vertices) 64 && at_each_side is_bent vertices
 
--- the side from the first to the second has the place not on its left
-abbrev pub is_kept_right : Spot → List Spot → Bool
-is_kept_right p [] = true
-is_kept_right p (a ∷ []) = true
-is_kept_right p (a ∷ b ∷ others) = not (is_left_of a b p)
+-- the spot lies strictly left of the side from the first of these vertices to the second
+abbrev pub has_on_left : Spot → List Spot → Bool
+has_on_left p [] = false
+has_on_left p (a ∷ []) = false
+has_on_left p (a ∷ b ∷ others) = is_left_of a b p
 
--- the side from the first to the second has the place not on its right
-abbrev pub is_kept_left : Spot → List Spot → Bool
-is_kept_left p [] = true
-is_kept_left p (a ∷ []) = true
-is_kept_left p (a ∷ b ∷ others) = not (is_right_of a b p)
+-- the spot lies strictly right of the side from the first of these vertices to the second
+abbrev pub has_on_right : Spot → List Spot → Bool
+has_on_right p [] = false
+has_on_right p (a ∷ []) = false
+has_on_right p (a ∷ b ∷ others) = is_right_of a b p
 
--- Inside, the border included: left of no side, or right of no side.
+-- Inside, the border included: strictly left of no side, or strictly right of no side.
 abbrev pub inside : List Spot → Spot → Bool
-inside vertices p = at_each_side (is_kept_right p) vertices || at_each_side (is_kept_left p) vertices
+inside vertices p = at_each_side (λ side. not (has_on_left p side)) vertices || at_each_side (λ side. not (has_on_right p side)) vertices
 
--- each vertex is within the bounds of a place
+-- each vertex is within the bounds of a spot
 abbrev pub are_spots : List Spot → Bool
 are_spots vertices = list_all is_spot vertices

@@ -1,17 +1,20 @@
-//! Plane geometry in whole numbers: places, distances, directions in whole degrees and convex polygons. No call takes
+//! Plane geometry in whole numbers: spots, distances, directions in whole degrees and convex polygons. No call takes
 //! memory.
 //!
-//! The layer above relies on this: each call gives what its definition in specs/ says, for all places whose coordinates
+//! The layer above relies on this: each call gives what its definition in specs/ says, for all spots whose coordinates
 //! are within 10^12 thousandths.
 //!
-//! Reading order: `spot`, `plane`, `polygon`.
+//! Reading order: `spot`, `plane`, `polygon`, `angle`.
 #![tactic(auto)]
 
+mod angle;
 mod plane;
 mod polygon;
 mod spot;
 
-pub use polygon::convex;
+pub use angle::{bearing, cos4, sin4};
+pub use plane::{distance_squared, isqrt, within};
+pub use polygon::{convex, inside};
 pub use spot::Spot;
 
 #[cfg(test)]

@@ -1,7 +1,7 @@
-ghost use Rattle.std.specs.Prelude.{◌≡◌, ℕ, ◌+◌, ◌*◌, ◌^◌, ◌<◌, ◌≤◌, pos, neg_ℤ, ◌≤ℤ◌, ◌-ℤ◌, ◌*ℤ◌, ◌∷◌, [], ◌++◌, length, take, drop, IsTrue, ◌||◌};
+ghost use Rattle.std.specs.Prelude.{◌≡◌, ◌<◌, ◌≤◌, ◌∷◌, [], ◌++◌, length, take, IsTrue, not};
 ghost use Rattle.std.specs.List.{list_all};
 ghost use Rattle.helm_geo.specs.Plane.{is_left_of, is_spot};
-ghost use Rattle.helm_geo.specs.Polygons.{are_spots, convex, is_bent, round_from};
+ghost use Rattle.helm_geo.specs.Polygons.{are_spots, at_each_side, convex, has_on_left, has_on_right, inside, is_bent, round_from};
 
 use crate::plane::is_left_of;
 use crate::spot::Spot;
@@ -12,14 +12,14 @@ const FEWEST_VERTICES: usize = 3;
 /// The most vertices of a polygon.
 const MOST_VERTICES: usize = 64;
 
-/// Whether all these places lie strictly left of the line from `a` to `b`.
-fn are_left_of(a: &Spot, b: &Spot, places: &[Spot]) -> bool
+/// Whether all these spots lie strictly left of the line from `a` to `b`.
+fn are_left_of(a: &Spot, b: &Spot, spots: &[Spot]) -> bool
     requires a { IsTrue (is_spot a.now) }
     requires b { IsTrue (is_spot b.now) }
-    requires places { IsTrue (are_spots places.now) }
-    ensures { result ≡ list_all (is_left_of a.now b.now) places.now }
+    requires spots { IsTrue (are_spots spots.now) }
+    ensures { result ≡ list_all (is_left_of a.now b.now) spots.now }
 {
-    for p in places {
+    for p in spots {
         if !is_left_of(a, b, p) {
             return false;
         }
@@ -27,7 +27,7 @@ fn are_left_of(a: &Spot, b: &Spot, places: &[Spot]) -> bool
     true
 }
 
-/// Whether all these places, told in two lists, lie strictly on one side of the line from `a` to `b`.
+/// Whether all these spots, told in two lists, lie strictly on one side of the line from `a` to `b`.
 fn are_on_one_side(a: &Spot, b: &Spot, behind: &[Spot], before: &[Spot]) -> bool
     requires a { IsTrue (is_spot a.now) }
     requires b { IsTrue (is_spot b.now) }
@@ -76,4 +76,65 @@ pub fn convex(poly: &[Spot]) -> bool
         }
     }
     true
+}
+
+/// The ends of the side from the vertex at this place in the list.
+#[tactic(auto, using(crate::proofs::Rounds::ends_inner, crate::proofs::Rounds::ends_last, crate::proofs::Rounds::spot_at))]
+fn side(vertices: &[Spot], place: usize) -> (Spot, Spot)
+    requires place { place < length vertices.now }
+    requires many { 2 ≤ length vertices.now }
+    requires spots { IsTrue (are_spots vertices.now) }
+    ensures from { IsTrue (is_spot result.0) }
+    ensures to { IsTrue (is_spot result.1) }
+    ensures ends { take 2 (round_from place vertices.now) ≡ result.0 ∷ result.1 ∷ [] }
+{
+    if place + 1 < vertices.len() {
+        (vertices[place], vertices[place + 1])
+    } else {
+        (vertices[place], vertices[0])
+    }
+}
+
+/// Whether a spot lies strictly left of no side.
+#[tactic(auto, using(crate::proofs::Rounds::side_fails))]
+fn is_left_of_none(vertices: &[Spot], p: &Spot) -> bool
+    requires many { 2 ≤ length vertices.now }
+    requires spots { IsTrue (are_spots vertices.now) }
+    requires p { IsTrue (is_spot p.now) }
+    ensures { result ≡ at_each_side (λ side. not (has_on_left p.now side)) vertices.now }
+{
+    for place in 0..vertices.len() {
+        let (from, to) = side(vertices, place);
+        if is_left_of(&from, &to, p) {
+            return false;
+        }
+    }
+    true
+}
+
+/// Whether a spot lies strictly right of no side.
+#[tactic(auto, using(crate::proofs::Rounds::side_fails))]
+fn is_right_of_none(vertices: &[Spot], p: &Spot) -> bool
+    requires many { 2 ≤ length vertices.now }
+    requires spots { IsTrue (are_spots vertices.now) }
+    requires p { IsTrue (is_spot p.now) }
+    ensures { result ≡ at_each_side (λ side. not (has_on_right p.now side)) vertices.now }
+{
+    for place in 0..vertices.len() {
+        let (from, to) = side(vertices, place);
+        if is_left_of(&to, &from, p) {
+            return false;
+        }
+    }
+    true
+}
+
+/// Whether a spot lies inside a convex polygon, its border included.
+pub fn inside(poly: &[Spot], p: &Spot) -> bool
+    requires convex { IsTrue (convex poly.now) }
+    requires spots { IsTrue (are_spots poly.now) }
+    requires p { IsTrue (is_spot p.now) }
+    ensures { result ≡ inside poly.now p.now }
+{
+    is_left_of_none(poly, p) || is_right_of_none(poly, p)
 }

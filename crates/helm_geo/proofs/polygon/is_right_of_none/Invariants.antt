@@ -1,0 +1,7 @@
+use Rattle.std.proofs.Common.{◌≡◌, true, not}
+use Rattle.std.specs.List.{list_all, range_with_len}
+use Rattle.helm_geo.specs.Polygons.{has_on_right, round_from}
+use Rattle.helm_geo.proofs.polygon.is_right_of_none.Given as goal
+
+abbrev pub invariant-loop-place : goal.invariant-loop-place
+invariant-loop-place l = list_all (λ place. not (has_on_right l.p (round_from place l.vertices))) (range_with_len 0 l.place) ≡ true
