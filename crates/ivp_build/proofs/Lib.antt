@@ -11,3 +11,5 @@ pub mod Bands
 pub mod Lawful
 pub mod Searches
 pub mod Nearest
+pub mod Meets
+pub mod Totals

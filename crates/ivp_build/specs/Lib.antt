@@ -3,4 +3,5 @@ pub mod Cuts
 pub mod Shapes
 pub mod Builders
 pub mod Ends
+pub mod Sums
 pub mod Faults

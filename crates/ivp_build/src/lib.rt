@@ -20,11 +20,14 @@ mod places;
 mod profile;
 mod shape;
 mod slopes;
+mod sums;
 
+pub use fault::BuildFault;
 pub use level::flat;
 pub use limits::{at_least, at_most};
 pub use peaks::peak;
 pub use shape::Peak;
+pub use sums::couple;
 
 #[cfg(test)]
 mod tests;

@@ -1,0 +1,37 @@
+use Rattle.std.proofs.Common.{List, ap, ◌∙◌, arith}
+use Rattle.ivp_domain.specs.declared.axis.Axis.{Axis}
+use Rattle.ivp_func.specs.declared.piece.Piece.{Piece}
+use Rattle.ivp_func.specs.Functions.{Function}
+use Rattle.ivp_func.specs.Pieces.{are_pieces_of, value_at}
+use Rattle.ivp_build.proofs.Meets.{couple_all, couple_many, couple_more}
+use Rattle.ivp_build.proofs.Totals.{AreCoupled, couple_fits, couple_made, couple_value, coupled}
+use Rattle.ivp_build.proofs.sums.couple.Goals as goal
+
+pub returns-in-Err-clause-many : goal.returns-in-Err-clause-many
+returns-in-Err-clause-many c = couple_many c.args.f.now.pieces c.args.g.now.pieces c.loop-number.number c.piece.result c.loop-number.pieces.items c.in-Err.fault c.piece.ensures.piece c.loop-number.invariant.added c.in-Err.ensures.many
+
+pub loop-number-preserved : goal.loop-number-preserved
+loop-number-preserved c =
+    record {
+      added = couple_more c.args.f.now.pieces c.args.g.now.pieces c.loop-number.number c.piece.result c.loop-number.pieces.items c.add_sums.new.pieces.items c.piece.ensures.piece c.loop-number.invariant.added c.in_default.ensures.added;
+      few = c.in_default.ensures.few;
+    }
+
+pub make-requires : goal.make-requires
+make-requires c =
+    let both : AreCoupled c.args.f.now.axes c.args.f.now.pieces c.args.g.now.pieces = coupled c.args.f.now c.args.g.now c.func_law.ensures c.func_law-2.ensures c.requires.domain c.requires.room c.requires.apart in
+    let all = couple_all c.args.f.now.pieces c.args.g.now.pieces c.loop-number.number c.loop-number.pieces.items (omega arith) c.loop-number.invariant.added in
+    ap (λ (axes : List Axis). are_pieces_of axes c.loop-number.pieces.items) c.domain.ensures ∙ ap (are_pieces_of c.args.f.now.axes) all ∙ couple_fits c.args.f.now.axes c.args.f.now.pieces c.args.g.now.pieces both
+
+pub no_memory-requires : goal.no_memory-requires
+no_memory-requires c =
+    let both : AreCoupled c.args.f.now.axes c.args.f.now.pieces c.args.g.now.pieces = coupled c.args.f.now c.args.g.now c.func_law.ensures c.func_law-2.ensures c.requires.domain c.requires.room c.requires.apart in
+    let all = couple_all c.args.f.now.pieces c.args.g.now.pieces c.loop-number.number c.loop-number.pieces.items (omega arith) c.loop-number.invariant.added in
+    couple_made c.args.f.now.axes c.domain.result c.args.f.now.pieces c.args.g.now.pieces c.loop-number.pieces.items both c.domain.ensures all c.loop-number.invariant.few c.in-Err-make.fault c.in-Err-make.ensures
+
+pub returns-in-Ok-clause-value : goal.returns-in-Ok-clause-value
+returns-in-Ok-clause-value c = λ p inside.
+    let both : AreCoupled c.args.f.now.axes c.args.f.now.pieces c.args.g.now.pieces = coupled c.args.f.now c.args.g.now c.func_law.ensures c.func_law-2.ensures c.requires.domain c.requires.room c.requires.apart in
+    let all = couple_all c.args.f.now.pieces c.args.g.now.pieces c.loop-number.number c.loop-number.pieces.items (omega arith) c.loop-number.invariant.added in
+    let made = c.in-Ok.ensures in
+    ap (λ (f : Function). value_at f.pieces p) made.3 ∙ ap (λ (xs : List Piece). value_at xs p) all ∙ couple_value c.args.f.now.axes c.args.f.now.pieces c.args.g.now.pieces both p inside
