@@ -1,0 +1,4 @@
+pub mod Outcomes
+pub mod Lives
+pub mod Phases
+pub mod Standing
