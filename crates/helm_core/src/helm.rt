@@ -36,14 +36,15 @@ pub struct Helm {
 }
 
 impl Helm {
-    /// The helm of a mission and its behaviour file, which has heard nothing.
+    /// The helm of a mission and its behaviour file, which has heard nothing. It runs no behaviours yet: those of the file are
+    /// left out.
     pub fn make(alloc: Global, mission: &Mission, file: BhvFile) -> Result<Helm, NoMemory>
         requires mission { IsValidMission mission.now }
         requires file { IsValidFile file }
         ensures plan { IfOk result (λ helm. plan_of helm ≡ plan_made mission.now file) }
         ensures stands { IfOk result (λ helm. StandsFor helm []) }
     {
-        let BhvFile { opening, decls } = file;
+        let BhvFile { opening, decls, .. } = file;
         let modes = ModeTree::make(decls);
         let outlook = Outlook::blank(alloc, &modes)?;
         Ok(Helm {
