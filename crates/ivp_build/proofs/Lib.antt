@@ -13,3 +13,5 @@ pub mod Searches
 pub mod Nearest
 pub mod Meets
 pub mod Totals
+pub mod Sides
+mod SumExamples

@@ -15,7 +15,7 @@ use Rattle.ivp_domain.specs.Boxes.{common, has_point, is_box}
 use Rattle.ivp_domain.proofs.BoxLemmas.{has_point-common, none_in_both}
 use Rattle.ivp_func.specs.declared.piece.Piece.{Piece}
 use Rattle.ivp_func.specs.Grids.{meets, meets_piece}
-use Rattle.ivp_func.specs.Pieces.{count_at, holds}
+use Rattle.ivp_func.specs.Pieces.{count_at, piece_has}
 use Rattle.ivp_func.proofs.Counting.{count_at-cons, one_if}
 use Rattle.ivp_build.specs.declared.fault.BuildFault.{BuildFault}
 use Rattle.ivp_build.specs.declared.fault.BuildFault.TheVariants.{NoMemory, TooMany}
@@ -114,18 +114,18 @@ no_count true n e = e
 no_count false n e = e
 
 -- how many of the sums hold a point: as many as of the pieces, where the piece itself does
-pub count_at-met_sums : (p : Piece) (qs : List Piece) (point : Point) → count_at (met_sums p qs) point ≡ (if holds point p then count_at qs point else 0)
-count_at-met_sums p [] point = no_count (holds point p) 0 refl
-count_at-met_sums p (q ∷ qs) point = by (is_box (common p.area q.area)) refl (count_at-met_sums p qs point) ∙ ap (λ (n : ℕ). if holds point p then n else 0) (sym (count_at-cons q qs point))
+pub count_at-met_sums : (p : Piece) (qs : List Piece) (point : Point) → count_at (met_sums p qs) point ≡ (if piece_has point p then count_at qs point else 0)
+count_at-met_sums p [] point = no_count (piece_has point p) 0 refl
+count_at-met_sums p (q ∷ qs) point = by (is_box (common p.area q.area)) refl (count_at-met_sums p qs point) ∙ ap (λ (n : ℕ). if piece_has point p then n else 0) (sym (count_at-cons q qs point))
   where
-    by : (b : Bool) → is_box (common p.area q.area) ≡ b → count_at (met_sums p qs) point ≡ (if holds point p then count_at qs point else 0)
-        → count_at (met_sums p (q ∷ qs)) point ≡ (if holds point p then one_if (holds point q) + count_at qs point else 0)
+    by : (b : Bool) → is_box (common p.area q.area) ≡ b → count_at (met_sums p qs) point ≡ (if piece_has point p then count_at qs point else 0)
+        → count_at (met_sums p (q ∷ qs)) point ≡ (if piece_has point p then one_if (piece_has point q) + count_at qs point else 0)
     by true e rest =
         ap (λ (xs : List Piece). count_at xs point) (front_met p q qs e) ∙ count_at-cons (sum_of_pieces p q (common p.area q.area)) (met_sums p qs) point
-        ∙ count_with (has_point (common p.area q.area) point) (holds point p) (holds point q) (count_at qs point) (count_at (met_sums p qs) point) (has_point-common p.area q.area point) rest
+        ∙ count_with (has_point (common p.area q.area) point) (piece_has point p) (piece_has point q) (count_at qs point) (count_at (met_sums p qs) point) (has_point-common p.area q.area point) rest
     by false e rest =
         ap (λ (xs : List Piece). count_at xs point) (front_apart p q qs e)
-        ∙ count_without (holds point p) (holds point q) (count_at qs point) (count_at (met_sums p qs) point) (none_in_both p.area q.area e point) rest
+        ∙ count_without (piece_has point p) (piece_has point q) (count_at qs point) (count_at (met_sums p qs) point) (none_in_both p.area q.area e point) rest
 
 -- how many of all sums hold a point: the product of the counts of both
 rows : (b : Bool) (n c r : ℕ) → r ≡ n * c → (if b then c else 0) + r ≡ (one_if b + n) * c
@@ -135,9 +135,9 @@ rows false n c r e = grind arith
 pub count_at-couple : (ps qs : List Piece) (point : Point) → count_at (couple_pieces ps qs) point ≡ count_at ps point * count_at qs point
 count_at-couple [] qs point = omega arith
 count_at-couple (p ∷ ps) qs point =
-    sum_by-append (λ (x : Piece). one_if (holds point x)) (met_sums p qs) (couple_pieces ps qs)
+    sum_by-append (λ (x : Piece). one_if (piece_has point x)) (met_sums p qs) (couple_pieces ps qs)
     ∙ ap (λ (n : ℕ). n + count_at (couple_pieces ps qs) point) (count_at-met_sums p qs point)
-    ∙ rows (holds point p) (count_at ps point) (count_at qs point) (count_at (couple_pieces ps qs) point) (count_at-couple ps qs point)
+    ∙ rows (piece_has point p) (count_at ps point) (count_at qs point) (count_at (couple_pieces ps qs) point) (count_at-couple ps qs point)
     ∙ ap (λ (n : ℕ). n * count_at qs point) (sym (count_at-cons p ps point))
 
 -- the first of the sums that holds a point: that with the first piece that does, where the piece itself does
@@ -158,33 +158,33 @@ none_found true o e = e
 none_found false o e = e
 
 find-met_sums : (p : Piece) (qs : List Piece) (point : Point)
-    → find (holds point) (met_sums p qs) ≡ (if holds point p then option_map (λ (q : Piece). sum_of_pieces p q (common p.area q.area)) (find (holds point) qs) else None)
-find-met_sums p [] point = none_found (holds point p) None refl
+    → find (piece_has point) (met_sums p qs) ≡ (if piece_has point p then option_map (λ (q : Piece). sum_of_pieces p q (common p.area q.area)) (find (piece_has point) qs) else None)
+find-met_sums p [] point = none_found (piece_has point p) None refl
 find-met_sums p (q ∷ qs) point = by (is_box (common p.area q.area)) refl (find-met_sums p qs point)
   where
     by : (b : Bool) → is_box (common p.area q.area) ≡ b
-        → find (holds point) (met_sums p qs) ≡ (if holds point p then option_map (λ (q : Piece). sum_of_pieces p q (common p.area q.area)) (find (holds point) qs) else None)
-        → find (holds point) (met_sums p (q ∷ qs)) ≡ (if holds point p then option_map (λ (q : Piece). sum_of_pieces p q (common p.area q.area)) (if holds point q then Some q else find (holds point) qs) else None)
+        → find (piece_has point) (met_sums p qs) ≡ (if piece_has point p then option_map (λ (q : Piece). sum_of_pieces p q (common p.area q.area)) (find (piece_has point) qs) else None)
+        → find (piece_has point) (met_sums p (q ∷ qs)) ≡ (if piece_has point p then option_map (λ (q : Piece). sum_of_pieces p q (common p.area q.area)) (if piece_has point q then Some q else find (piece_has point) qs) else None)
     by true e rest =
-        ap (find (holds point)) (front_met p q qs e)
-        ∙ found_with (has_point (common p.area q.area) point) (holds point p) (holds point q) (sum_of_pieces p q (common p.area q.area)) (λ (q : Piece). sum_of_pieces p q (common p.area q.area)) q (find (holds point) qs) (find (holds point) (met_sums p qs)) refl (has_point-common p.area q.area point) rest
+        ap (find (piece_has point)) (front_met p q qs e)
+        ∙ found_with (has_point (common p.area q.area) point) (piece_has point p) (piece_has point q) (sum_of_pieces p q (common p.area q.area)) (λ (q : Piece). sum_of_pieces p q (common p.area q.area)) q (find (piece_has point) qs) (find (piece_has point) (met_sums p qs)) refl (has_point-common p.area q.area point) rest
     by false e rest =
-        ap (find (holds point)) (front_apart p q qs e)
-        ∙ found_without (holds point p) (holds point q) (λ (q : Piece). sum_of_pieces p q (common p.area q.area)) q (find (holds point) qs) (find (holds point) (met_sums p qs)) (none_in_both p.area q.area e point) rest
+        ap (find (piece_has point)) (front_apart p q qs e)
+        ∙ found_without (piece_has point p) (piece_has point q) (λ (q : Piece). sum_of_pieces p q (common p.area q.area)) q (find (piece_has point) qs) (find (piece_has point) (met_sums p qs)) (none_in_both p.area q.area e point) rest
 
 -- the first of all sums that holds a point: that of the first two pieces that do
 found_row : (b : Bool) (s : Piece) (f : Piece → Piece) (p : Piece) (o r : Option Piece) → f p ≡ s → r ≡ option_map f o → option_or (if b then Some s else None) r ≡ option_map f (if b then Some p else o)
 found_row true s f p o r e e' = rw e refl
 found_row false s f p o r e e' = e'
 
-pub find-couple : (ps qs : List Piece) (point : Point) (q : Piece) → find (holds point) qs ≡ Some q
-    → find (holds point) (couple_pieces ps qs) ≡ option_map (λ (p : Piece). sum_of_pieces p q (common p.area q.area)) (find (holds point) ps)
+pub find-couple : (ps qs : List Piece) (point : Point) (q : Piece) → find (piece_has point) qs ≡ Some q
+    → find (piece_has point) (couple_pieces ps qs) ≡ option_map (λ (p : Piece). sum_of_pieces p q (common p.area q.area)) (find (piece_has point) ps)
 find-couple [] qs point q e = refl
 find-couple (p ∷ ps) qs point q e =
-    let row : find (holds point) (met_sums p qs) ≡ (if holds point p then Some (sum_of_pieces p q (common p.area q.area)) else None) = find-met_sums p qs point ∙ ap (λ (o : Option Piece). if holds point p then option_map (λ (q : Piece). sum_of_pieces p q (common p.area q.area)) o else None) e in
-    find-append (holds point) (met_sums p qs) (couple_pieces ps qs)
-    ∙ ap (λ (o : Option Piece). option_or o (find (holds point) (couple_pieces ps qs))) row
-    ∙ found_row (holds point p) (sum_of_pieces p q (common p.area q.area)) (λ (p : Piece). sum_of_pieces p q (common p.area q.area)) p (find (holds point) ps) (find (holds point) (couple_pieces ps qs)) refl (find-couple ps qs point q e)
+    let row : find (piece_has point) (met_sums p qs) ≡ (if piece_has point p then Some (sum_of_pieces p q (common p.area q.area)) else None) = find-met_sums p qs point ∙ ap (λ (o : Option Piece). if piece_has point p then option_map (λ (q : Piece). sum_of_pieces p q (common p.area q.area)) o else None) e in
+    find-append (piece_has point) (met_sums p qs) (couple_pieces ps qs)
+    ∙ ap (λ (o : Option Piece). option_or o (find (piece_has point) (couple_pieces ps qs))) row
+    ∙ found_row (piece_has point p) (sum_of_pieces p q (common p.area q.area)) (λ (p : Piece). sum_of_pieces p q (common p.area q.area)) p (find (piece_has point) ps) (find (piece_has point) (couple_pieces ps qs)) refl (find-couple ps qs point q e)
 
 -- all sums with one piece more of the first function
 pub couple_more : (ps qs : List Piece) (n : ℕ) (p : Piece) (pieces new : List Piece) → slice_get ps n ≡ Some p → pieces ≡ couple_pieces (take n ps) qs → new ≡ pieces ++ met_sums p qs → new ≡ couple_pieces (take (n + 1) ps) qs

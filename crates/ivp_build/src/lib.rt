@@ -1,11 +1,12 @@
-//! Objective functions from shapes: one value, a peak about a number of an axis, and limits.
+//! Objective functions from shapes: one value, a peak about a number of an axis, limits, and sums of two functions.
 //!
 //! The contract for the layer above: the utility of a shape at a place is arithmetic on the place,
 //! and the function that a builder gives has that value at every point. Its pieces are the maximal
-//! runs of consecutive places of one side and zone, each over the whole of the other axes.
+//! runs of consecutive places of one side and zone, each over the whole of the other axes. The pieces of a sum are the meets
+//! of those of both functions.
 //!
 //! Reading order: `shape`, `slopes`, `crest`, `profile`, `ends`, `along`, `level`, `places`, `limits`, `near`,
-//! `peaks`.
+//! `peaks`, `sums`.
 #![tactic(auto)]
 
 mod along;

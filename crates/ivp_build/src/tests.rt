@@ -1,7 +1,7 @@
 ghost use Rattle.std.specs.Prelude.{◌≡◌, ◌<◌, IsTrue};
 ghost use Rattle.ivp_domain.specs.Domains.{is_point};
 
-use crate::{Peak, at_least, at_most, flat, peak};
+use crate::{Peak, at_least, at_most, couple, flat, peak};
 use ivp_domain::{Axis, AxisName, Domain, Point, Steps};
 use ivp_func::Func;
 use std::alloc::Global;
@@ -197,5 +197,58 @@ fn peaks(rt: HostRuntime) -> Result<(), Fail> {
     let func = peaked(rt.alloc(), &two, &about(180_000, 180_000, 180_000, 25_000))?;
     assert_eq!(rt; func.len(), 2);
     assert_eq!(rt; value(&func, 0), Some(75_000));
+    Ok(())
+}
+
+/// The sum of a peak about a course and one about a speed, each of 50,000 at most.
+fn steered(alloc: Global, domain: &Domain) -> Result<Func, Fail> {
+    if domain.axes() < 2 {
+        return Err("two axes".into());
+    }
+    let course = Peak {
+        summit: 270_000,
+        peakwidth: 90_000,
+        basewidth: 90_000,
+        summitdelta: 10_000,
+        max: 50_000,
+    };
+    let speed = Peak {
+        summit: 1_000,
+        peakwidth: 1_000,
+        basewidth: 1_000,
+        summitdelta: 20_000,
+        max: 50_000,
+    };
+    let f = peak(alloc, domain, 0, &course)?;
+    let g = peak(alloc, domain, 1, &speed)?;
+    Ok(couple(alloc, &f, &g).map_err(|_| "a sum")?)
+}
+
+#[test]
+fn sums(rt: HostRuntime) -> Result<(), Fail> {
+    let axes = [
+        Axis {
+            name: AxisName::new(b"course").ok_or("a name")?,
+            low: 0,
+            high: 270_000,
+            points: 4,
+        },
+        Axis {
+            name: AxisName::new(b"speed").ok_or("a name")?,
+            low: 0,
+            high: 3_000,
+            points: 4,
+        },
+    ];
+    let domain = Domain::make(&axes).map_err(|_| "a domain")?;
+    let func = steered(rt.alloc(), &domain)?;
+    let courses = [40_000, 0, 40_000, 50_000];
+    let speeds = [30_000, 50_000, 30_000, 0];
+    for (place, course) in courses.iter().enumerate() {
+        for (step, speed) in speeds.iter().enumerate() {
+            let index = place as u32 * 4 + step as u32;
+            assert_eq!(rt; value(&func, index), Some(course + speed));
+        }
+    }
     Ok(())
 }
