@@ -1,7 +1,7 @@
 -- Reports worked by hand.
-use Rattle.std.proofs.Common.{◌≡◌, ℕ, zero, suc, ◌<◌, Bool, true, false, List, [], ◌∷◌, refl, ap, arith}
+use Rattle.std.proofs.Common.{◌≡◌, ℕ, zero, suc, ◌<◌, Bool, true, false, not, ◌==◌, List, [], ◌∷◌, refl, ap, arith}
 use Rattle.std.specs.Prelude.{codes, pos, negsuc, IsTrue, slice_index, slice_index_or}
-use Rattle.std.specs.List.{All}
+use Rattle.std.specs.List.{All, list_all}
 use Rattle.std.proofs.lemmas.List.Elements.{All-cons, All-nil}
 use Rattle.std.specs.Fmt.{digits}
 use Rattle.moos_post.specs.declared.entry.Call.TheVariants.{Register, Unregister, Post as Posts, Fetch}
@@ -9,7 +9,7 @@ use Rattle.moos_post.specs.declared.entry.Entry.{Entry}
 use Rattle.moos_post.specs.declared.registration.Reg.{Reg}
 use Rattle.moos_post.specs.declared.value.Pair.{Pair}
 use Rattle.moos_post.specs.declared.value.Value.TheVariants.{Num, Text}
-use Rattle.moos_post.specs.Words.{is_name, is_text}
+use Rattle.moos_post.specs.Words.{is_name}
 use Rattle.std.proofs.lemmas.Bool.{false≢true}
 use Rattle.moos_post.specs.Entries.{IsEntry, IsPair, IsReg}
 use Rattle.helm_core.specs.declared.iteration.Iteration.{Iteration}
@@ -118,12 +118,13 @@ helm_fetches_again = refl
 iteration_not_given : follows with_modes (fetched 1 ∷ fetched 1 ∷ fetched 1 ∷ []) helm_posts_now ≡ []
 iteration_not_given = refl
 
--- a mode with a line end in it is none, since a line could be read there that isn't printed
-no_mode : HaveModes (in_mode 0 false (codes "A\n%% end 1 0") ∷ []) → ⊥
-no_mode modes = false≢true (modes 0 (in_mode 0 true []) (omega arith))
+-- a mode with a line end stands on several lines, one of which could be read as one that isn't printed
+two_lines : HaveModes (in_mode 0 false (codes "A\n%% end 1 0") ∷ []) → ⊥
+two_lines modes = false≢true (modes 0 (in_mode 0 true []) (omega arith))
 
-some_modes : HaveModes (in_mode 0 false (codes "A:B") ∷ [])
-some_modes = All-cons (λ iteration. IsTrue (is_text iteration.mode)) (in_mode 0 false (codes "A:B")) [] refl (All-nil (λ iteration. IsTrue (is_text iteration.mode)))
+one_line : HaveModes (in_mode 0 false (codes "A:B") ∷ [])
+one_line = All-cons (λ iteration. IsTrue (list_all (λ byte. not (byte == 10)) iteration.mode)) (in_mode 0 false (codes "A:B")) [] refl
+    (All-nil (λ iteration. IsTrue (list_all (λ byte. not (byte == 10)) iteration.mode)))
 
 abbrev Named : List ℕ → Type 0
 Named name = IsTrue (is_name name)

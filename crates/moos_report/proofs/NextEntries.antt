@@ -1,14 +1,14 @@
 -- Behind an entry's own lines the next entry, or the end, is found line by line: no line of an iteration begins as theirs do.
-use Rattle.std.proofs.Common.{◌≡◌, ◌≢◌, ℕ, zero, suc, ◌+◌, ◌/◌, ◌%◌, inl, inr, Bool, true, false, ◌&&◌, ◌||◌, ◌==◌, Some, None, Option, List, [], ◌∷◌, ◌++◌, take, get_or, refl, ap, sym, ◌∙◌, subst, arith, append_assoc}
+use Rattle.std.proofs.Common.{◌≡◌, ◌≢◌, ℕ, zero, suc, ◌+◌, ◌/◌, ◌%◌, inl, inr, Bool, true, false, ◌&&◌, ◌||◌, ◌==◌, not, Some, None, Option, List, [], ◌∷◌, ◌++◌, take, get_or, refl, ap, sym, ◌∙◌, subst, arith, append_assoc}
 use Rattle.std.specs.Prelude.{bytes_eq, codes, decimal, nat_lt, IsTrue, if◌then◌else◌, slice_get}
-use Rattle.std.specs.List.{concat}
+use Rattle.std.specs.List.{concat, list_all}
 use Rattle.std.specs.Fmt.{digit_glyph, digits, digits_onto}
 use Rattle.std.proofs.lemmas.Bool.Decides.{nat_tests}
 use Rattle.std.proofs.lemmas.Option.{get_or_from_slice_get, slice_get_within}
 use Rattle.moos_io.proofs.Lists.{each_append}
 use Rattle.moos_post.specs.declared.entry.Entry.{Entry}
 use Rattle.moos_post.specs.History.{History}
-use Rattle.moos_post.specs.Words.{is_digit, is_text}
+use Rattle.moos_post.specs.Words.{is_digit}
 use Rattle.moos_text.specs.Numbers.{decimals_text, unsigned_text}
 use Rattle.moos_text.proofs.PrintedDigits.{decimals_shape, Shape}
 use Rattle.helm_core.specs.declared.iteration.Iteration.{Iteration}
@@ -16,7 +16,6 @@ use Rattle.moos_report.specs.declared.setup.Setup.{Setup}
 use Rattle.moos_report.specs.Community.{HaveModes}
 use Rattle.moos_report.specs.IterationLines.{current_text, drive_text, helm_fetches, is_helm_post, iteration_text, listed_text, mode_line, outcome_text, shown_mode}
 use Rattle.moos_report.proofs.Cuts.{Lacks, lacks_all}
-use Rattle.moos_report.proofs.PrintedValues.{no_line_end}
 
 -- an entry or the end begins here
 abbrev is_next : List ℕ → Bool
@@ -67,9 +66,13 @@ seconds_lack n = each_append (λ it. it ≢ 10) (decimal (n / 1000)) (decimals_t
     by (inl none) = subst (Lacks 10) (sym none.0) tt
     by (inr some) = subst (Lacks 10) (sym some.1) (λ same. absurd (omega (arith, same)), lacks_all is_digit 10 some.0 refl some.2)
 
+-- the byte is no line end
+abbrev in_line : ℕ → Bool
+in_line byte = not (byte == 10)
+
 driver_lacks : (parked : Bool) → Lacks 10 (drive_text parked)
-driver_lacks true = lacks_all (λ byte. nat_lt 10 byte) 10 (codes "PARK") refl refl
-driver_lacks false = lacks_all (λ byte. nat_lt 10 byte) 10 (codes "DRIVE") refl refl
+driver_lacks true = lacks_all in_line 10 (codes "PARK") refl refl
+driver_lacks false = lacks_all in_line 10 (codes "DRIVE") refl refl
 
 mode_lacks : (mode : List ℕ) → Lacks 10 mode → Lacks 10 (shown_mode mode)
 mode_lacks [] lacks = (λ same. absurd (omega (arith, same)), tt)
@@ -99,7 +102,7 @@ mode_skipped setup mode after lacks = by setup.modes
     by false = refl
 
 -- the lines of an iteration are passed over
-iteration_skipped : (setup : Setup) (number : ℕ) (iteration : Iteration) (after : List ℕ) → IsTrue (is_text iteration.mode)
+iteration_skipped : (setup : Setup) (number : ℕ) (iteration : Iteration) (after : List ℕ) → IsTrue (list_all in_line iteration.mode)
     → next_entry true (iteration_text setup number iteration ++ after) ≡ next_entry true after
 iteration_skipped setup number iteration after text =
     let mode = mode_line setup iteration.mode in
@@ -107,18 +110,18 @@ iteration_skipped setup number iteration after text =
     ap (next_entry true) (append_assoc state (mode ++ codes "%% none\n") after ∙ ap (λ end. state ++ end) (append_assoc mode (codes "%% none\n") after))
     ∙ state_skipped (decimal number) (unsigned_text iteration.stamp) (drive_text iteration.parked) (mode ++ (codes "%% none\n" ++ after))
     (whole_lacks number) (seconds_lack iteration.stamp) (driver_lacks iteration.parked)
-    ∙ mode_skipped setup iteration.mode (codes "%% none\n" ++ after) (no_line_end iteration.mode text)
+    ∙ mode_skipped setup iteration.mode (codes "%% none\n" ++ after) (lacks_all in_line 10 iteration.mode refl text)
 
 -- what holds of nothing, and of each iteration, holds of what follows an entry
 outcome_by : (P : List ℕ → Type 0) (setup : Setup) (iterations : List Iteration) (names : List (List ℕ)) (past : History) (entry : Entry) → HaveModes iterations → P []
-    → ((number : ℕ) (iteration : Iteration) → IsTrue (is_text iteration.mode) → P (iteration_text setup number iteration)) → P (outcome_text setup iterations names past entry)
+    → ((number : ℕ) (iteration : Iteration) → IsTrue (list_all in_line iteration.mode) → P (iteration_text setup number iteration)) → P (outcome_text setup iterations names past entry)
 outcome_by P setup iterations names past entry modes none some = by (is_helm_post names entry) (helm_fetches names past)
   where
     listed : (number : ℕ) (found : Option Iteration) → slice_get iterations number ≡ found → P (listed_text setup number found)
     listed number None at = none
     listed number (Some iteration) at =
         let within = slice_get_within iterations number iteration at in
-        some number iteration (subst (λ it. IsTrue (is_text it.mode)) (get_or_from_slice_get iterations number iteration iteration at) (modes number iteration within))
+        some number iteration (subst (λ it. IsTrue (list_all in_line it.mode)) (get_or_from_slice_get iterations number iteration iteration at) (modes number iteration within))
 
     by : (posts : Bool) (fetches : ℕ) → P (if posts then current_text setup iterations fetches else [])
     by false fetches = none

@@ -83,7 +83,7 @@ clean_lacks (byte ∷ text) none = by (is_control byte) refl none (clean_lacks t
     by true e h later = absurd (omega (arith, h))
     by false e h later = (λ same. false≢true (sym e ∙ ap is_control same), later (omega (arith, h)))
 
-pub no_line_end : (text : List ℕ) → IsTrue (is_text text) → Lacks 10 text
+no_line_end : (text : List ℕ) → IsTrue (is_text text) → Lacks 10 text
 no_line_end text fine = clean_lacks text (past (nat_lt (position_or_len is_control text) (length text)) refl (and_parts (nat_le (length text) 4096) (is_none (control_place text)) fine).1)
   where
     past : (b : Bool) → nat_lt (position_or_len is_control text) (length text) ≡ b → is_none (cond b (Some (position_or_len is_control text)) None) ≡ true → length text ≤ position_or_len is_control text

@@ -1,10 +1,10 @@
--- What a report is printed of: names, entries and iterations as their types let them be, where each client has a name of its
--- own.
-use Rattle.std.specs.Prelude.{◌≡◌, ℕ, ◌<◌, IsTrue, List, length}
-use Rattle.std.specs.List.{All}
+-- What a report is printed of: names and entries as their types let them be, where each client has a name of its own, and
+-- iterations whose modes hold no line end.
+use Rattle.std.specs.Prelude.{◌≡◌, ℕ, ◌<◌, ◌==◌, not, IsTrue, List, length}
+use Rattle.std.specs.List.{All, list_all}
 use Rattle.moos_post.specs.Entries.{IsEntry}
 use Rattle.moos_post.specs.History.{History, name_of}
-use Rattle.moos_post.specs.Words.{is_name, is_text}
+use Rattle.moos_post.specs.Words.{is_name}
 use Rattle.helm_core.specs.declared.iteration.Iteration.{Iteration}
 
 -- each entry is by one of this many clients
@@ -22,6 +22,6 @@ pub record IsCommunity (names : List (List ℕ)) (history : History) : Type 0 wh
   pub entries : All IsEntry history
   pub clients : HaveClients (length names) history
 
--- the mode of each iteration is a text
+-- the mode of each iteration stands on one line
 abbrev pub HaveModes : List Iteration → Type 0
-HaveModes iterations = All (λ iteration. IsTrue (is_text iteration.mode)) iterations
+HaveModes iterations = All (λ iteration. IsTrue (list_all (λ byte. not (byte == 10)) iteration.mode)) iterations
