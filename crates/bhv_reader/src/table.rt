@@ -1,7 +1,6 @@
 // The table of the parameters of behaviours: under which names each stands in a file, which values it may have, and which
 // types have it. `put` says in which field it is, and `types` what it is where it isn't given.
 ghost use Rattle.std.specs.Prelude.{◌≡◌, find};
-ghost use Rattle.std.specs.Str.{str_eq_ignore_ascii_case};
 ghost use Rattle.bhv_reader.specs.Table.{common_named, is_called, is_needed, parameter_of, parameters_of, value_range, states_common};
 
 use crate::spec::Shape;
@@ -122,42 +121,35 @@ pub fn parameters(shape: &Shape) -> &'static [Parameter]
     }
 }
 
-// Whether a name is a known one, in letters of either case. Most names differ in length, which is soon seen.
-fn is_same(name: &[u8], known: &[u8]) -> bool
-    ensures { result ≡ str_eq_ignore_ascii_case name.now known.now }
-{
-    name.len() == known.len() && is_named(name, known)
-}
-
 /// Whether a name in a file is that of a parameter.
 fn is_called(parameter: Parameter, name: &[u8]) -> bool
     ensures { result ≡ is_called parameter name.now }
 {
     match parameter {
-        Parameter::Heading => is_same(name, b"heading"),
-        Parameter::Speed => is_same(name, b"speed"),
-        Parameter::Depth => is_same(name, b"depth"),
-        Parameter::PeakWidth => is_same(name, b"peakwidth"),
-        Parameter::BaseWidth => is_same(name, b"basewidth"),
-        Parameter::SummitDelta => is_same(name, b"summitdelta"),
-        Parameter::MaxDepth => is_same(name, b"max_depth"),
+        Parameter::Heading => is_named(name, b"heading"),
+        Parameter::Speed => is_named(name, b"speed"),
+        Parameter::Depth => is_named(name, b"depth"),
+        Parameter::PeakWidth => is_named(name, b"peakwidth"),
+        Parameter::BaseWidth => is_named(name, b"basewidth"),
+        Parameter::SummitDelta => is_named(name, b"summitdelta"),
+        Parameter::MaxDepth => is_named(name, b"max_depth"),
         Parameter::Points => {
-            is_same(name, b"points") || is_same(name, b"point") || is_same(name, b"polygon")
+            is_named(name, b"points") || is_named(name, b"point") || is_named(name, b"polygon")
         },
         Parameter::CaptureRadius => {
-            is_same(name, b"capture_radius") || is_same(name, b"radius")
+            is_named(name, b"capture_radius") || is_named(name, b"radius")
         },
-        Parameter::SlipRadius => is_same(name, b"slip_radius"),
-        Parameter::Order => is_same(name, b"order"),
-        Parameter::Repeat => is_same(name, b"repeat"),
-        Parameter::Polygon => is_same(name, b"polygon"),
-        Parameter::Clockwise => is_same(name, b"clockwise"),
-        Parameter::StationPoint => is_same(name, b"station_pt") || is_same(name, b"point"),
-        Parameter::CenterActivate => is_same(name, b"center_activate"),
-        Parameter::InnerRadius => is_same(name, b"inner_radius"),
-        Parameter::OuterRadius => is_same(name, b"outer_radius"),
-        Parameter::OuterSpeed => is_same(name, b"outer_speed"),
-        Parameter::MaxTime => is_same(name, b"max_time"),
+        Parameter::SlipRadius => is_named(name, b"slip_radius"),
+        Parameter::Order => is_named(name, b"order"),
+        Parameter::Repeat => is_named(name, b"repeat"),
+        Parameter::Polygon => is_named(name, b"polygon"),
+        Parameter::Clockwise => is_named(name, b"clockwise"),
+        Parameter::StationPoint => is_named(name, b"station_pt") || is_named(name, b"point"),
+        Parameter::CenterActivate => is_named(name, b"center_activate"),
+        Parameter::InnerRadius => is_named(name, b"inner_radius"),
+        Parameter::OuterRadius => is_named(name, b"outer_radius"),
+        Parameter::OuterSpeed => is_named(name, b"outer_speed"),
+        Parameter::MaxTime => is_named(name, b"max_time"),
     }
 }
 
@@ -227,19 +219,19 @@ pub fn is_common_name(parameter: CommonParameter, name: &[u8]) -> bool
     ensures { result ≡ states_common name.now parameter }
 {
     match parameter {
-        CommonParameter::Name => is_same(name, b"name"),
-        CommonParameter::Weight => is_same(name, b"pwt"),
-        CommonParameter::Condition => is_same(name, b"condition"),
-        CommonParameter::RunFlag => is_same(name, b"runflag"),
-        CommonParameter::IdleFlag => is_same(name, b"idleflag"),
-        CommonParameter::ActiveFlag => is_same(name, b"activeflag"),
-        CommonParameter::InactiveFlag => is_same(name, b"inactiveflag"),
-        CommonParameter::EndFlag => is_same(name, b"endflag"),
-        CommonParameter::Updates => is_same(name, b"updates"),
-        CommonParameter::Duration => is_same(name, b"duration"),
-        CommonParameter::IdleDecay => is_same(name, b"duration_idle_decay"),
-        CommonParameter::Perpetual => is_same(name, b"perpetual"),
-        CommonParameter::Templating => is_same(name, b"templating"),
+        CommonParameter::Name => is_named(name, b"name"),
+        CommonParameter::Weight => is_named(name, b"pwt"),
+        CommonParameter::Condition => is_named(name, b"condition"),
+        CommonParameter::RunFlag => is_named(name, b"runflag"),
+        CommonParameter::IdleFlag => is_named(name, b"idleflag"),
+        CommonParameter::ActiveFlag => is_named(name, b"activeflag"),
+        CommonParameter::InactiveFlag => is_named(name, b"inactiveflag"),
+        CommonParameter::EndFlag => is_named(name, b"endflag"),
+        CommonParameter::Updates => is_named(name, b"updates"),
+        CommonParameter::Duration => is_named(name, b"duration"),
+        CommonParameter::IdleDecay => is_named(name, b"duration_idle_decay"),
+        CommonParameter::Perpetual => is_named(name, b"perpetual"),
+        CommonParameter::Templating => is_named(name, b"templating"),
     }
 }
 

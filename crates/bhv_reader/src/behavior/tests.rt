@@ -25,122 +25,27 @@ fn domain(rt: &impl Abort) -> Domain {
     }
 }
 
-fn without_depth(rt: &impl Abort) -> Domain {
-    match Domain::make(&[axis(rt, b"course"), axis(rt, b"speed")]) {
-        Ok(domain) => domain,
-        Err(_) => panic!(rt; "a domain"),
-    }
-}
-
 fn read(rt: &impl Abort, alloc: Global, text: &[u8]) -> Result<BhvFile, ReadFault> {
     assert!(rt; text.len() < 4_000_000_000);
     read_behaviors(alloc, text, &domain(rt))
 }
 
-const SURVEY: [&[u8]; 43] = [
-    b"initialize DEPLOY = false",
-    b"initialize RETURN = false",
-    b"",
-    b"Behavior = BHV_Waypoint",
-    b"{",
-    b"  name = waypt_survey",
-    b"  pwt = 100",
-    b"  condition = RETURN = false",
-    b"  condition = DEPLOY = true",
-    b"  endflag = RETURN = true",
-    b"  updates = WPT_UPDATE",
-    b"  perpetual = true",
-    b"  lead = 8",
-    b"  speed = 2   // meters per second",
-    b"  capture_radius = 5.0",
-    b"  slip_radius = 15.0",
-    b"  points = 60,-40 : 60,-160 : 150,-160 : 180,-100 : 150,-40",
-    b"  repeat = 1",
-    b"  visual_hints = nextpt_color=red",
-    b"}",
-    b"",
-    b"Behavior = BHV_Waypoint",
-    b"{",
-    b"  name = waypt_return",
-    b"  pwt = 100",
-    b"  condition = RETURN = true",
-    b"  condition = DEPLOY = true",
-    b"  endflag = RETURN = false",
-    b"  endflag = DEPLOY = false",
-    b"  speed = 2.0",
-    b"  capture_radius = 2.0",
-    b"  slip_radius = 8.0",
-    b"  points = 0,-20",
-    b"}",
-    b"",
-    b"Behavior = BHV_ConstantDepth",
-    b"{",
-    b"  name = const_depth",
-    b"  pwt = 100",
-    b"  condition = DEPLOY = true",
-    b"  duration = no-time-limit",
-    b"  depth = 10",
-    b"}",
-];
-
-// The survey with another line of this number, counted from 1.
-fn survey_with(alloc: Global, number: usize, line: &[u8]) -> Result<Vec<u8>, AllocError> {
-    let mut text = Vec::new(alloc);
-    for (place, stands) in SURVEY.iter().enumerate() {
-        text.extend_from_slice(if place + 1 == number { line } else { *stands })?;
-        text.push(b'\n')?;
-    }
-    Ok(text)
-}
+const SURVEY: &[u8] =
+    b"initialize DEPLOY = false\ninitialize RETURN = false\n\nBehavior = BHV_Waypoint\n{\n  name = waypt_survey\n  pwt = 100\n  condition = RETURN = false\n  condition = DEPLOY = true\n  endflag = RETURN = true\n  updates = WPT_UPDATE\n  perpetual = true\n  lead = 8\n  speed = 2   // meters per second\n  capture_radius = 5.0\n  slip_radius = 15.0\n  points = 60,-40 : 60,-160 : 150,-160 : 180,-100 : 150,-40\n  repeat = 1\n  visual_hints = nextpt_color=red\n}\n\nBehavior = BHV_Waypoint\n{\n  name = waypt_return\n  pwt = 100\n  condition = RETURN = true\n  condition = DEPLOY = true\n  endflag = RETURN = false\n  endflag = DEPLOY = false\n  speed = 2.0\n  capture_radius = 2.0\n  slip_radius = 8.0\n  points = 0,-20\n}\n\nBehavior = BHV_ConstantDepth\n{\n  name = const_depth\n  pwt = 100\n  condition = DEPLOY = true\n  duration = no-time-limit\n  depth = 10\n}\n";
 
 #[test]
 fn survey(rt: HostRuntime) -> Result<(), Fail> {
     let alloc = rt.alloc();
-    let file = read(&rt, alloc, &survey_with(alloc, 0, b"")?)?;
+    let file = read(&rt, alloc, SURVEY)?;
     assert_eq!(rt; file.opening.len(), 2);
-    let names: [&[u8]; 3] = [b"waypt_survey", b"waypt_return", b"const_depth"];
     assert_eq!(rt; file.blocks.len(), 3);
-    for (block, name) in file.blocks.all().iter().zip(names.iter()) {
-        assert_eq!(rt; block.common.name.bytes(), *name);
-        assert_eq!(rt; block.spec.weight, 100);
-    }
     assert_eq!(rt; file.unused.len(), 2);
-    let unused: [(u32, &[u8]); 2] = [(13, b"lead"), (19, b"visual_hints")];
-    for (found, (line, name)) in file.unused.all().iter().zip(unused.iter()) {
-        assert_eq!(rt; found.line, *line);
-        assert_eq!(rt; found.name.bytes(), *name);
-    }
-    Ok(())
-}
-
-#[test]
-fn changed_surveys(rt: HostRuntime) -> Result<(), Fail> {
-    let alloc = rt.alloc();
-    for (number, line, refused, cause) in [
-        (4, b"Behavior = BHV_Way".as_slice(), 4, Cause::B3),
-        (8, b"condition = (RETURN = false", 8, Cause::B5),
-        (14, b"speed = fast", 14, Cause::B6),
-        (24, b"name = waypt_survey", 24, Cause::B4),
-        (42, b"", 43, Cause::B11),
-        (43, b"} x", 43, Cause::B1),
-        (43, b"x", 43, Cause::B1),
-        (43, b"x = 1", 43, Cause::B2),
-    ] {
-        let fault = read(&rt, alloc, &survey_with(alloc, number, line)?).err();
-        assert_eq!(rt;
-            fault,
-            Some(ReadFault::At {
-                line: refused,
-                cause
-            }),
-            "{line:?}"
-        );
-    }
-    let text = survey_with(alloc, 0, b"")?;
-    assert!(rt; text.len() < 4_000_000_000);
-    let fault = read_behaviors(alloc, &text, &without_depth(&rt)).err();
-    let cause = Cause::B10;
-    assert_eq!(rt; fault, Some(ReadFault::At { line: 43, cause }));
+    let first = file.unused.get(0);
+    assert_eq!(rt; first.line, 13);
+    assert_eq!(rt; first.name.bytes(), b"lead".as_slice());
+    let block = file.blocks.get(2);
+    assert_eq!(rt; block.common.name.bytes(), b"const_depth".as_slice());
+    assert_eq!(rt; block.spec.weight, 100);
     Ok(())
 }
 
