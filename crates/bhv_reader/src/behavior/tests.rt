@@ -1,6 +1,7 @@
 // Files of behaviours worked by hand, and their limits.
-use crate::{BhvFile, Block, Shape, Spec, read_behaviors, set_param};
-use helm_geo::Spot;
+ghost use Rattle.std.specs.Prelude.{◌<◌};
+
+use crate::{BhvFile, Block, Common, Shape, Spec, read_behaviors, set_param};
 use ivp_domain::{Axis, AxisName, Domain};
 use moos_post::Copied;
 use moos_text::{Cause, ReadFault, print_seconds};
@@ -103,68 +104,73 @@ fn limits(rt: HostRuntime) -> Result<(), Fail> {
     Ok(())
 }
 
+// A path of so many points.
+fn path(alloc: Global, count: u32) -> Result<Vec<u8>, AllocError>
+    requires { 0 < count }
+{
+    let mut text = Vec::from_slice(
+        alloc,
+        b"Behavior = BHV_Waypoint {\nname = w\nspeed = 1\npoints = ",
+    )?;
+    counted(&mut text, count - 1, b"1,", b" : ")?;
+    text.extend_from_slice(b"0,0\n}")?;
+    Ok(text)
+}
+
 #[test]
 fn most_places(rt: HostRuntime) -> Result<(), Fail> {
     let alloc = rt.alloc();
-    for (count, cause) in [(63, None), (64, Some(Cause::B6))] {
-        let mut text = Vec::from_slice(
-            alloc,
-            b"Behavior = BHV_Waypoint {\nname = w\nspeed = 1\npoints = ",
-        )?;
-        counted(&mut text, count, b"1,", b" : ")?;
-        text.extend_from_slice(b"0,0\n}")?;
-        assert_eq!(rt; refusal(&rt, alloc, &text), cause);
-    }
+    let good = path(alloc, 64)?;
+    assert_eq!(rt; refusal(&rt, alloc, &good), None);
+    let bad = path(alloc, 65)?;
+    assert_eq!(rt; refusal(&rt, alloc, &bad), Some(Cause::B6));
     Ok(())
 }
 
-fn only_block(rt: &impl Abort, alloc: Global, text: &[u8]) -> Result<Block, Fail> {
-    let file = read(rt, alloc, text)?;
-    assert_eq!(rt; file.blocks.len(), 1);
-    let block = file.blocks.get(0);
-    Ok(Block {
-        common: block.common.copy(alloc)?,
-        spec: block.spec.copy(alloc)?,
+// What is said of a value isn't needed here.
+fn is_set(alloc: Global, spec: &mut Spec, name: &[u8], value: &[u8]) -> Result<bool, AllocError> {
+    let good = set_param(alloc, spec, name, value)?;
+    Ok(good)
+}
+
+fn set_once(alloc: Global, name: &[u8], value: &[u8]) -> Result<Option<u32>, AllocError> {
+    let mut spec = Spec {
+        weight: 100,
+        shape: Shape::MaxDepth {
+            max_depth: 0,
+            basewidth: 0,
+        },
+    };
+    Ok(if is_set(alloc, &mut spec, name, value)? {
+        Some(spec.weight)
+    } else {
+        None
     })
 }
 
 #[test]
 fn parameters_are_set(rt: HostRuntime) -> Result<(), Fail> {
     let alloc = rt.alloc();
-    let text =
-        b"Behavior = BHV_Waypoint {\nname = w\nspeed = 1\npoints = 1,2:-3,4.5\nduration = 0.5\nrunflag = A = 1\n}";
-    let block = only_block(&rt, alloc, text)?;
-    assert_eq!(rt; block.common.name.bytes(), b"w".as_slice());
-    assert_eq!(rt; block.common.duration, Some(500));
-    assert_eq!(rt; block.common.runflags.len(), 1);
-    let mut spec: Spec = block.spec;
-    for (name, value, good) in [
-        (b"Radius".as_slice(), b"4".as_slice(), true),
-        (b"speed", b"fast", false),
-        (b"heading", b"1", false),
-        (b"name", b"v", false),
-        (b"order", b"reverse", true),
-        (b"pwt", b"7.9", true),
-        (b"points", b"", false),
-    ] {
-        assert_eq!(rt; set_param(alloc, &mut spec, name, value)?, good, "{name:?}");
-    }
-    assert_eq!(rt; spec.weight, 7);
-    match &spec.shape {
-        Shape::Waypoint {
-            points,
-            speed,
-            capture_radius,
-            reverse,
-            ..
-        } => {
-            let places = [Spot { x: 1000, y: 2000 }, Spot { x: -3000, y: 4500 }];
-            assert_eq!(rt; points.all(), places.as_slice());
-            assert_eq!(rt; *speed, 1000);
-            assert_eq!(rt; *capture_radius, 4000);
-            assert!(rt; *reverse);
-        },
-        _ => assert!(rt; false, "another type"),
-    }
+    assert_eq!(rt; set_once(alloc, b"pwt", b"7.9")?, Some(7));
+    assert_eq!(rt; set_once(alloc, b"Max_Depth", b"4")?, Some(100));
+    assert_eq!(rt; set_once(alloc, b"max_depth", b"deep")?, None);
+    assert_eq!(rt; set_once(alloc, b"speed", b"1")?, None);
+    Ok(())
+}
+
+fn copied(alloc: Global, block: &Block) -> Result<(Common, Spec), AllocError> {
+    let common = block.common.copy(alloc)?;
+    let spec = block.spec.copy(alloc)?;
+    Ok((common, spec))
+}
+
+#[test]
+fn copies(rt: HostRuntime) -> Result<(), Fail> {
+    let alloc = rt.alloc();
+    let file = read(&rt, alloc, SURVEY)?;
+    assert_eq!(rt; file.blocks.len(), 3);
+    let (common, spec) = copied(alloc, file.blocks.get(2))?;
+    assert_eq!(rt; common.name.bytes(), b"const_depth".as_slice());
+    assert_eq!(rt; spec.weight, 100);
     Ok(())
 }
