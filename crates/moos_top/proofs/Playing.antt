@@ -86,7 +86,7 @@ reported order script names history tell valid same lawful = record {
   printed = printed;
   listed = λ other is text.
       (tell no_modes no_modes script.names script.names history other [] [] (lawful_community order script history valid lawful) (lawful_community order script other valid is)
-          (λ i d within. absurd (omega (arith, within))) (λ i d within. absurd (omega (arith, within))) (sym text ∙ printed)).1;
+      (λ i d within. absurd (omega (arith, within))) (λ i d within. absurd (omega (arith, within))) (sym text ∙ printed)).1;
 }
   where
     printed : report_text no_modes names history [] ≡ report_text no_modes script.names history []

@@ -15,7 +15,7 @@ use crate::words::Words;
 use ivp_cert::{accepts, print_decision, read_decision, read_problem};
 use moos_io::{Failed, Folder, Gate, LoadFault, Sink, put_all};
 use moos_play::{Order, play};
-use moos_report::{report, report_law, Setup};
+use moos_report::{Setup, report, report_law};
 use moos_text::ReadFault;
 use script_reader::read_script;
 use std::alloc::Global;
