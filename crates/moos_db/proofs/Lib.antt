@@ -4,6 +4,7 @@ pub mod Growth
 pub mod Keeping
 pub mod Lasts
 pub mod Latests
+pub mod Letters
 pub mod Listing
 pub mod Rows
 pub mod Runs
