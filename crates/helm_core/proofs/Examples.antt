@@ -106,7 +106,7 @@ changes_mode = refl
 
 -- The mode is found while parked too, and the answer has it where it isn't posted.
 parked_mode : iteration_at moded run 2
-    ≡ record { stamp = 500; parked = true; mode = codes "ACTIVE"; posts = helm_posts moded run 2 }
+    ≡ record { stamp = 500; parked = true; mode = codes "ACTIVE"; updates = []; states = []; faults = []; decision = None; posts = helm_posts moded run 2 }
 parked_mode = refl
 
 -- What was mailed while parked is known afterwards.
@@ -118,6 +118,10 @@ starts_parked : iteration_at moded parked_run 0
       stamp = 0;
       parked = true;
       mode = codes "ACTIVE";
+      updates = [];
+      states = [];
+      faults = [];
+      decision = None;
       posts =
           text_pair (codes "IVPHELM_STATE") (codes "PARK") ∷ text_pair (codes "MODE") (codes "ACTIVE") ∷ units (codes "DESIRED_SPEED") 0
           ∷ text_pair (codes "IVPHELM_ALLSTOP") (codes "ManualOverride") ∷ [];
@@ -129,6 +133,10 @@ known_later : iteration_at moded parked_run 1
       stamp = 250;
       parked = false;
       mode = codes "ACTIVE";
+      updates = [];
+      states = [];
+      faults = [];
+      decision = None;
       posts = text_pair (codes "IVPHELM_STATE") (codes "DRIVE") ∷ units (codes "DESIRED_SPEED") 0 ∷ text_pair (codes "IVPHELM_ALLSTOP") (codes "NothingToDo") ∷ [];
     }
 known_later = refl
@@ -149,6 +157,10 @@ without_modes : iteration_at plain run 0
       stamp = 0;
       parked = false;
       mode = [];
+      updates = [];
+      states = [];
+      faults = [];
+      decision = None;
       posts = text_pair (codes "IVPHELM_STATE") (codes "DRIVE") ∷ units (codes "DESIRED_SPEED") 0 ∷ text_pair (codes "IVPHELM_ALLSTOP") (codes "NothingToDo") ∷ [];
     }
 without_modes = refl

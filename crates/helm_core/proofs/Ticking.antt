@@ -106,7 +106,7 @@ same_posts helm now before moment recalls parked mode = sym
     ∙ ap (put_together helm.modes (said_before helm (state_word helm.outlook.parked)) (said_before helm helm.outlook.mode) (option_map allstop_text helm.allstop) (state_word now.parked) now.mode) (stop_text now.parked))
 
 abbrev iteration_with : ℕ → Bool → List ℕ → List Pair → Iteration
-iteration_with stamp parked mode posts = record { stamp = stamp; parked = parked; mode = mode; posts = posts }
+iteration_with stamp parked mode posts = record { stamp = stamp; parked = parked; mode = mode; updates = []; states = []; faults = []; decision = None; posts = posts }
 
 module _ (helm : Helm) (stamp : ℕ) (mail : List Letter) (now : Outlook) (learnt : HasLearnt helm.modes mail helm.outlook now) (ticks : List Tick) (stands : StandsFor helm ticks) where
   abbrev ticks' : List Tick

@@ -1,5 +1,5 @@
 -- An iteration of the helm, as a function of what the helm is made of and of all its ticks so far.
-use Rattle.std.specs.Prelude.{ℕ, List, Option}
+use Rattle.std.specs.Prelude.{ℕ, List, [], Option, None}
 use Rattle.helm_core.specs.declared.iteration.Iteration.{Iteration}
 use Rattle.helm_core.specs.Plans.{Plan}
 use Rattle.helm_core.specs.Ticks.{Tick}
@@ -12,6 +12,10 @@ iteration_of plan before now = record {
   stamp = now.seen.stamp;
   parked = now.seen.parked;
   mode = now.seen.mode;
+  updates = [];
+  states = [];
+  faults = [];
+  decision = None;
   posts = posts_made plan before now;
 }
 

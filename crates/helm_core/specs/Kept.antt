@@ -1,5 +1,5 @@
 -- What the helm keeps, and what an iteration comes to by it: this serves `tick` alone.
-use Rattle.std.specs.Prelude.{ℕ, Bool, not, if◌then◌else◌, List, [], ◌++◌, fold, codes, Option, Some, option_map}
+use Rattle.std.specs.Prelude.{ℕ, Bool, not, if◌then◌else◌, List, [], ◌++◌, fold, codes, Option, Some, None, option_map}
 use Rattle.moos_post.specs.declared.value.Pair.{Pair}
 use Rattle.helm_cond.specs.Learnt.{Knowledge, known_with}
 use Rattle.helm_core.specs.declared.allstop.Allstop.{Allstop}
@@ -41,7 +41,7 @@ posts_by helm now =
 
 -- the iteration at this outlook
 abbrev pub iteration_by : Helm → ℕ → Outlook → Iteration
-iteration_by helm stamp now = record { stamp = stamp; parked = now.parked; mode = now.mode; posts = posts_by helm now }
+iteration_by helm stamp now = record { stamp = stamp; parked = now.parked; mode = now.mode; updates = []; states = []; faults = []; decision = None; posts = posts_by helm now }
 
 -- the helm after it
 abbrev pub helm_after : Helm → ℕ → Outlook → Helm

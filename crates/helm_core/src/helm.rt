@@ -6,7 +6,7 @@ ghost use Rattle.helm_core.specs.Helms.{allstop_text, clock_of, plan_of, HasLear
 ghost use Rattle.helm_core.specs.Kept.{helm_after, iteration_by, posts_by, said_before};
 
 use crate::allstop::Allstop;
-use crate::iteration::Iteration;
+use crate::iteration::{Faults, Iteration, States, Updates};
 use crate::outlook::Outlook;
 use crate::posts::{add_changed, add_number};
 use crate::wanted::Wanted;
@@ -126,6 +126,10 @@ impl Helm {
             stamp,
             parked: now.parked,
             mode,
+            updates: Updates::new(alloc),
+            states: States::new(alloc),
+            faults: Faults::new(alloc),
+            decision: None,
             posts,
         })
     }

@@ -18,7 +18,7 @@ mod posts;
 mod wanted;
 
 pub use helm::Helm;
-pub use iteration::Iteration;
+pub use iteration::{BhvError, Faults, Iteration, States, Update, Updates};
 pub use law::iterations_law;
 
 #[cfg(test)]

@@ -1,6 +1,6 @@
 -- Reports worked by hand.
 use Rattle.std.proofs.Common.{◌≡◌, ℕ, zero, suc, ◌<◌, Bool, true, false, not, ◌==◌, List, [], ◌∷◌, refl, ap, arith}
-use Rattle.std.specs.Prelude.{codes, pos, negsuc, IsTrue, slice_index, slice_index_or}
+use Rattle.std.specs.Prelude.{codes, pos, negsuc, IsTrue, None, slice_index, slice_index_or}
 use Rattle.std.specs.List.{All, list_all}
 use Rattle.std.proofs.lemmas.List.Elements.{All-cons, All-nil}
 use Rattle.std.specs.Fmt.{digits}
@@ -74,7 +74,7 @@ ticks =
     ∷ record { stamp = 250; client = 1; call = Fetch } ∷ record { stamp = 250; client = 1; call = Posts (speed ∷ []) } ∷ []
 
 abbrev in_mode : ℕ → Bool → List ℕ → Iteration
-in_mode stamp parked mode = record { stamp = stamp; parked = parked; mode = mode; posts = [] }
+in_mode stamp parked mode = record { stamp = stamp; parked = parked; mode = mode; updates = []; states = []; faults = []; decision = None; posts = [] }
 
 abbrev vehicle : List (List ℕ)
 vehicle = codes "nav" ∷ codes "pHelmIvP" ∷ []

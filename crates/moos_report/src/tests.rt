@@ -1,6 +1,7 @@
 ghost use Rattle.std.specs.Prelude.{◌<◌, length};
 
 use super::*;
+use helm_core::{Faults, States, Updates};
 use moos_io::MemSink;
 use moos_post::{Batch, Milli, Name, Names, Reg, Regs, Txt, Value};
 use std::alloc::Global;
@@ -186,6 +187,10 @@ fn iteration(alloc: Global, stamp: u64, parked: bool, mode: &str) -> Result<Iter
         stamp,
         parked,
         mode: Txt::new(alloc, mode.as_bytes())?,
+        updates: Updates::new(alloc),
+        states: States::new(alloc),
+        faults: Faults::new(alloc),
+        decision: None,
         posts: Batch::new(alloc),
     })
 }
