@@ -29,7 +29,7 @@ behavior_block file behavior = record { file = file; behavior = behavior }
 -- an unfinished block behind this file
 abbrev pub open_block : BhvFile → Unclosed → OpenBlock
 open_block file (OfMode mode) = ModeOpen (mode_block file mode)
-open_block file (OfBehavior behavior) = BehaviorOpen (behavior_block file behavior)
+open_block file (OfBehavior behavior) = BehaviorOpen (behavior_block file behavior.value)
 
 -- where the reader stands with this file
 abbrev pub standing_at : BhvFile → Position → Standing BhvFile OpenBlock

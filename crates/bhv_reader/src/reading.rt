@@ -4,8 +4,8 @@ ghost use Rattle.moos_text.specs.Lines.{behind_word, ends_with, first_word, is_u
 ghost use Rattle.moos_text.specs.Pairs.{pair_of, sides_of};
 ghost use Rattle.moos_text.specs.Refusals.{IsFirst, IsLineFault};
 ghost use Rattle.moos_text.specs.Standing.{after_statement, after_text, at_end, Outside};
-ghost use Rattle.bhv_reader.specs.Behaviors.{begins_behavior, begins_by_brace, behavior_form, behind_close, block_closed, with_block_line, with_opening};
-ghost use Rattle.bhv_reader.specs.Places.{behavior_in, open_block, standing_at};
+ghost use Rattle.bhv_reader.specs.Behaviors.{OfBehavior as BehaviorOpen, begins_behavior, begins_by_brace, behavior_form, behind_close, block_closed, with_block_line, with_opening};
+ghost use Rattle.bhv_reader.specs.Places.{behavior_block, behavior_in, open_block, standing_at};
 ghost use Rattle.moos_text.specs.Sections.{Statement};
 ghost use Rattle.bhv_reader.specs.declared.file.BhvFile.{BhvFile};
 
@@ -23,11 +23,12 @@ use std::alloc::Global;
 // The most opening pairs.
 const MOST_PAIRS: usize = 256;
 
-/// A block that isn't closed yet: of a mode or of a behaviour.
+/// A block that isn't closed yet: of a mode or of a behaviour. A behaviour is boxed, since it is large and goes on from line
+/// to line.
 #[derive(Drop)]
 pub enum Unclosed {
     OfMode(Mode),
-    OfBehavior(Behavior),
+    OfBehavior(Box<Behavior>),
 }
 
 /// Where the lines have come: outside blocks, behind a line that opens one, or between its braces.
@@ -140,7 +141,7 @@ fn close(
 {
     match block {
         Unclosed::OfMode(mode) => mode.close(alloc, file, behind),
-        Unclosed::OfBehavior(behavior) => behavior.close(domain, file, behind),
+        Unclosed::OfBehavior(behavior) => Box::into_inner(behavior).close(domain, file, behind),
     }
 }
 
@@ -167,7 +168,10 @@ fn after_loose(
         return Ok(Position::Loose);
     }
     match begin_behavior(alloc, text) {
-        Ok(behavior) => Ok(behind_head(text, Unclosed::OfBehavior(behavior))),
+        Ok(behavior) => {
+            let block = boxed(alloc, behavior)?;
+            Ok(behind_head(text, block))
+        },
         Err(cause) => Err(LineFault::Refused(cause)),
     }
 }
@@ -184,6 +188,17 @@ fn begin_behavior(alloc: Global, text: &[u8]) -> Result<Behavior, Cause>
     }
     let behavior = Behavior::begin(alloc, trimmed(without_last(value, b'{')))?;
     Ok(behavior)
+}
+
+// A behaviour as a block that isn't closed yet.
+fn boxed(alloc: Global, behavior: Behavior) -> Result<Unclosed, LineFault>
+    ensures block { (file : BhvFile) → IfOk result (λ block. open_block file block ≡ BehaviorOpen (behavior_block file behavior)) }
+    ensures refused { IfErr result (λ fault. fault ≡ LineFault.NoMemory) }
+{
+    match Box::new(alloc, behavior) {
+        Ok(behavior) => Ok(Unclosed::OfBehavior(behavior)),
+        Err(_) => Err(LineFault::NoMemory),
+    }
 }
 
 // Where the lines are behind one that opens a block.
