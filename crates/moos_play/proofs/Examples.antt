@@ -6,7 +6,11 @@ use Rattle.std.proofs.lemmas.Bool.Decides.{nat_tests}
 use Rattle.std.proofs.lemmas.List.Elements.{All-cons, All-nil}
 use Rattle.moos_post.specs.declared.entry.Call.TheVariants.{Fetch}
 use Rattle.moos_post.specs.declared.entry.Entry.{Entry}
+use Rattle.moos_post.specs.declared.value.Post.{Post}
 use Rattle.moos_post.specs.History.{History}
+use Rattle.moos_db.specs.declared.mail.Letter.{Letter}
+use Rattle.moos_db.specs.Database.{AreLetters, letters_at}
+use Rattle.moos_db.proofs.Letters.{letters_are}
 use Rattle.moos_client.specs.Calls.{MayCall, SeatState}
 use Rattle.moos_play.specs.Lawful.{IsLawful, KeepsOrder, no_stamp_goes_back}
 use Rattle.moos_play.specs.declared.player.Player.{Player}
@@ -218,3 +222,7 @@ module _ (lock : CommunityLock) where
 
   not_by_stamps : HasSeen Stamp raced lines → ⊥
   not_by_stamps seen = false≢true seen.stamps
+
+-- of whatever history, a mail of the posts 2 and 0 is just the letters with these posts
+two_letters : (posts : List Post) (mail : List Letter) → AreLetters posts (2 ∷ 0 ∷ []) mail → mail ≡ letters_at posts (2 ∷ 0 ∷ [])
+two_letters posts mail are = letters_are posts (2 ∷ 0 ∷ []) mail are
