@@ -1,0 +1,108 @@
+ghost use Rattle.std.specs.Prelude.{◌≡◌, List, [], ◌∷◌, false, IfOk, OnErr, is_some};
+ghost use Rattle.bhv_reader.specs.declared.spec.Spec.{Spec};
+ghost use Rattle.bhv_reader.specs.Validity.{IsValidSpec};
+ghost use Rattle.bhv_kinds.specs.Standing.{IsKindOf, IsSoundKind};
+ghost use Rattle.bhv_kinds.specs.Targets.{is_reversed};
+ghost use Rattle.bhv_kinds.specs.Turns.{KindTurn, Updated, params_at};
+ghost use Rattle.bhv_kinds.specs.Updates.{updated};
+
+use crate::updating::{names_places, updated};
+use bhv_reader::{Shape, Spec};
+use helm_geo::Spot;
+use moos_post::{Copied, NoMemory, Txt};
+use std::alloc::Global;
+
+/// A behaviour by its type: its parameters, and as much of its updates and steps as its next step needs.
+#[derive(Debug, Drop)]
+pub struct Kind {
+    pub(crate) params: Spec,
+    /// How many points of a waypoint behaviour's list are captured.
+    pub(crate) captured: usize,
+    /// How often that list was begun again, up to 1,000,000.
+    pub(crate) again: u32,
+    /// Whether that list was taken from the last point to the first in the last step.
+    pub(crate) reversed: bool,
+    /// The vertex that a loiter behaviour makes for, unless it is to be chosen anew.
+    pub(crate) vertex: Option<usize>,
+    /// The first known position since the last fresh step.
+    pub(crate) centre: Option<Spot>,
+    /// The position in the last step, unless places were given anew since.
+    pub(crate) last: Option<Spot>,
+    /// The stamp of the first step of all.
+    pub(crate) first: Option<u64>,
+}
+
+// Whether a list of points is taken from the last to the first.
+fn is_reversed(shape: &Shape) -> bool
+    ensures { result ≡ is_reversed shape.now }
+{
+    matches!(shape, Shape::Waypoint { reverse: true, .. })
+}
+
+impl Kind {
+    /// A behaviour with these parameters that had no update and no step.
+    #[tactic(auto, using(crate::proofs::Keeping::made))]
+    pub fn make(spec: Spec) -> Kind
+        requires { IsValidSpec spec }
+        ensures { IsKindOf spec [] result }
+    {
+        let reversed = is_reversed(&spec.shape);
+        Kind {
+            params: spec,
+            captured: 0,
+            again: 0,
+            reversed,
+            vertex: None,
+            centre: None,
+            last: None,
+            first: None,
+        }
+    }
+
+    /// Its weight beside the other behaviours, at most 10,000.
+    pub fn weight(&self) -> u32
+        ensures { (spec : Spec) (turns : List KindTurn) → IsKindOf spec turns self.now → result ≡ (params_at spec turns).weight }
+    {
+        self.params.weight
+    }
+
+    /// An equal one.
+    pub fn copy(&self, alloc: Global) -> Result<Kind, NoMemory>
+        ensures { IfOk result (λ kind. kind ≡ self.now) }
+    {
+        let params = self.params.copy(alloc)?;
+        Ok(Kind {
+            params,
+            captured: self.captured,
+            again: self.again,
+            reversed: self.reversed,
+            vertex: self.vertex,
+            centre: self.centre,
+            last: self.last,
+            first: self.first,
+        })
+    }
+
+    /// Takes an update: pairs of a parameter and its value with `#` between. False exactly where one of them isn't good or,
+    /// after all of them, a relation between parameters fails; then nothing changed, nor where no memory was left.
+    #[tactic(auto, using(crate::proofs::Keeping::stays, crate::proofs::Keeping::same_good))]
+    pub fn update(&mut self, alloc: Global, text: &Txt) -> Result<bool, NoMemory>
+        requires sound { IsSoundKind self.old }
+        ensures good { IfOk result (λ good. (spec : Spec) (turns : List KindTurn) → IsKindOf spec turns self.old → good ≡ is_some (updated (params_at spec turns) text.now)) }
+        ensures stands { IfOk result (λ _. (spec : Spec) (turns : List KindTurn) → IsKindOf spec turns self.old → IsKindOf spec (Updated text.now ∷ turns) self.new) }
+        ensures sound { IfOk result (λ _. IsSoundKind self.new) }
+        ensures bad { IfOk result (λ good. good ≡ false → self.new ≡ self.old) }
+        ensures same { OnErr result (self.new ≡ self.old) }
+    {
+        let Some(params) = updated(alloc, &self.params, text.bytes())? else {
+            return Ok(false);
+        };
+        self.params = params;
+        if names_places(text.bytes()) {
+            self.captured = 0;
+            self.vertex = None;
+            self.last = None;
+        }
+        Ok(true)
+    }
+}
