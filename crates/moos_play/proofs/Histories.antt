@@ -1,17 +1,15 @@
--- Histories of which each client's entries are known.
-use Rattle.std.proofs.Common.{◌≡◌, ℕ, ◌==◌, Bool, true, false, cond, [], ◌∷◌, ◌++◌, filter, nat_le, refl, sym, ◌∙◌, subst, arith, append-nil, eq-eqb}
+-- Histories of which each client's entries are known, and keys of entries that never fall.
+use Rattle.std.proofs.Common.{◌≡◌, ◌≢◌, ℕ, ◌==◌, Bool, true, false, cond, [], ◌∷◌, ◌++◌, filter, length, nat_le, refl, sym, ap, ◌∙◌, subst, arith, eq-eqb}
 use Rattle.std.specs.List.{list_all}
 use Rattle.std.proofs.lemmas.Bool.{and_from, and_parts}
 use Rattle.std.proofs.lemmas.Bool.Decides.{nat_tests}
 use Rattle.std.proofs.lemmas.List.{append_cancel_left}
 use Rattle.std.proofs.lemmas.List.Elements.{filter-append}
+use native.Mathlib.Decide.{ℕ_discrete}
 use Rattle.moos_post.specs.declared.entry.Entry.{Entry}
 use Rattle.moos_post.specs.History.{History}
 use Rattle.moos_client.specs.Calls.{entries_of}
-use Rattle.moos_play.specs.Lawful.{no_stamp_goes_back, KeepsOrder}
-use Rattle.moos_play.specs.Rounds.{IsOneRound}
-use Rattle.script_reader.specs.declared.script.Order.{Order}
-use Rattle.script_reader.specs.declared.script.Order.TheVariants.{Stamp, Race}
+use Rattle.moos_play.specs.Lawful.{never_falls}
 
 -- a test that all pass of a list with one element more or less
 all_rest : (p : Entry → Bool) (b : Bool) (x : Entry) (xs : History) → list_all p (cond b (x ∷ xs) xs) ≡ true → list_all p xs ≡ true
@@ -44,70 +42,81 @@ none_left (x ∷ xs) h =
     let here : x ∷ entries_of x.client xs ≡ [] = subst (λ b. cond b (x ∷ entries_of x.client xs) (entries_of x.client xs) ≡ []) (eq-eqb x.client x.client refl) (h x.client) in
     cc
 
--- what a history goes on with has of each client what it has more
-pub own_rest : (before rest more : History) (n : ℕ) → entries_of n (before ++ rest) ≡ entries_of n before ++ entries_of n more → entries_of n rest ≡ entries_of n more
-own_rest before rest more n h =
-    append_cancel_left (entries_of n before) (entries_of n rest) (entries_of n more) (sym (filter-append (λ entry. entry.client == n) before rest) ∙ h)
+-- a history without entries of other clients is the client's entries
+pub only_own : (n : ℕ) (xs : History) → ((m : ℕ) → m ≢ n → entries_of m xs ≡ []) → xs ≡ entries_of n xs
+only_own n [] h = refl
+only_own n (x ∷ xs) h = by (ℕ_discrete x.client n) (only_own n xs (λ m other. others m (x.client == m) (h m other)))
+  where
+    others : (m : ℕ) (b : Bool) → cond b (x ∷ entries_of m xs) (entries_of m xs) ≡ [] → entries_of m xs ≡ []
+    others m true none = absurd (omega (arith, ap length none))
+    others m false none = none
 
--- stamps that rise behind entries of later lines
-pub rise_front : (last : ℕ) (xs ys : History) → no_stamp_goes_back last (xs ++ ys) ≡ true → no_stamp_goes_back last xs ≡ true
-rise_front last [] ys h = refl
-rise_front last (x ∷ xs) ys h =
-    let tests = and_parts (nat_le last x.stamp) (no_stamp_goes_back x.stamp (xs ++ ys)) h in
-    and_from (nat_le last x.stamp) (no_stamp_goes_back x.stamp xs) tests.0 (rise_front x.stamp xs ys tests.1)
+    by : Dec (x.client ≡ n) → xs ≡ entries_of n xs → x ∷ xs ≡ cond (x.client == n) (x ∷ entries_of n xs) (entries_of n xs)
+    by (yes e) rest = ap (λ rest. x ∷ rest) rest ∙ sym (ap (λ b. cond b (x ∷ entries_of n xs) (entries_of n xs)) (eq-eqb x.client n e))
+    by (no ne) rest =
+        let none : x ∷ entries_of x.client xs ≡ [] = subst (λ b. cond b (x ∷ entries_of x.client xs) (entries_of x.client xs) ≡ []) (eq-eqb x.client x.client refl) (h x.client ne) in
+        absurd (omega (arith, ap length none))
+
+-- what a history goes on with has of each client what it has more
+pub own_rest : (before rest : History) (n : ℕ) (more : History) → entries_of n (before ++ rest) ≡ entries_of n before ++ more → entries_of n rest ≡ more
+own_rest before rest n more h =
+    append_cancel_left (entries_of n before) (entries_of n rest) more (sym (filter-append (λ entry. entry.client == n) before rest) ∙ h)
 
 le_along : (a b c : ℕ) → nat_le a b ≡ true → nat_le b c ≡ true → nat_le a c ≡ true
 le_along a b c h g = grind (arith, nat_tests)
 
--- a stamp behind rising ones is not below the first
-rise_last : (last : ℕ) (xs ys : History) (y : Entry) → no_stamp_goes_back last (xs ++ y ∷ ys) ≡ true → nat_le last y.stamp ≡ true
-rise_last last [] ys y h = (and_parts (nat_le last y.stamp) (no_stamp_goes_back y.stamp ys) h).0
-rise_last last (x ∷ xs) ys y h =
-    let tests = and_parts (nat_le last x.stamp) (no_stamp_goes_back x.stamp (xs ++ y ∷ ys)) h in
-    le_along last x.stamp y.stamp tests.0 (rise_last x.stamp xs ys y tests.1)
+module _ (key : Entry → ℕ) where
+  -- what rises from a bound rises from a lower one
+  pub rise_lower : (last m : ℕ) (xs : History) → nat_le last m ≡ true → never_falls key m xs ≡ true → never_falls key last xs ≡ true
+  rise_lower last m [] below h = refl
+  rise_lower last m (x ∷ xs) below h =
+      let tests = and_parts (nat_le m (key x)) (never_falls key (key x) xs) h in
+      and_from (nat_le last (key x)) (never_falls key (key x) xs) (le_along last m (key x) below tests.0) tests.1
 
--- and not below any of them
-rise_all : (last : ℕ) (xs ys : History) (y : Entry) → no_stamp_goes_back last (xs ++ y ∷ ys) ≡ true → list_all (λ entry. nat_le entry.stamp y.stamp) xs ≡ true
-rise_all last [] ys y h = refl
-rise_all last (x ∷ xs) ys y h =
-    let later = (and_parts (nat_le last x.stamp) (no_stamp_goes_back x.stamp (xs ++ y ∷ ys)) h).1 in
-    and_from (nat_le x.stamp y.stamp) (list_all (λ entry. nat_le entry.stamp y.stamp) xs) (rise_last x.stamp xs ys y later) (rise_all x.stamp xs ys y later)
+  -- the end of what rises
+  pub rise_end : (last : ℕ) (xs : History) (y : Entry) (ys : History) → never_falls key last (xs ++ y ∷ ys) ≡ true → never_falls key (key y) ys ≡ true
+  rise_end last [] y ys h = (and_parts (nat_le last (key y)) (never_falls key (key y) ys) h).1
+  rise_end last (x ∷ xs) y ys h = rise_end (key x) xs y ys (and_parts (nat_le last (key x)) (never_falls key (key x) (xs ++ y ∷ ys)) h).1
 
--- entries of one stamp rise from an earlier one
-rise_one : (last stamp : ℕ) (ys : History) → nat_le last stamp ≡ true → list_all (λ entry. entry.stamp == stamp) ys ≡ true → no_stamp_goes_back last ys ≡ true
-rise_one last stamp [] below h = refl
-rise_one last stamp (y ∷ ys) below h =
-    let tests = and_parts (y.stamp == stamp) (list_all (λ entry. entry.stamp == stamp) ys) h in
-    let here = tests.0 in
-    and_from (nat_le last y.stamp) (no_stamp_goes_back y.stamp ys) (grind (arith, nat_tests)) (rise_one y.stamp stamp ys (grind (arith, nat_tests)) tests.1)
+  -- entries of one key ahead of what rises from it
+  pub rise_ahead : (last m : ℕ) (xs ys : History) → nat_le last m ≡ true → list_all (λ entry. key entry == m) xs ≡ true → never_falls key m ys ≡ true → never_falls key last (xs ++ ys) ≡ true
+  rise_ahead last m [] ys below one h = rise_lower last m ys below h
+  rise_ahead last m (x ∷ xs) ys below one h =
+      let tests = and_parts (key x == m) (list_all (λ entry. key entry == m) xs) one in
+      let here = tests.0 in
+      and_from (nat_le last (key x)) (never_falls key (key x) (xs ++ ys)) (grind (arith, nat_tests)) (rise_ahead (key x) m xs ys (grind (arith, nat_tests)) tests.1 h)
 
--- entries of one stamp behind earlier ones
-rise_on : (last stamp : ℕ) (xs ys : History) → nat_le last stamp ≡ true → no_stamp_goes_back last xs ≡ true → list_all (λ entry. nat_le entry.stamp stamp) xs ≡ true → list_all (λ entry. entry.stamp == stamp) ys ≡ true → no_stamp_goes_back last (xs ++ ys) ≡ true
-rise_on last stamp [] ys below rises early one = rise_one last stamp ys below one
-rise_on last stamp (x ∷ xs) ys below rises early one =
-    let rising = and_parts (nat_le last x.stamp) (no_stamp_goes_back x.stamp xs) rises in
-    let earlier = and_parts (nat_le x.stamp stamp) (list_all (λ entry. nat_le entry.stamp stamp) xs) early in
-    and_from (nat_le last x.stamp) (no_stamp_goes_back x.stamp (xs ++ ys)) rising.0 (rise_on x.stamp stamp xs ys earlier.0 rising.1 earlier.1 one)
+  -- and what stands behind entries of one key rises from it
+  rise_behind : (m : ℕ) (x : Entry) (xs ys : History) → list_all (λ entry. key entry == m) (x ∷ xs) ≡ true → never_falls key (key x) (xs ++ ys) ≡ true → never_falls key m ys ≡ true
+  rise_behind m x [] ys one h =
+      let here = (and_parts (key x == m) true one).0 in
+      let same : key x ≡ m = grind (arith, nat_tests) in
+      subst (λ m. never_falls key m ys ≡ true) same h
+  rise_behind m x (z ∷ xs) ys one h =
+      rise_behind m z xs ys (and_parts (key x == m) (list_all (λ entry. key entry == m) (z ∷ xs)) one).1 (and_parts (nat_le (key x) (key z)) (never_falls key (key z) (xs ++ ys)) h).1
 
--- A round's lines stand behind those of earlier rounds in the script, and what the round adds stands behind what the
--- earlier rounds left. So stamps keep rising.
-pub rounds_rise : (done lines before rest : History) (stamp : ℕ) → no_stamp_goes_back 0 (done ++ lines) ≡ true → list_all (λ entry. entry.stamp == stamp) lines ≡ true
-    → ((n : ℕ) → entries_of n before ≡ entries_of n done) → ((n : ℕ) → entries_of n rest ≡ entries_of n lines) → no_stamp_goes_back 0 before ≡ true → no_stamp_goes_back 0 (before ++ rest) ≡ true
-rounds_rise done [] before rest stamp rises one own added kept = rw (none_left rest added, append-nil before) kept
-rounds_rise done (y ∷ ys) before rest stamp rises one own added kept =
-    let here = (and_parts (y.stamp == stamp) (list_all (λ entry. entry.stamp == stamp) ys) one).0 in
-    let same : stamp ≡ y.stamp = grind (arith, nat_tests) in
-    let early = all_same (λ entry. nat_le entry.stamp y.stamp) before done own (rise_all 0 done ys y rises) in
-    let all : list_all (λ entry. entry.stamp == y.stamp) (y ∷ ys) ≡ true = subst (λ s. list_all (λ entry. entry.stamp == s) (y ∷ ys) ≡ true) same one in
-    rise_on 0 y.stamp before rest (rise_last 0 done ys y rises) kept early (all_same (λ entry. entry.stamp == y.stamp) rest (y ∷ ys) added all)
+  -- lines of one key, and in their place entries in another order
+  front_rise : (last m : ℕ) (lines new more : History) → never_falls key last (lines ++ more) ≡ true → list_all (λ entry. key entry == m) lines ≡ true → ((n : ℕ) → entries_of n new ≡ entries_of n lines)
+      → never_falls key last (new ++ more) ≡ true
+  front_rise last m [] new more h one same = rw (none_left new same) h
+  front_rise last m (y ∷ ys) new more h one same =
+      let tests = and_parts (nat_le last (key y)) (never_falls key (key y) (ys ++ more)) h in
+      let here = (and_parts (key y == m) (list_all (λ entry. key entry == m) ys) one).0 in
+      let below = tests.0 in
+      rise_ahead last m new more (grind (arith, nat_tests)) (all_same (λ entry. key entry == m) new (y ∷ ys) same one) (rise_behind m y ys more one tests.1)
 
--- the same for either order
-pub order_kept : (order : Order) (done lines before rest : History) → no_stamp_goes_back 0 (done ++ lines) ≡ true → IsOneRound order lines
-    → ((n : ℕ) → entries_of n before ≡ entries_of n done) → ((n : ℕ) → entries_of n rest ≡ entries_of n lines) → KeepsOrder order before → KeepsOrder order (before ++ rest)
-order_kept Stamp done lines before rest rises one own added kept = rounds_rise done lines before rest one.0 rises one.1 own added kept
-order_kept Race done lines before rest rises one own added kept = tt
+  pub same_rise : (last m : ℕ) (done lines new more : History) → never_falls key last (done ++ (lines ++ more)) ≡ true → list_all (λ entry. key entry == m) lines ≡ true → ((n : ℕ) → entries_of n new ≡ entries_of n lines)
+      → never_falls key last (done ++ (new ++ more)) ≡ true
+  same_rise last m [] lines new more h one same = front_rise last m lines new more h one same
+  same_rise last m (x ∷ xs) lines new more h one same =
+      let tests = and_parts (nat_le last (key x)) (never_falls key (key x) (xs ++ (lines ++ more))) h in
+      and_from (nat_le last (key x)) (never_falls key (key x) (xs ++ (new ++ more))) tests.0 (same_rise (key x) m xs lines new more tests.1 one same)
 
--- nothing keeps every order
-pub none_keeps : (order : Order) → KeepsOrder order []
-none_keeps Stamp = refl
-none_keeps Race = tt
+  -- entries of one key put between earlier ones and later ones
+  pub more_rise : (last m : ℕ) (done new more : History) → never_falls key last (done ++ more) ≡ true → nat_le last m ≡ true → list_all (λ entry. nat_le (key entry) m) done ≡ true → list_all (λ entry. key entry == m) new ≡ true → never_falls key m more ≡ true
+      → never_falls key last (done ++ (new ++ more)) ≡ true
+  more_rise last m [] new more h below early one rises = rise_ahead last m new more below one rises
+  more_rise last m (x ∷ xs) new more h below early one rises =
+      let tests = and_parts (nat_le last (key x)) (never_falls key (key x) (xs ++ more)) h in
+      let earlier = and_parts (nat_le (key x) m) (list_all (λ entry. nat_le (key entry) m) xs) early in
+      and_from (nat_le last (key x)) (never_falls key (key x) (xs ++ (new ++ more))) tests.0 (more_rise (key x) m xs new more tests.1 earlier.0 earlier.1 one rises)

@@ -1,15 +1,15 @@
 -- The first seat and the players from one step of a round to the next.
-use Rattle.std.proofs.Common.{◌≡◌, ◌≢◌, ℕ, ◌+◌, ◌-◌, ◌<◌, ◌≤◌, ◌==◌, Bool, true, false, cond, ◌||◌, List, [], ◌∷◌, ◌++◌, map, length, length-append, refl, sym, ap, ◌∙◌, subst, arith, eq-eqb, ne_eqb, nat_lt}
-use Rattle.std.specs.List.{All, list_all}
+use Rattle.std.proofs.Common.{◌≡◌, ◌≢◌, ℕ, ◌+◌, ◌-◌, ◌<◌, ◌≤◌, ◌==◌, Bool, true, false, cond, ◌||◌, List, [], ◌∷◌, ◌++◌, map, length, length-append, append-nil, refl, sym, ap, ◌∙◌, subst, arith, eq-eqb, ne_eqb, nat_lt}
+use Rattle.std.specs.List.{list_all}
 use Rattle.std.proofs.lemmas.Bool.{and_parts, false≢true}
 use Rattle.std.proofs.lemmas.Bool.Decides.{nat_tests}
 use Rattle.std.proofs.lemmas.List.{map-append}
-use Rattle.std.proofs.lemmas.List.Elements.{All-push}
+use Rattle.std.proofs.lemmas.List.Elements.{All-nil, All-push}
 use native.Mathlib.Decide.{ℕ_discrete}
 use Rattle.moos_client.specs.Calls.{MayCall, SeatState, entries_of}
 use Rattle.moos_post.specs.declared.entry.Entry.{Entry}
 use Rattle.moos_play.specs.declared.player.Player.{Player}
-use Rattle.moos_play.specs.Rounds.{AreParted, CommunityLock, has_line, IsApart, IsGathered, met_of, times_met}
+use Rattle.moos_play.specs.Rounds.{AreBusy, AreParted, CommunityLock, has_line, IsApart, IsGathered, met_of, times_met}
 use Rattle.moos_play.proofs.Mets.{moved_of, moves_each, moves_known}
 use Rattle.turn_lock.specs.declared.view.Met.{Met}
 use Rattle.turn_lock.specs.Passes.{beside, events_in, first_pass, has_number, met_with, without_number}
@@ -95,16 +95,6 @@ seated_all lock clients client first so some past all = record {
   once = so.once;
 }
 
--- the players that are parted so far, of the clients below this one
-pub record ArePartedTo (lock : CommunityLock) (lines : List Entry) (client : ℕ) (before first : SeatState) (players : List Player) : Type 0 where
-  pub same : first ≡ record before { met = first.met }
-  pub apart : All (λ player. IsApart lock player.seat) players
-  pub all : length first.met + length players ≡ length before.met
-  pub each : (n : ℕ) → times_met n first.met + times_met n (map met_of players) ≡ times_met n before.met
-  pub known : (n : ℕ) → events_in (first.met ++ map met_of players) n ≡ events_in before.met n
-  pub busy : (n : ℕ) → 0 < n → n < client → times_met n (map met_of players) ≡ 0 → entries_of n lines ≡ []
-  pub fresh : (n : ℕ) → client ≤ n → times_met n (map met_of players) ≡ 0
-
 -- no client that isn't among the lines has one
 pub none_among : (client : ℕ) (lines : List Entry) → has_line client lines ≡ false → entries_of client lines ≡ []
 none_among client [] h = refl
@@ -115,7 +105,7 @@ none_among client (line ∷ lines) h = by (none_among client lines) (line.client
     by rest false k = rest k
 
 -- nor has one whose number is past the clients
-none_past : (clients client : ℕ) (lines : List Entry) → list_all (λ line. nat_lt line.client clients) lines ≡ true → clients ≤ client → entries_of client lines ≡ []
+pub none_past : (clients client : ℕ) (lines : List Entry) → list_all (λ line. nat_lt line.client clients) lines ≡ true → clients ≤ client → entries_of client lines ≡ []
 none_past clients client [] h past = refl
 none_past clients client (line ∷ lines) h past =
     let tests = and_parts (nat_lt line.client clients) (list_all (λ line. nat_lt line.client clients) lines) h in
@@ -124,14 +114,8 @@ none_past clients client (line ∷ lines) h past =
     ∙ none_past clients client lines tests.1 past
 
 -- a client without lines stays
-pub parted_skip : (lock : CommunityLock) (lines : List Entry) (client : ℕ) (before first : SeatState) (players : List Player)
-    → ArePartedTo lock lines client before first players → has_line client lines ≡ false → ArePartedTo lock lines (client + 1) before first players
-parted_skip lock lines client before first players so none = record {
-  same = so.same;
-  apart = so.apart;
-  all = so.all;
-  each = so.each;
-  known = so.known;
+pub busy_skip : (lines : List Entry) (client : ℕ) (players : List Player) → AreBusy lines client players → has_line client lines ≡ false → AreBusy lines (client + 1) players
+busy_skip lines client players so none = record {
   busy = λ n above below absent. by n above below absent (ℕ_discrete client n);
   fresh = λ n past. so.fresh n (omega (arith, past));
 }
@@ -140,32 +124,54 @@ parted_skip lock lines client before first players so none = record {
     by n above below absent (yes e) = subst (λ k. entries_of k lines ≡ []) e (none_among client lines none)
     by n above below absent (no ne) = so.busy n above (omega (arith, below, ne)) absent
 
--- a client that isn't parted yet is with the first seat, once
-pub is_with : (lock : CommunityLock) (lines : List Entry) (client : ℕ) (before first : SeatState) (players : List Player) → IsGathered lock before → ArePartedTo lock lines client before first players
-    → 0 < client → client < length lock.base → times_met client first.met ≡ 1
-is_with lock lines client before first players gathered so above below =
-    omega (arith, so.each client, so.fresh client (omega arith), gathered.each client above below, gathered.once client)
+-- one more that is parted
+pub busy_more : (lines : List Entry) (client : ℕ) (players : List Player) (player : Player) → AreBusy lines client players → player.seat.number ≡ client → AreBusy lines (client + 1) (players ++ player ∷ [])
+busy_more lines client players player so is = record {
+  busy = λ n above below absent. busy n above below (subst (λ met. times_met n met ≡ 0) mets absent) (ℕ_discrete client n);
+  fresh = λ n past. ap (times_met n) mets ∙ times_other (map met_of players) (met_of player) n (λ e. omega (arith, e, past, is)) ∙ so.fresh n (omega (arith, past));
+}
+  where
+    mets : map met_of (players ++ player ∷ []) ≡ map met_of players ++ met_of player ∷ []
+    mets = map-append met_of players (player ∷ [])
 
--- a client with lines is parted from the first seat
-pub parted_more : (lock : CommunityLock) (lines : List Entry) (client : ℕ) (before first after seat : SeatState) (players : List Player) (player : Player) → IsGathered lock before → ArePartedTo lock lines client before first players
-    → 0 < client → client < length lock.base → after ≡ record first { met = without_number client first.met } → player.seat ≡ beside first client (events_in first.met client)
-    → ArePartedTo lock lines (client + 1) before after (players ++ player ∷ [])
-parted_more lock lines client before first after seat players player gathered so above below after_is seat_is =
-    subst (λ s. ArePartedTo lock lines (client + 1) before s (players ++ player ∷ [])) (sym shape) (record {
+    busy : (n : ℕ) → 0 < n → n < client + 1 → times_met n (map met_of players ++ met_of player ∷ []) ≡ 0 → Dec (client ≡ n) → entries_of n lines ≡ []
+    busy n above below absent (yes e) = absurd (omega (arith, absent, times_here (map met_of players) (met_of player) n (is ∙ e)))
+    busy n above below absent (no ne) = so.busy n above (omega (arith, below, ne)) (omega (arith, absent, times_other (map met_of players) (met_of player) n (λ e. ne (sym is ∙ e))))
+
+-- a client that isn't parted yet is with the first seat, once
+pub is_with : (lock : CommunityLock) (client : ℕ) (before first : SeatState) (players : List Player) → IsGathered lock before → AreParted lock before first players → times_met client (map met_of players) ≡ 0
+    → 0 < client → client < length lock.base → times_met client first.met ≡ 1
+is_with lock client before first players gathered so fresh above below =
+    omega (arith, so.each client, fresh, gathered.each client above below, gathered.once client)
+
+-- nobody is parted yet
+pub parted_none : (lock : CommunityLock) (first : SeatState) → AreParted lock first first []
+parted_none lock first = record {
+  same = refl;
+  apart = All-nil (λ player. IsApart lock player.seat);
+  all = omega arith;
+  each = λ n. omega arith;
+  known = λ n. ap (λ met. events_in met n) (append-nil first.met);
+}
+
+-- a client is parted from the first seat
+pub parted_more : (lock : CommunityLock) (client : ℕ) (before first after seat : SeatState) (players : List Player) (player : Player) → IsGathered lock before → AreParted lock before first players
+    → times_met client (map met_of players) ≡ 0 → 0 < client → client < length lock.base → after ≡ record first { met = without_number client first.met }
+    → player.seat ≡ beside first client (events_in first.met client) → AreParted lock before after (players ++ player ∷ [])
+parted_more lock client before first after seat players player gathered so fresh above below after_is seat_is =
+    subst (λ s. AreParted lock before s (players ++ player ∷ [])) (sym shape) (record {
       same = refl;
       apart = All-push (λ player. IsApart lock player.seat) players player so.apart (subst (IsApart lock) (sym seat_is) apart);
       all = omega (arith, so.all, length_without client first.met, with', length-append players (player ∷ []));
       each = λ n. ap (λ met. times_met n (without_number client first.met) + times_met n met) mets ∙ moves_each client first.met (map met_of players) with' n ∙ so.each n;
-      known = λ n. ap (λ met. events_in (without_number client first.met ++ met) n) mets ∙ moves_known client first.met (map met_of players) with' (so.fresh client (omega arith)) n ∙ so.known n;
-      busy = λ n above' below' absent. busy n above' below' (subst (λ met. times_met n met ≡ 0) mets absent) (ℕ_discrete client n);
-      fresh = λ n past. ap (times_met n) mets ∙ times_other (map met_of players) moved n (λ e. omega (arith, e, past)) ∙ so.fresh n (omega (arith, past));
+      known = λ n. ap (λ met. events_in (without_number client first.met ++ met) n) mets ∙ moves_known client first.met (map met_of players) with' fresh n ∙ so.known n;
     })
   where
     shape : after ≡ record before { met = without_number client first.met }
     shape = after_is ∙ ap {A = SeatState} (λ s. record s { met = without_number client first.met }) so.same
 
     with' : times_met client first.met ≡ 1
-    with' = is_with lock lines client before first players gathered so above below
+    with' = is_with lock client before first players gathered so fresh above below
 
     moved : Met Entry
     moved = moved_of client first.met
@@ -185,23 +191,3 @@ parted_more lock lines client before first after seat players player gathered so
       may = record { of_lock = record { same = may.of_lock.same; live = may.of_lock.live; base = may.of_lock.base }; free = refl; client = below };
       alone = refl;
     }
-
-    busy : (n : ℕ) → 0 < n → n < client + 1 → times_met n (map met_of players ++ moved ∷ []) ≡ 0 → Dec (client ≡ n) → entries_of n lines ≡ []
-    busy n above' below' absent (yes e) = absurd (omega (arith, absent, times_here (map met_of players) moved n e))
-    busy n above' below' absent (no ne) = so.busy n above' (omega (arith, below', ne)) (omega (arith, absent, times_other (map met_of players) moved n ne))
-
--- all clients with lines are parted
-pub parted_all : (lock : CommunityLock) (lines : List Entry) (client : ℕ) (before first : SeatState) (players : List Player) → ArePartedTo lock lines client before first players
-    → length lock.base ≤ client → list_all (λ line. nat_lt line.client (length lock.base)) lines ≡ true → AreParted lock lines before first players
-parted_all lock lines client before first players so past clients = record {
-  same = so.same;
-  apart = so.apart;
-  all = so.all;
-  each = so.each;
-  known = so.known;
-  busy = λ n above absent. by n above absent (nat_lt n (length lock.base)) refl;
-}
-  where
-    by : (n : ℕ) → 0 < n → times_met n (map met_of players) ≡ 0 → (b : Bool) → nat_lt n (length lock.base) ≡ b → entries_of n lines ≡ []
-    by n above absent true e = so.busy n above (grind (arith, nat_tests)) absent
-    by n above absent false e = none_past (length lock.base) n lines clients (grind (arith, nat_tests))

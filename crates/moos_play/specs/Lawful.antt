@@ -1,23 +1,121 @@
--- Which histories the clients of a script may leave, whatever the threads did.
-use Rattle.std.specs.Prelude.{◌≡◌, ℕ, Bool, ◌&&◌, nat_le, [], ◌∷◌, IsTrue, true}
-use Rattle.moos_client.specs.Calls.{entries_of}
+-- Which histories the clients of a script and its helm may leave, whatever the threads did, and what the helm's iterations
+-- are then.
+use Rattle.std.specs.Prelude.{◌≡◌, ◌≢◌, ℕ, zero, suc, ◌*◌, ◌/◌, ◌==◌, ◌&&◌, ◌≤◌, Bool, true, nat_le, nat_lt, if◌then◌else◌, List, [], ◌∷◌, ◌++◌, length, Option, None, Some, codes, IsTrue}
+use Rattle.moos_post.specs.declared.entry.Call.TheVariants.{Register, Post as Posts, Fetch}
+use Rattle.moos_post.specs.declared.entry.Entry.{Entry}
+use Rattle.moos_post.specs.Delivery.{is_fetch}
 use Rattle.moos_post.specs.History.{History}
+use Rattle.moos_db.specs.Database.{letters_after}
+use Rattle.moos_client.specs.Calls.{entries_of, entry_of}
+use Rattle.helm_core.specs.Helms.{plan_of, StandsFor}
+use Rattle.helm_core.specs.declared.iteration.Iteration.{Iteration}
+use Rattle.helm_core.specs.Iterations.{iteration_at}
+use Rattle.helm_core.specs.Plans.{Plan, wants_of}
+use Rattle.helm_core.specs.Ticks.{Tick, tick_of}
+use Rattle.moos_play.specs.declared.run.HelmRun.{HelmRun}
 use Rattle.script_reader.specs.declared.script.Order.{Order}
 use Rattle.script_reader.specs.declared.script.Order.TheVariants.{Stamp, Race}
 use Rattle.script_reader.specs.declared.script.Script.{Script}
 
--- no stamp is below the one before
-abbrev pub no_stamp_goes_back : ℕ → History → Bool
-no_stamp_goes_back last [] = true
-no_stamp_goes_back last (entry ∷ later) = nat_le last entry.stamp && no_stamp_goes_back entry.stamp later
+-- what a client hears at each of its fetches in a part of a history that stands behind another part
+abbrev pub heard_in : List (List ℕ) → ℕ → History → History → List Tick
+heard_in names client past [] = []
+heard_in names client past (entry ∷ later) =
+    let heard = heard_in names client (past ++ entry ∷ []) later in
+    if entry.client == client && is_fetch entry.call then tick_of entry.stamp (letters_after names client past) ∷ heard else heard
 
--- what an order asks of the stamps: by their stamps none goes back, and in a race they may stand in any order
-abbrev pub KeepsOrder : Order → History → Type 0
-KeepsOrder Stamp history = IsTrue (no_stamp_goes_back 0 history)
-KeepsOrder Race history = Unit {0}
+-- what a client hears at each of its fetches in a history
+abbrev pub heard_of : List (List ℕ) → ℕ → History → List Tick
+heard_of names client history = heard_in names client [] history
 
--- A history is lawful for an order and a script where each client's entries are its lines, in order and with their
--- stamps, where nobody else has an entry, and where the stamps are as the order asks.
-pub record IsLawful (order : Order) (script : Script) (history : History) : Type 0 where
-  pub own : (client : ℕ) → entries_of client history ≡ entries_of client script.lines
-  pub stamps : KeepsOrder order history
+-- how the helm is run: its number among the clients, what it is made of, and the milliseconds from one tick to the next
+pub record Steering : Type 0 where
+  pub client : ℕ
+  pub plan : Plan
+  pub period : ℕ
+
+-- the helm's entries before its first tick: it registers for what it wants, and posts the pairs to begin with, if any
+abbrev pub opening_of : Steering → List Entry
+opening_of helm =
+    entry_of helm.client 0 (Register (wants_of helm.plan))
+    ∷ (if nat_lt 0 (length helm.plan.opening) then entry_of helm.client 0 (Posts helm.plan.opening) ∷ [] else [])
+
+-- the helm's entries at one tick: it fetches, and posts what the iteration over what it has heard by then says
+abbrev pub tick_entries : Steering → List Tick → ℕ → List Entry
+tick_entries helm heard i =
+    entry_of helm.client (i * helm.period) Fetch
+    ∷ entry_of helm.client (i * helm.period) (Posts (iteration_at helm.plan heard i).posts)
+    ∷ []
+
+-- the helm's entries at its first ticks, so many
+abbrev pub ticks_of : Steering → List Tick → ℕ → List Entry
+ticks_of helm heard zero = []
+ticks_of helm heard (suc i) = ticks_of helm heard i ++ tick_entries helm heard i
+
+-- the iterations of the first ticks, so many
+abbrev pub iterations_of : Plan → List Tick → ℕ → List Iteration
+iterations_of plan heard zero = []
+iterations_of plan heard (suc i) = iterations_of plan heard i ++ iteration_at plan heard i ∷ []
+
+-- how many ticks there are up to a stamp, where the first is at 0
+abbrev pub ticks_to : ℕ → Steering → ℕ
+ticks_to stop helm = suc (stop / helm.period)
+
+-- the helm's entries before its first tick, none without a helm
+abbrev pub opening : Option Steering → List Entry
+opening None = []
+opening (Some helm) = opening_of helm
+
+-- the helm's entries at its ticks up to a stamp, none without a helm
+abbrev pub ticks : Option Steering → ℕ → List Tick → List Entry
+ticks None stop heard = []
+ticks (Some helm) stop heard = ticks_of helm heard (ticks_to stop helm)
+
+-- the helm's iterations up to a stamp, none without a helm
+abbrev pub iterations : Option Steering → ℕ → List Tick → List Iteration
+iterations None stop heard = []
+iterations (Some helm) stop heard = iterations_of helm.plan heard (ticks_to stop helm)
+
+-- the moment of an entry: each stamp has two, the first for the script's clients and the second for the helm's tick
+abbrev pub moment_of : ℕ → Entry → ℕ
+moment_of helm entry = if entry.client == helm then suc (2 * entry.stamp) else 2 * entry.stamp
+
+-- no entry's key is below that of the one before
+abbrev pub never_falls : (Entry → ℕ) → ℕ → History → Bool
+never_falls key last [] = true
+never_falls key last (entry ∷ later) = nat_le last (key entry) && never_falls key (key entry) later
+
+-- What an order asks of the entries behind the helm's opening: by their stamps none stands behind one of a later moment,
+-- and in a race they may stand in any order.
+abbrev pub KeepsOrder : Order → ℕ → History → Type 0
+KeepsOrder Stamp helm history = IsTrue (never_falls (moment_of helm) 0 history)
+KeepsOrder Race helm history = Unit {0}
+
+-- the helm has the number behind the script's clients
+abbrev pub helm_number : Script → ℕ
+helm_number script = length script.names
+
+-- how a helm is run for a script
+abbrev pub steering_with : Script → HelmRun → Steering
+steering_with script run = record { client = helm_number script; plan = plan_of run.helm; period = run.period }
+
+-- the helm has heard nothing yet, and has a period
+pub record MayStart (run : HelmRun) : Type 0 where
+  pub stands : StandsFor run.helm []
+  pub period : 1 ≤ run.period
+
+-- the names of the clients: the script's, and then the helm's where there is one, whatever is known of it
+abbrev pub names_with : {A : Type 0} → Script → Option A → List (List ℕ)
+names_with script None = script.names
+names_with script (Some helm) = script.names ++ codes "pHelmIvP" ∷ []
+
+-- A history is lawful for an order, a script and a helm, where there is one, and under these names of the clients: It
+-- begins with the helm's opening. The helm's other entries are those of its ticks, over what it hears in this history.
+-- Every other client's entries are its lines, in order and with their stamps, and nobody else has an entry. What stands
+-- behind the opening keeps the order.
+pub record IsLawful (order : Order) (script : Script) (helm : Option Steering) (names : List (List ℕ)) (history : History) : Type 0 where
+  pub rest : History
+  pub opened : history ≡ opening helm ++ rest
+  pub steered : entries_of (helm_number script) rest ≡ ticks helm script.stop (heard_of names (helm_number script) history)
+  pub own : (client : ℕ) → client ≢ helm_number script → entries_of client rest ≡ entries_of client script.lines
+  pub moments : KeepsOrder order (helm_number script) rest

@@ -1,12 +1,9 @@
 -- What a round does to the seats of the clients. This serves the functions of this crate alone.
-use Rattle.std.specs.Prelude.{◌≡◌, ℕ, ◌+◌, ◌-◌, ◌==◌, ◌<◌, ◌≤◌, Bool, IsTrue, List, [], ◌++◌, length, map, take, drop, OnOk, Ok, count_by}
+use Rattle.std.specs.Prelude.{◌≡◌, ℕ, ◌+◌, ◌-◌, ◌==◌, ◌<◌, ◌≤◌, ◌≢◌, Bool, IsTrue, List, [], ◌++◌, length, map, take, drop, OnOk, Result, count_by}
 use Rattle.std.specs.List.{All, list_all, list_any}
 use Rattle.moos_client.specs.Calls.{MayCall, SeatState, entries_of}
 use Rattle.moos_post.specs.declared.entry.Entry.{Entry}
 use Rattle.moos_play.specs.declared.player.Player.{Player}
-use Rattle.moos_play.specs.Lawful.{KeepsOrder}
-use Rattle.script_reader.specs.declared.script.Order.{Order}
-use Rattle.script_reader.specs.declared.script.Order.TheVariants.{Stamp, Race}
 use Rattle.turn_lock.specs.declared.view.Met.{Met}
 use Rattle.turn_lock.specs.Passes.{Begins, events_in, has_number, known_of, LockState}
 
@@ -14,14 +11,37 @@ use Rattle.turn_lock.specs.Passes.{Begins, events_in, has_number, known_of, Lock
 abbrev pub CommunityLock : Type 0
 CommunityLock = LockState (List (List ℕ))
 
--- The seat after its client's lines among these: they are its next entries, and what it had seen it has seen still.
-pub record HasPlayed (lines : List Entry) (before after : SeatState) : Type 0 where
+-- The seat after these entries of its own: they are its next ones, and what it had seen it has seen still.
+pub record HasMade (added : List Entry) (before after : SeatState) : Type 0 where
   pub later : Begins after.seen before.seen
-  pub same : after ≡ record before { seen = after.seen; mine = before.mine ++ entries_of before.number lines }
+  pub same : after ≡ record before { seen = after.seen; mine = before.mine ++ added }
 
--- the player has played its lines among these, unless it found no memory
+-- the seat has made entries that its number may make
+pub record Makes (may : ℕ → List Entry → Type 0) (before after : SeatState) : Type 0 where
+  pub added : List Entry
+  pub made : HasMade added before after
+  pub allowed : may before.number added
+
+-- a seat may make whatever entries
+abbrev pub Anything : ℕ → List Entry → Type 0
+Anything client added = Unit {0}
+
+-- nobody but the client of one number may make entries
+abbrev pub IsAlone : ℕ → ℕ → List Entry → Type 0
+IsAlone helm client added = client ≢ helm → added ≡ []
+
+-- What a client may make of these lines: a front of its own among them, and all of these where no memory was missing.
+pub record IsPlayed {E : Type 0} (lines : List Entry) (result : Result (Unit {0}) E) (client : ℕ) (added : List Entry) : Type 0 where
+  pub front : Begins (entries_of client lines) added
+  pub all : OnOk result (added ≡ entries_of client lines)
+
+-- the same for all clients but the helm, which may make what it will
+abbrev pub IsPlayedBeside : {E : Type 0} → ℕ → List Entry → Result (Unit {0}) E → ℕ → List Entry → Type 0
+IsPlayedBeside helm lines result client added = client ≢ helm → IsPlayed lines result client added
+
+-- the player has played its lines among these, or a front of them where it found no memory
 abbrev pub HasEnded : List Entry → Player → Player → Type 0
-HasEnded lines before after = OnOk after.ended (HasPlayed lines before.seat after.seat)
+HasEnded lines before after = Makes (IsPlayed lines after.ended) before.seat after.seat
 
 -- a seat apart from the first: its client may make calls, and it has taken in nobody
 pub record IsApart (lock : CommunityLock) (seat : SeatState) : Type 0 where
@@ -49,20 +69,28 @@ pub record IsGathered (lock : CommunityLock) (first : SeatState) : Type 0 where
   pub once : (n : ℕ) → times_met n first.met ≤ 1
 
 -- The seats of these players are parted from the first, and it knows with them just what it knew before, each number as
--- often. Each other client but that of number 0 has none of the lines.
-pub record AreParted (lock : CommunityLock) (lines : List Entry) (before first : SeatState) (players : List Player) : Type 0 where
+-- often.
+pub record AreParted (lock : CommunityLock) (before first : SeatState) (players : List Player) : Type 0 where
   pub same : first ≡ record before { met = first.met }
   pub apart : All (λ player. IsApart lock player.seat) players
   pub all : length first.met + length players ≡ length before.met
   pub each : (n : ℕ) → times_met n first.met + times_met n (map met_of players) ≡ times_met n before.met
   pub known : (n : ℕ) → events_in (first.met ++ map met_of players) n ≡ events_in before.met n
-  pub busy : (n : ℕ) → 0 < n → times_met n (map met_of players) ≡ 0 → entries_of n lines ≡ []
 
--- the first seat after it took these players in, of which none found no memory
+-- Of the clients below one number, but that of number 0, just those are parted that have some of the lines, and none that
+-- isn't below.
+pub record AreBusy (lines : List Entry) (client : ℕ) (players : List Player) : Type 0 where
+  pub busy : (n : ℕ) → 0 < n → n < client → times_met n (map met_of players) ≡ 0 → entries_of n lines ≡ []
+  pub fresh : (n : ℕ) → client ≤ n → times_met n (map met_of players) ≡ 0
+
+-- the first seat after it took these players in
 pub record HasTaken (before after : SeatState) (players : List Player) : Type 0 where
   pub later : Begins after.seen before.seen
   pub same : after ≡ record before { seen = after.seen; met = before.met ++ map met_of players }
-  pub ended : All (λ player. player.ended ≡ Ok tt) players
+
+-- the history that the first seat has seen has of each client just what is known of it
+abbrev pub IsWhole : SeatState → Type 0
+IsWhole first = (n : ℕ) → entries_of n first.seen ≡ known_of first n
 
 -- the first seat after it saw the whole history, which has of each client what is known of it
 pub record HasSeenAll (before after : SeatState) : Type 0 where
@@ -70,32 +98,26 @@ pub record HasSeenAll (before after : SeatState) : Type 0 where
   pub same : after ≡ record before { seen = after.seen }
   pub whole : (n : ℕ) → entries_of n after.seen ≡ known_of before n
 
--- A round of these lines: what the first seat has seen goes on, what it knows of each client are the client's lines more,
--- and the history that it has seen has of each client just that.
-pub record GoesOn (lines : List Entry) (before after : SeatState) : Type 0 where
-  pub later : Begins after.seen before.seen
-  pub known : (n : ℕ) → known_of after n ≡ known_of before n ++ entries_of n lines
-  pub whole : (n : ℕ) → entries_of n after.seen ≡ known_of after n
+-- what is known of a client, after it made some entries that it may make
+pub record Grows (may : List Entry → Type 0) (before after : List Entry) : Type 0 where
+  pub added : List Entry
+  pub is : after ≡ before ++ added
+  pub allowed : may added
 
--- the first seat, which has taken in all others, has seen a history of just these lines: each client's in their order, and
--- with stamps as the order asks
-pub record HasSeen (order : Order) (first : SeatState) (lines : List Entry) : Type 0 where
-  pub known : (n : ℕ) → known_of first n ≡ entries_of n lines
-  pub whole : (n : ℕ) → entries_of n first.seen ≡ entries_of n lines
-  pub stamps : KeepsOrder order first.seen
+-- A round: what the first seat has seen goes on, what it knows of each client are some entries more that the client may
+-- make, and the history that it has seen has of each client just that.
+pub record GoesOn (may : ℕ → List Entry → Type 0) (before after : SeatState) : Type 0 where
+  pub later : Begins after.seen before.seen
+  pub known : (n : ℕ) → Grows (may n) (known_of before n) (known_of after n)
+  pub whole : IsWhole after
 
 -- the first seat has seen nothing, and knows of no client's calls
 pub record KnowsNothing (first : SeatState) : Type 0 where
   pub seen : first.seen ≡ []
   pub known : (n : ℕ) → known_of first n ≡ []
 
--- what an order asks of the lines of one round: by their stamps they all have one stamp, and in a race nothing
-abbrev pub IsOneRound : Order → List Entry → Type 0
-IsOneRound Stamp lines = (stamp : ℕ) × IsTrue (list_all (λ line. line.stamp == stamp) lines)
-IsOneRound Race lines = Unit {0}
-
--- a round that begins with the line at one place ends before another
-pub record EndsRound (order : Order) (lines : List Entry) (from to : ℕ) : Type 0 where
+-- the lines from one place to another, at least one, have this stamp
+pub record EndsRound (lines : List Entry) (stamp from to : ℕ) : Type 0 where
   pub more : from < to
   pub within : to ≤ length lines
-  pub one : IsOneRound order (take (to - from) (drop from lines))
+  pub one : IsTrue (list_all (λ line. line.stamp == stamp) (take (to - from) (drop from lines)))

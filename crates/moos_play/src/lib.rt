@@ -1,18 +1,26 @@
-//! Plays a script: its clients make their calls on threads of their own, on one database.
+//! Plays a script: its clients make their calls on threads of their own, and its helm ticks, on one database.
 //!
-//! The contract for the layer above: with Ok the history of the database is one that is lawful for the order and the
-//! script, whatever the threads did. Each client's entries are its lines, nobody else has one, and in order Stamp no
-//! stamp goes back.
+//! The contract for the layer above: with Ok the history of the database is one that is lawful for the order, the script
+//! and the helm, whatever the threads did. Each client's entries are its lines, the helm's are its opening and its ticks
+//! over what it heard in this history, nobody else has one, and in order Stamp no stamp goes back.
 //!
-//! Reading order: `player`, one client's calls; `round`, the clients of a round beside each other; `run`, all rounds.
+//! Reading order: `player`, one client's calls; `round`, the clients of a round beside each other; `steersman`, the helm's
+//! calls; `race`, the helm beside the clients; `seats`, how a run begins; `stamps`, what is next; `playing`, from round to
+//! round; `run`, the whole.
 #![tactic(auto)]
 
 mod player;
+mod playing;
+mod race;
 mod round;
 mod run;
+mod seats;
+mod stamps;
+mod steersman;
 
-pub use run::{Ran, play};
+pub use run::{HelmRun, Ran, play};
 pub use script_reader::Order;
+pub use steersman::Iterations;
 
 #[cfg(test)]
 mod tests;

@@ -1,7 +1,7 @@
 // One client at play: its seat, and its lines as calls.
-ghost use Rattle.std.specs.Prelude.{◌≡◌, ◌∷◌, [], OnOk};
+ghost use Rattle.std.specs.Prelude.{◌≡◌, ◌∷◌, [], OnOk, OnErr};
 ghost use Rattle.moos_client.specs.Calls.{MayCall};
-ghost use Rattle.moos_play.specs.Rounds.{HasEnded, HasPlayed};
+ghost use Rattle.moos_play.specs.Rounds.{HasEnded, HasMade, IsPlayed, Makes};
 
 use moos_client::{Lock, Seat, fetch, post, register, unregister};
 use moos_io::Gate;
@@ -17,7 +17,7 @@ pub(crate) struct Player {
     pub(crate) ended: Result<(), NoMemory>,
 }
 
-/// The client makes its calls among these lines, in order.
+/// The client makes its calls among these lines, in order, until it finds no memory.
 pub(crate) fn play_part<R: Wait, G: Gate>(
     rt: &R,
     alloc: Global,
@@ -50,7 +50,7 @@ fn play_lines<R: Wait, G: Gate>(
     gate: &G,
 ) -> Result<(), NoMemory>
     requires { MayCall lock.now seat.old }
-    ensures { OnOk result (HasPlayed lines.now seat.old seat.new) }
+    ensures { Makes (IsPlayed lines.now result) seat.old seat.new }
 {
     let client = seat.number();
     for line in lines {
@@ -73,7 +73,8 @@ fn make_call<R: Wait>(
 ) -> Result<(), NoMemory>
     requires may { MayCall lock.now seat.old }
     requires own { line.now.client ≡ seat.old.number }
-    ensures { OnOk result (HasPlayed (line.now ∷ []) seat.old seat.new) }
+    ensures made { OnOk result (HasMade (line.now ∷ []) seat.old seat.new) }
+    ensures none { OnErr result (HasMade [] seat.old seat.new) }
 {
     let stamp = line.stamp;
     match &line.call {

@@ -1,41 +1,45 @@
 // One round: the seats of the clients that have lines are parted from the first, their clients make their calls beside
 // each other, and the first takes all in again.
-ghost use Rattle.std.specs.Prelude.{◌≡◌, ◌<◌, ◌^◌, length, nat_lt, IsTrue, IfOk, OnOk, Ok};
+ghost use Rattle.std.specs.Prelude.{◌≡◌, ◌<◌, ◌≤◌, ◌^◌, length, nat_lt, IsTrue, IfOk, OnOk, OnErr, Ok};
 ghost use Rattle.std.specs.List.{All, AllZip, list_all};
+ghost use Rattle.std.specs.Thread.{IsSync};
 ghost use Rattle.moos_client.specs.Calls.{MayCall};
-ghost use Rattle.moos_play.specs.Rounds.{AreParted, GoesOn, HasEnded, HasPlayed, HasSeenAll, HasTaken, has_line, IsApart, IsGathered};
+ghost use Rattle.moos_play.specs.Rounds.{AreBusy, AreParted, GoesOn, HasEnded, HasSeenAll, HasTaken, has_line, IsApart, IsGathered, IsPlayed, IsWhole};
 ghost use Rattle.turn_lock.specs.Passes.{HasAll, IsFree, IsOf};
 
 use crate::player::{Player, play_part};
 use moos_client::{Lock, Seat};
 use moos_io::Gate;
 use moos_post::{Entry, NoMemory};
-use std::alloc::Global;
+use std::alloc::{AllocError, Global};
 use std::sync::Wait;
-use std::thread::{Threads, for_each_mut};
+use std::thread::{Threads, for_each_mut, join_mut};
 
 /// Plays these lines in one round. A client without lines leaves its seat with the first, and one that alone has lines
-/// plays without a thread.
+/// plays without a thread. Also where memory is missing the first has all seats again, and each client has played a front
+/// of its lines.
 pub(crate) fn play_round<R: Threads + Wait + Sync, G: Gate>(
     rt: &R,
     alloc: Global,
     lock: &Lock,
-    mut first: Seat,
+    first: &mut Player,
     calls: &mut [u64],
     lines: &[Entry],
     gate: &G,
-) -> Result<Seat, NoMemory>
-    requires gathered { IsGathered lock.now first }
-    requires clients { (length calls.old ≡ length lock.now.base) × (length calls.old < 2 ^ 32) }
-    requires lines { IsTrue (list_all (λ line. nat_lt line.client (length lock.now.base)) lines.now) }
-    ensures gathered { IfOk result (IsGathered lock.now) }
-    ensures goes_on { IfOk result (GoesOn lines.now first) }
+) -> Result<(), NoMemory>
+    requires gathered { IsGathered lock.now first.old.seat }
+    requires whole { IsWhole first.old.seat }
+    requires clients { (0 < length calls.old) × (length calls.old ≤ length lock.now.base) × (length calls.old < 2 ^ 32) }
+    requires lines { IsTrue (list_all (λ line. nat_lt line.client (length calls.old)) lines.now) }
+    ensures gathered { IsGathered lock.now first.new.seat }
+    ensures goes_on { GoesOn (IsPlayed lines.now result) first.old.seat first.new.seat }
+    ensures calls { length calls.new ≡ length calls.old }
 {
-    let mut players = part_busy(alloc, lock, &mut first, calls, lines)?;
-    let mut first = play_beside(rt, alloc, lock, first, &mut players, calls, lines, gate)?;
-    take_in(lock, &mut first, calls, players)?;
-    see_all(rt, lock, &mut first);
-    Ok(first)
+    let mut players = part_busy(alloc, lock, &mut first.seat, calls, lines)?;
+    play_beside(rt, alloc, lock, first, &mut players, lines, gate);
+    let others = take_in(lock, &mut first.seat, calls, players);
+    see_all(rt, lock, &mut first.seat);
+    both(&first.ended, others)
 }
 
 // Whether the client has one of the lines.
@@ -43,6 +47,16 @@ fn has_lines(lines: &[Entry], client: u32) -> bool
     ensures { result ≡ has_line client lines.now }
 {
     lines.iter().any(|line| line.client == client)
+}
+
+/// Ok where both are.
+pub(crate) fn both(one: &Result<(), NoMemory>, other: Result<(), NoMemory>) -> Result<(), NoMemory>
+    ensures { OnOk result ((one.now ≡ Ok tt) × (other ≡ Ok tt)) }
+{
+    match one {
+        Ok(()) => other,
+        Err(_) => Err(AllocError),
+    }
 }
 
 // A player at this seat, which has made as many calls as are counted.
@@ -58,8 +72,8 @@ fn player_at(seat: Seat, calls: &[u64]) -> Player
     }
 }
 
-// Parts from the first seat those of all other clients that have lines.
-fn part_busy(
+/// Parts from the first seat those of all other clients that have lines. Where no memory is left none is parted.
+pub(crate) fn part_busy(
     alloc: Global,
     lock: &Lock,
     first: &mut Seat,
@@ -67,46 +81,71 @@ fn part_busy(
     lines: &[Entry],
 ) -> Result<Vec<Player>, NoMemory>
     requires gathered { IsGathered lock.now first.old }
-    requires clients { (length calls.now ≡ length lock.now.base) × (length calls.now < 2 ^ 32) }
-    requires lines { IsTrue (list_all (λ line. nat_lt line.client (length lock.now.base)) lines.now) }
-    ensures { IfOk result (λ players. AreParted lock.now lines.now first.old first.new players.items) }
+    requires clients { (0 < length calls.now) × (length calls.now ≤ length lock.now.base) × (length calls.now < 2 ^ 32) }
+    ensures parted { IfOk result (λ players. AreParted lock.now first.old first.new players.items) }
+    ensures busy { IfOk result (λ players. AreBusy lines.now (length calls.now) players.items) }
+    ensures same { OnErr result (first.new ≡ first.old) }
 {
-    let mut players = Vec::new(alloc);
+    let mut players = Vec::with_capacity(alloc, calls.len())?;
     for client in 1..calls.len() as u32 {
         if has_lines(lines, client) {
             let seat = lock.part(first, client);
-            players.push(player_at(seat, calls))?;
+            players.push_reserved(player_at(seat, calls));
         }
     }
     Ok(players)
 }
 
-// Has the client of the first seat, where it has lines, and the players make their calls beside each other.
-fn play_beside<R: Threads + Wait + Sync, G: Gate>(
+/// Has the client of the first seat, where it has lines, and the players make their calls beside each other.
+pub(crate) fn play_beside<R: Threads + Wait + Sync, G: Gate>(
     rt: &R,
     alloc: Global,
     lock: &Lock,
-    first: Seat,
+    first: &mut Player,
     players: &mut Vec<Player>,
-    calls: &mut [u64],
     lines: &[Entry],
     gate: &G,
-) -> Result<Seat, NoMemory>
-    requires first { MayCall lock.now first × (first.number ≡ 0) }
+)
+    requires first { MayCall lock.now first.old.seat × (first.old.seat.number ≡ 0) }
     requires players { All (λ player. IsApart lock.now player.seat) players.old.items }
-    ensures first { IfOk result (HasPlayed lines.now first) }
-    ensures players { OnOk result (AllZip (HasEnded lines.now) players.old.items players.new.items) }
+    ensures first { HasEnded lines.now first.old first.new }
+    ensures players { AllZip (HasEnded lines.now) players.old.items players.new.items }
 {
     if !has_lines(lines, 0) {
-        play_each(rt, alloc, lock, players.as_mut_slice(), lines, gate);
-        return Ok(first);
+        play_each(rt, alloc, lock, players, lines, gate);
+    } else if players.is_empty() {
+        play_part(rt, alloc, lock, first, lines, gate);
+    } else {
+        play_all(rt, alloc, lock, first, players, lines, gate);
     }
-    players.push(player_at(first, calls))?;
-    play_each(rt, alloc, lock, players.as_mut_slice(), lines, gate);
-    let Some(player) = players.pop() else {
-        unreachable!()
-    };
-    leave(player, calls)
+}
+
+// Has the client of the first seat make its calls beside the players.
+fn play_all<R: Threads + Wait + Sync, G: Gate>(
+    rt: &R,
+    alloc: Global,
+    lock: &Lock,
+    first: &mut Player,
+    players: &mut Vec<Player>,
+    lines: &[Entry],
+    gate: &G,
+)
+    requires first { MayCall lock.now first.old.seat }
+    requires players { All (λ player. MayCall lock.now player.seat) players.old.items }
+    ensures first { HasEnded lines.now first.old first.new }
+    ensures players { AllZip (HasEnded lines.now) players.old.items players.new.items }
+{
+    join_mut(
+        rt,
+        &mut ||
+            requires { IsSync R.row × IsSync G.row × MayCall lock.now first.now.seat }
+            ensures { HasEnded lines.entry.now first.entry.now first.exit.now }
+        { play_part(rt, alloc, lock, first, lines, gate) },
+        &mut ||
+            requires { IsSync R.row × IsSync G.row × All (λ player. MayCall lock.now player.seat) players.now.items }
+            ensures { AllZip (HasEnded lines.entry.now) players.entry.now.items players.exit.now.items }
+        { play_each(rt, alloc, lock, players, lines, gate) },
+    );
 }
 
 // Has each player make its calls, on a thread of its own where there are several.
@@ -114,20 +153,21 @@ fn play_each<R: Threads + Wait + Sync, G: Gate>(
     rt: &R,
     alloc: Global,
     lock: &Lock,
-    players: &mut [Player],
+    players: &mut Vec<Player>,
     lines: &[Entry],
     gate: &G,
 )
-    requires { All (λ player. MayCall lock.now player.seat) players.old }
-    ensures { AllZip (HasEnded lines.now) players.old players.new }
+    requires { All (λ player. MayCall lock.now player.seat) players.old.items }
+    ensures { AllZip (HasEnded lines.now) players.old.items players.new.items }
 {
-    if players.is_empty() {
+    let threads = players.len();
+    if threads == 0 {
         return;
     }
     for_each_mut(
         rt,
-        players,
-        players.len(),
+        players.as_mut_slice(),
+        threads,
         &|_, player: &mut Player|
             requires { MayCall lock.now player.now.seat }
             ensures { HasEnded lines.entry.now player.entry.now player.exit.now }
@@ -135,9 +175,10 @@ fn play_each<R: Threads + Wait + Sync, G: Gate>(
     );
 }
 
-// The seat of a player that has played, whose calls are counted.
-fn leave(player: Player, calls: &mut [u64]) -> Result<Seat, NoMemory>
-    ensures seat { IfOk result (λ seat. (seat ≡ player.seat) × (player.ended ≡ Ok tt)) }
+// The seat of a player that has played, whose calls are counted, and whether it found no memory.
+fn leave(player: Player, calls: &mut [u64]) -> (Seat, Result<(), NoMemory>)
+    ensures seat { result.0 ≡ player.seat }
+    ensures ended { result.1 ≡ player.ended }
     ensures count { length calls.new ≡ length calls.old }
 {
     let Player {
@@ -145,33 +186,36 @@ fn leave(player: Player, calls: &mut [u64]) -> Result<Seat, NoMemory>
         calls: made,
         ended,
     } = player;
-    ended?;
     if let Some(count) = calls.get_mut(seat.number() as usize) {
         *count = made;
     }
-    Ok(seat)
+    (seat, ended)
 }
 
-// Takes the seats of the players into the first.
-fn take_in(
+/// Takes the seats of all players into the first. It is an error where a player found no memory.
+pub(crate) fn take_in(
     lock: &Lock,
     first: &mut Seat,
     calls: &mut [u64],
     players: Vec<Player>,
 ) -> Result<(), NoMemory>
     requires first { IsOf lock.now first.old × IsFree first.old }
-    requires players { All (λ player. OnOk player.ended (IsApart lock.now player.seat)) players.items }
-    ensures { OnOk result (HasTaken first.old first.new players.items) }
+    requires players { All (λ player. IsApart lock.now player.seat) players.items }
+    ensures taken { HasTaken first.old first.new players.items }
+    ensures ended { OnOk result (All (λ player. player.ended ≡ Ok tt) players.items) }
+    ensures calls { length calls.new ≡ length calls.old }
 {
+    let mut answer = Ok(());
     for player in players {
-        let seat = leave(player, calls)?;
+        let (seat, ended) = leave(player, calls);
+        answer = both(&ended, answer);
         lock.meet(first, seat);
     }
-    Ok(())
+    answer
 }
 
-// Has the first seat, which has taken in all others, see the whole history.
-fn see_all<R: Wait>(rt: &R, lock: &Lock, first: &mut Seat)
+/// Has the first seat, which has taken in all others, see the whole history.
+pub(crate) fn see_all<R: Wait>(rt: &R, lock: &Lock, first: &mut Seat)
     requires first { IsOf lock.now first.old × IsFree first.old }
     requires all { HasAll first.old }
     ensures { HasSeenAll first.old first.new }

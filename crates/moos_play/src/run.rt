@@ -1,140 +1,71 @@
-// The whole of a run: its database under a lock, its rounds, and the history that they leave.
-ghost use Rattle.std.specs.Prelude.{◌≡◌, ◌<◌, IfOk, IsTrue, length, nat_lt};
-ghost use Rattle.std.specs.List.{list_all};
-ghost use Rattle.moos_play.specs.Lawful.{IsLawful, no_stamp_goes_back};
-ghost use Rattle.moos_play.specs.Rounds.{EndsRound, HasSeen, IsGathered, KnowsNothing};
+// The whole of a run, round by round.
+ghost use Rattle.std.specs.Prelude.{◌≡◌, ◌≤◌, option_map, IfOk, IfSome};
+ghost use Rattle.moos_play.specs.Lawful.{heard_of, helm_number, MayStart, IsLawful, iterations, names_with, steering_with};
 ghost use Rattle.script_reader.specs.Validity.{IsValid};
-ghost use Rattle.turn_lock.specs.Passes.{first_pass};
 
-use crate::round::play_round;
-use moos_client::{Lock, Seat};
+use crate::playing::Play;
+use crate::steersman::Iterations;
+use helm_core::Helm;
 use moos_db::Db;
 use moos_io::Gate;
-use moos_post::{Copied, Entry, NoMemory};
+use moos_post::{Copied, List, NoMemory};
 use script_reader::{Order, Script};
-use std::alloc::{AllocError, Global};
+use std::alloc::Global;
 use std::sync::Wait;
 use std::thread::Threads;
-use turn_lock::TurnLock;
+
+/// A helm, and the milliseconds from one of its ticks to the next.
+#[derive(Drop)]
+pub struct HelmRun {
+    /// The helm, which has heard nothing yet.
+    pub helm: Helm,
+    /// The milliseconds from one tick to the next, at least 1.
+    pub period: u64,
+}
 
 /// What a run leaves.
 #[derive(Drop)]
 pub struct Ran {
     /// The database with the whole history.
     pub db: Db,
+    /// What the helm answered at its ticks, in order; none without a helm.
+    pub iterations: Iterations,
 }
 
-/// Plays a script. Its clients have the numbers in which their names stand, and make their calls on threads of their own:
-/// in order Stamp in rounds, one for each stamp at which there are lines, and in order Race each its whole script. The
-/// gate is called before each client's nth call, counted from 0.
+/// Plays a script, and runs a helm beside its clients where one is given.
+///
+/// The clients have the numbers in which their names stand, and make their calls on threads of their own. The helm has the
+/// number behind them and the name `pHelmIvP`. It opens before any thread starts: it registers for what it wants, and posts
+/// the pairs to begin with, where there are any, both at stamp 0. It ticks at each multiple of its period from 0 up to the
+/// script's last stamp: it fetches and posts, also where it has nothing to post.
+///
+/// In order Stamp there is a round for each stamp at which there are lines, and a tick follows the clients of its stamp. In
+/// order Race each client plays its whole script and the helm makes all its ticks, beside each other. The gate is called
+/// before each client's nth call, counted from 0, and the helm's too. There are 1 to 16 workers for what the helm solves.
 pub fn play<R: Threads + Wait + Sync, G: Gate>(
     rt: &R,
     alloc: Global,
     script: &Script,
+    helm: Option<HelmRun>,
     order: Order,
+    workers: u32,
     gate: &G,
 ) -> Result<Ran, NoMemory>
-    requires { IsValid script.now }
-    ensures names { IfOk result (λ ran. ran.db.names ≡ script.now.names) }
-    ensures lawful { IfOk result (λ ran. IsLawful order script.now ran.db.history) }
+    requires valid { IsValid script.now }
+    requires helm { IfSome helm MayStart }
+    requires workers { (1 ≤ workers) × (workers ≤ 16) }
+    ensures names { IfOk result (λ ran. ran.db.names ≡ names_with script.now helm) }
+    ensures lawful { let helm = option_map (steering_with script.now) helm in
+        IfOk result (λ ran. IsLawful order script.now helm ran.db.names ran.db.history) }
+    ensures iterations { let helm = option_map (steering_with script.now) helm in
+        IfOk result (λ ran. ran.iterations ≡ iterations helm script.now.stop (heard_of ran.db.names (helm_number script.now) ran.db.history)) }
 {
-    let clients = script.names.len() as u32;
-    let db = Db::make(alloc, script.names.copy(alloc)?)?;
-    if clients == 0 {
-        return Ok(Ran { db });
+    if script.names.len() == 0 && helm.is_none() {
+        let db = Db::make(alloc, script.names.copy(alloc)?)?;
+        let iterations = List::new(alloc);
+        return Ok(Ran { db, iterations });
     }
-    let Ok((lock, mut first)) = TurnLock::make(alloc, db, clients) else {
-        return Err(AllocError);
-    };
-    seat_all(&lock, &mut first, clients);
-    let lines = script.lines.all();
-    let first = play_rounds(rt, alloc, &lock, first, clients, lines, order, gate)?;
-    let (db, _) = lock.close(first);
-    Ok(Ran { db })
-}
-
-// Splits off the seats of all other clients from that of the first, which takes them in.
-fn seat_all(lock: &Lock, first: &mut Seat, clients: u32)
-    requires clients { (0 < clients) × (clients ≡ length lock.now.base) }
-    requires first { first.old ≡ first_pass lock.now clients }
-    ensures gathered { IsGathered lock.now first.new }
-    ensures nothing { KnowsNothing first.new }
-{
-    for client in 1..clients {
-        let seat = lock.split(first);
-        lock.meet(first, seat);
-    }
-}
-
-// Plays the lines in rounds.
-fn play_rounds<R: Threads + Wait + Sync, G: Gate>(
-    rt: &R,
-    alloc: Global,
-    lock: &Lock,
-    mut first: Seat,
-    clients: u32,
-    lines: &[Entry],
-    order: Order,
-    gate: &G,
-) -> Result<Seat, NoMemory>
-    requires all { clients ≡ length lock.now.base }
-    requires gathered { IsGathered lock.now first }
-    requires nothing { KnowsNothing first }
-    requires clients { IsTrue (list_all (λ line. nat_lt line.client clients) lines.now) }
-    requires stamps { IsTrue (no_stamp_goes_back 0 lines.now) }
-    ensures gathered { IfOk result (IsGathered lock.now) }
-    ensures seen { IfOk result (λ after. HasSeen order after lines.now) }
-{
-    let mut calls = no_calls(alloc, clients)?;
-    let mut from = 0;
-    while from < lines.len() {
-        let to = round_end(lines, from, order);
-        first = play_round(
-            rt,
-            alloc,
-            lock,
-            first,
-            calls.as_mut_slice(),
-            &lines[from..to],
-            gate,
-        )?;
-        from = to;
-    }
-    Ok(first)
-}
-
-// A count of 0 calls for each client.
-fn no_calls(alloc: Global, clients: u32) -> Result<Vec<u64>, NoMemory>
-    ensures { IfOk result (λ calls. length calls.items ≡ clients) }
-{
-    let mut calls = Vec::new(alloc);
-    for client in 0..clients {
-        calls.push(0)?;
-    }
-    Ok(calls)
-}
-
-// Where the round that begins with the line at `from` ends: in order Stamp behind the lines of its stamp, in order Race
-// behind all lines.
-fn round_end(lines: &[Entry], from: usize, order: Order) -> usize
-    requires { from < length lines.now }
-    ensures { EndsRound order lines.now from result }
-{
-    match order {
-        Order::Stamp => stamp_end(lines, from),
-        Order::Race => lines.len(),
-    }
-}
-
-// Where the lines end that have the stamp of the line at `from`.
-fn stamp_end(lines: &[Entry], from: usize) -> usize
-    requires { from < length lines.now }
-    ensures { EndsRound Order.Stamp lines.now from result }
-{
-    let stamp = lines[from].stamp;
-    let mut to = from + 1;
-    while to < lines.len() && lines[to].stamp == stamp {
-        to += 1;
-    }
-    to
+    let mut play = Play::make(rt, alloc, script, helm, order, gate)?;
+    while play.round(rt, alloc, script, workers, gate)? {}
+    Ok(play.end(alloc))
 }

@@ -15,6 +15,8 @@ use std::sync::atomic::{AtomicBool, AtomicU64, Ordering};
 use std::test::Fail;
 use std::thread::Threads;
 
+mod helm;
+
 // Two clients that post and fetch at one stamp.
 const TWO: &[u8] =
     b"0 a register X\n0.5 b register X\n1 a post X=1\n1 a fetch\n1 b post X=2\n1 b fetch\n";
@@ -147,7 +149,7 @@ fn check_two<R: Threads + Wait + Sync + Abort>(
 ) -> Result<(), Fail> {
     let script = script_of(rt, alloc, TWO)?;
     for _ in 0..200 {
-        let Ran { db } = play(rt, alloc, &script, order, &NoGate)?;
+        let Ran { db, iterations: _ } = play(rt, alloc, &script, None, order, 1, &NoGate)?;
         check_lawful(rt, alloc, &script, order, &db)?;
         check_own_mail(rt, &db);
     }
@@ -157,7 +159,7 @@ fn check_two<R: Threads + Wait + Sync + Abort>(
 #[test]
 fn without_clients(rt: HostRuntime) -> Result<(), Fail> {
     let script = script_of(&rt, rt.alloc(), b"3 until\n")?;
-    let Ran { db } = play(&rt, rt.alloc(), &script, Order::Stamp, &NoGate)?;
+    let Ran { db, iterations: _ } = play(&rt, rt.alloc(), &script, None, Order::Stamp, 1, &NoGate)?;
     assert!(rt; db.entries() == 0 && db.clients() == 0);
     Ok(())
 }
@@ -230,7 +232,7 @@ fn check_beside<R: Threads + Wait + Sync + Abort>(
         ahead: AtomicBool::new(false),
         missed: AtomicBool::new(false),
     };
-    let Ran { db } = play(rt, alloc, &script, order, &gate)?;
+    let Ran { db, iterations: _ } = play(rt, alloc, &script, None, order, 1, &gate)?;
     let missed = gate.missed.load(Ordering::SeqCst);
     let history = history_told(alloc, &db)?;
     let ahead = entries_ahead(history.as_slice());
@@ -284,7 +286,7 @@ fn check_many<R: Threads + Wait + Sync + Abort>(
         calls: AtomicU64::new(0),
         places: AtomicU64::new(0),
     };
-    let Ran { db } = play(rt, alloc, &script, order, &gate)?;
+    let Ran { db, iterations: _ } = play(rt, alloc, &script, None, order, 1, &gate)?;
     check_lawful(rt, alloc, &script, order, &db)?;
     let (calls, places) = (
         gate.calls.load(Ordering::SeqCst),

@@ -1,8 +1,9 @@
 -- Jobs and their steps worked by hand: what is to be done, what may be written of it, and how it ends.
 use Rattle.std.proofs.Common.{◌≡◌, ℕ, inl, inr, true, false, List, [], ◌∷◌, ◌++◌, length, take, cond, nat_eq, refl, ap, sym, ◌∙◌, subst, arith}
-use Rattle.std.specs.Prelude.{codes, Some, Ok, Err, pos}
+use Rattle.std.specs.Prelude.{codes, None, Some, Ok, Err, pos}
 use Rattle.std.specs.Fmt.{digits}
 use Rattle.std.specs.List.{All}
+use Rattle.std.proofs.lemmas.Bool.{cases_eq}
 use Rattle.std.proofs.lemmas.List.Elements.{All-cons, All-filter, All-head, All-nil, All-tail}
 use Rattle.clap.specs.Simple.{new_app, new_shape, with_rule, with_subcommand}
 use Rattle.ivp_cert.specs.declared.claim.Decision.{Decision}
@@ -158,14 +159,25 @@ by_first (entry ∷ later) all =
     let first = All-head IsFirst entry later all in
     ap (λ own. cond own (entry ∷ entries_of 0 later) (entries_of 0 later)) first ∙ ap (λ rest. entry ∷ rest) (by_first later (All-tail IsFirst entry later all))
 
-pub no_other : (other : List Entry) → IsLawful Stamp script other → other ≡ fetches
+-- the entries of each client behind the helm's opening, which is none, are its lines or none
+own_first : (other : List Entry) → (is : IsLawful Stamp script None script.names other) → (client : ℕ) → All IsFirst (entries_of client is.rest)
+own_first other is client =
+    elim (cases_eq client 1) [
+      | inl same ↦ subst (λ n. All IsFirst (entries_of n is.rest)) (sym same) (subst (All IsFirst) (sym is.steered) (All-nil IsFirst))
+      | inr differs ↦ subst (All IsFirst) (sym (is.own client differs)) (All-filter (λ entry. nat_eq entry.client client) IsFirst fetches (All-cons IsFirst _ [] refl (All-nil IsFirst)))
+    ]
+
+pub no_other : (other : List Entry) → IsLawful Stamp script None script.names other → other ≡ fetches
 no_other other is =
-    sym (by_first other (all_entries IsFirst other (λ client. subst (All IsFirst) (sym (is.own client)) (All-filter (λ entry. nat_eq entry.client client) IsFirst fetches (All-cons IsFirst _ [] refl (All-nil IsFirst))))))
-    ∙ is.own 0
+    is.opened ∙ (sym (by_first is.rest (all_entries IsFirst is.rest (own_first other is))) ∙ is.own 0 (λ same. absurd (omega (arith, same))))
+
+-- one fetch is lawful: it is the client's, and no helm opens or ticks
+pub fetches_lawful : IsLawful Stamp script None script.names fetches
+fetches_lawful = record { rest = fetches; opened = refl; steered = refl; own = λ client differs. refl; moments = refl }
 
 reported : IsOutput (Playing Stamp script) Done (codes "%% moosdb play 1\n%% client 0 a\n%% entry 0 0 a fetch\n%% end 1 0\n")
 unfolding digits
-reported = record { history = fetches; lawful = record { own = λ client. refl; stamps = refl }; printed = refl; listed = λ other is text. no_other other is }
+reported = record { history = fetches; lawful = fetches_lawful; printed = refl; listed = λ other is text. no_other other is }
 
 nothing_reported : IsOutput (Playing Stamp script) Done [] → ⊥
 nothing_reported is = let printed = is.printed in cc

@@ -1,7 +1,7 @@
 -- From a lawful history to its report.
-use Rattle.std.proofs.Common.{◌≡◌, ℕ, zero, suc, ◌<◌, Bool, true, false, cond, not, ◌&&◌, nat_lt, nat_le, nat_eq, List, [], ◌∷◌, length, bytes_eq, codes, refl, ap, sym, ◌∙◌, subst, arith}
+use Rattle.std.proofs.Common.{◌≡◌, ℕ, zero, suc, ◌<◌, Bool, true, false, cond, not, ◌&&◌, nat_lt, nat_le, nat_eq, List, [], ◌∷◌, length, bytes_eq, codes, refl, ap, sym, ◌∙◌, subst, arith, None, inl, inr}
 use Rattle.std.specs.List.{All, list_any}
-use Rattle.std.proofs.lemmas.Bool.{and_parts, eq-eqb, ltb-true}
+use Rattle.std.proofs.lemmas.Bool.{and_parts, cases_eq, eq-eqb, ltb-true}
 use Rattle.std.proofs.lemmas.List.Elements.{All-cons, All-filter, All-head, All-nil, All-tail}
 use Rattle.std.proofs.lemmas.List.Folds.{list_any_at}
 use Rattle.std.proofs.lemmas.Slice.Eq.{bytes_eq-Decides}
@@ -62,8 +62,18 @@ all_entries P (entry ∷ later) each = All-cons P entry later first (all_entries
     rest client true all = All-tail P entry (entries_of client later) all
     rest client false all = all
 
--- what a lawful history of a valid script is
-lawful_community : (order : Order) (script : Script) (history : History) → IsValid script → IsLawful order script history → IsCommunity script.names history
+-- the entries of one client in what stands behind no opening are those of its lines, or none
+own_entries : (order : Order) (script : Script) (history : History) → IsValid script → (lawful : IsLawful order script None script.names history) → (client : ℕ) → All (IsBy (length script.names)) (entries_of client lawful.rest)
+own_entries order script history valid lawful client =
+    elim (cases_eq client (length script.names)) [
+      | inl same ↦ subst (λ n. All (IsBy (length script.names)) (entries_of n lawful.rest)) (sym same) (subst (All (IsBy (length script.names))) (sym lawful.steered) (All-nil (IsBy (length script.names))))
+      | inr other ↦
+          subst (All (IsBy (length script.names))) (sym (lawful.own client other))
+          (All-filter (λ entry. nat_eq entry.client client) (IsBy (length script.names)) script.lines (lines_by (length script.names) 0 script.stop script.lines valid.lines valid.entries))
+    ]
+
+-- what a lawful history of a valid script without a helm is
+lawful_community : (order : Order) (script : Script) (history : History) → IsValid script → IsLawful order script None script.names history → IsCommunity script.names history
 lawful_community order script history valid lawful = record {
   named = valid.named;
   own = own_names script.names valid.clients;
@@ -72,22 +82,22 @@ lawful_community order script history valid lawful = record {
 }
   where
     all : All (IsBy (length script.names)) history
-    all =
-        all_entries (IsBy (length script.names)) history
-        (λ client. subst (All (IsBy (length script.names))) (sym (lawful.own client))
-        (All-filter (λ entry. nat_eq entry.client client) (IsBy (length script.names)) script.lines (lines_by (length script.names) 0 script.stop script.lines valid.lines valid.entries)))
+    all = subst (All (IsBy (length script.names))) (sym lawful.opened) (all_entries (IsBy (length script.names)) lawful.rest (own_entries order script history valid lawful))
 
 -- the report of a lawful history of the script
-pub reported : (order : Order) (script : Script) (names : List (List ℕ)) (history : History) → ReportsTell → IsValid script → names ≡ script.names → IsLawful order script history
+pub reported : (order : Order) (script : Script) (names : List (List ℕ)) (history : History) → ReportsTell → IsValid script → names ≡ script.names → IsLawful order script None names history
     → IsReport order script (report_text no_modes names history [])
-reported order script names history tell valid same lawful = record {
+reported order script names history tell valid same among = record {
   history = history;
   lawful = lawful;
   printed = printed;
   listed = λ other is text.
       (tell no_modes no_modes script.names script.names history other [] [] (lawful_community order script history valid lawful) (lawful_community order script other valid is)
-      (λ i d within. absurd (omega (arith, within))) (λ i d within. absurd (omega (arith, within))) (sym text ∙ printed)).1;
+          (λ i d within. absurd (omega (arith, within))) (λ i d within. absurd (omega (arith, within))) (sym text ∙ printed)).1;
 }
   where
+    lawful : IsLawful order script None script.names history
+    lawful = subst (λ names. IsLawful order script None names history) same among
+
     printed : report_text no_modes names history [] ≡ report_text no_modes script.names history []
     printed = ap (λ names. report_text no_modes names history []) same

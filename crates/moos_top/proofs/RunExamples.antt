@@ -18,7 +18,7 @@ use Rattle.moos_top.specs.Run.{Completes, DidJob, HasBytes, IsServed, EndsWith, 
 use Rattle.moos_top.specs.Steps.{Ended, sinking, WroteAll}
 use Rattle.moos_top.proofs.Endings.{completes, ended_with, output_of, refuses}
 use Rattle.moos_top.proofs.Examples.{checks, plays, solves_by_one}
-use Rattle.moos_top.proofs.JobExamples.{accepted, decision, decision_bytes, no_other, not_accepted, poor, poor_bytes, printed, problem, problem_bytes, script}
+use Rattle.moos_top.proofs.JobExamples.{accepted, decision, decision_bytes, fetches_lawful, no_other, not_accepted, poor, poor_bytes, printed, problem, problem_bytes, script}
 
 -- a run that solves the problem in its file, by what the file holds, what the sink has taken, and how often it failed; the folder tells its files and is sure of this one
 abbrev folder : List ℕ → List ℕ → List ℕ → Option (List ℕ)
@@ -235,7 +235,7 @@ played =
             task = Playing Stamp script;
             good = refl;
             text = codes "%% moosdb play 1\n%% client 0 a\n%% entry 0 0 a fetch\n%% end 1 0\n";
-            output = record { history = script.lines; lawful = record { own = λ client. refl; stamps = refl }; printed = refl; listed = λ other is text. no_other other is };
+            output = record { history = script.lines; lawful = fetches_lawful; printed = refl; listed = λ other is text. no_other other is };
             took = refl;
           };
     }

@@ -97,9 +97,9 @@ no_modes = record { modes = false }
 -- the text is the report of a lawful history of the script, the one that it lists: no other lawful history has this text
 pub record IsReport (order : Order) (script : Script) (text : List ℕ) : Type 0 where
   pub history : History
-  pub lawful : IsLawful order script history
+  pub lawful : IsLawful order script None script.names history
   pub printed : text ≡ report_text no_modes script.names history []
-  pub listed : (other : History) → IsLawful order script other → text ≡ report_text no_modes script.names other [] → other ≡ history
+  pub listed : (other : History) → IsLawful order script None script.names other → text ≡ report_text no_modes script.names other [] → other ≡ history
 
 -- the decision on a problem: its best point, the sum there, and its certificate
 abbrev pub decision_on : WeightedSum → Decision

@@ -98,7 +98,7 @@ fn play_script<R: Threads + Wait + Sync, K: Sink, G: Gate>(
         Ok(script) => script,
         Err(fault) => return refused(FileKind::Script, fault),
     };
-    match play(rt, alloc, &script, order, gate) {
+    match play(rt, alloc, &script, None, order, 1, gate) {
         Ok(ran) => {
             report_law();
             let setup = Setup { modes: false };

@@ -1,6 +1,6 @@
 -- The lines so far are played.
 use Rattle.std.proofs.Common.{take}
-use Rattle.moos_play.proofs.Playing.{SoFar}
+use Rattle.moos_play.proofs.Lines.{SoFar}
 use Rattle.moos_play.proofs.player.play_lines.Given as goal
 
 abbrev pub invariant-loop-line : goal.invariant-loop-line

@@ -1,21 +1,27 @@
+use Rattle.std.proofs.Common.{Err}
+use Rattle.moos_play.specs.Rounds.{IsPlayed}
 use Rattle.moos_play.proofs.Taking.{ended_apart, round_gathered, round_goes_on, seen_gathered}
+use Rattle.moos_play.proofs.Played.{round_played}
 use Rattle.moos_play.proofs.round.play_round.Goals as goal
 
-pub take_in-requires-clause-players : goal.take_in-requires-clause-players
-take_in-requires-clause-players g c = ended_apart c.args.lock.now c.args.lines.now c.in_ok-players.players.items c.play_beside.new.players.items c.in_ok-first.ensures.players c.in_ok-players.ensures.apart
+pub take_in-others-requires-clause-players : goal.take_in-others-requires-clause-players
+take_in-others-requires-clause-players g c = ended_apart c.args.lock.now c.args.lines.now _ c.play_beside.new.players.items c.play_beside.ensures.players c.in_ok-players.ensures.parted.apart
 
 pub see_all-requires-clause-all : goal.see_all-requires-clause-all
 see_all-requires-clause-all g c =
-    let gathered = round_gathered c.args.lock.now c.args.lines.now c.args.first c.part_busy.new.first c.in_ok-first.first c.take_in.new.first c.in_ok-players.players.items c.play_beside.new.players.items
-    c.requires.gathered c.in_ok-players.ensures c.in_ok-first.ensures.first c.in_ok-first.ensures.players c.in_ok-take_in.ensures in
+    let gathered = round_gathered c.args.lock.now (IsPlayed c.args.lines.now (Err (record {}))) c.args.first.now.seat _ _ c.take_in-others.new.first _ c.play_beside.new.players.items
+    (round_played c.args.lock.now c.args.lines.now _ (Err (record {})) _ c.take_in-others.result c.args.first.now.seat _ _ c.take_in-others.new.first _ c.play_beside.new.players.items
+    c.requires.gathered c.in_ok-players.ensures.parted c.in_ok-players.ensures.busy c.requires.lines c.play_beside.ensures.first c.play_beside.ensures.players c.take_in-others.ensures.taken c.take_in-others.ensures.ended tt) in
     record { first = gathered.number; all = gathered.all }
 
 pub returns-clause-gathered : goal.returns-clause-gathered
-returns-clause-gathered g c = seen_gathered c.args.lock.now c.take_in.new.first c.see_all.new.first c.see_all.ensures
-    (round_gathered c.args.lock.now c.args.lines.now c.args.first c.part_busy.new.first c.in_ok-first.first c.take_in.new.first c.in_ok-players.players.items c.play_beside.new.players.items
-    c.requires.gathered c.in_ok-players.ensures c.in_ok-first.ensures.first c.in_ok-first.ensures.players c.in_ok-take_in.ensures)
+returns-clause-gathered g c = seen_gathered c.args.lock.now c.take_in-others.new.first c.see_all.new.first c.see_all.ensures
+    (round_gathered c.args.lock.now (IsPlayed c.args.lines.now c.both.result) c.args.first.now.seat _ _ c.take_in-others.new.first _ c.play_beside.new.players.items
+    (round_played c.args.lock.now c.args.lines.now _ c.both.result _ c.take_in-others.result c.args.first.now.seat _ _ c.take_in-others.new.first _ c.play_beside.new.players.items
+    c.requires.gathered c.in_ok-players.ensures.parted c.in_ok-players.ensures.busy c.requires.lines c.play_beside.ensures.first c.play_beside.ensures.players c.take_in-others.ensures.taken c.take_in-others.ensures.ended c.both.ensures))
 
 pub returns-clause-goes_on : goal.returns-clause-goes_on
-returns-clause-goes_on g c =
-    round_goes_on c.args.lock.now c.args.lines.now c.args.first c.part_busy.new.first c.in_ok-first.first c.take_in.new.first c.see_all.new.first c.in_ok-players.players.items c.play_beside.new.players.items
-    c.requires.gathered c.in_ok-players.ensures c.in_ok-first.ensures.first c.in_ok-first.ensures.players c.in_ok-take_in.ensures c.see_all.ensures
+returns-clause-goes_on g c = round_goes_on c.args.lock.now (IsPlayed c.args.lines.now c.both.result) c.args.first.now.seat _ _ c.take_in-others.new.first c.see_all.new.first _ c.play_beside.new.players.items
+    (round_played c.args.lock.now c.args.lines.now _ c.both.result _ c.take_in-others.result c.args.first.now.seat _ _ c.take_in-others.new.first _ c.play_beside.new.players.items
+    c.requires.gathered c.in_ok-players.ensures.parted c.in_ok-players.ensures.busy c.requires.lines c.play_beside.ensures.first c.play_beside.ensures.players c.take_in-others.ensures.taken c.take_in-others.ensures.ended c.both.ensures)
+    c.see_all.ensures

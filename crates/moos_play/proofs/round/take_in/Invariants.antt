@@ -1,5 +1,5 @@
 -- The players so far are taken in, and those that are left may be.
-use Rattle.std.proofs.Common.{OnOk}
+use Rattle.std.proofs.Common.{◌≡◌, OnOk, Ok, length}
 use Rattle.std.specs.List.{All}
 use Rattle.moos_play.specs.Rounds.{HasTaken, IsApart}
 use Rattle.moos_play.proofs.round.take_in.Given as goal
@@ -7,5 +7,7 @@ use Rattle.moos_play.proofs.round.take_in.Given as goal
 abbrev pub invariant-loop-player : goal.invariant-loop-player
 invariant-loop-player l = record {
   taken : HasTaken l.fn.first l.first l.yielded;
-  left : All (λ player. OnOk player.ended (IsApart l.lock player.seat)) l.player-iterator.rest.items;
+  ended : OnOk l.answer (All (λ player. player.ended ≡ Ok tt) l.yielded);
+  left : All (λ player. IsApart l.lock player.seat) l.player-iterator.rest.items;
+  calls : length l.calls ≡ length l.fn.calls;
 }

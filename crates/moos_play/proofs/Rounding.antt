@@ -1,0 +1,61 @@
+-- A run after one of its rounds.
+use Rattle.std.proofs.Common.{◌≡◌, ◌≢◌, ℕ, suc, ◌+◌, ◌-◌, ◌*◌, ◌/◌, ◌<◌, ◌≤◌, Bool, true, false, cond, List, [], ◌∷◌, ◌++◌, length, length-append, take, drop, Option, None, Some, Ok, Err, OnOk, Result, nat_le, nat_lt, refl, sym, ap, ◌∙◌, subst, arith}
+use Rattle.std.specs.Prelude.{IfSome, option_to_list}
+use Rattle.std.specs.List.{list_all}
+use Rattle.std.specs.declared.alloc.AllocError.{AllocError}
+use Rattle.std.proofs.lemmas.Bool.{and_parts}
+use Rattle.std.proofs.lemmas.Bool.Decides.{nat_tests}
+use Rattle.std.proofs.lemmas.List.{length-take}
+use Rattle.moos_post.specs.declared.entry.Entry.{Entry}
+use Rattle.moos_play.specs.declared.player.Player.{Player}
+use Rattle.moos_play.specs.declared.playing.Play.{Play}
+use Rattle.moos_play.specs.declared.steersman.Steersman.{Steersman}
+use Rattle.moos_play.specs.Lawful.{Steering, ticks_to}
+use Rattle.moos_play.specs.Rounds.{GoesOn, IsAlone, IsGathered}
+use Rattle.moos_play.specs.Steered.{IsAtPlay, IsBehind, IsUnderWay, steering_of, Steers, tick_due}
+use Rattle.moos_play.proofs.Coming.{tick_under}
+use Rattle.script_reader.specs.declared.script.Script.{Script}
+use Rattle.script_reader.specs.Validity.{are_lines}
+
+-- a tick that is due is one of those up to the last stamp
+pub due_left : (stop : ℕ) (s : Steersman) → tick_due stop (Some s) ≢ None → s.ticks < ticks_to stop (steering_of s)
+due_left stop s some = by (nat_le s.ticks (stop / s.period)) refl
+  where
+    by : (b : Bool) → nat_le s.ticks (stop / s.period) ≡ b → s.ticks < suc (stop / s.period)
+    by true e = grind (arith, nat_tests)
+    by false e = absurd (some (ap (λ b. cond b (Some (s.ticks * s.period)) None) e))
+
+pub due_is : (stop : ℕ) (s : Steersman) → tick_due stop (Some s) ≢ None → tick_due stop (Some s) ≡ Some (s.ticks * s.period)
+due_is stop s some = let left = due_left stop s some in ap (λ b. cond b (Some (s.ticks * s.period)) None) (le_left left)
+  where
+    le_left : s.ticks < suc (stop / s.period) → nat_le s.ticks (stop / s.period) ≡ true
+    le_left h = grind (arith, nat_tests)
+
+-- where there is a line there is a client
+pub some_client : (clients : ℕ) (lines : List Entry) (from : ℕ) → list_all (λ line. nat_lt line.client clients) lines ≡ true → from < length lines → 0 < clients
+some_client clients [] from all some = absurd (omega (arith, some))
+some_client clients (line ∷ lines) from all some = let here = (and_parts (nat_lt line.client clients) (list_all (λ line. nat_lt line.client clients) lines) all).0 in grind (arith, nat_tests)
+
+-- the run after a tick
+pub tick_at_play : (script : Script) (play : Play) (first : Player) (old new : Steersman) (result : Result (Unit {0}) AllocError) → are_lines (length script.names) 0 script.stop script.lines ≡ true → IsAtPlay script play → play.steersman ≡ Some old
+    → tick_due script.stop play.steersman ≢ None → IsBehind (tick_due script.stop play.steersman) (drop play.from script.lines) → IsGathered play.lock first.seat → GoesOn (IsAlone old.number) play.first.seat first.seat
+    → steering_of new ≡ steering_of old → OnOk result (Steers play.lock.base new first.seat.seen) → OnOk result ((new.opened ≡ true) × (new.ticks ≡ old.ticks + 1)) → OnOk result (IsAtPlay script (record play { first = first; steersman = Some new }))
+tick_at_play script play first old new (Err _) valid at is due behind gathered on steering steers reached = tt
+tick_at_play script play first old new (Ok _) valid at is due behind gathered on steering steers reached =
+    let some = subst (λ (s : Option Steersman). tick_due script.stop s ≢ None) is due in
+    let left = due_left script.stop old some in
+    let period = subst (λ s. IfSome s (λ helm. (1 ≤ helm.period) × (helm.ticks ≤ ticks_to script.stop (steering_of helm)))) is at.period in
+    record {
+      under = tick_under play.order script play.lock old new play.from play.first.seat first.seat valid (subst (λ s. IsUnderWay play.order script play.lock s play.from play.first.seat) is at.under) gathered on steering reached.0 reached.1 steers left
+          (subst (λ tick. IsBehind tick (drop play.from script.lines)) (due_is script.stop old some) (subst (λ s. IsBehind (tick_due script.stop s) (drop play.from script.lines)) is behind));
+      calls = at.calls;
+      seats = at.seats ∙ ap (λ s. length script.names + length (option_to_list s)) is;
+      period = (
+        subst (λ (helm : Steering). 1 ≤ helm.period) (sym steering) period.0,
+        omega (arith, reached.1, left, ap (λ (helm : Steering). ticks_to script.stop helm) steering),
+      );
+    }
+
+-- as many counts of calls as before
+pub as_many : (n : ℕ) (before after : List ℕ) → length after ≡ length before → n ≡ length before → length (take n (after ++ drop (length after) before)) ≡ n
+as_many n before after long all = omega (arith, long, all, length-take n (after ++ drop (length after) before), length-append after (drop (length after) before))

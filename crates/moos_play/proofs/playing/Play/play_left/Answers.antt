@@ -1,0 +1,24 @@
+use Rattle.std.proofs.Common.{◌≡◌, ◌∙◌, Ok, ap, drop, length, nat_lt, refl, subst, sym, take, ◌-◌, true, rules}
+use Rattle.std.specs.List.{list_all}
+use Rattle.moos_post.specs.declared.entry.Entry.{Entry}
+use Rattle.moos_play.specs.Rounds.{GoesOn, IsPlayed}
+use Rattle.moos_play.proofs.Coming.{all_part, lines_clients, lines_left}
+use Rattle.moos_play.proofs.Rounding.{as_many}
+use Rattle.moos_play.proofs.playing.Play.play_left.Goals as goal
+
+pub play_round-requires-clause-lines : goal.play_round-requires-clause-lines
+play_round-requires-clause-lines g c κs lives =
+    let script = c.args.script.now in
+    subst (λ n. list_all (λ (line : Entry). nat_lt line.client n) (take (c.len-to.result - c.args.self.now.from) (drop c.args.self.now.from c.all.result.now)) ≡ true) (sym (ap length c.as_mut_slice-calls.ensures.value ∙ c.requires.at_play.calls))
+    (subst (λ lines. list_all (λ (line : Entry). nat_lt line.client (length script.names)) (take (c.len-to.result - c.args.self.now.from) (drop c.args.self.now.from lines)) ≡ true) (sym c.all.ensures)
+    (all_part (λ (line : Entry). nat_lt line.client (length script.names)) script.lines c.args.self.now.from (c.len-to.result - c.args.self.now.from) (lines_clients (length script.names) 0 script.stop script.lines c.requires.valid.lines)))
+
+pub returns-clause-at_play : goal.returns-clause-at_play
+returns-clause-at_play g c = record {
+  under = lines_left c.args.self.now.order c.args.script.now c.args.self.now.lock c.args.self.now.steersman c.args.self.now.from _ (Ok c.in_ok-play_round.field-0) c.args.self.now.first.seat c.play_round.new.first.seat c.requires.race c.len-to.ensures c.requires.valid.lines c.requires.at_play.under
+      c.in_ok-play_round.ensures.gathered
+      (subst (λ lines. GoesOn (IsPlayed (take (c.len-to.result - c.args.self.now.from) (drop c.args.self.now.from lines)) (Ok c.in_ok-play_round.field-0)) c.args.self.now.first.seat c.play_round.new.first.seat) c.all.ensures c.in_ok-play_round.ensures.goes_on) refl;
+  calls = as_many c.args.self.now.calls.len c.args.self.now.calls.items c.play_round.new.calls (c.play_round.auto.calls ∙ ap length c.as_mut_slice-calls.ensures.value) (search rules) ∙ (search rules);
+  seats = c.requires.at_play.seats;
+  period = c.requires.at_play.period;
+}

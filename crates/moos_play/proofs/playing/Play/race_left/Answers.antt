@@ -1,0 +1,32 @@
+use Rattle.std.proofs.Common.{◌≡◌, ◌≤◌, ◌+◌, ◌∙◌, Ok, ap, arith, drop, length, nat_lt, refl, subst, sym, take, ◌-◌, true, rules}
+use Rattle.std.specs.Prelude.{IfSome, option_to_list}
+use Rattle.std.specs.List.{list_all}
+use Rattle.moos_post.specs.declared.entry.Entry.{Entry}
+use Rattle.moos_play.specs.Rounds.{GoesOn, IsPlayedBeside}
+use Rattle.moos_play.specs.Lawful.{Steering, ticks_to}
+use Rattle.moos_play.specs.Steered.{steering_of}
+use Rattle.moos_play.proofs.Coming.{all_part, lines_clients, race_left}
+use Rattle.moos_play.proofs.Rounding.{as_many}
+use Rattle.moos_play.proofs.playing.Play.race_left.Goals as goal
+
+pub race-requires-clause-lines : goal.race-requires-clause-lines
+race-requires-clause-lines g c κs lives =
+    let script = c.args.script.now in
+    subst (λ n. list_all (λ (line : Entry). nat_lt line.client n) (take (c.len-to.result - c.args.self.now.from) (drop c.args.self.now.from c.all.result.now)) ≡ true) (sym (ap length c.as_mut_slice-calls.ensures.value ∙ c.requires.at_play.calls))
+    (subst (λ lines. list_all (λ (line : Entry). nat_lt line.client (length script.names)) (take (c.len-to.result - c.args.self.now.from) (drop c.args.self.now.from lines)) ≡ true) (sym c.all.ensures)
+    (all_part (λ (line : Entry). nat_lt line.client (length script.names)) script.lines c.args.self.now.from (c.len-to.result - c.args.self.now.from) (lines_clients (length script.names) 0 script.stop script.lines c.requires.valid.lines)))
+
+pub returns-clause-at_play : goal.returns-clause-at_play
+returns-clause-at_play g c =
+    let old = c.in-Some.steersman in
+    let new = c.race.new.steersman in
+    let period = subst (λ s. IfSome s (λ helm. (1 ≤ helm.period) × (helm.ticks ≤ ticks_to c.args.script.now.stop (steering_of helm)))) c.in-Some.is c.requires.at_play.period in
+    record {
+      under = race_left c.args.self.now.order c.args.script.now c.args.self.now.lock c.args.self.now.steersman old new c.args.self.now.from _ (Ok c.in_ok-race.field-0) c.args.self.now.first.seat c.race.new.first.seat c.requires.race c.len-to.ensures c.in-Some.is c.requires.at_play.under
+          c.in_ok-race.ensures.gathered
+          (subst (λ lines. GoesOn (IsPlayedBeside old.number (take (c.len-to.result - c.args.self.now.from) (drop c.args.self.now.from lines)) (Ok c.in_ok-race.field-0)) c.args.self.now.first.seat c.race.new.first.seat) c.all.ensures c.in_ok-race.ensures.goes_on) refl
+          c.in_ok-race.ensures.same c.in_ok-race.ensures.reached.0 c.in_ok-race.ensures.steered;
+      calls = as_many c.args.self.now.calls.len c.args.self.now.calls.items c.race.new.calls (c.race.auto.calls ∙ ap length c.as_mut_slice-calls.ensures.value) (search rules) ∙ (search rules);
+      seats = c.requires.at_play.seats ∙ ap (λ s. length c.args.script.now.names + length (option_to_list s)) c.in-Some.is;
+      period = (subst (λ (helm : Steering). 1 ≤ helm.period) (sym c.in_ok-race.ensures.same) period.0, omega (arith, c.in_ok-race.ensures.reached.1, ap (λ (helm : Steering). ticks_to c.args.script.now.stop helm) c.in_ok-race.ensures.same));
+    }

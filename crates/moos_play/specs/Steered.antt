@@ -1,0 +1,175 @@
+-- The helm at its seat, and a run between two rounds. This serves the functions of this crate alone.
+use Rattle.std.specs.Prelude.{◌≡◌, ◌≢◌, ℕ, ◌+◌, ◌-◌, ◌*◌, ◌/◌, ◌^◌, ◌==◌, ◌≤◌, ◌<◌, Bool, true, false, nat_le, nat_lt, suc, if◌then◌else◌, List, [], ◌∷◌, ◌++◌, length, drop, take, Option, None, Some, option_map, option_to_list, IfSome, IsTrue, OnOk, Result}
+use Rattle.std.specs.List.{list_all}
+use Rattle.moos_post.specs.History.{History}
+use Rattle.moos_post.specs.declared.entry.Entry.{Entry}
+use Rattle.moos_client.specs.Calls.{MayCall, SeatState, entries_of}
+use Rattle.helm_core.specs.declared.helm.Helm.{Helm}
+use Rattle.helm_core.specs.declared.iteration.Iteration.{Iteration}
+use Rattle.helm_core.specs.Helms.{clock_of, plan_of, StandsFor}
+use Rattle.moos_play.specs.declared.playing.Play.{Play}
+use Rattle.moos_play.specs.declared.run.HelmRun.{HelmRun}
+use Rattle.moos_play.specs.declared.steersman.Steersman.{Steersman}
+use Rattle.moos_play.specs.Lawful.{Steering, heard_of, helm_number, iterations_of, moment_of, never_falls, opening, opening_of, ticks_of, ticks_to}
+use Rattle.moos_play.specs.Rounds.{Anything, CommunityLock, IsGathered, IsWhole, Makes}
+use Rattle.script_reader.specs.declared.script.Order.{Order}
+use Rattle.script_reader.specs.declared.script.Order.TheVariants.{Stamp, Race}
+use Rattle.script_reader.specs.declared.script.Script.{Script}
+
+-- how a steersman runs its helm
+abbrev pub steering_of : Steersman → Steering
+steering_of steersman = record { client = steersman.number; plan = plan_of steersman.helm; period = steersman.period }
+
+-- the helm's entries before its first tick, by whether it has made them
+abbrev pub opened_by : Bool → Steering → List Entry
+opened_by opened helm = if opened then opening_of helm else []
+
+-- After so many ticks a helm stands for what it has heard in a history, its entries there are its opening and those of
+-- the ticks, and these are the iterations done.
+pub record IsSteered (names : List (List ℕ)) (helm : Steering) (state : Helm) (opened : Bool) (count : ℕ) (done : List Iteration) (history : History) : Type 0 where
+  pub clock : clock_of state ≤ count * helm.period
+  pub stands : StandsFor state (heard_of names helm.client history)
+  pub many : length (heard_of names helm.client history) ≡ count
+  pub own : entries_of helm.client history ≡ opened_by opened helm ++ ticks_of helm (heard_of names helm.client history) count
+  pub same : done ≡ iterations_of helm.plan (heard_of names helm.client history) count
+
+-- the same of a steersman
+abbrev pub Steers : List (List ℕ) → Steersman → History → Type 0
+Steers names steersman history =
+    IsSteered names (steering_of steersman) steersman.helm steersman.opened steersman.ticks steersman.iterations history
+
+-- the history of the seat has of its own number just the seat's entries
+abbrev pub HasOwn : SeatState → Type 0
+HasOwn seat = entries_of seat.number seat.seen ≡ seat.mine
+
+-- the helm may make its ticks at the seat up to so many
+pub record MaySteer (lock : CommunityLock) (seat : SeatState) (steersman : Steersman) (ticks workers : ℕ) : Type 0 where
+  pub may : MayCall lock seat
+  pub number : seat.number ≡ steersman.number
+  pub own : HasOwn seat
+  pub steered : Steers lock.base steersman seat.seen
+  pub opened : steersman.opened ≡ false → steersman.ticks ≡ 0
+  pub count : steersman.ticks ≤ ticks
+  pub early : ticks * steersman.period < 2 ^ 64 + steersman.period
+  pub few : (1 ≤ workers) × (workers ≤ 16)
+
+-- The helm has made its ticks at the seat up to so many, or less where it found no memory.
+pub record HasSteered {E : Type 0} (lock : CommunityLock) (ticks : ℕ) (before after : SeatState) (old new : Steersman) (result : Result (Unit {0}) E) : Type 0 where
+  pub made : Makes Anything before after
+  pub same : steering_of new ≡ steering_of old
+  pub own : OnOk result (HasOwn after)
+  pub steered : OnOk result (Steers lock.base new after.seen)
+  pub reached : OnOk result ((new.opened ≡ true) × (new.ticks ≡ ticks))
+
+-- the helm that is run, where one is
+abbrev pub helm_of : Option Steersman → Option Steering
+helm_of steersman = option_map steering_of steersman
+
+-- A helm has this number, has opened, and stands where the history has brought it. Without one the number has no entry.
+abbrev pub StandsAt : List (List ℕ) → ℕ → Option Steersman → History → Type 0
+StandsAt names number None history = entries_of number history ≡ []
+StandsAt names number (Some steersman) history =
+    (steersman.number ≡ number) × (steersman.opened ≡ true) × Steers names steersman history
+
+-- no entry stands behind the moment of the helm's next tick, where there is one up to this stamp
+abbrev pub IsEarly : ℕ → Option Steersman → ℕ → History → Type 0
+IsEarly number None stop rest = Unit {0}
+IsEarly number (Some steersman) stop rest =
+    steersman.ticks < ticks_to stop (steering_of steersman)
+    → IsTrue (list_all (λ entry. nat_le (moment_of number entry) (suc (2 * (steersman.ticks * steersman.period)))) rest)
+
+-- the entries keep the order of their moments, with the lines behind them that are left
+pub record IsTimed (script : Script) (steersman : Option Steersman) (from : ℕ) (rest : History) : Type 0 where
+  pub left : IsTrue (never_falls (moment_of (helm_number script)) 0 (rest ++ drop from script.lines))
+  pub early : IsEarly (helm_number script) steersman script.stop rest
+
+-- what an order asks of the entries between two rounds
+abbrev pub KeepsTime : Order → Script → Option Steersman → ℕ → History → Type 0
+KeepsTime Stamp script steersman from rest = IsTimed script steersman from rest
+KeepsTime Race script steersman from rest = Unit {0}
+
+-- A run between two rounds, in which so many lines are played: the first seat has taken in all others, and has seen a
+-- history that is lawful as far as it goes.
+pub record IsUnderWay (order : Order) (script : Script) (lock : CommunityLock) (steersman : Option Steersman) (from : ℕ) (first : SeatState) : Type 0 where
+  pub gathered : IsGathered lock first
+  pub whole : IsWhole first
+  pub within : from ≤ length script.lines
+  pub rest : History
+  pub opened : first.seen ≡ opening (helm_of steersman) ++ rest
+  pub own : (n : ℕ) → n ≢ helm_number script → entries_of n rest ≡ entries_of n (take from script.lines)
+  pub steered : StandsAt lock.base (helm_number script) steersman first.seen
+  pub timed : KeepsTime order script steersman from rest
+
+-- the stamp of the helm's next tick, where one is left up to this stamp
+abbrev pub tick_due : ℕ → Option Steersman → Option ℕ
+tick_due stop None = None
+tick_due stop (Some steersman) =
+    if nat_le steersman.ticks (stop / steersman.period) then Some (steersman.ticks * steersman.period) else None
+
+-- there is a tick, and it is before a stamp
+abbrev pub comes_before : Option ℕ → ℕ → Bool
+comes_before None stamp = false
+comes_before (Some tick) stamp = nat_lt tick stamp
+
+-- the tick comes next, before the first of these lines; without a tick there are none
+abbrev pub IsBehind : Option ℕ → List Entry → Type 0
+IsBehind tick [] = Unit {0}
+IsBehind tick (line ∷ lines) = IsTrue (comes_before tick line.stamp)
+
+-- The lines from one place to another come next: they have one stamp, which is not above the tick's. Where there are none
+-- the tick comes next.
+pub record IsDue (lines : List Entry) (tick : Option ℕ) (from to : ℕ) : Type 0 where
+  pub more : from ≤ to
+  pub within : to ≤ length lines
+  pub stamp : ℕ
+  pub one : IsTrue (list_all (λ line. line.stamp == stamp) (take (to - from) (drop from lines)))
+  pub early : from < to → comes_before tick stamp ≡ false
+  pub next : from ≡ to → IsBehind tick (drop from lines)
+
+-- how many of the helm's ticks up to a stamp are left
+abbrev pub ticks_left : ℕ → Option Steersman → ℕ
+ticks_left stop None = 0
+ticks_left stop (Some steersman) = ticks_to stop (steering_of steersman) - steersman.ticks
+
+-- how many lines and ticks are left
+abbrev pub left_of : Script → Play → ℕ
+left_of script play = length script.lines - play.from + ticks_left script.stop play.steersman
+
+-- the iterations so far, none without a helm
+abbrev pub iterations_in : Option Steersman → List Iteration
+iterations_in None = []
+iterations_in (Some steersman) = steersman.iterations
+
+-- a helm with this number
+abbrev pub run_as : ℕ → HelmRun → Steering
+run_as number run = record { client = number; plan = plan_of run.helm; period = run.period }
+
+-- a helm of this number that has yet to open
+pub record IsUnopened (number : ℕ) (steersman : Steersman) : Type 0 where
+  pub own : steersman.number ≡ number
+  pub opened : steersman.opened ≡ false
+  pub ticks : steersman.ticks ≡ 0
+  pub iterations : steersman.iterations ≡ []
+  pub stands : StandsFor steersman.helm []
+  pub period : 1 ≤ steersman.period
+
+-- before the first round: the helm, where there is one, has made its opening, and nobody else an entry
+pub record HasOpened (lock : CommunityLock) (number : ℕ) (steersman : Option Steersman) (first : SeatState) : Type 0 where
+  pub gathered : IsGathered lock first
+  pub whole : IsWhole first
+  pub opened : first.seen ≡ opening (helm_of steersman)
+  pub steered : StandsAt lock.base number steersman first.seen
+  pub ticks : IfSome steersman (λ helm. (helm.ticks ≡ 0) × (1 ≤ helm.period))
+
+-- A run of a script between two rounds, with a seat and a count of calls for each client.
+pub record IsAtPlay (script : Script) (play : Play) : Type 0 where
+  pub under : IsUnderWay play.order script play.lock play.steersman play.from play.first.seat
+  pub calls : length play.calls.items ≡ length script.names
+  pub seats : length play.lock.base ≡ length script.names + length (option_to_list play.steersman)
+  pub period : IfSome play.steersman (λ helm. (1 ≤ helm.period) × (helm.ticks ≤ ticks_to script.stop (steering_of helm)))
+
+-- what stays the same from round to round
+pub record GoesOnWith (before after : Play) : Type 0 where
+  pub lock : after.lock ≡ before.lock
+  pub order : after.order ≡ before.order
+  pub helm : helm_of after.steersman ≡ helm_of before.steersman

@@ -1,0 +1,293 @@
+// A run from round to round: the clients' lines and the helm's ticks, in the order that was asked for.
+ghost use Rattle.std.specs.Prelude.{◌≡◌, ◌≢◌, ◌<◌, ◌≤◌, None, Ok, true, false, drop, length, option_map, IfOk, OnOk, IfSome};
+ghost use Rattle.moos_play.specs.Lawful.{names_with, steering_with, MayStart};
+ghost use Rattle.moos_play.specs.Rounds.{IsGathered, IsWhole};
+ghost use Rattle.moos_play.specs.Steered.{GoesOnWith, helm_of, IsAtPlay, IsBehind, IsDue, iterations_in, left_of, tick_due};
+ghost use Rattle.script_reader.specs.Validity.{IsValid};
+
+use crate::player::Player;
+use crate::race::race;
+use crate::round::play_round;
+use crate::run::{HelmRun, Ran};
+use crate::seats::{names_for, no_calls, open_all, seat_all, steersman_for};
+use crate::stamps::{due_end, tick_due};
+use crate::steersman::{Steersman, lead};
+use moos_client::Lock;
+use moos_db::Db;
+use moos_io::Gate;
+use moos_post::{List, NoMemory};
+use script_reader::{Order, Script};
+use std::alloc::{AllocError, Global};
+use std::sync::Wait;
+use std::thread::Threads;
+use turn_lock::TurnLock;
+
+/// A run between two rounds: the seat of the first client, which has taken in all others, the helm where there is one, how
+/// many calls each of the other clients has made, and how many lines are played.
+#[derive(Drop)]
+pub(crate) struct Play {
+    pub(crate) lock: Lock,
+    pub(crate) first: Player,
+    pub(crate) steersman: Option<Steersman>,
+    pub(crate) calls: Vec<u64>,
+    pub(crate) from: usize,
+    pub(crate) order: Order,
+}
+
+impl Play {
+    /// A run of this script that has yet to play its first line. The helm, where there is one, has made its opening.
+    pub(crate) fn make<R: Threads + Wait + Sync, G: Gate>(
+        rt: &R,
+        alloc: Global,
+        script: &Script,
+        helm: Option<HelmRun>,
+        order: Order,
+        gate: &G,
+    ) -> Result<Play, NoMemory>
+        requires valid { IsValid script.now }
+        requires helm { IfSome helm MayStart }
+        requires some { 0 < length (names_with script.now helm) }
+        ensures order { IfOk result (λ play. play.order ≡ order) }
+        ensures names { IfOk result (λ play. play.lock.base ≡ names_with script.now helm) }
+        ensures helm { IfOk result (λ play. helm_of play.steersman ≡ option_map (steering_with script.now) helm) }
+        ensures at_play { IfOk result (IsAtPlay script.now) }
+    {
+        let clients = script.names.len() as u32;
+        let names = names_for(alloc, script, &helm)?;
+        let passes = names.len() as u32;
+        let mut steersman = steersman_for(alloc, clients, helm);
+        let calls = no_calls(alloc, clients)?;
+        let db = Db::make(alloc, names)?;
+        let Ok((lock, mut seat)) = TurnLock::make(alloc, db, passes) else {
+            return Err(AllocError);
+        };
+        seat_all(&lock, &mut seat, passes);
+        open_all(rt, alloc, &lock, &mut seat, &mut steersman, clients, gate)?;
+        let first = Player {
+            seat,
+            calls: 0,
+            ended: Ok(()),
+        };
+        Ok(Play {
+            lock,
+            first,
+            steersman,
+            calls,
+            from: 0,
+            order,
+        })
+    }
+
+    /// Plays the next round: in order Stamp the lines of the next stamp or the helm's next tick, and in order Race
+    /// everything. It answers false where nothing was left.
+    pub(crate) fn round<R: Threads + Wait + Sync, G: Gate>(
+        &mut self,
+        rt: &R,
+        alloc: Global,
+        script: &Script,
+        workers: u32,
+        gate: &G,
+    ) -> Result<bool, NoMemory>
+        requires valid { IsValid script.now }
+        requires at_play { IsAtPlay script.now self.old }
+        requires workers { (1 ≤ workers) × (workers ≤ 16) }
+        ensures at_play { OnOk result (IsAtPlay script.now self.new) }
+        ensures same { OnOk result (GoesOnWith self.old self.new) }
+        ensures more { result ≡ Ok true → left_of script.now self.new < left_of script.now self.old }
+        ensures over { result ≡ Ok false → left_of script.now self.new ≡ 0 }
+    {
+        let tick = tick_due(&self.steersman, script.stop);
+        let to = due_end(script.lines.all(), self.from, tick);
+        if self.from == to && tick.is_none() {
+            return Ok(false);
+        }
+        match self.order {
+            Order::Race => self.race_all(rt, alloc, script, workers, gate)?,
+            Order::Stamp => self.play_next(rt, alloc, script, to, workers, gate)?,
+        }
+        Ok(true)
+    }
+
+    // Plays the lines before this place, or the next tick where that is the place that the lines have come to.
+    fn play_next<R: Threads + Wait + Sync, G: Gate>(
+        &mut self,
+        rt: &R,
+        alloc: Global,
+        script: &Script,
+        to: usize,
+        workers: u32,
+        gate: &G,
+    ) -> Result<(), NoMemory>
+        requires valid { IsValid script.now }
+        requires at_play { IsAtPlay script.now self.old }
+        requires workers { (1 ≤ workers) × (workers ≤ 16) }
+        requires due { IsDue script.now.lines (tick_due script.now.stop self.old.steersman) self.old.from to }
+        requires some { (self.old.from ≡ to) → (tick_due script.now.stop self.old.steersman ≢ None) }
+        ensures at_play { OnOk result (IsAtPlay script.now self.new) }
+        ensures same { OnOk result (GoesOnWith self.old self.new) }
+        ensures more { OnOk result (left_of script.now self.new < left_of script.now self.old) }
+    {
+        if self.from < to {
+            self.play_lines(rt, alloc, script, to, gate)
+        } else {
+            self.play_tick(rt, alloc, script, workers, gate)
+        }
+    }
+
+    // Plays the lines before this place, which in order Stamp have one stamp.
+    fn play_lines<R: Threads + Wait + Sync, G: Gate>(
+        &mut self,
+        rt: &R,
+        alloc: Global,
+        script: &Script,
+        to: usize,
+        gate: &G,
+    ) -> Result<(), NoMemory>
+        requires valid { IsValid script.now }
+        requires at_play { IsAtPlay script.now self.old }
+        requires due { IsDue script.now.lines (tick_due script.now.stop self.old.steersman) self.old.from to }
+        requires some { self.old.from < to }
+        ensures at_play { OnOk result (IsAtPlay script.now self.new) }
+        ensures same { OnOk result (GoesOnWith self.old self.new) }
+        ensures more { OnOk result (left_of script.now self.new < left_of script.now self.old) }
+    {
+        let lines = &script.lines.all()[self.from..to];
+        let calls = self.calls.as_mut_slice();
+        play_round(rt, alloc, &self.lock, &mut self.first, calls, lines, gate)?;
+        self.from = to;
+        Ok(())
+    }
+
+    // Has the helm make its next tick, where one is left and no line is left of its stamp or before.
+    fn play_tick<R: Threads + Wait + Sync, G: Gate>(
+        &mut self,
+        rt: &R,
+        alloc: Global,
+        script: &Script,
+        workers: u32,
+        gate: &G,
+    ) -> Result<(), NoMemory>
+        requires valid { IsValid script.now }
+        requires at_play { IsAtPlay script.now self.old }
+        requires workers { (1 ≤ workers) × (workers ≤ 16) }
+        requires some { tick_due script.now.stop self.old.steersman ≢ None }
+        requires behind { IsBehind (tick_due script.now.stop self.old.steersman) (drop self.old.from script.now.lines) }
+        ensures at_play { OnOk result (IsAtPlay script.now self.new) }
+        ensures same { OnOk result (GoesOnWith self.old self.new) }
+        ensures more { OnOk result (left_of script.now self.new < left_of script.now self.old) }
+    {
+        let Some(steersman) = &mut self.steersman else {
+            unreachable!()
+        };
+        let ticks = steersman.ticks + 1;
+        let first = &mut self.first.seat;
+        lead(
+            rt, alloc, &self.lock, first, steersman, ticks, workers, gate,
+        )
+    }
+
+    // Has all clients play their lines and the helm make its ticks, all beside each other.
+    fn race_all<R: Threads + Wait + Sync, G: Gate>(
+        &mut self,
+        rt: &R,
+        alloc: Global,
+        script: &Script,
+        workers: u32,
+        gate: &G,
+    ) -> Result<(), NoMemory>
+        requires valid { IsValid script.now }
+        requires at_play { IsAtPlay script.now self.old }
+        requires workers { (1 ≤ workers) × (workers ≤ 16) }
+        requires race { self.old.order ≡ Order.Race }
+        ensures at_play { OnOk result (IsAtPlay script.now self.new) }
+        ensures same { OnOk result (GoesOnWith self.old self.new) }
+        ensures over { OnOk result (left_of script.now self.new ≡ 0) }
+    {
+        if self.steersman.is_none() {
+            self.play_left(rt, alloc, script, gate)
+        } else {
+            self.race_left(rt, alloc, script, workers, gate)
+        }
+    }
+
+    // Has all clients play the lines that are left, where there is no helm.
+    fn play_left<R: Threads + Wait + Sync, G: Gate>(
+        &mut self,
+        rt: &R,
+        alloc: Global,
+        script: &Script,
+        gate: &G,
+    ) -> Result<(), NoMemory>
+        requires valid { IsValid script.now }
+        requires at_play { IsAtPlay script.now self.old }
+        requires race { self.old.order ≡ Order.Race }
+        requires none { self.old.steersman ≡ None }
+        ensures at_play { OnOk result (IsAtPlay script.now self.new) }
+        ensures same { OnOk result (GoesOnWith self.old self.new) }
+        ensures over { OnOk result (left_of script.now self.new ≡ 0) }
+    {
+        let to = script.lines.len();
+        let lines = &script.lines.all()[self.from..to];
+        let calls = self.calls.as_mut_slice();
+        play_round(rt, alloc, &self.lock, &mut self.first, calls, lines, gate)?;
+        self.from = to;
+        Ok(())
+    }
+
+    // Has all clients play the lines that are left and the helm make its ticks.
+    fn race_left<R: Threads + Wait + Sync, G: Gate>(
+        &mut self,
+        rt: &R,
+        alloc: Global,
+        script: &Script,
+        workers: u32,
+        gate: &G,
+    ) -> Result<(), NoMemory>
+        requires valid { IsValid script.now }
+        requires at_play { IsAtPlay script.now self.old }
+        requires workers { (1 ≤ workers) × (workers ≤ 16) }
+        requires race { self.old.order ≡ Order.Race }
+        requires some { self.old.steersman ≢ None }
+        ensures at_play { OnOk result (IsAtPlay script.now self.new) }
+        ensures same { OnOk result (GoesOnWith self.old self.new) }
+        ensures over { OnOk result (left_of script.now self.new ≡ 0) }
+    {
+        let Some(steersman) = &mut self.steersman else {
+            unreachable!()
+        };
+        let ticks = script.stop / steersman.period + 1;
+        let to = script.lines.len();
+        let lines = &script.lines.all()[self.from..to];
+        let calls = self.calls.as_mut_slice();
+        let first = &mut self.first;
+        race(
+            rt, alloc, &self.lock, first, steersman, calls, lines, ticks, workers, gate,
+        )?;
+        self.from = to;
+        Ok(())
+    }
+
+    /// Ends the run: its database with the history so far, and the helm's iterations.
+    pub(crate) fn end(self, alloc: Global) -> Ran
+        requires gathered { IsGathered self.lock self.first.seat }
+        requires whole { IsWhole self.first.seat }
+        ensures names { result.db.names ≡ self.lock.base }
+        ensures history { result.db.history ≡ self.first.seat.seen }
+        ensures iterations { result.iterations ≡ iterations_in self.steersman }
+    {
+        let Play {
+            lock,
+            first,
+            steersman,
+            calls: _,
+            from: _,
+            order: _,
+        } = self;
+        let (db, _) = lock.close(first.seat);
+        let iterations = match steersman {
+            Some(steersman) => steersman.iterations,
+            None => List::new(alloc),
+        };
+        Ran { db, iterations }
+    }
+}

@@ -1,0 +1,100 @@
+// How a run begins: its names, a seat for each client, and the helm with its opening.
+ghost use Rattle.std.specs.Prelude.{◌≡◌, ◌<◌, length, option_map, IfOk, OnOk, IfSome};
+ghost use Rattle.moos_play.specs.Lawful.{names_with, MayStart};
+ghost use Rattle.moos_play.specs.Rounds.{IsGathered, KnowsNothing};
+ghost use Rattle.moos_play.specs.Steered.{HasOpened, helm_of, IsUnopened, run_as};
+ghost use Rattle.turn_lock.specs.Passes.{first_pass};
+
+use crate::run::HelmRun;
+use crate::steersman::{Steersman, lead};
+use moos_client::{Lock, Seat};
+use moos_io::Gate;
+use moos_post::{Copied, List, Name, Names, NoMemory};
+use script_reader::Script;
+use std::alloc::{AllocError, Global};
+use std::sync::Wait;
+use std::thread::Threads;
+
+/// The names of all clients: the script's, and then the helm's where there is one.
+pub(crate) fn names_for(
+    alloc: Global,
+    script: &Script,
+    helm: &Option<HelmRun>,
+) -> Result<Names, NoMemory>
+    ensures { IfOk result (λ names. names ≡ names_with script.now helm.now) }
+{
+    let mut names = script.names.copy(alloc)?;
+    if helm.is_some() {
+        let Ok(name) = Name::new(alloc, b"pHelmIvP") else {
+            return Err(AllocError);
+        };
+        let Ok(()) = names.push(name) else {
+            return Err(AllocError);
+        };
+    }
+    Ok(names)
+}
+
+/// The helm, where there is one, with the number of this many clients and nothing done yet.
+pub(crate) fn steersman_for(alloc: Global, clients: u32, helm: Option<HelmRun>) -> Option<Steersman>
+    requires { IfSome helm MayStart }
+    ensures helm { helm_of result ≡ option_map (run_as clients) helm }
+    ensures new { IfSome result (IsUnopened clients) }
+{
+    let HelmRun { helm, period } = helm?;
+    Some(Steersman {
+        helm,
+        number: clients,
+        period,
+        opened: false,
+        ticks: 0,
+        calls: 0,
+        iterations: List::new(alloc),
+    })
+}
+
+/// A count of 0 calls for each client.
+pub(crate) fn no_calls(alloc: Global, clients: u32) -> Result<Vec<u64>, NoMemory>
+    ensures { IfOk result (λ calls. length calls.items ≡ clients) }
+{
+    let mut calls = Vec::new(alloc);
+    for client in 0..clients {
+        calls.push(0)?;
+    }
+    Ok(calls)
+}
+
+/// Splits off the seats of all other clients from that of the first, which takes them in.
+pub(crate) fn seat_all(lock: &Lock, first: &mut Seat, clients: u32)
+    requires clients { (0 < clients) × (clients ≡ length lock.now.base) }
+    requires first { first.old ≡ first_pass lock.now clients }
+    ensures gathered { IsGathered lock.now first.new }
+    ensures nothing { KnowsNothing first.new }
+{
+    for client in 1..clients {
+        let seat = lock.split(first);
+        lock.meet(first, seat);
+    }
+}
+
+/// Has the helm, where there is one, make its opening.
+pub(crate) fn open_all<R: Threads + Wait + Sync, G: Gate>(
+    rt: &R,
+    alloc: Global,
+    lock: &Lock,
+    first: &mut Seat,
+    steersman: &mut Option<Steersman>,
+    clients: u32,
+    gate: &G,
+) -> Result<(), NoMemory>
+    requires gathered { IsGathered lock.now first.old }
+    requires nothing { KnowsNothing first.old }
+    requires new { IfSome steersman.old (λ helm. IsUnopened clients helm × (clients < length lock.now.base)) }
+    ensures same { OnOk result (helm_of steersman.new ≡ helm_of steersman.old) }
+    ensures opened { OnOk result (HasOpened lock.now clients steersman.new first.new) }
+{
+    match steersman {
+        None => Ok(()),
+        Some(steersman) => lead(rt, alloc, lock, first, steersman, 0, 1, gate),
+    }
+}

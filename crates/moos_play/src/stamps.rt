@@ -1,0 +1,61 @@
+// Which lines and which tick are next by their stamps.
+ghost use Rattle.std.specs.Prelude.{◌≡◌, ◌<◌, ◌≤◌, length, slice_index_or, IfSome};
+ghost use Rattle.moos_play.specs.Rounds.{EndsRound};
+ghost use Rattle.moos_play.specs.Steered.{comes_before, IsDue, tick_due};
+
+use crate::steersman::Steersman;
+use moos_post::Entry;
+
+/// The stamp of the helm's next tick, where one is left up to this stamp.
+pub(crate) fn tick_due(steersman: &Option<Steersman>, stop: u64) -> Option<u64>
+    requires { IfSome steersman.now (λ helm. 1 ≤ helm.period) }
+    ensures { result ≡ tick_due stop steersman.now }
+{
+    match steersman {
+        None => None,
+        Some(steersman) if steersman.ticks <= stop / steersman.period => {
+            Some(steersman.ticks * steersman.period)
+        }
+        Some(_) => None,
+    }
+}
+
+/// Where the lines end that are played next, of those from one place on: those of the first one's stamp, or none where the
+/// tick has an earlier stamp.
+pub(crate) fn due_end(lines: &[Entry], from: usize, tick: Option<u64>) -> usize
+    requires { from ≤ length lines.now }
+    ensures { IsDue lines.now tick from result }
+{
+    if from >= lines.len() {
+        return from;
+    }
+    let first = &lines[from];
+    if comes_before(tick, first.stamp) {
+        return from;
+    }
+    stamp_end(lines, from, first)
+}
+
+// Whether there is a tick and it is before a stamp.
+fn comes_before(tick: Option<u64>, stamp: u64) -> bool
+    ensures { result ≡ comes_before tick stamp }
+{
+    match tick {
+        None => false,
+        Some(tick) => tick < stamp,
+    }
+}
+
+// Where the lines end that have the stamp of the first, which is the one at `from`.
+fn stamp_end(lines: &[Entry], from: usize, first: &Entry) -> usize
+    requires from { from < length lines.now }
+    requires first { first.now ≡ slice_index_or lines.now from first.now }
+    ensures { EndsRound lines.now first.now.stamp from result }
+{
+    let stamp = first.stamp;
+    let mut to = from + 1;
+    while to < lines.len() && lines[to].stamp == stamp {
+        to += 1;
+    }
+    to
+}

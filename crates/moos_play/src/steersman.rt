@@ -1,0 +1,178 @@
+// The helm at its seat: its opening, and its ticks as calls.
+ghost use Rattle.std.specs.Prelude.{◌≡◌, ◌≤◌, ◌<◌, ◌*◌, ◌+◌, ◌^◌, true, false, length, OnOk};
+ghost use Rattle.moos_client.specs.Calls.{MayCall};
+ghost use Rattle.moos_play.specs.Rounds.{Anything, GoesOn, IsAlone, IsGathered, IsWhole, Makes};
+ghost use Rattle.moos_play.specs.Steered.{HasOwn, Steers, steering_of};
+
+use crate::round::see_all;
+use helm_core::{Helm, Iteration};
+use moos_client::{Lock, Seat, fetch, post, register};
+use moos_io::Gate;
+use moos_post::{Copied, List, NoMemory};
+use std::alloc::{AllocError, Global};
+use std::sync::Wait;
+use std::thread::Threads;
+
+/// What the helm answered at its ticks, in order.
+pub type Iterations = List<Iteration>;
+
+/// The helm at play: its number, the milliseconds from one tick to the next, whether it has opened, how many ticks and
+/// how many calls it has made, and its iterations so far.
+#[derive(Drop)]
+pub(crate) struct Steersman {
+    pub(crate) helm: Helm,
+    pub(crate) number: u32,
+    pub(crate) period: u64,
+    pub(crate) opened: bool,
+    pub(crate) ticks: u64,
+    pub(crate) calls: u64,
+    pub(crate) iterations: Iterations,
+}
+
+/// The helm makes its opening, where it hasn't yet, and then its ticks up to so many, until it finds no memory.
+pub(crate) fn steer<R: Threads + Wait + Sync, G: Gate>(
+    rt: &R,
+    alloc: Global,
+    lock: &Lock,
+    seat: &mut Seat,
+    steersman: &mut Steersman,
+    ticks: u64,
+    workers: u32,
+    gate: &G,
+) -> Result<(), NoMemory>
+    requires may { MayCall lock.now seat.old }
+    requires number { seat.old.number ≡ steersman.old.number }
+    requires own { HasOwn seat.old }
+    requires steered { Steers lock.now.base steersman.old seat.old.seen }
+    requires opened { steersman.old.opened ≡ false → steersman.old.ticks ≡ 0 }
+    requires ticks { steersman.old.ticks ≤ ticks }
+    requires early { ticks * steersman.old.period < 2 ^ 64 + steersman.old.period }
+    requires workers { (1 ≤ workers) × (workers ≤ 16) }
+    ensures made { Makes Anything seat.old seat.new }
+    ensures same { steering_of steersman.new ≡ steering_of steersman.old }
+    ensures own { OnOk result (HasOwn seat.new) }
+    ensures steered { OnOk result (Steers lock.now.base steersman.new seat.new.seen) }
+    ensures reached { OnOk result ((steersman.new.opened ≡ true) × (steersman.new.ticks ≡ ticks)) }
+{
+    open(rt, alloc, lock, seat, steersman, gate)?;
+    while steersman.ticks < ticks {
+        tick(rt, alloc, lock, seat, steersman, workers, gate)?;
+    }
+    Ok(())
+}
+
+// The helm's next call is told to the gate, and counted.
+fn count_call<G: Gate>(steersman: &mut Steersman, gate: &G)
+    ensures { steersman.new ≡ record steersman.old { calls = steersman.new.calls } }
+{
+    gate.at_call(steersman.number, steersman.calls);
+    steersman.calls = steersman.calls.saturating_add(1);
+}
+
+// The helm registers for what it wants, and posts the pairs to begin with, where there are any, both at stamp 0, unless it
+// has opened before.
+fn open<R: Wait, G: Gate>(
+    rt: &R,
+    alloc: Global,
+    lock: &Lock,
+    seat: &mut Seat,
+    steersman: &mut Steersman,
+    gate: &G,
+) -> Result<(), NoMemory>
+    requires may { MayCall lock.now seat.old }
+    requires number { seat.old.number ≡ steersman.old.number }
+    requires own { HasOwn seat.old }
+    requires steered { Steers lock.now.base steersman.old seat.old.seen }
+    requires opened { steersman.old.opened ≡ false → steersman.old.ticks ≡ 0 }
+    ensures made { Makes Anything seat.old seat.new }
+    ensures same { steering_of steersman.new ≡ steering_of steersman.old }
+    ensures own { OnOk result (HasOwn seat.new) }
+    ensures steered { OnOk result (Steers lock.now.base steersman.new seat.new.seen) }
+    ensures opened { OnOk result ((steersman.new.opened ≡ true) × (steersman.new.ticks ≡ steersman.old.ticks)) }
+{
+    if steersman.opened {
+        return Ok(());
+    }
+    count_call(steersman, gate);
+    register(rt, alloc, lock, seat, 0, steersman.helm.wants(alloc)?)?;
+    let pairs = steersman.helm.opening(alloc)?;
+    if pairs.len() > 0 {
+        count_call(steersman, gate);
+        post(rt, alloc, lock, seat, 0, pairs)?;
+    }
+    steersman.opened = true;
+    Ok(())
+}
+
+// The helm makes its next tick: it fetches its mail, and posts what its iteration over that says.
+fn tick<R: Threads + Wait + Sync, G: Gate>(
+    rt: &R,
+    alloc: Global,
+    lock: &Lock,
+    seat: &mut Seat,
+    steersman: &mut Steersman,
+    workers: u32,
+    gate: &G,
+) -> Result<(), NoMemory>
+    requires may { MayCall lock.now seat.old }
+    requires number { seat.old.number ≡ steersman.old.number }
+    requires own { HasOwn seat.old }
+    requires steered { Steers lock.now.base steersman.old seat.old.seen }
+    requires early { (steersman.old.ticks * steersman.old.period < 2 ^ 64) × (steersman.old.ticks + 1 < 2 ^ 64) }
+    requires workers { (1 ≤ workers) × (workers ≤ 16) }
+    ensures made { Makes Anything seat.old seat.new }
+    ensures same { steering_of steersman.new ≡ steering_of steersman.old }
+    ensures own { OnOk result (HasOwn seat.new) }
+    ensures steered { OnOk result (Steers lock.now.base steersman.new seat.new.seen) }
+    ensures on { OnOk result ((steersman.new.opened ≡ steersman.old.opened) × (steersman.new.ticks ≡ steersman.old.ticks + 1)) }
+{
+    let stamp = steersman.ticks * steersman.period;
+    count_call(steersman, gate);
+    let mail = fetch(rt, alloc, lock, seat, stamp)?;
+    let iteration = steersman.helm.tick(rt, alloc, stamp, &mail, workers, gate)?;
+    count_call(steersman, gate);
+    post(rt, alloc, lock, seat, stamp, iteration.posts.copy(alloc)?)?;
+    let Ok(()) = steersman.iterations.push(iteration) else {
+        return Err(AllocError);
+    };
+    steersman.ticks += 1;
+    Ok(())
+}
+
+/// The helm makes its opening and its ticks up to so many while no other client makes a call. Then the first seat has its
+/// seat again, also where memory is missing.
+pub(crate) fn lead<R: Threads + Wait + Sync, G: Gate>(
+    rt: &R,
+    alloc: Global,
+    lock: &Lock,
+    first: &mut Seat,
+    steersman: &mut Steersman,
+    ticks: u64,
+    workers: u32,
+    gate: &G,
+) -> Result<(), NoMemory>
+    requires gathered { IsGathered lock.now first.old }
+    requires whole { IsWhole first.old }
+    requires client { steersman.old.number < length lock.now.base }
+    requires steered { Steers lock.now.base steersman.old first.old.seen }
+    requires opened { steersman.old.opened ≡ false → steersman.old.ticks ≡ 0 }
+    requires ticks { steersman.old.ticks ≤ ticks }
+    requires early { ticks * steersman.old.period < 2 ^ 64 + steersman.old.period }
+    requires workers { (1 ≤ workers) × (workers ≤ 16) }
+    ensures gathered { IsGathered lock.now first.new }
+    ensures goes_on { GoesOn (IsAlone steersman.old.number) first.old first.new }
+    ensures same { steering_of steersman.new ≡ steering_of steersman.old }
+    ensures steered { OnOk result (Steers lock.now.base steersman.new first.new.seen) }
+    ensures reached { OnOk result ((steersman.new.opened ≡ true) × (steersman.new.ticks ≡ ticks)) }
+{
+    let answer = if steersman.number == 0 {
+        steer(rt, alloc, lock, first, steersman, ticks, workers, gate)
+    } else {
+        let mut seat = lock.part(first, steersman.number);
+        let answer = steer(rt, alloc, lock, &mut seat, steersman, ticks, workers, gate);
+        lock.meet(first, seat);
+        answer
+    };
+    see_all(rt, lock, first);
+    answer
+}
