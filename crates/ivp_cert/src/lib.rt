@@ -40,7 +40,7 @@ pub use cutting::cut;
 pub use decision::read_decision;
 pub use law::{accepted_law, certificate_law, printed_law};
 pub use path::Path;
-pub use print::print_decision;
+pub use print::{print_decision, put_decision};
 pub use read::read_problem;
 
 #[cfg(test)]

@@ -33,7 +33,8 @@ pub fn print_decision<K: Sink>(
     Ok(())
 }
 
-fn put_decision<K: Sink>(
+/// Writes a decision through a buffer, each line behind the prefix.
+pub fn put_decision<K: Sink>(
     prefix: &[u8],
     decision: &Decision,
     buffer: &mut Buffer,

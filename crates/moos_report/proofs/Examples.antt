@@ -1,7 +1,7 @@
 -- Reports worked by hand.
-use Rattle.std.proofs.Common.{◌≡◌, ℕ, zero, suc, ◌<◌, Bool, true, false, not, ◌==◌, List, [], ◌∷◌, refl, ap, arith}
-use Rattle.std.specs.Prelude.{codes, pos, negsuc, IsTrue, None, slice_index, slice_index_or}
-use Rattle.std.specs.List.{All, list_all}
+use Rattle.std.proofs.Common.{◌≡◌, ℕ, zero, suc, ◌<◌, Bool, true, false, List, [], ◌∷◌, refl, ap, arith, Some, None, flat_map}
+use Rattle.std.specs.Prelude.{codes, pos, negsuc, IsTrue, None, slice_index, slice_index_or, IfSome}
+use Rattle.std.specs.List.{All}
 use Rattle.std.proofs.lemmas.List.Elements.{All-cons, All-nil}
 use Rattle.std.specs.Fmt.{digits}
 use Rattle.moos_post.specs.declared.entry.Call.TheVariants.{Register, Unregister, Post as Posts, Fetch}
@@ -12,18 +12,24 @@ use Rattle.moos_post.specs.declared.value.Value.TheVariants.{Num, Text}
 use Rattle.moos_post.specs.Words.{is_name}
 use Rattle.std.proofs.lemmas.Bool.{false≢true}
 use Rattle.moos_post.specs.Entries.{IsEntry, IsPair, IsReg}
+use Rattle.ivp_domain.specs.declared.axis.Axis.{Axis}
+use Rattle.ivp_cert.specs.Texts.{claim_text}
+use Rattle.ivp_cert.proofs.CertExamples.{decision}
+use Rattle.bhv_kinds.specs.declared.out.BhvFault.TheVariants.{NoPosition, OutsidePolygon, TooDeep, TooLate}
+use Rattle.bhv_life.specs.declared.outcome.BhvState.TheVariants.{Idle, Running, Active, Completed}
+use Rattle.bhv_reader.specs.declared.file.Unused.{Unused}
 use Rattle.helm_core.specs.declared.iteration.Iteration.{Iteration}
 use Rattle.moos_report.specs.declared.setup.Setup.{Setup}
-use Rattle.moos_report.specs.Community.{HaveModes, HaveOwnNames, IsCommunity}
-use Rattle.moos_report.specs.IterationLines.{outcome_text}
-use Rattle.moos_report.specs.Report.{report_text}
+use Rattle.moos_report.specs.Community.{HaveOwnNames, IsCommunity, is_one_line, StandOnLines}
+use Rattle.moos_report.specs.IterationLines.{error_text, iteration_text, outcome_text, states_text}
+use Rattle.moos_report.specs.Report.{report_text, unused_text}
 
 -- modes are declared, or not
 abbrev with_modes : Setup
-with_modes = record { modes = true }
+with_modes = record { unused = []; behaviors = []; modes = true }
 
 abbrev no_modes : Setup
-no_modes = record { modes = false }
+no_modes = record { unused = []; behaviors = []; modes = false }
 
 abbrev first_lines : List Entry
 first_lines =
@@ -118,13 +124,67 @@ helm_fetches_again = refl
 iteration_not_given : follows with_modes (fetched 1 ∷ fetched 1 ∷ fetched 1 ∷ []) helm_posts_now ≡ []
 iteration_not_given = refl
 
--- a mode with a line end stands on several lines, one of which could be read as one that isn't printed
-two_lines : HaveModes (in_mode 0 false (codes "A\n%% end 1 0") ∷ []) → ⊥
-two_lines modes = false≢true (modes 0 (in_mode 0 true []) (omega arith))
+-- what the behaviour file has that no behaviour uses
+unused_parameters : flat_map unused_text (record { line = 13; name = codes "lead" } ∷ record { line = 19; name = codes "visual_hints" } ∷ []) ≡ codes "%% unused 13 lead\n%% unused 19 visual_hints\n"
+unfolding digits
+unused_parameters = refl
 
-one_line : HaveModes (in_mode 0 false (codes "A:B") ∷ [])
-one_line = All-cons (λ iteration. IsTrue (list_all (λ byte. not (byte == 10)) iteration.mode)) (in_mode 0 false (codes "A:B")) [] refl
-    (All-nil (λ iteration. IsTrue (list_all (λ byte. not (byte == 10)) iteration.mode)))
+-- a helm of two behaviours: one is done with its survey, and the other raises a fault
+abbrev survey : Setup
+survey = record { unused = []; behaviors = codes "waypt_survey" ∷ codes "op_region" ∷ []; modes = false }
+
+abbrev surveyed : Iteration
+surveyed = record {
+  stamp = 500;
+  parked = false;
+  mode = [];
+  updates = record { behavior = 1; taken = false } ∷ record { behavior = 0; taken = true } ∷ [];
+  states = Completed ∷ Running ∷ [];
+  faults = record { behavior = 1; fault = NoPosition } ∷ [];
+  decision = None;
+  posts = [];
+}
+
+survey_done : iteration_text survey 2 surveyed
+    ≡ codes "%% iteration 2 0.5 DRIVE\n%% update op_region refused\n%% update waypt_survey taken\n%% behavior waypt_survey completed\n%% behavior op_region running\n%% error op_region NoPosition\n%% none\n"
+unfolding digits
+survey_done = refl
+
+timer_done : states_text (codes "t" ∷ []) (Completed ∷ []) ≡ codes "%% behavior t completed\n"
+timer_done = refl
+
+other_states : states_text (codes "a" ∷ codes "b" ∷ []) (Idle ∷ Active ∷ []) ≡ codes "%% behavior a idle\n%% behavior b active\n"
+other_states = refl
+
+other_faults : flat_map (error_text (codes "r" ∷ [])) (record { behavior = 0; fault = OutsidePolygon } ∷ record { behavior = 0; fault = TooDeep } ∷ record { behavior = 0; fault = TooLate } ∷ [])
+    ≡ codes "%% error r OutsidePolygon\n%% error r TooDeep\n%% error r TooLate\n"
+other_faults = refl
+
+-- a decision with a mark before each line, last of its iteration; its `end` is not the report's
+decided : iteration_text no_modes 0 (record (in_mode 0 false []) { decision = Some decision })
+    ≡ codes "%% iteration 0 0 DRIVE\n%% ivp 1\n%% domain a:0:2:3\n%% domain b:0:1:2\n%% domain d:0:1:2\n%% function 2\n%% piece 0 2 0 1 0 1 0 10 0 0\n%% function 3\n%% piece 0 0 0 1 0 1 20 0 5 0\n%% piece 1 2 0 1 0 1 0 0 5 0\n%% end\n%% decision 0 1 0 75\n%% cut 0 0 : 75 2\n%% cut 0 1 : 55 10\n%% done\n"
+unfolding digits
+decided = refl
+
+-- course 90 at speed 2
+course_and_speed : claim_text (codes "%% ") 2 (record { point = record { at = 90 ∷ 20 ∷ 0 ∷ 0 ∷ [] }; sum = 20000000 }) ≡ codes "%% decision 90 20 20000000\n"
+unfolding digits
+course_and_speed = refl
+
+-- a mode with a line end stands on several lines, one of which could be read as one that isn't printed
+two_lines : StandOnLines no_modes (in_mode 0 false (codes "A\n%% end 1 0") ∷ []) → ⊥
+two_lines lines = false≢true (lines.modes 0 (in_mode 0 true []) (omega arith))
+
+abbrev OverLines : Iteration → Type 0
+OverLines iteration = IfSome iteration.decision (λ decided. All (λ (axis : Axis). IsTrue (is_one_line axis.name)) decided.problem.axes)
+
+one_line : StandOnLines survey (in_mode 0 false (codes "A:B") ∷ [])
+one_line = record {
+  unused = All-nil (λ (unused : Unused). IsTrue (is_one_line unused.name));
+  behaviors = All-cons (λ name. IsTrue (is_one_line name)) (codes "waypt_survey") (codes "op_region" ∷ []) refl (All-cons (λ name. IsTrue (is_one_line name)) (codes "op_region") [] refl (All-nil (λ name. IsTrue (is_one_line name))));
+  modes = All-cons (λ (iteration : Iteration). IsTrue (is_one_line iteration.mode)) (in_mode 0 false (codes "A:B")) [] refl (All-nil (λ (iteration : Iteration). IsTrue (is_one_line iteration.mode)));
+  axes = All-cons OverLines (in_mode 0 false (codes "A:B")) [] tt (All-nil OverLines);
+}
 
 abbrev Named : List ℕ → Type 0
 Named name = IsTrue (is_name name)

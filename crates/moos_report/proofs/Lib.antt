@@ -2,6 +2,8 @@ pub mod Cuts
 pub mod Escapes
 pub mod Examples
 pub mod NextEntries
+pub mod PassedDecisions
+pub mod PassedLines
 pub mod PrintedCalls
 pub mod PrintedReports
 pub mod PrintedValues

@@ -1,127 +1,159 @@
 -- Behind an entry's own lines the next entry, or the end, is found line by line: no line of an iteration begins as theirs do.
-use Rattle.std.proofs.Common.{◌≡◌, ◌≢◌, ℕ, zero, suc, ◌+◌, ◌/◌, ◌%◌, inl, inr, Bool, true, false, ◌&&◌, ◌||◌, ◌==◌, not, Some, None, Option, List, [], ◌∷◌, ◌++◌, take, get_or, refl, ap, sym, ◌∙◌, subst, arith, append_assoc}
-use Rattle.std.specs.Prelude.{bytes_eq, codes, decimal, nat_lt, IsTrue, if◌then◌else◌, slice_get}
-use Rattle.std.specs.List.{concat, list_all}
-use Rattle.std.specs.Fmt.{digit_glyph, digits, digits_onto}
-use Rattle.std.proofs.lemmas.Bool.Decides.{nat_tests}
+use Rattle.std.proofs.Common.{◌≡◌, ◌≢◌, ℕ, zero, suc, true, false, Bool, Some, None, Option, List, [], ◌∷◌, ◌++◌, flat_map, get_or, refl, sym, ◌∙◌, subst, arith, append_assoc}
+use Rattle.std.specs.Prelude.{codes, decimal, IsTrue, IfSome, if◌then◌else◌, slice_get}
+use Rattle.std.specs.List.{All, concat, AllByRecursion as Each}
+use Rattle.std.proofs.lemmas.List.Elements.{recursion_from_All}
 use Rattle.std.proofs.lemmas.Option.{get_or_from_slice_get, slice_get_within}
-use Rattle.moos_io.proofs.Lists.{each_append}
+use Rattle.moos_io.proofs.Lists.{each_weaker}
 use Rattle.moos_post.specs.declared.entry.Entry.{Entry}
-use Rattle.moos_post.specs.History.{History}
-use Rattle.moos_post.specs.Words.{is_digit}
-use Rattle.moos_text.specs.Numbers.{decimals_text, unsigned_text}
-use Rattle.moos_text.proofs.PrintedDigits.{decimals_shape, Shape}
+use Rattle.moos_post.specs.History.{History, name_of}
+use Rattle.moos_text.specs.Numbers.{unsigned_text}
+use Rattle.ivp_domain.specs.declared.axis.Axis.{Axis}
+use Rattle.bhv_kinds.specs.declared.out.BhvFault.{BhvFault}
+use Rattle.bhv_kinds.specs.declared.out.BhvFault.TheVariants.{NoPosition, OutsidePolygon, TooDeep, TooLate}
+use Rattle.bhv_life.specs.declared.outcome.BhvState.{BhvState}
+use Rattle.bhv_life.specs.declared.outcome.BhvState.TheVariants.{Idle, Running, Active, Completed}
+use Rattle.bhv_reader.specs.declared.file.Unused.{Unused}
+use Rattle.helm_core.specs.declared.iteration.BhvError.{BhvError}
 use Rattle.helm_core.specs.declared.iteration.Iteration.{Iteration}
+use Rattle.helm_core.specs.declared.iteration.Update.{Update}
 use Rattle.moos_report.specs.declared.setup.Setup.{Setup}
-use Rattle.moos_report.specs.Community.{HaveModes}
-use Rattle.moos_report.specs.IterationLines.{current_text, drive_text, helm_fetches, is_helm_post, iteration_text, listed_text, mode_line, outcome_text, shown_mode}
-use Rattle.moos_report.proofs.Cuts.{Lacks, lacks_all}
+use Rattle.moos_report.specs.Community.{is_one_line, StandOnLines}
+use Rattle.moos_report.specs.IterationLines.{behavior_text, current_text, decided_text, drive_text, error_text, fault_text, helm_fetches, is_helm_post, iteration_text, listed_text, mode_line, outcome_text, shown_mode, state_line, behavior_state, states_text, update_text}
+use Rattle.moos_report.specs.Report.{unused_text}
+use Rattle.moos_report.proofs.PassedDecisions.{decided_passed}
+use Rattle.moos_report.proofs.PassedLines.{Clean, clean_line, clean_on, IsPassed, line_passed, name_clean, names_clean, next_entry, passed_as, passed_each, passed_none, passed_on, seconds_lack, whole_lacks}
 
--- an entry or the end begins here
-abbrev is_next : List ℕ → Bool
-is_next text = bytes_eq (take 9 text) (codes "%% entry ") || bytes_eq (take 7 text) (codes "%% end ")
+-- fixed words
+driver_clean : (parked : Bool) → Clean (drive_text parked)
+driver_clean true = clean_line (codes "PARK") refl
+driver_clean false = clean_line (codes "DRIVE") refl
 
--- the first line on which one begins, and what is behind it; `first` says that a line begins here
-abbrev pub next_entry : Bool → List ℕ → List ℕ
-next_entry first [] = []
-next_entry first (byte ∷ text) = if first && is_next (byte ∷ text) then byte ∷ text else next_entry (byte == 10) text
+taken_clean : (taken : Bool) → Clean (if taken then codes "taken" else codes "refused")
+taken_clean true = clean_line (codes "taken") refl
+taken_clean false = clean_line (codes "refused") refl
 
--- the rest of a line is passed over
-rest_skipped : (rest after : List ℕ) → Lacks 10 rest → next_entry false (rest ++ 10 ∷ after) ≡ next_entry true after
-rest_skipped [] after lacks = refl
-rest_skipped (byte ∷ rest) after lacks = ap (λ first. next_entry first (rest ++ 10 ∷ after)) (other lacks.0) ∙ rest_skipped rest after lacks.1
+state_clean : (state : BhvState) → Clean (behavior_state state)
+state_clean Idle = clean_line (codes "idle") refl
+state_clean Running = clean_line (codes "running") refl
+state_clean Active = clean_line (codes "active") refl
+state_clean Completed = clean_line (codes "completed") refl
+
+fault_clean : (fault : BhvFault) → Clean (fault_text fault)
+fault_clean NoPosition = clean_line (codes "NoPosition") refl
+fault_clean OutsidePolygon = clean_line (codes "OutsidePolygon") refl
+fault_clean TooDeep = clean_line (codes "TooDeep") refl
+fault_clean TooLate = clean_line (codes "TooLate") refl
+
+mode_clean : (mode : List ℕ) → Clean mode → Clean (shown_mode mode)
+mode_clean [] clean = (λ same. absurd (omega (arith, same)), tt)
+mode_clean (first ∷ rest) clean = clean
+
+-- two words with a blank between them
+blank_clean : (one other : List ℕ) → Clean one → Clean other → Clean (one ++ 32 ∷ other)
+blank_clean one other first second = clean_on one (32 ∷ other) first (λ same. absurd (omega (arith, same)), second)
+
+-- a line of two words behind how it begins
+pair_open : (head one other : List ℕ) → concat (head ∷ one ∷ codes " " ∷ other ∷ codes "\n" ∷ []) ≡ head ++ ((one ++ 32 ∷ other) ++ codes "\n")
+pair_open head one other = simp append_assoc refl
+
+unused_passed : (unused : Unused) → IsTrue (is_one_line unused.name) → IsPassed (unused_text unused)
+unused_passed unused line =
+    passed_as (pair_open (codes "%% unused ") (decimal unused.line) unused.name)
+    (line_passed (codes "%% unused ") (decimal unused.line ++ 32 ∷ unused.name) (λ text. refl) (blank_clean (decimal unused.line) unused.name (whole_lacks unused.line) (clean_line unused.name line)))
+
+-- the unused parameters are passed over
+pub unused_skipped : (setup : Setup) (iterations : List Iteration) → StandOnLines setup iterations → IsPassed (flat_map unused_text setup.unused)
+unused_skipped setup iterations lines =
+    passed_each unused_text setup.unused
+    (each_weaker (λ (unused : Unused). IsTrue (is_one_line unused.name)) (λ unused. IsPassed (unused_text unused)) unused_passed setup.unused
+    (recursion_from_All (λ (unused : Unused). IsTrue (is_one_line unused.name)) setup.unused lines.unused))
+
+-- what an iteration tells of the behaviours
+update_passed : (names : List (List ℕ)) → Each Clean names → (update : Update) → IsPassed (update_text names update)
+update_passed names clean update =
+    let name = name_of names update.behavior in
+    let taken = if update.taken then codes "taken" else codes "refused" in
+    passed_as (pair_open (codes "%% update ") name taken)
+    (line_passed (codes "%% update ") (name ++ 32 ∷ taken) (λ text. refl) (blank_clean name taken (name_clean names update.behavior clean) (taken_clean update.taken)))
+
+error_passed : (names : List (List ℕ)) → Each Clean names → (error : BhvError) → IsPassed (error_text names error)
+error_passed names clean error =
+    let name = name_of names error.behavior in
+    let cause = fault_text error.fault in
+    passed_as (pair_open (codes "%% error ") name cause)
+    (line_passed (codes "%% error ") (name ++ 32 ∷ cause) (λ text. refl) (blank_clean name cause (name_clean names error.behavior clean) (fault_clean error.fault)))
+
+states_passed : (names : List (List ℕ)) (states : List BhvState) → Each Clean names → IsPassed (states_text names states)
+states_passed [] states clean = passed_none
+states_passed (name ∷ names) [] clean = passed_none
+states_passed (name ∷ names) (state ∷ states) clean =
+    passed_on (behavior_text name state) (states_text names states)
+    (passed_as (pair_open (codes "%% behavior ") name (behavior_state state))
+    (line_passed (codes "%% behavior ") (name ++ 32 ∷ behavior_state state) (λ text. refl) (blank_clean name (behavior_state state) clean.0 (state_clean state))))
+    (states_passed names states clean.1)
+
+-- the line of an iteration
+iteration_open : (number stamp driver : List ℕ) → concat (codes "%% iteration " ∷ number ∷ codes " " ∷ stamp ∷ codes " " ∷ driver ∷ codes "\n" ∷ [])
+    ≡ codes "%% iteration " ++ ((number ++ 32 ∷ (stamp ++ 32 ∷ driver)) ++ codes "\n")
+iteration_open number stamp driver = simp append_assoc refl
+
+line_of_state : (number : ℕ) (iteration : Iteration) → IsPassed (state_line number iteration)
+line_of_state number iteration =
+    let stamp = unsigned_text iteration.stamp in
+    let driver = drive_text iteration.parked in
+    passed_as (iteration_open (decimal number) stamp driver)
+    (line_passed (codes "%% iteration ") (decimal number ++ 32 ∷ (stamp ++ 32 ∷ driver)) (λ text. refl)
+    (blank_clean (decimal number) (stamp ++ 32 ∷ driver) (whole_lacks number) (blank_clean stamp driver (seconds_lack iteration.stamp) (driver_clean iteration.parked))))
+
+-- the line of a mode
+mode_open : (mode : List ℕ) → concat (codes "%% mode " ∷ mode ∷ codes "\n" ∷ []) ≡ codes "%% mode " ++ (mode ++ codes "\n")
+mode_open mode = refl
+
+mode_passed : (setup : Setup) (mode : List ℕ) → Clean mode → IsPassed (mode_line setup mode)
+mode_passed setup mode clean = by setup.modes
   where
-    other : byte ≢ 10 → (byte == 10) ≡ false
-    other differs = by (byte == 10) refl
-      where
-        by : (b : Bool) → (byte == 10) ≡ b → b ≡ false
-        by true same = absurd (differs (grind (arith, nat_tests)))
-        by false same = refl
+    by : (b : Bool) → IsPassed (if b then concat (codes "%% mode " ∷ shown_mode mode ∷ codes "\n" ∷ []) else [])
+    by true = passed_as (mode_open (shown_mode mode)) (line_passed (codes "%% mode ") (shown_mode mode) (λ text. refl) (mode_clean mode clean))
+    by false = passed_none
 
--- a printed number holds no line end, however great it is
-glyph_other : (digit : ℕ) → digit_glyph false digit ≢ 10
-glyph_other digit = by (nat_lt digit 10)
-  where
-    by : (b : Bool) → (if b then 48 + digit else 87 + digit) ≢ 10
-    by true same = absurd (omega (arith, same))
-    by false same = absurd (omega (arith, same))
+each_of : {X : Type 0} (P : X → Type 0) (all : List X) → ((x : X) → P x) → Each P all
+each_of P [] holds = tt
+each_of P (x ∷ all) holds = (holds x, each_of P all holds)
 
-digits_lack : (places n : ℕ) (behind : List ℕ) → Lacks 10 behind → Lacks 10 (digits_onto places 10 false n behind)
-digits_lack zero n behind lacks = lacks
-digits_lack (suc places) n behind lacks = by (n / 10 == 0) (digits_lack places (n / 10) (digit_glyph false (n % 10) ∷ behind) (glyph_other (n % 10), lacks))
-  where
-    by : (b : Bool) → Lacks 10 (digits_onto places 10 false (n / 10) (digit_glyph false (n % 10) ∷ behind))
-        → Lacks 10 (if b then digit_glyph false (n % 10) ∷ behind else digits_onto places 10 false (n / 10) (digit_glyph false (n % 10) ∷ behind))
-    by true more = (glyph_other (n % 10), lacks)
-    by false more = more
-
-whole_lacks : (n : ℕ) → Lacks 10 (decimal n)
-unfolding digits
-whole_lacks n = digits_lack 64 n [] tt
-
-seconds_lack : (n : ℕ) → Lacks 10 (unsigned_text n)
-seconds_lack n = each_append (λ it. it ≢ 10) (decimal (n / 1000)) (decimals_text (n % 1000)) (whole_lacks (n / 1000)) (by (decimals_shape (n % 1000) (omega arith)))
-  where
-    by : Shape (n % 1000) → Lacks 10 (decimals_text (n % 1000))
-    by (inl none) = subst (Lacks 10) (sym none.0) tt
-    by (inr some) = subst (Lacks 10) (sym some.1) (λ same. absurd (omega (arith, same)), lacks_all is_digit 10 some.0 refl some.2)
-
--- the byte is no line end
-abbrev in_line : ℕ → Bool
-in_line byte = not (byte == 10)
-
-driver_lacks : (parked : Bool) → Lacks 10 (drive_text parked)
-driver_lacks true = lacks_all in_line 10 (codes "PARK") refl refl
-driver_lacks false = lacks_all in_line 10 (codes "DRIVE") refl refl
-
-mode_lacks : (mode : List ℕ) → Lacks 10 mode → Lacks 10 (shown_mode mode)
-mode_lacks [] lacks = (λ same. absurd (omega (arith, same)), tt)
-mode_lacks (first ∷ rest) lacks = lacks
-
--- the line of an iteration's state, and what stands behind it
-state_open : (number stamp driver after : List ℕ) → concat (codes "%% iteration " ∷ number ∷ codes " " ∷ stamp ∷ codes " " ∷ driver ∷ codes "\n" ∷ []) ++ after
-    ≡ codes "%% iteration " ++ ((number ++ 32 ∷ (stamp ++ 32 ∷ driver)) ++ 10 ∷ after)
-state_open number stamp driver after = simp append_assoc refl
-
-state_skipped : (number stamp driver after : List ℕ) → Lacks 10 number → Lacks 10 stamp → Lacks 10 driver
-    → next_entry true (concat (codes "%% iteration " ∷ number ∷ codes " " ∷ stamp ∷ codes " " ∷ driver ∷ codes "\n" ∷ []) ++ after) ≡ next_entry true after
-state_skipped number stamp driver after one two three =
-    let blank : 32 ≢ 10 = λ same. absurd (omega (arith, same)) in
-    let late = each_append (λ it. it ≢ 10) stamp (32 ∷ driver) two (blank, three) in
-    ap (next_entry true) (state_open number stamp driver after)
-    ∙ rest_skipped (number ++ 32 ∷ (stamp ++ 32 ∷ driver)) after (each_append (λ it. it ≢ 10) number (32 ∷ (stamp ++ 32 ∷ driver)) one (blank, late))
-
-mode_open : (mode after : List ℕ) → concat (codes "%% mode " ∷ mode ∷ codes "\n" ∷ []) ++ after ≡ codes "%% mode " ++ (mode ++ 10 ∷ after)
-mode_open mode after = simp append_assoc refl
-
-mode_skipped : (setup : Setup) (mode after : List ℕ) → Lacks 10 mode → next_entry true (mode_line setup mode ++ after) ≡ next_entry true after
-mode_skipped setup mode after lacks = by setup.modes
-  where
-    by : (b : Bool) → next_entry true ((if b then concat (codes "%% mode " ∷ shown_mode mode ∷ codes "\n" ∷ []) else []) ++ after) ≡ next_entry true after
-    by true = ap (next_entry true) (mode_open (shown_mode mode) after) ∙ rest_skipped (shown_mode mode) after (mode_lacks mode lacks)
-    by false = refl
+-- the names of an iteration stand on one line each
+record HasLines (iteration : Iteration) : Type 0 where
+  mode : IsTrue (is_one_line iteration.mode)
+  axes : IfSome iteration.decision (λ decision. All (λ (axis : Axis). IsTrue (is_one_line axis.name)) decision.problem.axes)
 
 -- the lines of an iteration are passed over
-iteration_skipped : (setup : Setup) (number : ℕ) (iteration : Iteration) (after : List ℕ) → IsTrue (list_all in_line iteration.mode)
-    → next_entry true (iteration_text setup number iteration ++ after) ≡ next_entry true after
-iteration_skipped setup number iteration after text =
-    let mode = mode_line setup iteration.mode in
-    let state = concat (codes "%% iteration " ∷ decimal number ∷ codes " " ∷ unsigned_text iteration.stamp ∷ codes " " ∷ drive_text iteration.parked ∷ codes "\n" ∷ []) in
-    ap (next_entry true) (append_assoc state (mode ++ codes "%% none\n") after ∙ ap (λ end. state ++ end) (append_assoc mode (codes "%% none\n") after))
-    ∙ state_skipped (decimal number) (unsigned_text iteration.stamp) (drive_text iteration.parked) (mode ++ (codes "%% none\n" ++ after))
-    (whole_lacks number) (seconds_lack iteration.stamp) (driver_lacks iteration.parked)
-    ∙ mode_skipped setup iteration.mode (codes "%% none\n" ++ after) (lacks_all in_line 10 iteration.mode refl text)
+iteration_passed : (setup : Setup) (number : ℕ) (iteration : Iteration) → Each Clean setup.behaviors → HasLines iteration → IsPassed (iteration_text setup number iteration)
+iteration_passed setup number iteration clean lines =
+    let names = setup.behaviors in
+    let decided = decided_text iteration.decision in
+    let errors = flat_map (error_text names) iteration.faults in
+    let states = states_text names iteration.states in
+    let updates = flat_map (update_text names) iteration.updates in
+    passed_on (state_line number iteration) (mode_line setup iteration.mode ++ (updates ++ (states ++ (errors ++ decided)))) (line_of_state number iteration)
+    (passed_on (mode_line setup iteration.mode) (updates ++ (states ++ (errors ++ decided))) (mode_passed setup iteration.mode (clean_line iteration.mode lines.mode))
+    (passed_on updates (states ++ (errors ++ decided))
+    (passed_each (update_text names) iteration.updates (each_of (λ update. IsPassed (update_text names update)) iteration.updates (update_passed names clean)))
+    (passed_on states (errors ++ decided) (states_passed names iteration.states clean)
+    (passed_on errors decided
+    (passed_each (error_text names) iteration.faults (each_of (λ error. IsPassed (error_text names error)) iteration.faults (error_passed names clean)))
+    (decided_passed iteration.decision lines.axes)))))
 
 -- what holds of nothing, and of each iteration, holds of what follows an entry
-outcome_by : (P : List ℕ → Type 0) (setup : Setup) (iterations : List Iteration) (names : List (List ℕ)) (past : History) (entry : Entry) → HaveModes iterations → P []
-    → ((number : ℕ) (iteration : Iteration) → IsTrue (list_all in_line iteration.mode) → P (iteration_text setup number iteration)) → P (outcome_text setup iterations names past entry)
-outcome_by P setup iterations names past entry modes none some = by (is_helm_post names entry) (helm_fetches names past)
+outcome_by : (P : List ℕ → Type 0) (setup : Setup) (iterations : List Iteration) (names : List (List ℕ)) (past : History) (entry : Entry) → StandOnLines setup iterations → P []
+    → ((number : ℕ) (iteration : Iteration) → HasLines iteration → P (iteration_text setup number iteration)) → P (outcome_text setup iterations names past entry)
+outcome_by P setup iterations names past entry lines none some = by (is_helm_post names entry) (helm_fetches names past)
   where
     listed : (number : ℕ) (found : Option Iteration) → slice_get iterations number ≡ found → P (listed_text setup number found)
     listed number None at = none
     listed number (Some iteration) at =
         let within = slice_get_within iterations number iteration at in
-        some number iteration (subst (λ it. IsTrue (list_all in_line it.mode)) (get_or_from_slice_get iterations number iteration iteration at) (modes number iteration within))
+        let has : HasLines (get_or iterations number iteration) = record { mode = lines.modes number iteration within; axes = lines.axes number iteration within } in
+        some number iteration (subst HasLines (get_or_from_slice_get iterations number iteration iteration at) has)
 
     by : (posts : Bool) (fetches : ℕ) → P (if posts then current_text setup iterations fetches else [])
     by false fetches = none
@@ -129,11 +161,11 @@ outcome_by P setup iterations names past entry modes none some = by (is_helm_pos
     by true (suc number) = listed number (slice_get iterations number) refl
 
 -- what follows an entry is passed over
-pub outcome_skipped : (setup : Setup) (iterations : List Iteration) (names : List (List ℕ)) (past : History) (entry : Entry) (after : List ℕ) → HaveModes iterations
-    → next_entry true (outcome_text setup iterations names past entry ++ after) ≡ next_entry true after
-outcome_skipped setup iterations names past entry after modes =
-    outcome_by (λ text. next_entry true (text ++ after) ≡ next_entry true after) setup iterations names past entry modes refl
-    (λ number iteration text. iteration_skipped setup number iteration after text)
+pub outcome_skipped : (setup : Setup) (iterations : List Iteration) (names : List (List ℕ)) (past : History) (entry : Entry) → StandOnLines setup iterations
+    → IsPassed (outcome_text setup iterations names past entry)
+outcome_skipped setup iterations names past entry lines =
+    outcome_by IsPassed setup iterations names past entry lines passed_none
+    (λ number iteration has. iteration_passed setup number iteration (names_clean setup.behaviors lines.behaviors) has)
 
 -- a line whose letter behind `%% ` is another one
 abbrev pub Differs : ℕ → List ℕ → Type 0
@@ -148,8 +180,13 @@ pub next_differs : (letter : ℕ) (text : List ℕ) → 101 ≢ letter → IsNex
 next_differs letter text other next same = other (sym next.letter ∙ same)
 
 -- what follows an entry is no registration
-pub outcome_differs : (setup : Setup) (iterations : List Iteration) (names : List (List ℕ)) (past : History) (entry : Entry) (after : List ℕ) → HaveModes iterations → IsNext after
+pub outcome_differs : (setup : Setup) (iterations : List Iteration) (names : List (List ℕ)) (past : History) (entry : Entry) (after : List ℕ) → StandOnLines setup iterations → IsNext after
     → Differs 114 (outcome_text setup iterations names past entry ++ after)
-outcome_differs setup iterations names past entry after modes next =
-    outcome_by (λ text. Differs 114 (text ++ after)) setup iterations names past entry modes (next_differs 114 after (λ same. absurd (omega (arith, same))) next)
-    (λ number iteration text same. absurd (omega (arith, same)))
+outcome_differs setup iterations names past entry after lines next =
+    outcome_by (λ text. Differs 114 (text ++ after)) setup iterations names past entry lines (next_differs 114 after (λ same. absurd (omega (arith, same))) next)
+    (λ number iteration has same. absurd (omega (arith, same)))
+
+-- the unused parameters aren't clients
+pub unused_differs : (unused : List Unused) (after : List ℕ) → IsNext after → Differs 99 (flat_map unused_text unused ++ after)
+unused_differs [] after next = next_differs 99 after (λ same. absurd (omega (arith, same))) next
+unused_differs (parameter ∷ unused) after next = λ same. absurd (omega (arith, same))

@@ -1,5 +1,5 @@
 -- Histories of which one report is printed are the same.
-use Rattle.std.proofs.Common.{◌≡◌, ◌≢◌, true, ℕ, suc, ◌<◌, List, [], ◌∷◌, ◌++◌, length, drop, get_or, refl, ap, sym, ◌∙◌, subst, arith, append_assoc}
+use Rattle.std.proofs.Common.{◌≡◌, true, ℕ, suc, ◌<◌, List, [], ◌∷◌, ◌++◌, flat_map, length, drop, get_or, refl, ap, sym, ◌∙◌, subst, arith, append_assoc}
 use Rattle.std.specs.Prelude.{codes, decimal, IsTrue}
 use Rattle.std.specs.List.{All, concat}
 use Rattle.std.proofs.lemmas.List.{append_cancel_left}
@@ -13,11 +13,12 @@ use Rattle.moos_text.specs.Numbers.{unsigned_text}
 use Rattle.moos_post.specs.Entries.{IsEntry}
 use Rattle.helm_core.specs.declared.iteration.Iteration.{Iteration}
 use Rattle.moos_report.specs.declared.setup.Setup.{Setup}
-use Rattle.moos_report.specs.Community.{HaveClients, HaveModes, HaveOwnNames}
+use Rattle.moos_report.specs.Community.{HaveClients, HaveOwnNames, StandOnLines}
 use Rattle.moos_report.specs.IterationLines.{outcome_text}
-use Rattle.moos_report.specs.Report.{call_text, client_text, clients_text, end_text, entries_text, entry_text, ReportsTell}
+use Rattle.moos_report.specs.Report.{call_text, client_text, clients_text, end_text, entries_text, entry_text, ReportsTell, unused_text}
 use Rattle.moos_report.proofs.Cuts.{cut_at, Lacks}
-use Rattle.moos_report.proofs.NextEntries.{Differs, IsNext, next_differs, next_entry, outcome_differs, outcome_skipped}
+use Rattle.moos_report.proofs.NextEntries.{Differs, IsNext, outcome_differs, outcome_skipped, unused_differs, unused_skipped}
+use Rattle.moos_report.proofs.PassedLines.{next_entry}
 use Rattle.moos_report.proofs.PrintedCalls.{call_cut, name_lacks}
 use Rattle.moos_report.proofs.PrintedValues.{unsigned_lacks, unsigned_same}
 
@@ -76,12 +77,12 @@ entries_next setup iterations names past [] end ends = record {
 entries_next setup iterations names past (entry ∷ later) end ends = record { letter = refl; found = refl }
 
 entries_cut : (setup setup' : Setup) (iterations iterations' : List Iteration) (names : List (List ℕ)) (past one other : History) (end end' : List ℕ) → All Named names → HaveOwnNames names
-    → All IsEntry one → All IsEntry other → HaveClients (length names) one → HaveClients (length names) other → HaveModes iterations → HaveModes iterations' → Ends end → Ends end'
+    → All IsEntry one → All IsEntry other → HaveClients (length names) one → HaveClients (length names) other → StandOnLines setup iterations → StandOnLines setup' iterations' → Ends end → Ends end'
     → entries_text setup iterations names past one ++ end ≡ entries_text setup' iterations' names past other ++ end' → one ≡ other
-entries_cut setup setup' iterations iterations' names past [] [] end end' named own h k within within' modes modes' f g e = refl
-entries_cut setup setup' iterations iterations' names past [] (y ∷ other) end end' named own h k within within' modes modes' f g e = absurd (omega (arith, ap (λ l. get_or l 5 0) (sym f.1 ∙ e)))
-entries_cut setup setup' iterations iterations' names past (x ∷ one) [] end end' named own h k within within' modes modes' f g e = absurd (omega (arith, ap (λ l. get_or l 5 0) (e ∙ g.1)))
-entries_cut setup setup' iterations iterations' names past (x ∷ one) (y ∷ other) end end' named own h k within within' modes modes' f g e =
+entries_cut setup setup' iterations iterations' names past [] [] end end' named own h k within within' lines lines' f g e = refl
+entries_cut setup setup' iterations iterations' names past [] (y ∷ other) end end' named own h k within within' lines lines' f g e = absurd (omega (arith, ap (λ l. get_or l 5 0) (sym f.1 ∙ e)))
+entries_cut setup setup' iterations iterations' names past (x ∷ one) [] end end' named own h k within within' lines lines' f g e = absurd (omega (arith, ap (λ l. get_or l 5 0) (e ∙ g.1)))
+entries_cut setup setup' iterations iterations' names past (x ∷ one) (y ∷ other) end end' named own h k within within' lines lines' f g e =
     let outcome = outcome_text setup iterations names past x in
     let outcome' = outcome_text setup' iterations' names past y in
     let left = entries_text setup iterations names (past ++ x ∷ []) one in
@@ -90,13 +91,13 @@ entries_cut setup setup' iterations iterations' names past (x ∷ one) (y ∷ ot
     let next' = entries_next setup' iterations' names (past ++ y ∷ []) other end' g in
     let first = entry_cut names past x y (outcome ++ (left ++ end)) (outcome' ++ (left' ++ end')) named own (All-head IsEntry x one h) (All-head IsEntry y other k)
     (All-head (λ entry. entry.client < length names) x one within) (All-head (λ entry. entry.client < length names) y other within')
-    (outcome_differs setup iterations names past x (left ++ end) modes next) (outcome_differs setup' iterations' names past y (left' ++ end') modes' next')
+    (outcome_differs setup iterations names past x (left ++ end) lines next) (outcome_differs setup' iterations' names past y (left' ++ end') lines' next')
     (sym (parted (entry_text names past x) outcome left end) ∙ e ∙ parted (entry_text names past y) outcome' left' end') in
     let behind : left ++ end ≡ left' ++ end' =
-    sym next.found ∙ sym (outcome_skipped setup iterations names past x (left ++ end) modes) ∙ ap (next_entry true) first.1
-    ∙ outcome_skipped setup' iterations' names past y (left' ++ end') modes' ∙ next'.found in
+    sym next.found ∙ sym (outcome_skipped setup iterations names past x lines (left ++ end)) ∙ ap (next_entry true) first.1
+    ∙ outcome_skipped setup' iterations' names past y lines' (left' ++ end') ∙ next'.found in
     let rest = entries_cut setup setup' iterations iterations' names (past ++ x ∷ []) one other end end' named own (All-tail IsEntry x one h) (All-tail IsEntry y other k)
-    (All-tail (λ entry. entry.client < length names) x one within) (All-tail (λ entry. entry.client < length names) y other within') modes modes' f g
+    (All-tail (λ entry. entry.client < length names) x one within) (All-tail (λ entry. entry.client < length names) y other within') lines lines' f g
     (behind ∙ (λ i. entries_text setup' iterations' names (past ++ sym first.0 i ∷ []) other ++ end')) in
     λ i. first.0 i ∷ rest i
   where
@@ -125,15 +126,19 @@ end_is history = (_, refl)
 
 -- clients and histories of which one report is printed
 pub report_same : ReportsTell
-report_same setup setup' names others history other iterations iterations' h k modes modes' e =
-    let behind : List (List ℕ) → List ℕ = λ names. entries_text setup' iterations' names [] other ++ end_text other in
-    let behind' = entries_text setup iterations names [] history ++ end_text history in
-    let apart : 101 ≢ 99 = λ same. absurd (omega (arith, same)) in
-    let clients = clients_cut 0 others names (behind others) behind' k.named h.named
-    (next_differs 99 (behind others) apart (entries_next setup' iterations' others [] other (end_text other) (end_is other)))
-    (next_differs 99 behind' apart (entries_next setup iterations names [] history (end_text history) (end_is history)))
-    (append_cancel_left (codes "%% moosdb play 1\n") _ _ e) in (
+report_same setup setup' names others history other iterations iterations' h k lines lines' e =
+    let entries : List (List ℕ) → List ℕ = λ names. entries_text setup' iterations' names [] other ++ end_text other in
+    let entries' = entries_text setup iterations names [] history ++ end_text history in
+    let unused = flat_map unused_text setup'.unused in
+    let unused' = flat_map unused_text setup.unused in
+    let next = entries_next setup' iterations' others [] other (end_text other) (end_is other) in
+    let next' = entries_next setup iterations names [] history (end_text history) (end_is history) in
+    let clients = clients_cut 0 others names (unused ++ entries others) (unused' ++ entries') k.named h.named
+    (unused_differs setup'.unused (entries others) next) (unused_differs setup.unused entries' next') (append_cancel_left (codes "%% moosdb play 1\n") _ _ e) in
+    let behind : entries others ≡ entries' =
+    sym next.found ∙ sym (unused_skipped setup' iterations' lines' (entries others)) ∙ ap (next_entry true) clients.1
+    ∙ unused_skipped setup iterations lines entries' ∙ next'.found in (
       clients.0,
       entries_cut setup' setup iterations' iterations names [] other history (end_text other) (end_text history) h.named h.own k.entries h.entries
-          (subst (λ ns. HaveClients (length ns) other) clients.0 k.clients) h.clients modes' modes (end_is other) (end_is history) (ap behind (sym clients.0) ∙ clients.1),
+          (subst (λ ns. HaveClients (length ns) other) clients.0 k.clients) h.clients lines' lines (end_is other) (end_is history) (ap entries (sym clients.0) ∙ behind),
     )

@@ -1,11 +1,14 @@
 -- What a report is printed of: names and entries as their types let them be, where each client has a name of its own, and
--- iterations whose modes hold no line end.
-use Rattle.std.specs.Prelude.{◌≡◌, ℕ, ◌<◌, ◌==◌, not, IsTrue, List, length}
+-- a setup and iterations whose names hold no line end.
+use Rattle.std.specs.Prelude.{◌≡◌, ℕ, ◌<◌, Bool, ◌==◌, not, IsTrue, IfSome, List, length}
 use Rattle.std.specs.List.{All, list_all}
 use Rattle.moos_post.specs.Entries.{IsEntry}
 use Rattle.moos_post.specs.History.{History, name_of}
 use Rattle.moos_post.specs.Words.{is_name}
+use Rattle.ivp_domain.specs.declared.axis.Axis.{Axis}
+use Rattle.bhv_reader.specs.declared.file.Unused.{Unused}
 use Rattle.helm_core.specs.declared.iteration.Iteration.{Iteration}
+use Rattle.moos_report.specs.declared.setup.Setup.{Setup}
 
 -- each entry is by one of this many clients
 abbrev pub HaveClients : ℕ → History → Type 0
@@ -22,6 +25,14 @@ pub record IsCommunity (names : List (List ℕ)) (history : History) : Type 0 wh
   pub entries : All IsEntry history
   pub clients : HaveClients (length names) history
 
--- the mode of each iteration stands on one line
-abbrev pub HaveModes : List Iteration → Type 0
-HaveModes iterations = All (λ iteration. IsTrue (list_all (λ byte. not (byte == 10)) iteration.mode)) iterations
+-- the text holds no line end
+abbrev pub is_one_line : List ℕ → Bool
+is_one_line text = list_all (λ byte. not (byte == 10)) text
+
+-- Whatever is named stands on one line: the unused parameters and the behaviours of the setup, the mode of each iteration,
+-- and the axes that it decides over.
+pub record StandOnLines (setup : Setup) (iterations : List Iteration) : Type 0 where
+  pub unused : All (λ (unused : Unused). IsTrue (is_one_line unused.name)) setup.unused
+  pub behaviors : All (λ name. IsTrue (is_one_line name)) setup.behaviors
+  pub modes : All (λ (iteration : Iteration). IsTrue (is_one_line iteration.mode)) iterations
+  pub axes : All (λ (iteration : Iteration). IfSome iteration.decision (λ decision. All (λ (axis : Axis). IsTrue (is_one_line axis.name)) decision.problem.axes)) iterations

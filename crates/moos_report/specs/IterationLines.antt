@@ -1,5 +1,5 @@
 -- What is printed of the helm's iterations, each behind the Post entry that it ended in.
-use Rattle.std.specs.Prelude.{ℕ, zero, suc, Bool, true, false, ◌&&◌, bytes_eq, List, [], ◌∷◌, ◌++◌, codes, decimal, if◌then◌else◌, Option, Some, None, slice_get}
+use Rattle.std.specs.Prelude.{ℕ, zero, suc, Bool, true, false, ◌&&◌, bytes_eq, List, [], ◌∷◌, ◌++◌, flat_map, codes, decimal, if◌then◌else◌, Option, Some, None, slice_get}
 use Rattle.std.specs.List.{concat, count_by}
 use Rattle.moos_post.specs.declared.entry.Call.{Call}
 use Rattle.moos_post.specs.declared.entry.Call.TheVariants.{Register, Unregister, Post as Posts, Fetch}
@@ -7,7 +7,15 @@ use Rattle.moos_post.specs.declared.entry.Entry.{Entry}
 use Rattle.moos_post.specs.Delivery.{is_fetch}
 use Rattle.moos_post.specs.History.{History, name_of}
 use Rattle.moos_text.specs.Numbers.{unsigned_text}
+use Rattle.ivp_cert.specs.declared.claim.Decision.{Decision}
+use Rattle.ivp_cert.specs.Texts.{decision_lines}
+use Rattle.bhv_kinds.specs.declared.out.BhvFault.{BhvFault}
+use Rattle.bhv_kinds.specs.declared.out.BhvFault.TheVariants.{NoPosition, OutsidePolygon, TooDeep, TooLate}
+use Rattle.bhv_life.specs.declared.outcome.BhvState.{BhvState}
+use Rattle.bhv_life.specs.declared.outcome.BhvState.TheVariants.{Idle, Running, Active, Completed}
+use Rattle.helm_core.specs.declared.iteration.BhvError.{BhvError}
 use Rattle.helm_core.specs.declared.iteration.Iteration.{Iteration}
+use Rattle.helm_core.specs.declared.iteration.Update.{Update}
 use Rattle.moos_report.specs.declared.setup.Setup.{Setup}
 
 -- the client has the helm's name
@@ -46,12 +54,57 @@ shown_mode (first ∷ rest) = first ∷ rest
 abbrev pub mode_line : Setup → List ℕ → List ℕ
 mode_line setup mode = if setup.modes then concat (codes "%% mode " ∷ shown_mode mode ∷ codes "\n" ∷ []) else []
 
--- the lines of an iteration: its number, its stamp in seconds and whether the helm drives; the mode; and that nothing was
--- decided
+-- the line of an update: the behaviour, and whether it took it
+abbrev pub update_text : List (List ℕ) → Update → List ℕ
+update_text behaviors update =
+    concat (codes "%% update " ∷ name_of behaviors update.behavior ∷ codes " " ∷ (if update.taken then codes "taken" else codes "refused") ∷ codes "\n" ∷ [])
+
+-- what a behaviour is
+abbrev pub behavior_state : BhvState → List ℕ
+behavior_state Idle = codes "idle"
+behavior_state Running = codes "running"
+behavior_state Active = codes "active"
+behavior_state Completed = codes "completed"
+
+-- the line of a behaviour: its name and what it is
+abbrev pub behavior_text : List ℕ → BhvState → List ℕ
+behavior_text name state = concat (codes "%% behavior " ∷ name ∷ codes " " ∷ behavior_state state ∷ codes "\n" ∷ [])
+
+-- the lines of the behaviours with these names and states, one by one
+abbrev pub states_text : List (List ℕ) → List BhvState → List ℕ
+states_text [] states = []
+states_text (name ∷ names) [] = []
+states_text (name ∷ names) (state ∷ states) = behavior_text name state ++ states_text names states
+
+-- why a behaviour wants all to stop
+abbrev pub fault_text : BhvFault → List ℕ
+fault_text NoPosition = codes "NoPosition"
+fault_text OutsidePolygon = codes "OutsidePolygon"
+fault_text TooDeep = codes "TooDeep"
+fault_text TooLate = codes "TooLate"
+
+-- the line of a fault: the behaviour that raised it, and its cause
+abbrev pub error_text : List (List ℕ) → BhvError → List ℕ
+error_text behaviors error =
+    concat (codes "%% error " ∷ name_of behaviors error.behavior ∷ codes " " ∷ fault_text error.fault ∷ codes "\n" ∷ [])
+
+-- the lines of a decision, each behind `%% `; or that there is none
+abbrev pub decided_text : Option Decision → List ℕ
+decided_text None = codes "%% none\n"
+decided_text (Some decision) = decision_lines (codes "%% ") decision
+
+-- the line of an iteration: its number, its stamp in seconds and whether the helm drives
+abbrev pub state_line : ℕ → Iteration → List ℕ
+state_line number iteration =
+    concat (codes "%% iteration " ∷ decimal number ∷ codes " " ∷ unsigned_text iteration.stamp ∷ codes " " ∷ drive_text iteration.parked ∷ codes "\n" ∷ [])
+
+-- The lines of an iteration: it, the mode, the updates, the behaviours, the faults, and what was decided.
 abbrev pub iteration_text : Setup → ℕ → Iteration → List ℕ
 iteration_text setup number iteration =
-    concat (codes "%% iteration " ∷ decimal number ∷ codes " " ∷ unsigned_text iteration.stamp ∷ codes " " ∷ drive_text iteration.parked ∷ codes "\n" ∷ [])
-    ++ (mode_line setup iteration.mode ++ codes "%% none\n")
+    state_line number iteration
+    ++ (mode_line setup iteration.mode
+    ++ (flat_map (update_text setup.behaviors) iteration.updates
+    ++ (states_text setup.behaviors iteration.states ++ (flat_map (error_text setup.behaviors) iteration.faults ++ decided_text iteration.decision))))
 
 -- the iteration of this number, where there is one
 abbrev pub listed_text : Setup → ℕ → Option Iteration → List ℕ

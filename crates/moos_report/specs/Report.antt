@@ -11,9 +11,10 @@ use Rattle.moos_post.specs.declared.value.Value.TheVariants.{Num, Text}
 use Rattle.moos_post.specs.Delivery.{mail_after}
 use Rattle.moos_post.specs.History.{History, posts_of, posts_of_entry, name_of}
 use Rattle.moos_text.specs.Numbers.{milli_text, unsigned_text}
+use Rattle.bhv_reader.specs.declared.file.Unused.{Unused}
 use Rattle.helm_core.specs.declared.iteration.Iteration.{Iteration}
 use Rattle.moos_report.specs.declared.setup.Setup.{Setup}
-use Rattle.moos_report.specs.Community.{HaveModes, IsCommunity}
+use Rattle.moos_report.specs.Community.{IsCommunity, StandOnLines}
 use Rattle.moos_report.specs.IterationLines.{outcome_text}
 
 -- `"` and `\`
@@ -82,19 +83,24 @@ abbrev pub clients_text : ℕ → List (List ℕ) → List ℕ
 clients_text number [] = []
 clients_text number (name ∷ names) = client_text number name ++ clients_text (suc number) names
 
+-- the line of an unused parameter: its line in the behaviour file, and its name
+abbrev pub unused_text : Unused → List ℕ
+unused_text unused = concat (codes "%% unused " ∷ decimal unused.line ∷ codes " " ∷ unused.name ∷ codes "\n" ∷ [])
+
 -- the line at the end: how many entries and how many posts there were
 abbrev pub end_text : History → List ℕ
 end_text history = concat (codes "%% end " ∷ decimal (length history) ∷ codes " " ∷ decimal (length (posts_of history)) ∷ codes "\n" ∷ [])
 
--- What is printed of a history, its clients and the helm's iterations.
+-- What is printed of a history, its clients, what the behaviour file has that isn't used, and the helm's iterations.
 abbrev pub report_text : Setup → List (List ℕ) → History → List Iteration → List ℕ
 report_text setup names history iterations =
-    codes "%% moosdb play 1\n" ++ (clients_text 0 names ++ (entries_text setup iterations names [] history ++ end_text history))
+    codes "%% moosdb play 1\n"
+    ++ (clients_text 0 names ++ (flat_map unused_text setup.unused ++ (entries_text setup iterations names [] history ++ end_text history)))
 
 -- Communities of which one report is printed have the same clients and the same history, whatever the iterations that are
--- printed with them, and whether these tell their modes.
+-- printed with them, and whatever setups.
 abbrev pub ReportsTell : Type 0
 ReportsTell =
     (setup setup' : Setup) (names others : List (List ℕ)) (history other : History) (iterations iterations' : List Iteration)
-    → IsCommunity names history → IsCommunity others other → HaveModes iterations → HaveModes iterations'
+    → IsCommunity names history → IsCommunity others other → StandOnLines setup iterations → StandOnLines setup' iterations'
     → report_text setup' others other iterations' ≡ report_text setup names history iterations → (others ≡ names) × (other ≡ history)

@@ -1,14 +1,14 @@
 // The helm's iterations, each behind the Post entry that it ended in.
-ghost use Rattle.std.specs.Prelude.{◌≡◌, ◌+◌, ◌<◌, ◌^◌, ◌-◌, [], ◌∷◌, codes, decimal, if◌then◌else◌};
-ghost use Rattle.std.specs.List.{concat};
+ghost use Rattle.std.specs.Prelude.{◌≡◌, ◌+◌, ◌<◌, ◌^◌, [], if◌then◌else◌};
 ghost use Rattle.moos_io.specs.Writing.{Wrote, way};
-ghost use Rattle.moos_text.specs.Numbers.{unsigned_text};
-ghost use Rattle.moos_report.specs.IterationLines.{is_helm, is_helm_fetch, is_helm_post, drive_text, shown_mode, mode_line, iteration_text, current_text};
+ghost use Rattle.moos_report.specs.IterationLines.{current_text, decided_text, drive_text, is_helm, is_helm_fetch, is_helm_post, iteration_text, mode_line, shown_mode, state_line};
 
+use super::behaviors::{put_errors, put_states, put_updates};
 use super::lines::put;
 use super::name_of;
 use crate::setup::Setup;
 use helm_core::Iteration;
+use ivp_cert::{Decision, put_decision};
 use moos_db::Db;
 use moos_io::{Buffer, Failed, Sink};
 use moos_post::{Call, Entry};
@@ -89,29 +89,53 @@ fn put_iteration<K: Sink>(
     ensures { Wrote (way (K.taken out.old) buffer.old (K.faults out.old)) (way (K.taken out.new) buffer.new (K.faults out.new))
         result (iteration_text setup.now number iteration.now) }
 {
-    if let Err(failed) = put_state(number, iteration.stamp, iteration.parked, buffer, out) {
+    if let Err(failed) = put_state(number, iteration, buffer, out) {
         return Err(failed);
     }
     if let Err(failed) = put_mode(setup, iteration.mode.bytes(), buffer, out) {
         return Err(failed);
     }
-    put(&[b"%% none\n"], buffer, out)
+    let behaviors = setup.behaviors.all();
+    if let Err(failed) = put_updates(behaviors, iteration.updates.all(), buffer, out) {
+        return Err(failed);
+    }
+    if let Err(failed) = put_states(behaviors, iteration.states.all(), buffer, out) {
+        return Err(failed);
+    }
+    if let Err(failed) = put_errors(behaviors, iteration.faults.all(), buffer, out) {
+        return Err(failed);
+    }
+    put_decided(&iteration.decision, buffer, out)
+}
+
+// What was decided, each line behind `%% `.
+fn put_decided<K: Sink>(
+    decision: &Option<Decision>,
+    buffer: &mut Buffer,
+    out: &mut K,
+) -> Result<(), Failed>
+    ensures { Wrote (way (K.taken out.old) buffer.old (K.faults out.old)) (way (K.taken out.new) buffer.new (K.faults out.new))
+        result (decided_text decision.now) }
+{
+    match decision {
+        Some(decision) => put_decision(b"%% ", decision, buffer, out),
+        None => put(&[b"%% none\n"], buffer, out),
+    }
 }
 
 // The line that says when an iteration was, and whether the helm drove.
 fn put_state<K: Sink>(
     number: u64,
-    stamp: u64,
-    parked: bool,
+    iteration: &Iteration,
     buffer: &mut Buffer,
     out: &mut K,
 ) -> Result<(), Failed>
     ensures { Wrote (way (K.taken out.old) buffer.old (K.faults out.old)) (way (K.taken out.new) buffer.new (K.faults out.new))
-        result (concat (codes "%% iteration " ∷ decimal number ∷ codes " " ∷ unsigned_text stamp ∷ codes " " ∷ drive_text parked ∷ codes "\n" ∷ [])) }
+        result (state_line number iteration.now) }
 {
     let mut digits = itoa::Buffer::new();
     let number = digits.format(number).as_bytes();
-    let stamp = print_seconds(stamp);
+    let stamp = print_seconds(iteration.stamp);
     put(
         &[
             b"%% iteration ",
@@ -119,7 +143,7 @@ fn put_state<K: Sink>(
             b" ",
             stamp.bytes(),
             b" ",
-            drive_text(parked),
+            drive_text(iteration.parked),
             b"\n",
         ],
         buffer,

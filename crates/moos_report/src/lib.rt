@@ -5,7 +5,8 @@
 // sink's faults rose. No memory is taken: the text is gathered in a buffer on the stack, and what is full goes on.
 //
 // Reading order: `specs/Report` and `specs/IterationLines` say what each line is; here are the entries and their parts, in
-// `iterations` what follows an entry of the helm, in `lines` the lines. `law` says that a report tells its history.
+// `iterations` what follows an entry of the helm, in `behaviors` what an iteration tells of its behaviours, in `lines` the
+// lines. `law` says that a report tells its history.
 #![tactic(auto)]
 
 ghost use Rattle.std.specs.Prelude.{◌≡◌, ◌+◌, ◌<◌, ◌≤◌, ◌++◌, [], ◌∷◌, Some, OnOk, OnErr, length, take, flat_map, codes, decimal, slice_get};
@@ -15,8 +16,9 @@ ghost use Rattle.moos_io.specs.Pieces.{Took, TookFront};
 ghost use Rattle.moos_io.specs.Writing.{Wrote, way};
 ghost use Rattle.moos_post.specs.History.{name_of, posts_of, posts_of_entry};
 ghost use Rattle.moos_text.specs.Numbers.{unsigned_text};
-ghost use Rattle.moos_report.specs.Report.{report_text, said_text, clients_text, entries_text, entry_text, call_text, reg_text, letter_text, letters_text};
+ghost use Rattle.moos_report.specs.Report.{report_text, said_text, clients_text, entries_text, entry_text, call_text, reg_text, letter_text, letters_text, unused_text};
 
+mod behaviors;
 mod iterations;
 mod law;
 mod lines;
@@ -26,8 +28,9 @@ mod tests;
 
 use self::iterations::{fetches_after, put_outcome};
 pub use self::law::report_law;
-use self::lines::{put, put_client, put_end, put_mail, put_post, put_reg};
+use self::lines::{put, put_client, put_end, put_mail, put_post, put_reg, put_unused};
 pub use self::setup::Setup;
+use bhv_reader::Unused;
 use helm_core::Iteration;
 use moos_db::Db;
 use moos_io::{Buffer, Failed, Sink};
@@ -73,6 +76,9 @@ fn put_report<K: Sink>(
     if let Err(failed) = put_clients(db, buffer, out) {
         return Err(failed);
     }
+    if let Err(failed) = put_unused_list(setup.unused.all(), buffer, out) {
+        return Err(failed);
+    }
     if let Err(failed) = put_entries(setup, db, iterations, buffer, out) {
         return Err(failed);
     }
@@ -85,6 +91,22 @@ fn put_clients<K: Sink>(db: &Db, buffer: &mut Buffer, out: &mut K) -> Result<(),
 {
     for number in 0..db.clients() {
         if let Err(failed) = put_client(number, db.name(number), buffer, out) {
+            return Err(failed);
+        }
+    }
+    Ok(())
+}
+
+fn put_unused_list<K: Sink>(
+    unused: &[Unused],
+    buffer: &mut Buffer,
+    out: &mut K,
+) -> Result<(), Failed>
+    ensures { Wrote (way (K.taken out.old) buffer.old (K.faults out.old)) (way (K.taken out.new) buffer.new (K.faults out.new))
+        result (flat_map unused_text unused.now) }
+{
+    for parameter in unused {
+        if let Err(failed) = put_unused(parameter, buffer, out) {
             return Err(failed);
         }
     }

@@ -3,8 +3,9 @@ ghost use Rattle.std.specs.Prelude.{◌≡◌, ◌<◌, ◌≤◌, [], ◌∷◌
 ghost use Rattle.std.specs.List.{concat};
 ghost use Rattle.moos_io.specs.Writing.{Wrote, way};
 ghost use Rattle.moos_text.specs.Numbers.{unsigned_text};
-ghost use Rattle.moos_report.specs.Report.{client_text, reg_text, said_text, value_text, is_sign, escaped};
+ghost use Rattle.moos_report.specs.Report.{client_text, reg_text, said_text, unused_text, value_text, is_sign, escaped};
 
+use bhv_reader::Unused;
 use moos_io::{Buffer, Failed, Sink};
 use moos_post::{Name, Pair, Reg, Value};
 use moos_text::{print_milli, print_seconds};
@@ -31,6 +32,24 @@ pub(super) fn put_client<K: Sink>(
     let number = digits.format(number).as_bytes();
     put(
         &[b"%% client ", number, b" ", name.bytes(), b"\n"],
+        buffer,
+        out,
+    )
+}
+
+// An unused parameter of the behaviour file, by its line and its name.
+pub(super) fn put_unused<K: Sink>(
+    unused: &Unused,
+    buffer: &mut Buffer,
+    out: &mut K,
+) -> Result<(), Failed>
+    ensures { Wrote (way (K.taken out.old) buffer.old (K.faults out.old)) (way (K.taken out.new) buffer.new (K.faults out.new))
+        result (unused_text unused.now) }
+{
+    let mut digits = itoa::Buffer::new();
+    let line = digits.format(unused.line).as_bytes();
+    put(
+        &[b"%% unused ", line, b" ", unused.name.bytes(), b"\n"],
         buffer,
         out,
     )

@@ -1,7 +1,11 @@
 ghost use Rattle.std.specs.Prelude.{◌<◌, length};
 
 use super::*;
-use helm_core::{Faults, States, Updates};
+use bhv_kinds::BhvFault;
+use bhv_life::BhvState;
+use bhv_reader::UnusedList;
+use helm_core::{BhvError, Faults, States, Update, Updates};
+use ivp_cert::read_decision;
 use moos_io::MemSink;
 use moos_post::{Batch, Milli, Name, Names, Reg, Regs, Txt, Value};
 use std::alloc::Global;
@@ -256,9 +260,18 @@ fn is_reported(
     Ok(())
 }
 
+// The setup of a community without behaviours.
+fn setup(alloc: Global, modes: bool) -> Setup {
+    Setup {
+        unused: UnusedList::new(alloc),
+        behaviors: Names::new(alloc),
+        modes,
+    }
+}
+
 #[test]
 fn reports_in_one_put(rt: HostRuntime) -> Result<(), Fail> {
-    let setup = Setup { modes: false };
+    let setup = setup(rt.alloc(), false);
     let (first, all) = (first(&rt, rt.alloc())?, all_kinds(&rt, rt.alloc())?);
     is_reported(&rt, rt.alloc(), &setup, &first, &[], FIRST)?;
     is_reported(&rt, rt.alloc(), &setup, &all, &[], ALL_KINDS)
@@ -271,13 +284,83 @@ fn reports_iterations(rt: HostRuntime) -> Result<(), Fail> {
         iteration(rt.alloc(), 0, true, "")?,
         iteration(rt.alloc(), 250, false, "ACTIVE:SURVEYING")?,
     ];
-    let setup = Setup { modes: true };
+    let setup = setup(rt.alloc(), true);
     is_reported(&rt, rt.alloc(), &setup, &db, &iterations, HELM)
+}
+
+// A helm of two behaviours, and what its file has that neither uses.
+fn survey(alloc: Global) -> Result<Setup, Fail> {
+    let mut list = UnusedList::new(alloc);
+    for (line, name) in [(13, "lead"), (19, "visual_hints")] {
+        let name = Txt::new(alloc, name.as_bytes())?;
+        list.push(Unused { line, name })?;
+    }
+    Ok(Setup {
+        unused: list,
+        behaviors: names_of(alloc, &["s", "t"])?,
+        modes: false,
+    })
+}
+
+const DECISION: &str = "ivp 1
+domain course:0:359:360
+function 100
+piece 0 359 7 0
+end
+decision 0 700
+cut : 700 0
+done
+";
+
+// Both behaviours are updated, one raises a fault, and there is a decision.
+fn decided(alloc: Global) -> Result<Iteration, Fail> {
+    let mut iteration = iteration(alloc, 0, false, "")?;
+    for (behavior, taken) in [(1, false), (0, true)] {
+        iteration.updates.push(Update { behavior, taken })?;
+    }
+    for state in [BhvState::Active, BhvState::Completed] {
+        iteration.states.push(state)?;
+    }
+    let fault = BhvFault::TooLate;
+    iteration.faults.push(BhvError { behavior: 1, fault })?;
+    iteration.decision = Some(read_decision(alloc, DECISION.as_bytes())?);
+    Ok(iteration)
+}
+
+const SURVEY: &str = "%% moosdb play 1
+%% client 0 pHelmIvP
+%% unused 13 lead
+%% unused 19 visual_hints
+%% entry 0 0 pHelmIvP fetch
+%% entry 1 0 pHelmIvP post 0 0
+%% iteration 0 0 DRIVE
+%% update t refused
+%% update s taken
+%% behavior s active
+%% behavior t completed
+%% error t TooLate
+%% ivp 1
+%% domain course:0:359:360
+%% function 100
+%% piece 0 359 7 0
+%% end
+%% decision 0 700
+%% cut : 700 0
+%% done
+%% end 2 0
+";
+
+#[test]
+fn reports_behaviors(rt: HostRuntime) -> Result<(), Fail> {
+    let steps = [(0, 0, Step::Fetch), (0, 0, Step::Post(&[]))];
+    let db = play(&rt, rt.alloc(), &["pHelmIvP"], &steps)?;
+    let (setup, iterations) = (survey(rt.alloc())?, [decided(rt.alloc())?]);
+    is_reported(&rt, rt.alloc(), &setup, &db, &iterations, SURVEY)
 }
 
 #[test]
 fn full_sink_has_a_front(rt: HostRuntime) -> Result<(), Fail> {
-    let (db, setup) = (all_kinds(&rt, rt.alloc())?, Setup { modes: false });
+    let (db, setup) = (all_kinds(&rt, rt.alloc())?, setup(rt.alloc(), false));
     for room in [0, 1, 100, 400] {
         let mut sink = MemSink::make(rt.alloc(), room, 7)?;
         assert_eq!(rt; report(&setup, &db, &[], &mut sink), Err(Failed));

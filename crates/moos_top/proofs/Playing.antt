@@ -10,7 +10,8 @@ use Rattle.moos_post.specs.Entries.{IsEntry}
 use Rattle.moos_post.specs.History.{History, name_of}
 use Rattle.moos_client.specs.Calls.{entries_of}
 use Rattle.moos_play.specs.Lawful.{IsLawful}
-use Rattle.moos_report.specs.Community.{HaveOwnNames, IsCommunity}
+use Rattle.moos_report.specs.declared.setup.Setup.{Setup}
+use Rattle.moos_report.specs.Community.{HaveOwnNames, IsCommunity, StandOnLines}
 use Rattle.moos_report.specs.Report.{report_text, ReportsTell}
 use Rattle.moos_top.specs.Jobs.{IsReport, no_modes}
 use Rattle.script_reader.specs.declared.script.Order.{Order}
@@ -85,19 +86,27 @@ lawful_community order script history valid lawful = record {
     all = subst (All (IsBy (length script.names))) (sym lawful.opened) (all_entries (IsBy (length script.names)) lawful.rest (own_entries order script history valid lawful))
 
 -- the report of a lawful history of the script
-pub reported : (order : Order) (script : Script) (names : List (List ℕ)) (history : History) → ReportsTell → IsValid script → names ≡ script.names → IsLawful order script None names history
-    → IsReport order script (report_text no_modes names history [])
-reported order script names history tell valid same among = record {
+pub reported : (order : Order) (script : Script) (setup : Setup) (names : List (List ℕ)) (history : History) → ReportsTell → IsValid script → setup ≡ no_modes → names ≡ script.names
+    → IsLawful order script None names history → IsReport order script (report_text setup names history [])
+reported order script setup names history tell valid plain same among = record {
   history = history;
   lawful = lawful;
   printed = printed;
   listed = λ other is text.
       (tell no_modes no_modes script.names script.names history other [] [] (lawful_community order script history valid lawful) (lawful_community order script other valid is)
-          (λ i d within. absurd (omega (arith, within))) (λ i d within. absurd (omega (arith, within))) (sym text ∙ printed)).1;
+          named named (sym text ∙ printed)).1;
 }
   where
     lawful : IsLawful order script None script.names history
     lawful = subst (λ names. IsLawful order script None names history) same among
 
-    printed : report_text no_modes names history [] ≡ report_text no_modes script.names history []
-    printed = ap (λ names. report_text no_modes names history []) same
+    printed : report_text setup names history [] ≡ report_text no_modes script.names history []
+    printed = ap (λ setup. report_text setup names history []) plain ∙ ap (λ names. report_text no_modes names history []) same
+
+    named : StandOnLines no_modes []
+    named = record {
+      unused = λ i d within. absurd (omega (arith, within));
+      behaviors = λ i d within. absurd (omega (arith, within));
+      modes = λ i d within. absurd (omega (arith, within));
+      axes = λ i d within. absurd (omega (arith, within));
+    }

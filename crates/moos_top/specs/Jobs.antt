@@ -90,9 +90,9 @@ task_of (Play script order) bytes = task_with (Playing order) (script_of bytes)
 task_of (Solve problem workers) bytes = task_with Solving (problem_of bytes)
 task_of (Check decision) bytes = task_with Checking (decision_of bytes)
 
--- a setup without modes
+-- a setup without behaviours and modes
 abbrev pub no_modes : Setup
-no_modes = record { modes = false }
+no_modes = record { unused = []; behaviors = []; modes = false }
 
 -- the text is the report of a lawful history of the script, the one that it lists: no other lawful history has this text
 pub record IsReport (order : Order) (script : Script) (text : List ℕ) : Type 0 where

@@ -2,7 +2,7 @@
 ghost use Rattle.std.specs.Prelude.{◌≡◌, ◌<◌, ◌≤◌, ◌^◌, length, OnOk, OnErr};
 ghost use Rattle.ivp_cert.specs.Decisions.{decision_of};
 ghost use Rattle.ivp_cert.specs.Problems.{problem_of};
-ghost use Rattle.moos_top.specs.Jobs.{HasFewWorkers, kind_of, task_of, task_with};
+ghost use Rattle.moos_top.specs.Jobs.{HasFewWorkers, kind_of, no_modes, task_of, task_with};
 ghost use Rattle.moos_top.specs.Jobs.Task.{Checking, Playing, Solving};
 ghost use Rattle.moos_top.specs.Run.{Completes, EndsWith, Refuses, Surroundings, surroundings};
 ghost use Rattle.moos_top.specs.Steps.{Ended, sinking, status_of};
@@ -15,6 +15,7 @@ use crate::words::Words;
 use ivp_cert::{accepts, print_decision, read_decision, read_problem};
 use moos_io::{Failed, Folder, Gate, LoadFault, Sink, put_all};
 use moos_play::{Order, play};
+use moos_post::List;
 use moos_report::{Setup, report, report_law};
 use moos_text::ReadFault;
 use script_reader::read_script;
@@ -101,10 +102,21 @@ fn play_script<R: Threads + Wait + Sync, K: Sink, G: Gate>(
     match play(rt, alloc, &script, None, order, 1, gate) {
         Ok(ran) => {
             report_law();
-            let setup = Setup { modes: false };
+            let setup = no_modes(alloc);
             written(Status::Done, report(&setup, &ran.db, &[], out))
         }
         Err(_) => Status::NoMemory,
+    }
+}
+
+// The setup of a script without a mission: no behaviours and no modes.
+fn no_modes(alloc: Global) -> Setup
+    ensures { result ≡ no_modes }
+{
+    Setup {
+        unused: List::new(alloc),
+        behaviors: List::new(alloc),
+        modes: false,
     }
 }
 

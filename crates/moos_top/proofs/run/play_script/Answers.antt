@@ -16,5 +16,5 @@ pub returns-in-Ok-play : goal.returns-in-Ok-play
 returns-in-Ok-play g c =
     let db = c.in-Ok-play.ran.db in
     put_ends Script _ (Playing c.args.order c.in-Ok.script) _ Done c.written.result _ c.report.result (λ all. all) (ap (task_with (Playing c.args.order)) c.in-Ok.ensures.read)
-    (reported c.args.order c.in-Ok.script db.names db.history c.report_law.ensures c.in-Ok.ensures.valid c.in-Ok-play.ensures.names c.in-Ok-play.ensures.lawful)
+    (reported c.args.order c.in-Ok.script c.no_modes-setup.result db.names db.history c.report_law.ensures c.in-Ok.ensures.valid c.no_modes-setup.ensures c.in-Ok-play.ensures.names c.in-Ok-play.ensures.lawful)
     c.report.ensures.ok c.report.ensures.front c.report.ensures.rose c.written.ensures.all c.written.ensures.fault
