@@ -129,7 +129,7 @@ made_anyhow axes number p h NoMemory made = tt
 flat_count : (axes : List Axis) (value : ℤ) (point : Point) → is_point axes point ≡ true → count_at (flat_pieces axes value) point ≡ 1
 flat_count axes value point inside = count_more (piece_has point) (record { area = whole axes; base = value; slope = level }) [] inside
 
-flat_sum : (value : ℤ) (i j k l : ℕ) → value +ℤ pos 0 *ℤ pos i +ℤ pos 0 *ℤ pos j +ℤ pos 0 *ℤ pos k +ℤ pos 0 *ℤ pos l ≡ value
+pub flat_sum : (value : ℤ) (i j k l : ℕ) → value +ℤ pos 0 *ℤ pos i +ℤ pos 0 *ℤ pos j +ℤ pos 0 *ℤ pos k +ℤ pos 0 *ℤ pos l ≡ value
 flat_sum value i j k l = omega (arith, ints)
 
 pub flat_value : (axes : List Axis) (value : ℤ) (point : Point) → is_point axes point ≡ true → value_at (flat_pieces axes value) point ≡ value

@@ -15,3 +15,8 @@ pub mod Meets
 pub mod Totals
 pub mod Sides
 mod SumExamples
+mod SampledExamples
+pub mod Sampling
+pub mod Casts
+pub mod Samples
+pub mod Covers

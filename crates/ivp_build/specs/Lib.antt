@@ -5,3 +5,4 @@ pub mod Builders
 pub mod Ends
 pub mod Sums
 pub mod Faults
+pub mod Sampled

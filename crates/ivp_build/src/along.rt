@@ -26,8 +26,8 @@ fn band(domain: &Domain, axis: u32, low: u32, high: u32) -> BoxN
     area
 }
 
-/// What the places below a run add: the change times the low end.
-fn rise(change: i64, low: u32) -> i64
+/// What the places below one add: the change times their number.
+pub(crate) fn rise(change: i64, low: u32) -> i64
     requires least { neg_ℤ (pos 100000) ≤ℤ change }
     requires most { change ≤ℤ pos 100000 }
     requires low { low < 2 ^ 22 }
