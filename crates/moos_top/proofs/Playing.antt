@@ -94,7 +94,7 @@ reported order script setup names history tell valid plain same among = record {
   printed = printed;
   listed = λ other is text.
       (tell no_modes no_modes script.names script.names history other [] [] (lawful_community order script history valid lawful) (lawful_community order script other valid is)
-          named named (sym text ∙ printed)).1;
+      named named (sym text ∙ printed)).1;
 }
   where
     lawful : IsLawful order script None script.names history
