@@ -1,7 +1,7 @@
 -- Runs and cells: how many there are, and that a point of the domain lies in the cell that is counted for it.
-use Rattle.std.proofs.Common.{◌≡◌, ℕ, zero, suc, ◌+◌, ◌-◌, ◌*◌, ◌/◌, ◌%◌, ◌^◌, ◌<◌, ◌≤◌, min, true, List, [], ◌∷◌, refl, ap, sym, subst, ◌∙◌, length, arith}
+use Rattle.std.proofs.Common.{◌≡◌, ℕ, zero, suc, ◌+◌, ◌-◌, ◌*◌, ◌/◌, ◌%◌, ◌^◌, ◌<◌, ◌≤◌, min, Bool, true, false, ◌==◌, if◌then◌else◌, List, [], ◌∷◌, refl, ap, sym, subst, ◌∙◌, length, arith}
 use Rattle.std.specs.Prelude.{slice_index}
-use Rattle.std.proofs.Math.Nat.{div-le_self, div-mul-le_self, lt-div-mul-add, mul-le-mul}
+use Rattle.std.proofs.Math.Nat.{div-eq_of_lt-le, div-le_self, div-mul-le_self, lt-div-mul-add, mul-le-mul}
 use Rattle.std.proofs.lemmas.Nat.{div-mul-add, le-div, mod-mul-add}
 use Rattle.ivp_domain.specs.declared.axis.Axis.{Axis}
 use Rattle.ivp_domain.specs.declared.boxes.BoxN.{BoxN}
@@ -11,6 +11,7 @@ use Rattle.ivp_domain.specs.Domains.{is_domain, is_point, size_of, size_on, whol
 use Rattle.ivp_domain.proofs.BoxLemmas.{product_part}
 use Rattle.ivp_domain.proofs.Ranges.{digits}
 use Rattle.ivp_domain.proofs.Sizes.{few, few_on, positive, radix}
+use Rattle.ivp_func.specs.Cuts.{reciprocal_of}
 use Rattle.ivp_func.specs.Grids.{cell_at, cell_box, cells_of, last_on, most_runs, run_at, run_high, run_low, run_on, runs_box, runs_on}
 use Rattle.ivp_func.proofs.Facts.{has_point-from, place_in}
 
@@ -70,6 +71,46 @@ div_below place last places some h = le-div (place / places) last places some (o
 
 pub in_run : (axes : List Axis) (k : ℕ) (p : Point) → slice_index p.at k ≤ last_on k axes → run_at k axes p < runs_on k axes
 in_run axes k p h = let some : 0 < run_on k axes = omega arith in omega (arith, div_below (slice_index p.at k) (last_on k axes) (run_on k axes) some h)
+
+-- a run has at most 2^20 places, since an axis is cut into four at least where it has so many
+run_small : (axes : List Axis) (k : ℕ) → is_domain axes ≡ true → k < 4 → run_on k axes ≤ 2 ^ 20
+run_small axes k h p = by_count (length axes == 2) (length axes == 3) (length axes == 4) (last_on k axes) (last_small axes k h p)
+  where
+    by_count : (two three four : Bool) (last : ℕ) → last < 2 ^ 22 → last / (if two then 16 else if three then 6 else if four then 4 else 256) + 1 ≤ 2 ^ 20
+    by_count true three four last small = omega (arith, small)
+    by_count false true four last small = omega (arith, small)
+    by_count false false true last small = omega (arith, small)
+    by_count false false false last small = omega (arith, small)
+
+-- the run of a place by the reciprocal: that is above 1 / places, but for every place of an axis by too little to reach the next run
+run_by_reciprocal : (place places : ℕ) → 0 < places → places ≤ 2 ^ 20 → place < 2 ^ 22 → place * reciprocal_of places / 2 ^ 42 ≡ place / places
+run_by_reciprocal place places some few small =
+    let below = 2 ^ 42 / places in
+    let run = place / places in
+    let same : (n : ℕ) → n ≤ n = λ n. omega arith in
+    let large : 2 ^ 22 ≤ below = le-div (2 ^ 22) (2 ^ 42) places some (omega (arith, few)) in
+    let over : 2 ^ 42 < below * places + places = lt-div-mul-add some in
+    let short : place < run * places + places = lt-div-mul-add some in
+    let one : run * 2 ^ 42 ≤ run * (below * places + places) = mul-le-mul (same run) (omega (arith, over)) in
+    let two : run * places * (below + 1) ≤ place * (below + 1) = mul-le-mul (div-mul-le_self place places) (same (below + 1)) in
+    let three : (place + 1) * below ≤ (run * places + places) * below = mul-le-mul (omega (arith, short)) (same below) in
+    let four : (run + 1) * (below * places) ≤ (run + 1) * 2 ^ 42 = mul-le-mul (same (run + 1)) (div-mul-le_self (2 ^ 42) places) in
+    let least : run * 2 ^ 42 ≤ place * (below + 1) = omega (arith, one, two) in
+    let most : place * (below + 1) < (run + 1) * 2 ^ 42 = omega (arith, three, four, large, small) in
+    div-eq_of_lt-le (2 ^ 42) least most
+
+pub run_at_by_reciprocal : (axes : List Axis) (k : ℕ) (p : Point) → is_domain axes ≡ true → k < 4 → slice_index p.at k < 2 ^ 22 → slice_index p.at k * reciprocal_of (run_on k axes) / 2 ^ 42 ≡ run_at k axes p
+run_at_by_reciprocal axes k p h within small = let some : 0 < run_on k axes = omega arith in run_by_reciprocal (slice_index p.at k) (run_on k axes) some (run_small axes k h within) small
+
+pub reciprocal_fits : (place places : ℕ) → place < 2 ^ 22 → place * reciprocal_of places < 2 ^ 64
+reciprocal_fits place places small =
+    let below : place ≤ 2 ^ 22 - 1 = omega (arith, small) in
+    let most_of_one : reciprocal_of places ≤ 2 ^ 42 + 1 = omega (arith, div-le_self (2 ^ 42) places) in
+    let most : place * reciprocal_of places ≤ (2 ^ 22 - 1) * (2 ^ 42 + 1) = mul-le-mul below most_of_one in
+    omega (arith, most)
+
+pub place_small : (axes : List Axis) (p : Point) (k : ℕ) → is_domain axes ≡ true → is_point axes p ≡ true → k < 4 → slice_index p.at k < 2 ^ 22
+place_small axes p k h inside within = omega (arith, last_small axes k h within, (place_in (whole axes) p inside k within).1)
 
 -- a point's cell, step by step
 pub record IsCellOf (axes : List Axis) (p : Point) : Type 0 where

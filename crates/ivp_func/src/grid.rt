@@ -35,10 +35,11 @@ const PIECES_A_CELL: usize = 4;
 fn share(a: &BoxN, b: &BoxN) -> bool
     ensures { result ≡ share a.now b.now }
 {
-    a.low[0].max(b.low[0]) <= a.high[0].min(b.high[0])
-        && a.low[1].max(b.low[1]) <= a.high[1].min(b.high[1])
-        && a.low[2].max(b.low[2]) <= a.high[2].min(b.high[2])
-        && a.low[3].max(b.low[3]) <= a.high[3].min(b.high[3])
+    // All four axes at once: which of them parts the boxes can't be foretold, and a wrong guess costs more than the tests.
+    (a.low[0].max(b.low[0]) <= a.high[0].min(b.high[0]))
+        & (a.low[1].max(b.low[1]) <= a.high[1].min(b.high[1]))
+        & (a.low[2].max(b.low[2]) <= a.high[2].min(b.high[2]))
+        & (a.low[3].max(b.low[3]) <= a.high[3].min(b.high[3]))
 }
 
 /// Whether the piece of this number shares a point with the area.

@@ -3,6 +3,9 @@ use Rattle.ivp_problem.specs.Problems.{WeightedSum}
 use Rattle.ivp_cert.proofs.Sums.{few_more, over_more, weights_more}
 use Rattle.ivp_cert.proofs.terms.Terms.push.Goals as goal
 
+pub invariant_of-self : goal.invariant_of-self
+invariant_of-self c = rw c.in_err-push.ensures.items c.self.invariant
+
 pub invariant_of-self-2 : goal.invariant_of-self-2
 invariant_of-self-2 c =
     let before = c.self.inside.terms.items in
