@@ -5,9 +5,12 @@ use Rattle.moos_post.specs.declared.value.Value.TheVariants.{Num, Text}
 use Rattle.helm_cond.specs.Learnt.{Knowledge}
 use Rattle.helm_geo.specs.declared.spot.Spot.{Spot}
 use Rattle.bhv_reader.specs.declared.spec.Shape.{Shape}
-use Rattle.bhv_reader.specs.declared.spec.Shape.TheVariants.{Timer, Waypoint, Loiter, StationKeep}
+use Rattle.bhv_reader.specs.declared.spec.Shape.TheVariants.{Heading, Speed, Depth, MaxDepth, Timer, Waypoint, Loiter, StationKeep, OpRegion}
 use Rattle.bhv_reader.specs.declared.spec.Spec.{Spec}
+use Rattle.bhv_reader.specs.Params.{has_axes, has_axis}
 use Rattle.bhv_reader.specs.Validity.{IsValidSpec}
+use Rattle.ivp_domain.specs.declared.axis.Axis.{Axis}
+use Rattle.std.proofs.lemmas.Bool.{and_from}
 use Rattle.bhv_kinds.specs.Updates.{gives_places, updated}
 use Rattle.bhv_kinds.specs.Turns.{KindTurn, Stepped, Updated, first_step, params_at, position_of}
 use Rattle.bhv_kinds.specs.Targets.{Headway, first_headway, headway_at, vertex_at}
@@ -128,3 +131,34 @@ first = refl
 -- a station that is taken anew has valid parameters
 pub station_valid : IsValidSpec (station true None)
 station_valid = record { ranges = record { weight = omega arith; parameters = (tt, refl, refl, refl) }; given = refl; relations = refl }
+
+-- so have behaviours of the other types, as they are where nothing but their number is given
+pub course_valid : IsValidSpec (spec (Heading (pos 0) (pos 90000) (pos 90000) (pos 25000)))
+course_valid = record { ranges = record { weight = omega arith; parameters = (refl, refl, refl, refl) }; given = refl; relations = refl }
+
+pub speed_valid : IsValidSpec (spec (Speed (pos 0) (pos 1000) (pos 1000) (pos 25000)))
+speed_valid = record { ranges = record { weight = omega arith; parameters = (refl, refl, refl, refl) }; given = refl; relations = refl }
+
+pub depth_valid : IsValidSpec (spec (Depth (pos 0) (pos 10000) (pos 10000) (pos 25000)))
+depth_valid = record { ranges = record { weight = omega arith; parameters = (refl, refl, refl, refl) }; given = refl; relations = refl }
+
+pub limit_valid : IsValidSpec (spec (MaxDepth (pos 0) (pos 20000)))
+limit_valid = record { ranges = record { weight = omega arith; parameters = (refl, refl) }; given = refl; relations = refl }
+
+pub timer_valid : IsValidSpec (spec Timer)
+timer_valid = record { ranges = record { weight = omega arith; parameters = tt }; given = refl; relations = refl }
+
+pub region_valid : IsValidSpec (spec (OpRegion None None None))
+region_valid = record { ranges = record { weight = omega arith; parameters = (tt, tt, tt) }; given = refl; relations = refl }
+
+-- a domain of course, speed and depth has the axes of each type
+pub three_axes : (axes : List Axis) (shape : Shape) → has_axis axes (codes "course") ≡ true → has_axis axes (codes "speed") ≡ true → has_axis axes (codes "depth") ≡ true → has_axes axes shape ≡ true
+three_axes axes (Heading a b c d) course speed depth = and_from _ _ course refl
+three_axes axes (Speed a b c d) course speed depth = and_from _ _ speed refl
+three_axes axes (Depth a b c d) course speed depth = and_from _ _ depth refl
+three_axes axes (MaxDepth a b) course speed depth = and_from _ _ depth refl
+three_axes axes Timer course speed depth = refl
+three_axes axes (Waypoint a b c d e f) course speed depth = and_from _ _ course (and_from _ _ speed refl)
+three_axes axes (Loiter a b c d e) course speed depth = and_from _ _ course (and_from _ _ speed refl)
+three_axes axes (StationKeep a b c d e) course speed depth = and_from _ _ course (and_from _ _ speed refl)
+three_axes axes (OpRegion a b c) course speed depth = refl

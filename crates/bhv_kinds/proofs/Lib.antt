@@ -1,3 +1,6 @@
 pub mod Keeping
-pub mod Pairwise
 pub mod KindExamples
+pub mod Named
+pub mod Pairwise
+pub mod Peaks
+pub mod Stepping

@@ -1,8 +1,10 @@
 -- How a kind stands for the list of a behaviour's updates and steps: each of its fields is what they came to.
-use Rattle.std.specs.Prelude.{◌≡◌, ◌≤◌, ◌^◌, List, min, IsTrue, IfSome}
+use Rattle.std.specs.Prelude.{◌≡◌, ℕ, ◌≤◌, ◌^◌, nat_le, Bool, List, length, min, IsTrue, IfSome}
 use Rattle.helm_geo.specs.Plane.{is_spot}
+use Rattle.bhv_reader.specs.declared.spec.Shape.{Shape}
 use Rattle.bhv_reader.specs.declared.spec.Spec.{Spec}
-use Rattle.bhv_reader.specs.Params.{axes_of}
+use Rattle.ivp_domain.specs.declared.axis.Axis.{Axis}
+use Rattle.bhv_reader.specs.Params.{axes_of, has_axes}
 use Rattle.bhv_reader.specs.Validity.{IsValidSpec}
 use Rattle.bhv_kinds.specs.declared.kind.Kind.{Kind}
 use Rattle.bhv_kinds.specs.Stations.{centre_at}
@@ -31,3 +33,19 @@ pub record IsKindOf (spec : Spec) (turns : List KindTurn) (kind : Kind) : Type 0
   pub centre : kind.centre ≡ centre_at turns
   pub last : kind.last ≡ last_position spec turns
   pub first : kind.first ≡ first_step turns
+
+-- the names of the axes that the kind's functions mention, which no update and no step changes
+abbrev pub axes_needed : Kind → List (List ℕ)
+axes_needed kind = axes_of kind.params.shape
+
+-- the domain has those axes
+abbrev pub fits_domain : List Axis → Kind → Bool
+fits_domain axes kind = has_axes axes kind.params.shape
+
+-- steps are made of this type so far: of each whose functions mention one axis at most
+abbrev pub is_stepped_type : Shape → Bool
+is_stepped_type shape = nat_le (length (axes_of shape)) 1
+
+-- steps are made of the kind's type
+abbrev pub makes_steps : Kind → Bool
+makes_steps kind = is_stepped_type kind.params.shape

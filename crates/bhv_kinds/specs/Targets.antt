@@ -68,11 +68,11 @@ with_captured points repeat headway =
     else record { captured = 0; again = suc headway.again }
 
 -- a waypoint behaviour that has come so far captures its target at a place
-abbrev pub captures_at : Shape → Bool → Headway → Option Spot → Option Spot → Bool
-captures_at (Waypoint points speed capture slip reverse repeat) reversed headway before (Some now) =
-    let target = target_number (length points) reverse headway.captured in
-    is_captured (nat_abs capture) (nat_abs slip) (spot_at points target) (target == target_number (length points) reversed headway.captured) before now
-captures_at other reversed headway before now = false
+abbrev pub captures_at : Shape → Bool → ℕ → Option Spot → Option Spot → Bool
+captures_at (Waypoint points speed capture slip reverse repeat) reversed captured before (Some now) =
+    let target = target_number (length points) reverse captured in
+    is_captured (nat_abs capture) (nat_abs slip) (spot_at points target) (target == target_number (length points) reversed captured) before now
+captures_at other reversed captured before now = false
 
 -- what a capture makes of it
 abbrev pub headway_after : Shape → Bool → Headway → Headway
@@ -82,7 +82,7 @@ headway_after other captured headway = headway
 -- a step behind these turns captures the target of a waypoint behaviour that has come so far
 abbrev pub captures : Spec → List KindTurn → Headway → KindStep → Bool
 captures spec past headway step =
-    captures_at (params_at spec past).shape (is_reversed (params_at_step spec past).shape) headway (last_position spec past) (position_of step.known)
+    captures_at (params_at spec past).shape (is_reversed (params_at_step spec past).shape) headway.captured (last_position spec past) (position_of step.known)
 
 -- How far a waypoint behaviour has come after these turns: an update of the points begins at the first.
 abbrev pub headway_at : Spec → List KindTurn → Headway

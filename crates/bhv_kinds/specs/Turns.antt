@@ -16,6 +16,10 @@ pub record KindStep : Type 0 where
   pub stamp : ℕ
   pub fresh : Bool
 
+-- a step over a domain
+abbrev pub step_of : List Axis → Knowledge → ℕ → Bool → KindStep
+step_of axes known stamp fresh = record { axes = axes; known = known; stamp = stamp; fresh = fresh }
+
 -- an update by its text, or a step
 pub data KindTurn : Type 0 where
   Updated : List ℕ → KindTurn

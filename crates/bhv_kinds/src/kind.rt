@@ -1,16 +1,27 @@
-ghost use Rattle.std.specs.Prelude.{◌≡◌, List, [], ◌∷◌, false, IfOk, OnErr, is_some};
+ghost use Rattle.std.specs.Prelude.{◌≡◌, ◌≤◌, List, [], ◌∷◌, false, IfOk, IfSome, OnErr, IsTrue, is_some};
+ghost use Rattle.ivp_domain.specs.declared.axis.Axis.{Axis};
 ghost use Rattle.bhv_reader.specs.declared.spec.Spec.{Spec};
 ghost use Rattle.bhv_reader.specs.Validity.{IsValidSpec};
-ghost use Rattle.bhv_kinds.specs.Standing.{IsKindOf, IsSoundKind};
+ghost use Rattle.helm_cond.specs.Infos.{knowledge_of};
+ghost use Rattle.helm_geo.specs.Plane.{is_spot};
+ghost use Rattle.bhv_kinds.specs.Giving.{out_at, situation_at};
+ghost use Rattle.bhv_kinds.specs.Standing.{IsKindOf, IsSoundKind, axes_needed, fits_domain, makes_steps};
 ghost use Rattle.bhv_kinds.specs.Targets.{is_reversed};
-ghost use Rattle.bhv_kinds.specs.Turns.{KindTurn, Updated, params_at};
+ghost use Rattle.bhv_kinds.specs.Turns.{KindTurn, Stepped, Updated, params_at, step_of};
 ghost use Rattle.bhv_kinds.specs.Updates.{updated};
 
+use crate::given::given;
+use crate::known::position;
+use crate::out::Out;
+use crate::situation::Situation;
+use crate::station::centre_after;
 use crate::updating::{names_places, updated};
 use bhv_reader::{Shape, Spec};
+use helm_cond::Info;
 use helm_geo::Spot;
+use ivp_domain::Domain;
 use moos_post::{Copied, NoMemory, Txt};
-use std::alloc::Global;
+use std::alloc::{AllocError, Global};
 
 /// A behaviour by its type: its parameters, and as much of its updates and steps as its next step needs.
 #[derive(Debug, Drop)]
@@ -85,12 +96,13 @@ impl Kind {
 
     /// Takes an update: pairs of a parameter and its value with `#` between. False exactly where one of them isn't good or,
     /// after all of them, a relation between parameters fails; then nothing changed, nor where no memory was left.
-    #[tactic(auto, using(crate::proofs::Keeping::stays, crate::proofs::Keeping::same_good))]
+    #[tactic(auto, using(crate::proofs::Keeping::stays, crate::proofs::Keeping::same_good, crate::proofs::Pairwise::updated_axes))]
     pub fn update(&mut self, alloc: Global, text: &Txt) -> Result<bool, NoMemory>
         requires sound { IsSoundKind self.old }
         ensures good { IfOk result (λ good. (spec : Spec) (turns : List KindTurn) → IsKindOf spec turns self.old → good ≡ is_some (updated (params_at spec turns) text.now)) }
         ensures stands { IfOk result (λ _. (spec : Spec) (turns : List KindTurn) → IsKindOf spec turns self.old → IsKindOf spec (Updated text.now ∷ turns) self.new) }
         ensures sound { IfOk result (λ _. IsSoundKind self.new) }
+        ensures axes { IfOk result (λ _. axes_needed self.new ≡ axes_needed self.old) }
         ensures bad { IfOk result (λ good. good ≡ false → self.new ≡ self.old) }
         ensures same { OnErr result (self.new ≡ self.old) }
     {
@@ -104,5 +116,55 @@ impl Kind {
             self.last = None;
         }
         Ok(true)
+    }
+
+    // What a step finds.
+    #[tactic(auto, using(crate::proofs::Stepping::found_steadily, crate::proofs::Stepping::chosen_within, crate::proofs::Stepping::centre_within))]
+    fn found(&self, info: &Info, stamp: u64, fresh: bool) -> Situation
+        requires sound { IsSoundKind self.now }
+        requires stepped { IsTrue (makes_steps self.now) }
+        ensures found { (spec : Spec) (turns : List KindTurn) (axes : List Axis) → IsKindOf spec turns self.now → result ≡ situation_at spec turns (step_of axes (knowledge_of info.now) stamp fresh) }
+        ensures here { IfSome result.here (λ spot. IsTrue (is_spot spot)) }
+        ensures vertex { IfSome result.vertex (λ vertex. vertex ≤ 64) }
+        ensures centre { IfSome result.centre (λ spot. IsTrue (is_spot spot)) }
+    {
+        let here = position(info);
+        Situation {
+            here,
+            finished: false,
+            captured: self.captured,
+            vertex: if fresh { None } else { self.vertex },
+            centre: centre_after(fresh, self.centre, here),
+            time: stamp.saturating_sub(self.first.unwrap_or(stamp)),
+        }
+    }
+
+    /// Makes a step at a stamp in milliseconds, by what is known. `fresh` says that it wasn't stepped in the iteration
+    /// before. Where no memory is left nothing changes.
+    pub fn step(
+        &mut self,
+        alloc: Global,
+        domain: &Domain,
+        info: &Info,
+        stamp: u64,
+        fresh: bool,
+    ) -> Result<Out, NoMemory>
+        requires sound { IsSoundKind self.old }
+        requires axes { IsTrue (fits_domain domain.now self.old) }
+        requires stepped { IsTrue (makes_steps self.old) }
+        ensures out { IfOk result (λ out. (spec : Spec) (turns : List KindTurn) → IsKindOf spec turns self.old → out ≡ out_at spec turns (step_of domain.now (knowledge_of info.now) stamp fresh)) }
+        ensures stands { IfOk result (λ _. (spec : Spec) (turns : List KindTurn) → IsKindOf spec turns self.old → IsKindOf spec (Stepped (step_of domain.now (knowledge_of info.now) stamp fresh) ∷ turns) self.new) }
+        ensures sound { IfOk result (λ _. IsSoundKind self.new) }
+        ensures axes { IfOk result (λ _. axes_needed self.new ≡ axes_needed self.old) }
+        ensures same { OnErr result (self.new ≡ self.old) }
+    {
+        let found = self.found(info, stamp, fresh);
+        let out = given(alloc, domain, info, &self.params.shape, &found)?;
+        self.reversed = is_reversed(&self.params.shape);
+        self.vertex = found.vertex;
+        self.centre = found.centre;
+        self.last = found.here;
+        self.first = self.first.or(Some(stamp));
+        Ok(out)
     }
 }

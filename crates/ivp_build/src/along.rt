@@ -102,6 +102,7 @@ pub(crate) fn func_along(
     requires profile { IsProfileOf (size_on axis domain.now) profile.now }
     ensures pieces { IfOk result (λ func. func ≡ record { axes = domain.now; pieces = pieces_along domain.now axis profile.now }) }
     ensures value { IfOk result (λ func. (p : Point) → IsTrue (is_point domain.now p) → value_at func.pieces p ≡ pos (utility_along profile.now (slice_index p.at axis))) }
+    ensures few { IfOk result (λ func. length func.pieces ≤ 9) }
 {
     let count = axis_on(domain, axis).points;
     let pieces = pieces_by(alloc, domain, axis, profile, count, &ends(profile, count))?;

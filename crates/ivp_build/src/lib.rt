@@ -35,4 +35,6 @@ pub use shape::Peak;
 pub use sums::couple;
 
 #[cfg(test)]
+mod formulas;
+#[cfg(test)]
 mod tests;

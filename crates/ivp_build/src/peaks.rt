@@ -60,6 +60,7 @@ pub fn peak(alloc: Global, domain: &Domain, axis: u32, shape: &Peak) -> Result<F
     requires peak { IsPeak shape.now }
     ensures pieces { IfOk result (λ func. func ≡ record { axes = domain.now; pieces = peak_pieces domain.now axis shape.now }) }
     ensures value { IfOk result (λ func. (p : Point) → IsTrue (is_point domain.now p) → value_at func.pieces p ≡ pos (peak_at (axis_on domain.now axis) shape.now (slice_index p.at axis))) }
+    ensures few { IfOk result (λ func. length func.pieces ≤ 9) }
 {
     let profile = Profile {
         slopes: peak_slopes(&axis_on(domain, axis), shape),

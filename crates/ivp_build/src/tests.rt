@@ -1,5 +1,6 @@
 ghost use Rattle.std.specs.Prelude.{◌≡◌, ◌<◌, IsTrue};
 ghost use Rattle.ivp_domain.specs.Domains.{is_point};
+ghost use Rattle.ivp_build.specs.Shapes.{IsPeak};
 
 use crate::{Peak, at_least, at_most, couple, flat, peak};
 use ivp_domain::{Axis, AxisName, Domain, Point, Steps};
@@ -10,7 +11,7 @@ use std::sync::ledger::{Blank, Ledger};
 use std::test::Fail;
 
 /// A domain of one axis.
-fn line(name: &[u8], low: i64, high: i64, points: u32) -> Result<Domain, Fail> {
+pub(crate) fn line(name: &[u8], low: i64, high: i64, points: u32) -> Result<Domain, Fail> {
     let axes = [Axis {
         name: AxisName::new(name).ok_or("a name")?,
         low,
@@ -32,7 +33,7 @@ fn counted<L: Ledger>(func: &Func, point: &Point, blank: Blank) -> i64
 }
 
 /// The value at the point of an index, where the domain has it.
-fn value(func: &Func, index: u32) -> Option<i64> {
+pub(crate) fn value(func: &Func, index: u32) -> Option<i64> {
     let domain = func.domain();
     if index < domain.points() {
         let point = domain.point_at(index);
@@ -43,16 +44,16 @@ fn value(func: &Func, index: u32) -> Option<i64> {
 }
 
 /// A limit on the depth: an upper one, or a lower one.
-#[derive(Drop)]
-struct Limit {
-    upper: bool,
-    limit: i64,
-    basewidth: i64,
-    max: i64,
+#[derive(Clone, Copy)]
+pub(crate) struct Limit {
+    pub upper: bool,
+    pub limit: i64,
+    pub basewidth: i64,
+    pub max: i64,
 }
 
 /// The function of a limit whose numbers are within their bounds.
-fn limited(alloc: Global, domain: &Domain, shape: &Limit) -> Result<Func, Fail> {
+pub(crate) fn limited(alloc: Global, domain: &Domain, shape: &Limit) -> Result<Func, Fail> {
     let reach = 1_000_000_000_000;
     if domain.axes() < 1 || shape.limit < -reach || shape.limit > reach {
         return Err("a limit".into());
@@ -67,7 +68,7 @@ fn limited(alloc: Global, domain: &Domain, shape: &Limit) -> Result<Func, Fail> 
     }
 }
 
-const fn upper(limit: i64, basewidth: i64, max: i64) -> Limit {
+pub(crate) const fn upper(limit: i64, basewidth: i64, max: i64) -> Limit {
     Limit {
         upper: true,
         limit,
@@ -76,7 +77,7 @@ const fn upper(limit: i64, basewidth: i64, max: i64) -> Limit {
     }
 }
 
-const fn lower(limit: i64, basewidth: i64, max: i64) -> Limit {
+pub(crate) const fn lower(limit: i64, basewidth: i64, max: i64) -> Limit {
     Limit {
         upper: false,
         limit,
@@ -121,20 +122,30 @@ fn limits(rt: HostRuntime) -> Result<(), Fail> {
     Ok(())
 }
 
-/// The peak of these numbers on the first axis, where they are within their bounds.
-fn peaked(alloc: Global, domain: &Domain, shape: &Peak) -> Result<Func, Fail> {
+/// Whether the numbers of a peak are within their bounds.
+fn is_peak(shape: &Peak) -> bool
+    ensures { IsTrue result → IsPeak shape.now }
+{
     let reach = 1_000_000_000_000;
-    if domain.axes() < 1 || shape.summit < -reach || shape.summit > reach {
-        return Err("a summit".into());
+    if shape.summit < -reach || shape.summit > reach {
+        return false;
     }
     if shape.peakwidth < 0 || shape.peakwidth > reach {
-        return Err("a top".into());
+        return false;
     }
     if shape.basewidth < 0 || shape.basewidth > reach {
-        return Err("a foot".into());
+        return false;
     }
     if shape.summitdelta < 0 || shape.summitdelta > shape.max || shape.max > 100_000 {
-        return Err("a utility".into());
+        return false;
+    }
+    true
+}
+
+/// The peak of these numbers on the first axis, where they are within their bounds.
+pub(crate) fn peaked(alloc: Global, domain: &Domain, shape: &Peak) -> Result<Func, Fail> {
+    if domain.axes() < 1 || !is_peak(shape) {
+        return Err("a peak".into());
     }
     Ok(peak(alloc, domain, 0, shape)?)
 }
@@ -201,31 +212,25 @@ fn peaks(rt: HostRuntime) -> Result<(), Fail> {
 }
 
 /// The sum of a peak about a course and one about a speed, each of 50,000 at most.
-fn steered(alloc: Global, domain: &Domain) -> Result<Func, Fail> {
-    if domain.axes() < 2 {
-        return Err("two axes".into());
+pub(crate) fn steered(
+    alloc: Global,
+    domain: &Domain,
+    course: &Peak,
+    speed: &Peak,
+) -> Result<Func, Fail> {
+    if domain.axes() < 2 || !is_peak(course) || !is_peak(speed) {
+        return Err("two axes and two peaks".into());
     }
-    let course = Peak {
-        summit: 270_000,
-        peakwidth: 90_000,
-        basewidth: 90_000,
-        summitdelta: 10_000,
-        max: 50_000,
-    };
-    let speed = Peak {
-        summit: 1_000,
-        peakwidth: 1_000,
-        basewidth: 1_000,
-        summitdelta: 20_000,
-        max: 50_000,
-    };
-    let f = peak(alloc, domain, 0, &course)?;
-    let g = peak(alloc, domain, 1, &speed)?;
+    if course.max < 0 || course.max > 50_000 || speed.max < 0 || speed.max > 50_000 {
+        return Err("room for the sum".into());
+    }
+    let f = peak(alloc, domain, 0, course)?;
+    let g = peak(alloc, domain, 1, speed)?;
     Ok(couple(alloc, &f, &g).map_err(|_| "a sum")?)
 }
 
-#[test]
-fn sums(rt: HostRuntime) -> Result<(), Fail> {
+/// Four courses round a circle, and as many speeds.
+pub(crate) fn plane() -> Result<Domain, Fail> {
     let axes = [
         Axis {
             name: AxisName::new(b"course").ok_or("a name")?,
@@ -240,8 +245,27 @@ fn sums(rt: HostRuntime) -> Result<(), Fail> {
             points: 4,
         },
     ];
-    let domain = Domain::make(&axes).map_err(|_| "a domain")?;
-    let func = steered(rt.alloc(), &domain)?;
+    Ok(Domain::make(&axes).map_err(|_| "a domain")?)
+}
+
+#[test]
+fn sums(rt: HostRuntime) -> Result<(), Fail> {
+    let domain = plane()?;
+    let course = Peak {
+        summit: 270_000,
+        peakwidth: 90_000,
+        basewidth: 90_000,
+        summitdelta: 10_000,
+        max: 50_000,
+    };
+    let speed = Peak {
+        summit: 1_000,
+        peakwidth: 1_000,
+        basewidth: 1_000,
+        summitdelta: 20_000,
+        max: 50_000,
+    };
+    let func = steered(rt.alloc(), &domain, &course, &speed)?;
     let courses = [40_000, 0, 40_000, 50_000];
     let speeds = [30_000, 50_000, 30_000, 0];
     for (place, course) in courses.iter().enumerate() {

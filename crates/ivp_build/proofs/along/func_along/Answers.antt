@@ -1,13 +1,14 @@
 use Rattle.std.proofs.Common.{◌≡◌, ℕ, true, ◌^◌, ◌<◌, ◌≤◌, List, Err, map, length, sym, ◌∙◌, ap, subst, arith}
 use Rattle.ivp_domain.specs.declared.axis.Axis.{Axis}
 use Rattle.ivp_func.specs.declared.piece.Piece.{Piece}
+use Rattle.ivp_func.specs.Functions.{Function}
 use Rattle.ivp_func.specs.Making.{MadeFunction}
 use Rattle.ivp_func.specs.Pieces.{are_pieces_of, value_at}
 use Rattle.ivp_build.specs.declared.profile.Profile.{Profile}
 use Rattle.ivp_build.specs.Builders.{piece_over, pieces_along}
 use Rattle.ivp_build.specs.Ends.{cut_ends, runs_by}
 use Rattle.ivp_build.specs.Shapes.{IsProfileOf}
-use Rattle.ivp_build.proofs.Lawful.{Fits, by_ends, fits, fit, made_anyhow, value}
+use Rattle.ivp_build.proofs.Lawful.{Fits, by_ends, few_pieces, fits, fit, made_anyhow, value}
 use Rattle.ivp_build.proofs.along.func_along.Goals as goal
 use Rattle.ivp_domain.specs.Domains.{is_domain, size_on}
 
@@ -48,3 +49,10 @@ returns-in-Ok-clause-value c p inside =
     let same = made c.args.domain.now c.args.axis c.axis_on-count.result.points c.args.profile.now c.ends.result c.in_ok-pieces.pieces.items h c.axis_on-count.ensures.count c.ends.ensures.ends
     c.in_ok-pieces.ensures in
     ap (λ func. value_at func.pieces p) c.in-Ok.ensures.3 ∙ ap (λ pieces. value_at pieces p) same ∙ value c.args.domain.now c.args.axis c.args.profile.now h p inside
+
+pub returns-in-Ok-clause-few : goal.returns-in-Ok-clause-few
+returns-in-Ok-clause-few c =
+    let h = ready c.args.domain.now c.args.axis c.axis_on-count.result.points c.args.profile.now c.axis_on-count.ensures.count c.axis_on-count.ensures.lawful c.requires.axis c.axis_on-count.ensures.few c.requires.profile in
+    let same = made c.args.domain.now c.args.axis c.axis_on-count.result.points c.args.profile.now c.ends.result c.in_ok-pieces.pieces.items h c.axis_on-count.ensures.count c.ends.ensures.ends
+    c.in_ok-pieces.ensures in
+    subst (λ (func : Function). length func.pieces ≤ 9) (sym (c.in-Ok.ensures.3 ∙ ap (λ pieces. record { axes = c.args.domain.now; pieces = pieces }) same)) (few_pieces c.args.domain.now c.args.axis c.args.profile.now h)
