@@ -1,21 +1,29 @@
 -- A behaviour whose block is read line by line stays good, and is valid at its end.
 use Rattle.std.proofs.Common.{◌≡◌, ℕ, ◌≤◌, ◌<◌, ◌^◌, Bool, true, false, ◌&&◌, ◌||◌, not, nat_le, cond, List, [], ◌∷◌, ◌++◌, length, Option, Some, None, refl, subst, sym, arith, length-append, append-nil, append_assoc, codes, bytes_eq}
-use Rattle.std.specs.Prelude.{IfSome, IfOk, is_none, ok_or, option_map, Result, Ok, Err}
+use Rattle.std.specs.Prelude.{◌+◌, IfSome, IfOk, IsTrue, is_none, ok_or, option_map, Result, Ok, Err}
+use Rattle.std.specs.List.{All}
 use Rattle.std.proofs.lemmas.Bool.{and_from, and_parts, le-leb, leb-false, lt-leb}
+use Rattle.std.proofs.lemmas.List.Elements.{All-append, All-nil, All-push}
 use Rattle.ivp_domain.specs.declared.axis.Axis.{Axis}
 use Rattle.moos_post.specs.declared.value.Pair.{Pair}
+use Rattle.moos_post.specs.Entries.{IsPair}
 use Rattle.moos_post.specs.Words.{is_name}
 use Rattle.moos_text.specs.declared.cause.Cause.{Cause}
 use Rattle.moos_text.specs.declared.cause.Cause.TheVariants.{B1, B3, B4, B5, B6, B9, B10, B11}
+use Rattle.moos_text.specs.declared.pair.PairFault.{PairFault}
 use Rattle.moos_text.specs.Pairs.{pair_of, Sides}
 use Rattle.moos_text.specs.Refusals.{and_then}
 use Rattle.moos_text.proofs.Judging.{and_then_good, cond_good}
+use Rattle.moos_text.proofs.PairWords.{pair_is}
+use Rattle.helm_cond.specs.Conditions.{HasNames}
 use Rattle.helm_cond.specs.Grammar.{condition_of}
+use Rattle.helm_cond.proofs.Naming.{names_named}
 use Rattle.helm_geo.specs.declared.spot.Spot.{Spot}
 use Rattle.helm_geo.specs.Polygons.{are_spots, convex}
 use Rattle.bhv_reader.specs.declared.behavior.Behavior.{Behavior}
 use Rattle.bhv_reader.specs.declared.file.BhvFile.{BhvFile}
 use Rattle.bhv_reader.specs.declared.file.Block.{Block}
+use Rattle.bhv_reader.specs.declared.file.Unused.{Unused}
 use Rattle.bhv_reader.specs.declared.spec.Shape.{Shape}
 use Rattle.bhv_reader.specs.declared.spec.Shape.TheVariants.{Heading, Speed, Depth, MaxDepth, Timer, Waypoint, Loiter, StationKeep, OpRegion}
 use Rattle.bhv_reader.specs.declared.table.CommonParameter.{CommonParameter}
@@ -36,7 +44,10 @@ pub record IsDraft (blocks : List Block) (behavior : Behavior) : Type 0 where
   pub lasts : IfSome behavior.duration (λ time. time ≤ 10 ^ 9)
   pub weight : behavior.spec.weight ≤ 10000
   pub ranges : InRanges false behavior.spec.shape
-  pub named : IfSome behavior.name (λ name. is_taken blocks name ≡ false)
+  pub named : IfSome behavior.name (λ name. IsTrue (is_name name) × (is_taken blocks name ≡ false))
+  pub updates : IfSome behavior.updates (λ name. IsTrue (is_name name))
+  pub conds : All HasNames behavior.conds
+  pub flags : All IsPair behavior.runflags × (All IsPair behavior.idleflags × (All IsPair behavior.activeflags × (All IsPair behavior.inactiveflags × All IsPair behavior.endflags)))
 
 -- the defaults of each type
 AllDefaults : (Shape → Type 0) → List TypeRow → Type 0
@@ -64,7 +75,7 @@ begun_drafted blocks (byte ∷ bytes) = at (defaults_of (byte ∷ bytes)) (defau
   where
     at : (o : Option Shape) → IfSome o (InRanges false) → IfOk (ok_or (option_map of_shape o) B3) (IsDraft blocks)
     at None h = tt
-    at (Some shape) h = record { few_conds = omega arith; few_flags = omega arith; lasts = tt; weight = omega arith; ranges = h; named = tt }
+    at (Some shape) h = record { few_conds = omega arith; few_flags = omega arith; lasts = tt; weight = omega arith; ranges = h; named = tt; updates = tt; conds = All-nil HasNames; flags = let none = All-nil IsPair in (none, (none, (none, (none, none)))) }
 
 -- a value that is good for a behaviour
 put_good : {A : Type 0} (Q : Behavior → Type 0) (put : A → Behavior) (o : Option A) → IfSome o (λ a. Q (put a)) → IfOk (if_good put o) Q
@@ -75,9 +86,12 @@ anything : {A : Type 0} (P : A → Type 0) (o : Option A) → ((a : A) → P a) 
 anything P None h = tt
 anything P (Some a) h = h a
 
-whatever : {A E : Type 0} (P : A → Type 0) (r : Result A E) → ((a : A) → P a) → IfOk r P
-whatever P (Err fault) h = tt
-whatever P (Ok a) h = h a
+some_good : {A E : Type 0} (P : A → Type 0) (o : Option A) (fault : E) → IfSome o P → IfOk (ok_or o fault) P
+some_good P None fault h = tt
+some_good P (Some a) fault h = h
+
+name_good : (value : List ℕ) → IfOk (name_value value) (λ name. IsTrue (is_name name))
+name_good value = cond_good (λ name. IsTrue (is_name name)) (is_name value) (Ok value) (Err B6) (λ is. is) (λ _. tt)
 
 some_weaker : {A : Type 0} (P Q : A → Type 0) (o : Option A) → IfSome o P → ((a : A) → P a → Q a) → IfSome o Q
 some_weaker P Q None h weaker = tt
@@ -92,58 +106,62 @@ duration_within text = at (bytes_eq text (codes "no-time-limit")) (time_value te
     at false (Some time) h = h
 
 -- a flag for which there is room
-room_left : (behavior : Behavior) (value : List ℕ) → IfOk (one_flag behavior value) (λ pair. flags_in behavior < 32)
+room_left : (behavior : Behavior) (value : List ℕ) → IfOk (one_flag behavior value) (λ pair. (flags_in behavior < 32) × IsPair pair)
 room_left behavior value =
-    and_then_good (λ pair. Unit {0}) (λ pair. flags_in behavior < 32) (flag_with_room behavior) (flag_value (pair_of value)) (whatever (λ pair. Unit {0}) (flag_value (pair_of value)) (λ pair. tt))
-    (λ pair any. cond_good (λ pair. flags_in behavior < 32) (nat_le 32 (flags_in behavior)) (Err B9) (Ok pair) (λ _. tt) (λ room. leb-false 32 (flags_in behavior) room))
+    and_then_good IsPair (λ pair. (flags_in behavior < 32) × IsPair pair) (flag_with_room behavior) (flag_value (pair_of value)) (flag_good (pair_of value) (pair_is value))
+    (λ pair is. cond_good (λ pair. (flags_in behavior < 32) × IsPair pair) (nat_le 32 (flags_in behavior)) (Err B9) (Ok pair) (λ _. tt) (λ room. (leb-false 32 (flags_in behavior) room, is)))
+  where
+    flag_good : (r : Result Pair PairFault) → IfOk r IsPair → IfOk (flag_value r) IsPair
+    flag_good (Ok pair) is = is
+    flag_good (Err fault) is = tt
 
-flag_drafted : (blocks : List Block) (behavior : Behavior) (value : List ℕ) (put : Pair → Behavior) → ((pair : Pair) → flags_in behavior < 32 → IsDraft blocks (put pair)) → IfOk (and_then (λ pair. Ok (put pair)) (one_flag behavior value)) (IsDraft blocks)
+flag_drafted : (blocks : List Block) (behavior : Behavior) (value : List ℕ) (put : Pair → Behavior) → ((pair : Pair) → flags_in behavior < 32 → IsPair pair → IsDraft blocks (put pair)) → IfOk (and_then (λ pair. Ok (put pair)) (one_flag behavior value)) (IsDraft blocks)
 flag_drafted blocks behavior value put good =
-    and_then_good (λ pair. flags_in behavior < 32) (IsDraft blocks) (λ pair. Ok (put pair)) (one_flag behavior value) (room_left behavior value) good
+    and_then_good (λ pair. (flags_in behavior < 32) × IsPair pair) (IsDraft blocks) (λ pair. Ok (put pair)) (one_flag behavior value) (room_left behavior value) (λ pair is. good pair is.0 is.1)
 
 -- a common parameter more
 pub common_drafted : (blocks : List Block) (behavior : Behavior) (value : List ℕ) (parameter : CommonParameter) → IsDraft blocks behavior → IfOk (with_common blocks behavior value parameter) (IsDraft blocks)
 common_drafted blocks b value Name h =
-    and_then_good (λ name. Unit {0}) (IsDraft blocks) (with_behavior_name blocks b) (name_value value) (whatever (λ name. Unit {0}) (name_value value) (λ name. tt))
-    (λ name any. cond_good (IsDraft blocks) (is_taken blocks name) (Err B4) (Ok (record b { name = Some name })) (λ _. tt)
-    (λ free. record { few_conds = h.few_conds; few_flags = h.few_flags; lasts = h.lasts; weight = h.weight; ranges = h.ranges; named = free }))
+    and_then_good (λ name. IsTrue (is_name name)) (IsDraft blocks) (with_behavior_name blocks b) (name_value value) (name_good value)
+    (λ name is. cond_good (IsDraft blocks) (is_taken blocks name) (Err B4) (Ok (record b { name = Some name })) (λ _. tt)
+    (λ free. record { few_conds = h.few_conds; few_flags = h.few_flags; lasts = h.lasts; weight = h.weight; ranges = h.ranges; named = (is, free); updates = h.updates; conds = h.conds; flags = h.flags }))
 common_drafted blocks b value Weight h =
     put_good (IsDraft blocks) (λ weight. record b { spec = record b.spec { weight = weight } }) (weight_of value)
     (some_weaker (λ weight. weight ≤ 10000) (λ weight. IsDraft blocks (record b { spec = record b.spec { weight = weight } })) (weight_of value) (weight_within value)
-    (λ weight in'. record { few_conds = h.few_conds; few_flags = h.few_flags; lasts = h.lasts; weight = in'; ranges = h.ranges; named = h.named }))
+    (λ weight in'. record { few_conds = h.few_conds; few_flags = h.few_flags; lasts = h.lasts; weight = in'; ranges = h.ranges; named = h.named; updates = h.updates; conds = h.conds; flags = h.flags }))
 common_drafted blocks b value OfCondition h =
-    and_then_good (λ one. Unit {0}) (IsDraft blocks) (with_behavior_condition b) (ok_or (condition_of value) B5) (whatever (λ one. Unit {0}) (ok_or (condition_of value) B5) (λ one. tt))
-    (λ one any. cond_good (IsDraft blocks) (nat_le 64 (length b.conds)) (Err B9) (Ok (record b { conds = b.conds ++ one ∷ [] })) (λ _. tt)
+    and_then_good HasNames (IsDraft blocks) (with_behavior_condition b) (ok_or (condition_of value) B5) (some_good HasNames (condition_of value) B5 (names_named value))
+    (λ one is. cond_good (IsDraft blocks) (nat_le 64 (length b.conds)) (Err B9) (Ok (record b { conds = b.conds ++ one ∷ [] })) (λ _. tt)
     (λ room. let below = leb-false 64 (length b.conds) room in
-    record { few_conds = omega (arith, below, length-append b.conds (one ∷ [])); few_flags = h.few_flags; lasts = h.lasts; weight = h.weight; ranges = h.ranges; named = h.named }))
+    record { few_conds = omega (arith, below, length-append b.conds (one ∷ [])); few_flags = h.few_flags; lasts = h.lasts; weight = h.weight; ranges = h.ranges; named = h.named; updates = h.updates; conds = All-push HasNames b.conds one h.conds is; flags = h.flags }))
 common_drafted blocks b value RunFlag h =
     flag_drafted blocks b value (λ pair. record b { runflags = b.runflags ++ pair ∷ [] })
-    (λ pair room. record { few_conds = h.few_conds; few_flags = omega (arith, room, length-append b.runflags (pair ∷ [])); lasts = h.lasts; weight = h.weight; ranges = h.ranges; named = h.named })
+    (λ pair room is. record { few_conds = h.few_conds; few_flags = omega (arith, room, length-append b.runflags (pair ∷ [])); lasts = h.lasts; weight = h.weight; ranges = h.ranges; named = h.named; updates = h.updates; conds = h.conds; flags = (All-push IsPair b.runflags pair h.flags.0 is, (h.flags.1.0, (h.flags.1.1.0, (h.flags.1.1.1.0, h.flags.1.1.1.1)))) })
 common_drafted blocks b value IdleFlag h =
     flag_drafted blocks b value (λ pair. record b { idleflags = b.idleflags ++ pair ∷ [] })
-    (λ pair room. record { few_conds = h.few_conds; few_flags = omega (arith, room, length-append b.idleflags (pair ∷ [])); lasts = h.lasts; weight = h.weight; ranges = h.ranges; named = h.named })
+    (λ pair room is. record { few_conds = h.few_conds; few_flags = omega (arith, room, length-append b.idleflags (pair ∷ [])); lasts = h.lasts; weight = h.weight; ranges = h.ranges; named = h.named; updates = h.updates; conds = h.conds; flags = (h.flags.0, (All-push IsPair b.idleflags pair h.flags.1.0 is, (h.flags.1.1.0, (h.flags.1.1.1.0, h.flags.1.1.1.1)))) })
 common_drafted blocks b value ActiveFlag h =
     flag_drafted blocks b value (λ pair. record b { activeflags = b.activeflags ++ pair ∷ [] })
-    (λ pair room. record { few_conds = h.few_conds; few_flags = omega (arith, room, length-append b.activeflags (pair ∷ [])); lasts = h.lasts; weight = h.weight; ranges = h.ranges; named = h.named })
+    (λ pair room is. record { few_conds = h.few_conds; few_flags = omega (arith, room, length-append b.activeflags (pair ∷ [])); lasts = h.lasts; weight = h.weight; ranges = h.ranges; named = h.named; updates = h.updates; conds = h.conds; flags = (h.flags.0, (h.flags.1.0, (All-push IsPair b.activeflags pair h.flags.1.1.0 is, (h.flags.1.1.1.0, h.flags.1.1.1.1)))) })
 common_drafted blocks b value InactiveFlag h =
     flag_drafted blocks b value (λ pair. record b { inactiveflags = b.inactiveflags ++ pair ∷ [] })
-    (λ pair room. record { few_conds = h.few_conds; few_flags = omega (arith, room, length-append b.inactiveflags (pair ∷ [])); lasts = h.lasts; weight = h.weight; ranges = h.ranges; named = h.named })
+    (λ pair room is. record { few_conds = h.few_conds; few_flags = omega (arith, room, length-append b.inactiveflags (pair ∷ [])); lasts = h.lasts; weight = h.weight; ranges = h.ranges; named = h.named; updates = h.updates; conds = h.conds; flags = (h.flags.0, (h.flags.1.0, (h.flags.1.1.0, (All-push IsPair b.inactiveflags pair h.flags.1.1.1.0 is, h.flags.1.1.1.1)))) })
 common_drafted blocks b value EndFlag h =
     flag_drafted blocks b value (λ pair. record b { endflags = b.endflags ++ pair ∷ [] })
-    (λ pair room. record { few_conds = h.few_conds; few_flags = omega (arith, room, length-append b.endflags (pair ∷ [])); lasts = h.lasts; weight = h.weight; ranges = h.ranges; named = h.named })
+    (λ pair room is. record { few_conds = h.few_conds; few_flags = omega (arith, room, length-append b.endflags (pair ∷ [])); lasts = h.lasts; weight = h.weight; ranges = h.ranges; named = h.named; updates = h.updates; conds = h.conds; flags = (h.flags.0, (h.flags.1.0, (h.flags.1.1.0, (h.flags.1.1.1.0, All-push IsPair b.endflags pair h.flags.1.1.1.1 is)))) })
 common_drafted blocks b value Updates h =
-    and_then_good (λ name. Unit {0}) (IsDraft blocks) (λ name. Ok (record b { updates = Some name })) (name_value value) (whatever (λ name. Unit {0}) (name_value value) (λ name. tt))
-    (λ name any. record { few_conds = h.few_conds; few_flags = h.few_flags; lasts = h.lasts; weight = h.weight; ranges = h.ranges; named = h.named })
+    and_then_good (λ name. IsTrue (is_name name)) (IsDraft blocks) (λ name. Ok (record b { updates = Some name })) (name_value value) (name_good value)
+    (λ name is. record { few_conds = h.few_conds; few_flags = h.few_flags; lasts = h.lasts; weight = h.weight; ranges = h.ranges; named = h.named; updates = is; conds = h.conds; flags = h.flags })
 common_drafted blocks b value Duration h =
     put_good (IsDraft blocks) (λ time. record b { duration = time }) (duration_of value)
     (some_weaker (λ duration. IfSome duration (λ time. time ≤ 10 ^ 9)) (λ time. IsDraft blocks (record b { duration = time })) (duration_of value) (duration_within value)
-    (λ time in'. record { few_conds = h.few_conds; few_flags = h.few_flags; lasts = in'; weight = h.weight; ranges = h.ranges; named = h.named }))
+    (λ time in'. record { few_conds = h.few_conds; few_flags = h.few_flags; lasts = in'; weight = h.weight; ranges = h.ranges; named = h.named; updates = h.updates; conds = h.conds; flags = h.flags }))
 common_drafted blocks b value IdleDecay h =
     put_good (IsDraft blocks) (λ flag. record b { idle_decay = flag }) (flag_of value)
-    (anything (λ flag. IsDraft blocks (record b { idle_decay = flag })) (flag_of value) (λ flag. record { few_conds = h.few_conds; few_flags = h.few_flags; lasts = h.lasts; weight = h.weight; ranges = h.ranges; named = h.named }))
+    (anything (λ flag. IsDraft blocks (record b { idle_decay = flag })) (flag_of value) (λ flag. record { few_conds = h.few_conds; few_flags = h.few_flags; lasts = h.lasts; weight = h.weight; ranges = h.ranges; named = h.named; updates = h.updates; conds = h.conds; flags = h.flags }))
 common_drafted blocks b value Perpetual h =
     put_good (IsDraft blocks) (λ flag. record b { perpetual = flag }) (flag_of value)
-    (anything (λ flag. IsDraft blocks (record b { perpetual = flag })) (flag_of value) (λ flag. record { few_conds = h.few_conds; few_flags = h.few_flags; lasts = h.lasts; weight = h.weight; ranges = h.ranges; named = h.named }))
+    (anything (λ flag. IsDraft blocks (record b { perpetual = flag })) (flag_of value) (λ flag. record { few_conds = h.few_conds; few_flags = h.few_flags; lasts = h.lasts; weight = h.weight; ranges = h.ranges; named = h.named; updates = h.updates; conds = h.conds; flags = h.flags }))
 common_drafted blocks b value Templating h = cond_good (IsDraft blocks) (bytes_eq value (codes "disallowed")) (Ok b) (Err B6) (λ _. h) (λ _. tt)
 
 -- a parameter of its type more
@@ -151,7 +169,7 @@ parameter_drafted : (blocks : List Block) (b : Behavior) (value : List ℕ) (par
 parameter_drafted blocks b value parameter h in' =
     put_good (IsDraft blocks) (λ shape. record b { spec = record b.spec { shape = shape }; given = b.given || is_needed parameter }) (with_value_of b.spec.shape parameter value)
     (some_weaker (InRanges false) (λ shape. IsDraft blocks (record b { spec = record b.spec { shape = shape }; given = b.given || is_needed parameter })) (with_value_of b.spec.shape parameter value) in'
-    (λ shape ranges. record { few_conds = h.few_conds; few_flags = h.few_flags; lasts = h.lasts; weight = h.weight; ranges = ranges; named = h.named }))
+    (λ shape ranges. record { few_conds = h.few_conds; few_flags = h.few_flags; lasts = h.lasts; weight = h.weight; ranges = ranges; named = h.named; updates = h.updates; conds = h.conds; flags = h.flags }))
 
 known_drafted : (blocks : List Block) (b : Behavior) (value : List ℕ) (common : Option CommonParameter) (own : Option Parameter) → IsDraft blocks b → IfSome own (λ parameter. IfSome (with_value_of b.spec.shape parameter value) (InRanges false)) → IfSome (with_found blocks b value common own) (λ known. IfOk known (IsDraft blocks))
 known_drafted blocks b value (Some common) own h in' = common_drafted blocks b value common h
@@ -164,19 +182,27 @@ pub record IsSoundBehavior (domain : List Axis) (block : BehaviorBlock) : Type 0
   pub served : serves domain block.file.blocks ≡ true
   pub draft : IsDraft block.file.blocks block.behavior
 
-after_sound : (domain : List Axis) (block : BehaviorBlock) (line : ℕ) (name : List ℕ) (known : Option (Result Behavior Cause)) → IsSoundBehavior domain block → IfSome known (λ r. IfOk r (IsDraft block.file.blocks)) → IfOk (after_known block line name known) (IsSoundBehavior domain)
-after_sound domain block line name None sound h = record {
-  file = record { few_pairs = sound.file.few_pairs; few_decls = sound.file.few_decls; decls = sound.file.decls; few_blocks = sound.file.few_blocks; blocks = sound.file.blocks };
+after_sound : (domain : List Axis) (block : BehaviorBlock) (line : ℕ) (name : List ℕ) (known : Option (Result Behavior Cause)) → IsTrue (is_name name) → IsSoundBehavior domain block → IfSome known (λ r. IfOk r (IsDraft block.file.blocks)) → IfOk (after_known block line name known) (IsSoundBehavior domain)
+after_sound domain block line name None is sound h = record {
+  file = record {
+    opening = sound.file.opening;
+    unused = All-push (λ (unused : Unused). IsTrue (is_name unused.name)) block.file.unused (record { line = line; name = name }) sound.file.unused is;
+    few_pairs = sound.file.few_pairs;
+    few_decls = sound.file.few_decls;
+    decls = sound.file.decls;
+    few_blocks = sound.file.few_blocks;
+    blocks = sound.file.blocks;
+  };
   served = sound.served;
   draft = sound.draft;
 }
-after_sound domain block line name (Some (Err cause)) sound h = tt
-after_sound domain block line name (Some (Ok behavior)) sound h = record { file = sound.file; served = sound.served; draft = h }
+after_sound domain block line name (Some (Err cause)) is sound h = tt
+after_sound domain block line name (Some (Ok behavior)) is sound h = record { file = sound.file; served = sound.served; draft = h }
 
 pub line_sound : (domain : List Axis) (block : BehaviorBlock) (line : ℕ) (sides : Option Sides) → IsSoundBehavior domain block → IfOk (with_sides block line sides) (IsSoundBehavior domain)
 line_sound domain block line None sound = tt
 line_sound domain block line (Some sides) sound =
-    cond_good (IsSoundBehavior domain) (is_name sides.name) (after_known block line sides.name known) (Err B1) (λ _. after_sound domain block line sides.name known sound
+    cond_good (IsSoundBehavior domain) (is_name sides.name) (after_known block line sides.name known) (Err B1) (λ is. after_sound domain block line sides.name known is sound
     (known_drafted block.file.blocks block.behavior sides.value (common_named sides.name) (parameter_of block.behavior.spec.shape sides.name) sound.draft (own_kept false block.behavior.spec.shape sides.name sides.value sound.draft.ranges))) (λ _. tt)
   where
     known : Option (Result Behavior Cause)
@@ -229,6 +255,13 @@ pub record IsSoundFile (domain : List Axis) (file : BhvFile) : Type 0 where
   pub valid : IsValidFile file
   pub served : serves domain file.blocks ≡ true
 
+-- the flags of all kinds, one kind behind the other
+flags_all : (a b c d e : List Pair) → All IsPair a × (All IsPair b × (All IsPair c × (All IsPair d × All IsPair e))) → All IsPair (a ++ (b ++ (c ++ (d ++ e))))
+flags_all a b c d e h = All-append IsPair a (b ++ (c ++ (d ++ e))) h.0 (All-append IsPair b (c ++ (d ++ e)) h.1.0 (All-append IsPair c (d ++ e) h.1.1.0 (All-append IsPair d e h.1.1.1.0 h.1.1.1.1)))
+
+flags_counted : (a b c d e : List Pair) → length (a ++ (b ++ (c ++ (d ++ e)))) ≡ length a + length b + length c + length d + length e
+flags_counted a b c d e = omega (arith, length-append a (b ++ (c ++ (d ++ e))), length-append b (c ++ (d ++ e)), length-append c (d ++ e), length-append d e)
+
 added_sound : (domain : List Axis) (block : BehaviorBlock) (name : Option (List ℕ)) → IsSoundBehavior domain block → block.behavior.name ≡ name → lacks_places block.behavior.spec.shape ≡ false → keeps_relations block.behavior.spec.shape ≡ true → has_axes domain block.behavior.spec.shape ≡ true → IfOk (with_block block name) (IsSoundFile domain)
 added_sound domain block None sound named given relations axes = tt
 added_sound domain block (Some name) sound named given relations axes =
@@ -236,6 +269,8 @@ added_sound domain block (Some name) sound named given relations axes =
     (λ room. let below = leb-false 64 (length block.file.blocks) room in
     record {
       valid = record {
+        opening = sound.file.opening;
+        unused = sound.file.unused;
         few_pairs = sound.file.few_pairs;
         few_decls = sound.file.few_decls;
         decls = sound.file.decls;
@@ -248,14 +283,25 @@ added_sound domain block (Some name) sound named given relations axes =
     new : Block
     new = block_of block.behavior name
 
-    free : is_taken block.file.blocks name ≡ false
-    free = subst (λ o. IfSome o (λ n. is_taken block.file.blocks n ≡ false)) named sound.draft.named
+    free : IsTrue (is_name name) × (is_taken block.file.blocks name ≡ false)
+    free = subst (λ o. IfSome o (λ n. IsTrue (is_name n) × (is_taken block.file.blocks n ≡ false))) named sound.draft.named
+
+    b : Behavior
+    b = block.behavior
 
     is : IsBlock block.file.blocks new
     is = record {
-      common = record { few_conds = sound.draft.few_conds; few_flags = sound.draft.few_flags; lasts = sound.draft.lasts };
+      common = record {
+        name = free.0;
+        updates = sound.draft.updates;
+        conds = sound.draft.conds;
+        flags = flags_all b.runflags b.idleflags b.activeflags b.inactiveflags b.endflags sound.draft.flags;
+        few_conds = sound.draft.few_conds;
+        few_flags = omega (arith, sound.draft.few_flags, flags_counted b.runflags b.idleflags b.activeflags b.inactiveflags b.endflags);
+        lasts = sound.draft.lasts;
+      };
       spec = record { ranges = record { weight = sound.draft.weight; parameters = whole_ranges block.behavior.spec.shape sound.draft.ranges given }; given = given; relations = relations };
-      named = free;
+      named = free.1;
     }
 
 last_false : (a b c : Bool) → (a || b || c) ≡ false → c ≡ false

@@ -1,12 +1,15 @@
 -- Every behaviour file that is read is valid.
 use Rattle.std.proofs.Common.{◌≡◌, ℕ, suc, ◌+◌, ◌<◌, ◌≤◌, Bool, true, false, ◌&&◌, ◌||◌, cond, not, nat_le, List, [], ◌∷◌, ◌++◌, length, Option, Some, None, refl, sym, ap, subst, ◌∙◌, arith, length-append, append_assoc, append-nil, codes, bytes_eq}
 use Rattle.std.specs.Prelude.{Result, Ok, Err, IfOk, IfSome, IsTrue, is_some, reverse}
+use Rattle.std.specs.List.{All}
 use Rattle.std.specs.Option.{option_or}
 use Rattle.std.proofs.lemmas.Bool.{and_from, and_parts, leb-false}
+use Rattle.std.proofs.lemmas.List.Elements.{All-nil, All-push}
 use Rattle.ivp_domain.specs.declared.axis.Axis.{Axis}
 use Rattle.moos_post.specs.declared.value.Pair.{Pair}
 use Rattle.moos_post.specs.declared.value.Value.{Value}
 use Rattle.moos_post.specs.declared.value.Value.TheVariants.{Num, Text}
+use Rattle.moos_post.specs.Entries.{IsPair}
 use Rattle.moos_post.specs.Words.{is_name}
 use Rattle.moos_post.proofs.Texts.{bytes_eq_comm}
 use Rattle.moos_text.specs.declared.cause.Cause.{Cause}
@@ -17,13 +20,16 @@ use Rattle.moos_text.specs.Pairs.{pair_of, Sides, sides_of}
 use Rattle.moos_text.specs.Sections.{Statement}
 use Rattle.moos_text.specs.Refusals.{and_then}
 use Rattle.moos_text.proofs.Judging.{and_then_good, cond_good, file_good, Keeps}
+use Rattle.moos_text.proofs.PairWords.{pair_is}
 use Rattle.helm_cond.specs.declared.comparison.Comparison.{Comparison}
 use Rattle.helm_cond.specs.declared.operator.Operator.{Operator}
 use Rattle.helm_cond.specs.declared.operator.Operator.TheVariants.{Equal, Unequal, Below, AtMost, Above, AtLeast}
-use Rattle.helm_cond.specs.Conditions.{And, Compare, Condition, is_of_mode, mode_names, mode_named, Not, Or, parent_of}
+use Rattle.helm_cond.specs.Conditions.{And, Compare, Condition, HasNames, is_of_mode, mode_names, mode_named, Not, Or, parent_of}
 use Rattle.helm_cond.specs.Grammar.{condition_of}
+use Rattle.helm_cond.proofs.Naming.{names_named}
 use Rattle.bhv_reader.specs.declared.decl.Decl.{Decl}
 use Rattle.bhv_reader.specs.declared.file.BhvFile.{BhvFile}
+use Rattle.bhv_reader.specs.declared.file.Unused.{Unused}
 use Rattle.bhv_reader.specs.Behaviors.{after_condition, begins_by, behavior_begun, behavior_form, behaviors_of, block_closed, behind_close, block_begun, fits_mode, has_parent_line, line_outside, mode_begun, ModeBlock, named_by, names_mode, OfBehavior, OfMode, OpenBlock, nothing_said, other_of, the_one, with_condition, with_decl, with_block_line, with_opening, with_parent}
 use Rattle.bhv_reader.specs.Paths.{meant_by, named_from, parent_path, paths_of}
 use Rattle.bhv_reader.specs.Validity.{AreDecls, fit_mode, IsDecl, IsValidFile, parent_line, parent_said, serves}
@@ -34,23 +40,33 @@ use Rattle.bhv_reader.proofs.PathsAt.{length-paths_of}
 -- an unfinished declaration behind a valid file
 record IsSound (block : ModeBlock) : Type 0 where
   file : IsValidFile block.file
+  name : IsTrue (is_name block.name)
+  conds : All HasNames block.conds
   few : length block.conds ≤ 64
   fit : fit_mode [] block.conds ≡ true
   parent : parent_said block.file.decls (parent_line block.conds) ≡ Ok block.parent
   before : IfSome block.parent (λ parent. parent < length block.file.decls)
   short : length (parent_path (paths_of block.file.decls) block.parent) < 16
 
-opening_sound : (file : BhvFile) (pair : Result Pair PairFault) → IsValidFile file → IfOk (with_opening file pair) IsValidFile
-opening_sound file (Err fault) valid = tt
-opening_sound file (Ok pair) valid =
+opening_sound : (file : BhvFile) (pair : Result Pair PairFault) → IfOk pair IsPair → IsValidFile file → IfOk (with_opening file pair) IsValidFile
+opening_sound file (Err fault) is valid = tt
+opening_sound file (Ok pair) is valid =
     cond_good IsValidFile (nat_le 256 (length file.opening)) (Err B9) (Ok (record file { opening = file.opening ++ pair ∷ [] })) (λ _. tt)
     (λ room.
     let below = leb-false 256 (length file.opening) room in
-    record { few_pairs = omega (arith, below, length-append file.opening (pair ∷ [])); few_decls = valid.few_decls; decls = valid.decls; few_blocks = valid.few_blocks; blocks = valid.blocks })
+    record {
+      opening = All-push IsPair file.opening pair valid.opening is;
+      unused = valid.unused;
+      few_pairs = omega (arith, below, length-append file.opening (pair ∷ []));
+      few_decls = valid.few_decls;
+      decls = valid.decls;
+      few_blocks = valid.few_blocks;
+      blocks = valid.blocks;
+    })
 
 outside_sound : (file : BhvFile) (text : List ℕ) → IsValidFile file → IfOk (line_outside file text) IsValidFile
 outside_sound file text valid =
-    cond_good IsValidFile (begins_by (codes "initialize") text) (with_opening file (pair_of (behind_word text))) (Err B1) (λ _. opening_sound file (pair_of (behind_word text)) valid) (λ _. tt)
+    cond_good IsValidFile (begins_by (codes "initialize") text) (with_opening file (pair_of (behind_word text))) (Err B1) (λ _. opening_sound file (pair_of (behind_word text)) (pair_is (behind_word text)) valid) (λ _. tt)
 
 -- an unfinished declaration behind a file that its domain serves
 abbrev IsSoundMode : List Axis → ModeBlock → Type 0
@@ -60,7 +76,7 @@ mode_sound : (domain : List Axis) (file : BhvFile) (sides : Option Sides) → Is
 mode_sound domain file None sound = tt
 mode_sound domain file (Some sides) sound =
     cond_good (IsSoundMode domain) (bytes_eq sides.name (codes "MODE") && is_name (named_by sides)) (Ok (record { file = file; name = named_by sides; parent = None; conds = [] })) (Err B1)
-    (λ _. (record { file = sound.valid; few = omega arith; fit = refl; parent = refl; before = tt; short = omega arith }, sound.served)) (λ _. tt)
+    (λ is. (record { file = sound.valid; name = (and_parts (bytes_eq sides.name (codes "MODE")) (is_name (named_by sides)) is).1; conds = All-nil HasNames; few = omega arith; fit = refl; parent = refl; before = tt; short = omega arith }, sound.served)) (λ _. tt)
 
 -- one condition more fits behind those that do
 fit_more : (before conds : List Condition) (more : Condition) → fit_mode before conds ≡ true → fits_mode (before ++ conds) more ≡ true → fit_mode before (conds ++ more ∷ []) ≡ true
@@ -144,16 +160,18 @@ meant_below decls (Text text) =
     one_below (length decls) (meant_by decls (Text text)) (named_below 0 (length decls) (reverse (mode_names text)) (paths_of decls) (omega (arith, length-paths_of [] decls)))
 
 -- one condition more
-after_sound : (block : ModeBlock) (one : Condition) (o : Option Value) → IsSound block → fits_mode block.conds one ≡ true → length block.conds < 64 → parent_of one ≡ o → IfOk (after_condition (record block { conds = block.conds ++ one ∷ [] }) o) IsSound
-after_sound block one None sound fits few is = record {
+after_sound : (block : ModeBlock) (one : Condition) (o : Option Value) → IsSound block → HasNames one → fits_mode block.conds one ≡ true → length block.conds < 64 → parent_of one ≡ o → IfOk (after_condition (record block { conds = block.conds ++ one ∷ [] }) o) IsSound
+after_sound block one None sound named fits few is = record {
   file = sound.file;
+  name = sound.name;
+  conds = All-push HasNames block.conds one sound.conds named;
   few = omega (arith, few, length-append block.conds (one ∷ []));
   fit = fit_more [] block.conds one sound.fit fits;
   parent = ap (parent_said block.file.decls) (line_kept block.conds one is) ∙ sound.parent;
   before = sound.before;
   short = sound.short;
 }
-after_sound block one (Some literal) sound fits few is = at (the_one (meant_by block.file.decls literal)) refl (meant_below block.file.decls literal)
+after_sound block one (Some literal) sound named fits few is = at (the_one (meant_by block.file.decls literal)) refl (meant_below block.file.decls literal)
   where
     at : (r : Result ℕ Cause) → the_one (meant_by block.file.decls literal) ≡ r → IfOk r (λ number. number < length block.file.decls) → IfOk (and_then (with_parent (record block { conds = block.conds ++ one ∷ [] })) r) IsSound
     at (Err cause) e below = tt
@@ -161,6 +179,8 @@ after_sound block one (Some literal) sound fits few is = at (the_one (meant_by b
         cond_good IsSound (nat_le 16 (length (parent_path (paths_of block.file.decls) (Some number)))) (Err B9) (Ok (record block { conds = block.conds ++ one ∷ []; parent = Some number })) (λ _. tt)
         (λ room. record {
           file = sound.file;
+          name = sound.name;
+          conds = All-push HasNames block.conds one sound.conds named;
           few = omega (arith, few, length-append block.conds (one ∷ []));
           fit = fit_more [] block.conds one sound.fit fits;
           parent = ap (parent_said block.file.decls) (line_new block.conds one literal (only_line block.conds one literal fits is) is) ∙ ap (and_then (λ n. Ok (Some n))) e;
@@ -172,12 +192,12 @@ not_true : (b : Bool) → not b ≡ false → b ≡ true
 not_true true e = refl
 not_true false e = absurd cc
 
-condition_sound : (block : ModeBlock) (cond : Option Condition) → IsSound block → IfOk (with_condition block cond) IsSound
-condition_sound block None sound = tt
-condition_sound block (Some one) sound =
+condition_sound : (block : ModeBlock) (cond : Option Condition) → IfSome cond HasNames → IsSound block → IfOk (with_condition block cond) IsSound
+condition_sound block None named sound = tt
+condition_sound block (Some one) named sound =
     cond_good IsSound (not (fits_mode block.conds one)) (Err B5) behind (λ _. tt)
     (λ fits. cond_good IsSound (nat_le 64 (length block.conds)) (Err B9) (after_condition (record block { conds = block.conds ++ one ∷ [] }) (parent_of one)) (λ _. tt)
-    (λ room. after_sound block one (parent_of one) sound (not_true (fits_mode block.conds one) fits) (leb-false 64 (length block.conds) room) refl))
+    (λ room. after_sound block one (parent_of one) sound named (not_true (fits_mode block.conds one) fits) (leb-false 64 (length block.conds) room) refl))
   where
     behind : Result ModeBlock Cause
     behind = cond (nat_le 64 (length block.conds)) (Err B9) (after_condition (record block { conds = block.conds ++ one ∷ [] }) (parent_of one))
@@ -191,20 +211,29 @@ anything : {A E : Type 0} (r : Result A E) → IfOk r (λ value. Unit {0})
 anything (Ok value) = tt
 anything (Err fault) = tt
 
+abbrev IsOther : Option (List ℕ) → Type 0
+IsOther other = IfSome other (λ name. IsTrue (is_name name))
+
+other_good : (text : List ℕ) → IfOk (other_of text) IsOther
+other_good [] = tt
+other_good (byte ∷ bytes) = cond_good IsOther (is_name (byte ∷ bytes)) (Ok (Some (byte ∷ bytes))) (Err B1) (λ is. is) (λ _. tt)
+
 close_sound : (block : ModeBlock) (text : List ℕ) → IsSound block → IfOk (and_then (with_decl block) (other_of text)) IsValidFile
 close_sound block text sound =
-    and_then_good (λ other. Unit {0}) IsValidFile (with_decl block) (other_of text) (anything (other_of text))
-    (λ other any. cond_good IsValidFile (nat_le 256 (length block.file.decls)) (Err B9)
+    and_then_good IsOther IsValidFile (with_decl block) (other_of text) (other_good text)
+    (λ other is. cond_good IsValidFile (nat_le 256 (length block.file.decls)) (Err B9)
     (Ok (record block.file { decls = block.file.decls ++ record { name = block.name; parent = block.parent; conds = block.conds; other = other } ∷ [] })) (λ _. tt)
     (λ room.
     let below = leb-false 256 (length block.file.decls) room in
     let new : Decl = record { name = block.name; parent = block.parent; conds = block.conds; other = other } in
     record {
+      opening = sound.file.opening;
+      unused = sound.file.unused;
       few_pairs = sound.file.few_pairs;
       few_decls = omega (arith, below, length-append block.file.decls (new ∷ []));
       few_blocks = sound.file.few_blocks;
       blocks = sound.file.blocks;
-      decls = decls_more [] block.file.decls new sound.file.decls (record { few = sound.few; fit = sound.fit; parent = sound.parent; before = sound.before; short = sound.short });
+      decls = decls_more [] block.file.decls new sound.file.decls (record { name = sound.name; other = is; conds = sound.conds; few = sound.few; fit = sound.fit; parent = sound.parent; before = sound.before; short = sound.short });
     }))
 
 -- an unfinished block behind a good file
@@ -265,7 +294,7 @@ begun_sound domain file text sound =
 line_good : (domain : List Axis) (block : OpenBlock) (said : Statement) → IsSoundBlock domain block → IfOk (with_block_line block said) (IsSoundBlock domain)
 line_good domain (OfMode block) said sound =
     and_then_good (IsSoundMode domain) (IsSoundBlock domain) (λ more. Ok (OfMode more)) (with_condition block (condition_of said.text))
-    (both_ok IsSound (λ more. serves domain more.file.blocks ≡ true) (with_condition block (condition_of said.text)) (condition_sound block (condition_of said.text) sound.0) (condition_served domain block (condition_of said.text) sound.1)) (λ more is. is)
+    (both_ok IsSound (λ more. serves domain more.file.blocks ≡ true) (with_condition block (condition_of said.text)) (condition_sound block (condition_of said.text) (names_named said.text) sound.0) (condition_served domain block (condition_of said.text) sound.1)) (λ more is. is)
 line_good domain (OfBehavior block) said sound = and_then_good (IsSoundBehavior domain) (IsSoundBlock domain) (λ more. Ok (OfBehavior more)) (with_sides block said.line (sides_of said.text)) (line_sound domain block said.line (sides_of said.text) sound) (λ more is. is)
 
 closed_good : (domain : List Axis) (block : OpenBlock) (said : Statement) → IsSoundBlock domain block → IfOk (block_closed domain block said) (IsSoundFile domain)
@@ -290,7 +319,7 @@ sound_form domain = record {
 
 -- what the bytes of a behaviour file stand for is valid, and served by its domain
 behaviors_sound : (domain : List Axis) (bytes : List ℕ) → IfOk (behaviors_of domain bytes) (IsSoundFile domain)
-behaviors_sound domain bytes = file_good (behavior_form domain) (IsSoundFile domain) (IsSoundBlock domain) (sound_form domain) nothing_said bytes (record { valid = record { few_pairs = omega arith; few_decls = omega arith; decls = tt; few_blocks = omega arith; blocks = tt }; served = refl })
+behaviors_sound domain bytes = file_good (behavior_form domain) (IsSoundFile domain) (IsSoundBlock domain) (sound_form domain) nothing_said bytes (record { valid = record { opening = All-nil IsPair; unused = All-nil (λ (unused : Unused). IsTrue (is_name unused.name)); few_pairs = omega arith; few_decls = omega arith; decls = tt; few_blocks = omega arith; blocks = tt }; served = refl })
 
 pub behaviors_valid : (domain : List Axis) (bytes : List ℕ) → IfOk (behaviors_of domain bytes) IsValidFile
 behaviors_valid domain bytes = if_ok (IsSoundFile domain) IsValidFile (behaviors_of domain bytes) (behaviors_sound domain bytes) (λ file sound. sound.valid)

@@ -1,16 +1,20 @@
 -- What every behaviour file keeps that was read.
-use Rattle.std.specs.Prelude.{◌≡◌, ℕ, ◌+◌, ◌^◌, ◌<◌, ◌≤◌, Bool, true, false, ◌&&◌, List, [], ◌∷◌, ◌++◌, length, IsTrue, IfSome, Option, Some, None, Result, Ok}
-use Rattle.std.specs.List.{list_all}
+use Rattle.std.specs.Prelude.{◌≡◌, ℕ, ◌^◌, ◌<◌, ◌≤◌, Bool, true, false, ◌&&◌, List, [], ◌∷◌, ◌++◌, length, IsTrue, IfSome, Option, Some, None, Result, Ok}
+use Rattle.std.specs.List.{All, list_all}
 use Rattle.std.specs.Option.{option_or}
+use Rattle.moos_post.specs.declared.value.Pair.{Pair}
 use Rattle.moos_post.specs.declared.value.Value.{Value}
+use Rattle.moos_post.specs.Entries.{IsPair}
+use Rattle.moos_post.specs.Words.{is_name}
 use Rattle.moos_text.specs.declared.cause.Cause.{Cause}
 use Rattle.moos_text.specs.Refusals.{and_then}
-use Rattle.helm_cond.specs.Conditions.{Condition, parent_of}
+use Rattle.helm_cond.specs.Conditions.{Condition, HasNames, parent_of}
 use Rattle.ivp_domain.specs.declared.axis.Axis.{Axis}
 use Rattle.bhv_reader.specs.declared.common.Common.{Common}
 use Rattle.bhv_reader.specs.declared.decl.Decl.{Decl}
 use Rattle.bhv_reader.specs.declared.file.BhvFile.{BhvFile}
 use Rattle.bhv_reader.specs.declared.file.Block.{Block}
+use Rattle.bhv_reader.specs.declared.file.Unused.{Unused}
 use Rattle.bhv_reader.specs.declared.spec.Spec.{Spec}
 use Rattle.bhv_reader.specs.Behaviors.{fits_mode, the_one}
 use Rattle.bhv_reader.specs.Blocks.{is_taken}
@@ -33,9 +37,12 @@ abbrev pub parent_said : List Decl → Option Value → Result (Option ℕ) Caus
 parent_said earlier None = Ok None
 parent_said earlier (Some literal) = and_then (λ number. Ok (Some number)) (the_one (meant_by earlier literal))
 
--- A declaration behind earlier ones: its conditions are at most 64 and fit a mode, its parent is the one that they name, and
--- its path has at most 16 names.
+-- A declaration behind earlier ones: what is named in it has a name's form, its conditions are at most 64 and fit a mode, its
+-- parent is the one that they name, and its path has at most 16 names.
 pub record IsDecl (earlier : List Decl) (decl : Decl) : Type 0 where
+  pub name : IsTrue (is_name decl.name)
+  pub other : IfSome decl.other (λ name. IsTrue (is_name name))
+  pub conds : All HasNames decl.conds
   pub few : length decl.conds ≤ 64
   pub fit : IsTrue (fit_mode [] decl.conds)
   pub parent : parent_said earlier (parent_line decl.conds) ≡ Ok decl.parent
@@ -47,14 +54,19 @@ abbrev pub AreDecls : List Decl → List Decl → Type 0
 AreDecls earlier [] = Unit {0}
 AreDecls earlier (decl ∷ decls) = IsDecl earlier decl × AreDecls (earlier ++ decl ∷ []) decls
 
--- how many flags of all kinds a behaviour has
-abbrev pub flags_of : Common → ℕ
-flags_of common = length common.runflags + length common.idleflags + length common.activeflags + length common.inactiveflags + length common.endflags
+-- the flags of all kinds that a behaviour has
+abbrev pub flags_of : Common → List Pair
+flags_of common = common.runflags ++ (common.idleflags ++ (common.activeflags ++ (common.inactiveflags ++ common.endflags)))
 
--- It has at most 64 conditions and 32 flags, and lasts at most 1,000,000 seconds or for ever.
+-- What is named in it has a name's form, and its flags are pairs. It has at most 64 conditions and 32 flags, and lasts at most
+-- 1,000,000 seconds or for ever.
 pub record IsValidCommon (common : Common) : Type 0 where
+  pub name : IsTrue (is_name common.name)
+  pub updates : IfSome common.updates (λ name. IsTrue (is_name name))
+  pub conds : All HasNames common.conds
+  pub flags : All IsPair (flags_of common)
   pub few_conds : length common.conds ≤ 64
-  pub few_flags : flags_of common ≤ 32
+  pub few_flags : length (flags_of common) ≤ 32
   pub lasts : IfSome common.duration (λ time. time ≤ 10 ^ 9)
 
 -- Its parameters are in their ranges, its places are given, and the relations between its parameters hold.
@@ -74,8 +86,11 @@ abbrev pub AreBlocks : List Block → List Block → Type 0
 AreBlocks earlier [] = Unit {0}
 AreBlocks earlier (block ∷ blocks) = IsBlock earlier block × AreBlocks (earlier ++ block ∷ []) blocks
 
--- It has at most 256 opening pairs, as many declarations and 64 behaviours, each of which is one behind those before it.
+-- It has at most 256 opening pairs, as many declarations and 64 behaviours, each of which is one behind those before it. The
+-- pairs and the unused parameters' names are in the form of pairs and names.
 pub record IsValidFile (file : BhvFile) : Type 0 where
+  pub opening : All IsPair file.opening
+  pub unused : All (λ (unused : Unused). IsTrue (is_name unused.name)) file.unused
   pub few_pairs : length file.opening ≤ 256
   pub few_decls : length file.decls ≤ 256
   pub decls : AreDecls [] file.decls

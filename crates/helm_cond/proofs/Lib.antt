@@ -1,5 +1,6 @@
 mod Examples
 pub mod Flat
+pub mod Naming
 pub mod Parts
 pub mod Stacked
 pub mod Tables

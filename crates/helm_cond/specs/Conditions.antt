@@ -1,10 +1,11 @@
 -- Conditions, and whether one holds of what is known and of the mode's text.
-use Rattle.std.specs.Prelude.{ℕ, ℤ, Bool, true, false, not, ◌&&◌, ◌||◌, ◌==◌, if◌then◌else◌, List, [], ◌∷◌, ◌++◌, codes, bytes_eq, int_lt, int_le, Option, Some, None}
-use Rattle.std.specs.List.{slice_split}
+use Rattle.std.specs.Prelude.{ℕ, ℤ, Bool, true, false, not, ◌&&◌, ◌||◌, ◌==◌, if◌then◌else◌, List, [], ◌∷◌, ◌++◌, codes, bytes_eq, int_lt, int_le, Option, Some, None, IsTrue}
+use Rattle.std.specs.List.{All, slice_split}
 use Rattle.std.specs.Ordering.{int_eq}
 use Rattle.std.specs.Str.{str_eq_ignore_ascii_case}
 use Rattle.moos_post.specs.declared.value.Value.{Value}
 use Rattle.moos_post.specs.declared.value.Value.TheVariants.{Num, Text}
+use Rattle.moos_post.specs.Words.{is_name}
 use Rattle.helm_cond.specs.declared.comparison.Comparison.{Comparison}
 use Rattle.helm_cond.specs.declared.operator.Operator.{Operator}
 use Rattle.helm_cond.specs.declared.operator.Operator.TheVariants.{Equal, Unequal, Below, AtMost, Above, AtLeast}
@@ -113,3 +114,7 @@ names_in (Compare comparison) = comparison.var ∷ []
 names_in (Not one) = names_in one
 names_in (And one other) = names_in one ++ names_in other
 names_in (Or one other) = names_in one ++ names_in other
+
+-- each of its variables is a name
+abbrev pub HasNames : Condition → Type 0
+HasNames condition = All (λ name. IsTrue (is_name name)) (names_in condition)

@@ -22,7 +22,8 @@ use Rattle.script_reader.specs.Script.{with_none_behind, milliseconds_of, time_o
 use Rattle.script_reader.specs.Validity.{keeps_limits}
 use Rattle.script_reader.specs.Counts.{with_pairs, with_call_variables}
 use Rattle.moos_text.proofs.Parts.{onto_part, parts_begin}
-use Rattle.script_reader.proofs.Judging.{cond_good, and_then_good, ended_good}
+use Rattle.moos_text.proofs.Judging.{cond_good, and_then_good}
+use Rattle.script_reader.proofs.Judging.{ended_good}
 use Rattle.script_reader.proofs.Parts.{part_is}
 
 -- what every call keeps: its parts are as their types let them be, a registration has room for one more, the limits of a

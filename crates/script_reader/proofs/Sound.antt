@@ -22,7 +22,8 @@ use Rattle.script_reader.specs.Script.{with_none_behind, time_of, is_register, r
 use Rattle.script_reader.specs.Validity.{are_clients, are_lines, keeps_limits, IsValid}
 use Rattle.script_reader.proofs.Calls.{IsFine, IsEarly, time_early, call_fine}
 use Rattle.script_reader.proofs.Counting.{client_length, registrations_more, variables_more}
-use Rattle.script_reader.proofs.Judging.{cond_good, and_then_good, ended_good, at_good}
+use Rattle.moos_text.proofs.Judging.{cond_good, and_then_good, at_good}
+use Rattle.script_reader.proofs.Judging.{ended_good}
 use Rattle.moos_text.proofs.WordLemmas.{position_or_len-le-length}
 
 -- the four tests of a line, of which the last one is that of the lines behind it

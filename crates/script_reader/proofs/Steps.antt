@@ -11,7 +11,7 @@ use Rattle.script_reader.specs.declared.script.Script.{Script}
 use Rattle.script_reader.specs.Script.{with_none_behind, is_register, registrations_of, variables_of, call_of, client_number, client_of, after_client, after_stamp}
 use Rattle.script_reader.specs.Counts.{AreCounts}
 use Rattle.script_reader.proofs.Calls.{IsFine, call_fine}
-use Rattle.script_reader.proofs.Judging.{at_good}
+use Rattle.moos_text.proofs.Judging.{at_good}
 
 -- a fault of the first step is one of the whole
 pub fault_then : {A B : Type 0} (next : A → Result B Cause) (r : Result A Cause) (fault : LineFault) → IsLineFault fault r → IsLineFault fault (and_then next r)

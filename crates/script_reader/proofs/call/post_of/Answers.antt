@@ -1,7 +1,7 @@
 use Rattle.moos_text.specs.Pairs.{parts_of}
 use Rattle.script_reader.specs.Script.{posting}
 use Rattle.script_reader.proofs.Calls.{IsFrom, parts_from}
-use Rattle.script_reader.proofs.Judging.{at_good}
+use Rattle.moos_text.proofs.Judging.{at_good}
 use Rattle.script_reader.proofs.call.post_of.Goals as goal
 
 pub returns-clause-variables : goal.returns-clause-variables
