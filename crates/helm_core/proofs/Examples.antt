@@ -1,6 +1,6 @@
--- Iterations worked by hand, of helms without behaviours.
+-- Iterations worked by hand.
 use Rattle.std.proofs.Common.{◌≡◌, ℕ, ◌*◌, List, [], ◌∷◌, map, Some, None, refl}
-use Rattle.std.specs.Prelude.{true, false, pos, codes}
+use Rattle.std.specs.Prelude.{Bool, true, false, pos, codes, Option}
 use Rattle.moos_post.specs.declared.registration.Reg.{Reg}
 use Rattle.moos_post.specs.declared.value.Pair.{Pair}
 use Rattle.moos_post.specs.declared.value.Value.TheVariants.{Text}
@@ -9,6 +9,9 @@ use Rattle.ivp_domain.specs.declared.axis.Axis.{Axis}
 use Rattle.helm_cond.specs.declared.operator.Operator.TheVariants.{Equal}
 use Rattle.helm_cond.specs.Conditions.{Condition, Compare, And}
 use Rattle.bhv_reader.specs.declared.decl.Decl.{Decl}
+use Rattle.bhv_reader.specs.declared.file.Block.{Block}
+use Rattle.bhv_reader.specs.declared.spec.Shape.TheVariants.{Timer}
+use Rattle.bhv_life.specs.declared.outcome.BhvState.TheVariants.{Idle, Running, Completed}
 use Rattle.helm_core.specs.Plans.{Plan, wants_of}
 use Rattle.helm_core.specs.Ticks.{Tick, is_parked, stamp_of_last, tick_of}
 use Rattle.helm_core.specs.Moments.{moment_at}
@@ -71,7 +74,7 @@ abbrev course : Axis
 course = record { name = codes "course"; low = pos 0; high = pos 359000; points = 360 }
 
 abbrev moded : Plan
-moded = record { axes = course ∷ []; opening = []; decls = active ∷ [] }
+moded = record { axes = course ∷ []; opening = []; decls = active ∷ []; blocks = [] }
 
 abbrev deploy : List ℕ → Pair
 deploy text = text_pair (codes "DEPLOY") text
@@ -174,6 +177,68 @@ empty_mode : helm_posts bare (tick 0 [] ∷ []) 0
     ∷ text_pair (codes "IVPHELM_ALLSTOP") (codes "ManualOverride") ∷ []
 empty_mode = refl
 
+-- a behaviour that lasts half a second, with a flag for each change: the variable is the word, and the number is its own
+abbrev timer : ℕ → List Condition → Option (List ℕ) → Bool → Block
+timer number conds updates perpetual = record {
+  common = record {
+    name = codes "t";
+    conds = conds;
+    runflags = units (codes "RUN") number ∷ [];
+    idleflags = units (codes "IDLE") number ∷ [];
+    activeflags = units (codes "ACTIVE") number ∷ [];
+    inactiveflags = units (codes "INACTIVE") number ∷ [];
+    endflags = units (codes "END") number ∷ [];
+    updates = updates;
+    duration = Some 500;
+    idle_decay = true;
+    perpetual = perpetual;
+  };
+  spec = record { weight = 100; shape = Timer };
+}
+
+abbrev deployed : Condition
+deployed = is (codes "DEPLOY") (codes "true")
+
+-- one behaviour that ends for good and one that begins again, while deployed
+abbrev timed : Plan
+timed = record plain { blocks = timer 1 (deployed ∷ []) None false ∷ timer 2 (deployed ∷ []) None true ∷ [] }
+
+abbrev timed_run : List Tick
+timed_run =
+    tick 0 (deploy (codes "true") ∷ override (codes "false") ∷ []) ∷ tick 250 [] ∷ tick 500 [] ∷ tick 750 [] ∷ tick 1000 (override (codes "true") ∷ []) ∷ []
+
+-- Their flags are posted in file order, before the speed.
+both_run : helm_posts timed timed_run 0
+    ≡ text_pair (codes "IVPHELM_STATE") (codes "DRIVE") ∷ units (codes "RUN") 1 ∷ units (codes "RUN") 2 ∷ units (codes "DESIRED_SPEED") 0
+    ∷ text_pair (codes "IVPHELM_ALLSTOP") (codes "NothingToDo") ∷ []
+both_run = refl
+
+both_still_run : helm_posts timed timed_run 1 ≡ units (codes "DESIRED_SPEED") 0 ∷ []
+both_still_run = refl
+
+both_end : helm_posts timed timed_run 2 ≡ units (codes "END") 1 ∷ units (codes "END") 2 ∷ units (codes "DESIRED_SPEED") 0 ∷ []
+both_end = refl
+
+one_begins_again : helm_posts timed timed_run 3 ≡ units (codes "RUN") 2 ∷ units (codes "DESIRED_SPEED") 0 ∷ []
+one_begins_again = refl
+
+-- The override idles the one that can run.
+one_is_idle : helm_posts timed timed_run 4
+    ≡ text_pair (codes "IVPHELM_STATE") (codes "PARK") ∷ units (codes "IDLE") 2 ∷ units (codes "DESIRED_SPEED") 0
+    ∷ text_pair (codes "IVPHELM_ALLSTOP") (codes "ManualOverride") ∷ []
+one_is_idle = refl
+
+states_in_file_order : map (λ i. (iteration_at timed timed_run i).states) (0 ∷ 2 ∷ 3 ∷ 4 ∷ [])
+    ≡ (Running ∷ Running ∷ []) ∷ (Completed ∷ Completed ∷ []) ∷ (Completed ∷ Running ∷ []) ∷ (Completed ∷ Idle ∷ []) ∷ []
+states_in_file_order = refl
+
+-- A condition is asked with the iteration's own mode and mail.
+abbrev moded_timer : Plan
+moded_timer = record moded { blocks = timer 1 (is (codes "MODE") (codes "ACTIVE") ∷ []) None true ∷ [] }
+
+by_mode : map (λ i. (iteration_at moded_timer run i).states) (0 ∷ 2 ∷ 3 ∷ 4 ∷ []) ≡ (Running ∷ []) ∷ (Idle ∷ []) ∷ (Idle ∷ []) ∷ (Completed ∷ []) ∷ []
+by_mode = refl
+
 -- The clock.
 no_stamp : stamp_of_last [] ≡ 0
 no_stamp = refl
@@ -201,3 +266,9 @@ wants_once = refl
 wants_in_any_case : wants_of plain
     ≡ reg (codes "MOOS_MANUAL_OVERRIDE") ∷ reg (codes "MOOS_MANUAL_OVERIDE") ∷ reg (codes "NAV_X") ∷ reg (codes "NAV_Y") ∷ reg (codes "NAV_DEPTH") ∷ []
 wants_in_any_case = refl
+
+-- The variables of a behaviour come last: those of its conditions, and then the one of its updates, which may be MODE.
+wants_of_behaviors : wants_of (record plain { blocks = timer 1 (is (codes "MODE") (codes "ACTIVE") ∷ is (codes "NAV_X") (codes "0") ∷ deployed ∷ []) (Some (codes "T_UP")) true ∷ timer 2 (deployed ∷ []) (Some (codes "MODE")) true ∷ [] })
+    ≡ reg (codes "MOOS_MANUAL_OVERRIDE") ∷ reg (codes "MOOS_MANUAL_OVERIDE") ∷ reg (codes "NAV_X") ∷ reg (codes "NAV_Y") ∷ reg (codes "NAV_DEPTH")
+    ∷ reg (codes "DEPLOY") ∷ reg (codes "T_UP") ∷ []
+wants_of_behaviors = refl

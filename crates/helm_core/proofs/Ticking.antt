@@ -1,10 +1,12 @@
 -- One tick more of a helm, by what it keeps.
-use Rattle.std.proofs.Common.{◌≡◌, ℕ, suc, Bool, true, false, if◌then◌else◌, List, [], ◌∷◌, ◌++◌, length, take, Option, Some, None, option_map, refl, ap, sym, subst, ◌∙◌, arith}
+use Rattle.std.proofs.Common.{◌≡◌, ℕ, suc, ◌≤◌, Bool, true, false, if◌then◌else◌, List, [], ◌∷◌, ◌++◌, map, length, take, Option, Some, None, option_map, refl, ap, sym, subst, ◌∙◌, arith}
 use Rattle.std.specs.Prelude.{codes}
+use Rattle.std.specs.List.{AllZip}
 use Rattle.std.proofs.lemmas.Grind.{flat_map-append, fold-append}
 use Rattle.std.proofs.lemmas.List.{append-nil, take_all}
 use Rattle.moos_post.specs.declared.value.Pair.{Pair}
 use Rattle.moos_db.specs.declared.mail.Letter.{Letter}
+use Rattle.helm_cond.specs.Infos.{knowledge_of}
 use Rattle.helm_cond.specs.Learnt.{latest_of}
 use Rattle.bhv_reader.specs.declared.decl.Decl.{Decl}
 use Rattle.mode_tree.specs.Modes.{mode_text}
@@ -13,14 +15,19 @@ use Rattle.helm_core.specs.declared.allstop.Allstop.TheVariants.{ManualOverride,
 use Rattle.helm_core.specs.declared.helm.Helm.{Helm}
 use Rattle.helm_core.specs.declared.iteration.Iteration.{Iteration}
 use Rattle.helm_core.specs.declared.outlook.Outlook.{Outlook}
+use Rattle.helm_core.specs.declared.showing.Showing.{Showing}
+use Rattle.helm_core.specs.declared.turned.Turned.{Turned}
 use Rattle.helm_core.specs.Plans.{Plan}
-use Rattle.helm_core.specs.Ticks.{Tick, heard_in_all, is_parked, learnt_at, pairs_mailed, tick_of, tick_stamp}
+use Rattle.helm_core.specs.Behaviors.{BhvSoFar, behaviors_before, showing_of, bhv_after}
+use Rattle.helm_core.specs.Standings.{AreLived, IsLifeAfter, Sees}
+use Rattle.helm_core.specs.Ticks.{Seen, seen_at, Tick, heard_in_all, is_parked, learnt_at, pairs_mailed, tick_of, tick_stamp}
 use Rattle.helm_core.specs.Moments.{Moment, moment_at, moment_before}
-use Rattle.helm_core.specs.Posts.{allstop_of, are_declared_modes, changed, desired_speed, helm_posts, posts_made, state_text, state_word}
+use Rattle.helm_core.specs.Posts.{allstop_of, are_declared_modes, changed, desired_speed, flags_raised, helm_posts, posts_made, state_text, state_word}
 use Rattle.helm_core.specs.Iterations.{iteration_at}
-use Rattle.helm_core.specs.Helms.{allstop_text, plan_of, HasLearnt, IsOutlook, IsTicked, StandsFor}
-use Rattle.helm_core.specs.Kept.{helm_after, iteration_by, posts_by, said_before}
-use Rattle.helm_core.proofs.Growing.{before_same}
+use Rattle.helm_core.specs.Helms.{allstop_text, clock_of, plan_of, HasLearnt, IsOutlook, IsTicked, StandsFor}
+use Rattle.helm_core.specs.Kept.{HasTurned, helm_after, iteration_by, posts_by, said_before}
+use Rattle.helm_core.proofs.Growing.{before_same, behaviors_same}
+use Rattle.helm_core.proofs.Living.{blocks_kept, lived_after}
 
 abbrev with_tick : List Tick → ℕ → List Letter → List Tick
 with_tick ticks stamp mail = ticks ++ tick_of stamp mail ∷ []
@@ -90,30 +97,46 @@ recalled helm (tick ∷ ticks) stands =
       allstop = sym stands.allstop;
     }
 
-abbrev put_together : List Decl → Option (List ℕ) → Option (List ℕ) → Option (List ℕ) → List ℕ → List ℕ → List ℕ → List Pair
-put_together decls state mode allstop state' mode' allstop' =
-    changed (codes "IVPHELM_STATE") state state' ++ (if are_declared_modes decls then changed (codes "MODE") mode mode' else []) ++ desired_speed
+abbrev put_together : List Decl → Option (List ℕ) → Option (List ℕ) → Option (List ℕ) → List ℕ → List ℕ → List Showing → List ℕ → List Pair
+put_together decls state mode allstop state' mode' showings allstop' =
+    changed (codes "IVPHELM_STATE") state state' ++ (if are_declared_modes decls then changed (codes "MODE") mode mode' else []) ++ flags_raised showings ++ desired_speed
     ++ changed (codes "IVPHELM_ALLSTOP") allstop allstop'
 
-same_posts : (helm : Helm) (now : Outlook) (before : Option Moment) (moment : Moment) → Recalls helm before
-    → moment.seen.parked ≡ now.parked → moment.seen.mode ≡ now.mode → posts_by helm now ≡ posts_made (plan_of helm) before moment
-same_posts helm now before moment recalls parked mode = sym
-    (ap (λ said. put_together helm.modes said (option_map (λ (m : Moment). m.seen.mode) before) (option_map (allstop_of (plan_of helm)) before) (state_text moment) moment.seen.mode (allstop_of (plan_of helm) moment)) recalls.state
-    ∙ ap (λ said. put_together helm.modes (said_before helm (state_word helm.outlook.parked)) said (option_map (allstop_of (plan_of helm)) before) (state_text moment) moment.seen.mode (allstop_of (plan_of helm) moment)) recalls.mode
-    ∙ ap (λ said. put_together helm.modes (said_before helm (state_word helm.outlook.parked)) (said_before helm helm.outlook.mode) said (state_text moment) moment.seen.mode (allstop_of (plan_of helm) moment)) recalls.allstop
-    ∙ ap (λ one. put_together helm.modes (said_before helm (state_word helm.outlook.parked)) (said_before helm helm.outlook.mode) (option_map allstop_text helm.allstop) (state_word one) moment.seen.mode (if one then codes "ManualOverride" else codes "NothingToDo")) parked
-    ∙ ap (λ one. put_together helm.modes (said_before helm (state_word helm.outlook.parked)) (said_before helm helm.outlook.mode) (option_map allstop_text helm.allstop) (state_word now.parked) one (if now.parked then codes "ManualOverride" else codes "NothingToDo")) mode
-    ∙ ap (put_together helm.modes (said_before helm (state_word helm.outlook.parked)) (said_before helm helm.outlook.mode) (option_map allstop_text helm.allstop) (state_word now.parked) now.mode) (stop_text now.parked))
+same_posts : (helm : Helm) (now : Outlook) (showings : List Showing) (before : Option Moment) (moment : Moment) → Recalls helm before
+    → moment.seen.parked ≡ now.parked → moment.seen.mode ≡ now.mode → moment.showings ≡ showings → posts_by helm now showings ≡ posts_made (plan_of helm) before moment
+same_posts helm now showings before moment recalls parked mode shown = sym
+    (ap (λ said. put_together helm.modes said (option_map (λ (m : Moment). m.seen.mode) before) (option_map (allstop_of (plan_of helm)) before) (state_text moment) moment.seen.mode moment.showings (allstop_of (plan_of helm) moment)) recalls.state
+    ∙ ap (λ said. put_together helm.modes (said_before helm (state_word helm.outlook.parked)) said (option_map (allstop_of (plan_of helm)) before) (state_text moment) moment.seen.mode moment.showings (allstop_of (plan_of helm) moment)) recalls.mode
+    ∙ ap (λ said. put_together helm.modes (said_before helm (state_word helm.outlook.parked)) (said_before helm helm.outlook.mode) said (state_text moment) moment.seen.mode moment.showings (allstop_of (plan_of helm) moment)) recalls.allstop
+    ∙ ap (λ one. put_together helm.modes (said_before helm (state_word helm.outlook.parked)) (said_before helm helm.outlook.mode) (option_map allstop_text helm.allstop) (state_word one) moment.seen.mode moment.showings (if one then codes "ManualOverride" else codes "NothingToDo")) parked
+    ∙ ap (λ one. put_together helm.modes (said_before helm (state_word helm.outlook.parked)) (said_before helm helm.outlook.mode) (option_map allstop_text helm.allstop) (state_word now.parked) one moment.showings (if now.parked then codes "ManualOverride" else codes "NothingToDo")) mode
+    ∙ ap (λ one. put_together helm.modes (said_before helm (state_word helm.outlook.parked)) (said_before helm helm.outlook.mode) (option_map allstop_text helm.allstop) (state_word now.parked) now.mode one (if now.parked then codes "ManualOverride" else codes "NothingToDo")) shown
+    ∙ ap (put_together helm.modes (said_before helm (state_word helm.outlook.parked)) (said_before helm helm.outlook.mode) (option_map allstop_text helm.allstop) (state_word now.parked) now.mode showings) (stop_text now.parked))
 
-abbrev iteration_with : ℕ → Bool → List ℕ → List Pair → Iteration
-iteration_with stamp parked mode posts = record { stamp = stamp; parked = parked; mode = mode; updates = []; states = []; faults = []; decision = None; posts = posts }
+abbrev iteration_with : ℕ → Bool → List ℕ → List Showing → List Pair → Iteration
+iteration_with stamp parked mode showings posts = record {
+  stamp = stamp;
+  parked = parked;
+  mode = mode;
+  updates = [];
+  states = map (λ (one : Showing). one.outcome.now) showings;
+  faults = [];
+  decision = None;
+  posts = posts;
+}
 
-module _ (helm : Helm) (stamp : ℕ) (mail : List Letter) (now : Outlook) (learnt : HasLearnt helm.modes mail helm.outlook now) (ticks : List Tick) (stands : StandsFor helm ticks) where
+module _ (helm : Helm) (stamp : ℕ) (mail : List Letter) (now : Outlook) (turned : Turned) (learnt : HasLearnt helm.modes mail helm.outlook now) (turns : HasTurned helm stamp now turned) (later : clock_of helm ≤ stamp) (ticks : List Tick) (stands : StandsFor helm ticks) where
   abbrev ticks' : List Tick
   ticks' = with_tick ticks stamp mail
 
   abbrev moment' : Moment
   moment' = moment_at (plan_of helm) ticks' (length ticks)
+
+  abbrev seen' : Seen
+  seen' = seen_at helm.modes ticks' (length ticks)
+
+  abbrev ones : List BhvSoFar
+  ones = behaviors_before (plan_of helm) ticks' (length ticks)
 
   seen : IsOutlook helm.modes (heard_in_all ticks') now
   seen = subst (λ all. IsOutlook helm.modes all now) (sym (heard_more ticks stamp mail)) (learnt (heard_in_all ticks) stands.outlook)
@@ -124,30 +147,53 @@ module _ (helm : Helm) (stamp : ℕ) (mail : List Letter) (now : Outlook) (learn
   mode' : moment'.seen.mode ≡ now.mode
   mode' = (now_heard (plan_of helm) ticks stamp mail).mode ∙ sym seen.mode
 
-  stands_after : StandsFor (helm_after helm stamp now) ticks'
+  known' : seen'.known ≡ knowledge_of now.info
+  known' = ap latest_of (ap heard_in_all (take_whole ticks (tick_of stamp mail))) ∙ sym seen.known
+
+  sees : Sees seen' stamp now
+  sees = record { when = stamp_last ticks stamp mail; parked = parked'; known = known'; mode = mode' }
+
+  lived : AreLived (clock_of helm) ones helm.lives.items
+  lived =
+      subst (λ all. AreLived (clock_of helm) all helm.lives.items) (sym (behaviors_same (plan_of helm) ticks (tick_of stamp mail ∷ []) (length ticks) (omega arith)))
+      stands.lives
+
+  after : AllZip (IsLifeAfter seen') ones turned.lives.items × (turned.showings.items ≡ map (showing_of seen') ones)
+  after = turns (clock_of helm) seen' ones later sees (blocks_kept (plan_of helm) ticks' (length ticks)) lived
+
+  lives_after : AreLived stamp (behaviors_before (plan_of helm) ticks' (length ticks')) turned.lives.items
+  lives_after =
+      subst (λ n. AreLived stamp (behaviors_before (plan_of helm) ticks' n) turned.lives.items) (sym (length_more ticks (tick_of stamp mail)))
+      (subst (λ clock. AreLived clock (map (bhv_after seen') ones) turned.lives.items) (stamp_last ticks stamp mail) (lived_after seen' ones turned.lives.items after.0))
+
+  stands_after : StandsFor (helm_after helm stamp now turned) ticks'
   stands_after = record {
     clock = sym (fold-append (λ before (tick : Tick). tick.stamp) 0 ticks (tick_of stamp mail ∷ []));
     outlook = seen;
+    lives = lives_after;
     allstop =
         sym (ap (option_map (allstop_of (plan_of helm))) (ap (moment_before (plan_of helm) ticks') (length_more ticks (tick_of stamp mail)))
         ∙ ap (λ one. Some (if one then codes "ManualOverride" else codes "NothingToDo")) parked'
         ∙ ap Some (stop_text now.parked));
   }
 
-  iterates : iteration_by helm stamp now ≡ iteration_at (plan_of helm) ticks' (length ticks)
+  iterates : iteration_by helm stamp now turned ≡ iteration_at (plan_of helm) ticks' (length ticks)
   iterates =
       let recalls : Recalls helm (moment_before (plan_of helm) ticks' (length ticks))
       = subst (Recalls helm) (sym (before_same (plan_of helm) ticks (tick_of stamp mail ∷ []) (length ticks) (omega arith))) (recalled helm ticks stands) in
-      ap (iteration_with stamp now.parked now.mode) (same_posts helm now (moment_before (plan_of helm) ticks' (length ticks)) moment' recalls parked' mode')
-      ∙ sym (ap (λ one. iteration_with one moment'.seen.parked moment'.seen.mode (helm_posts (plan_of helm) ticks' (length ticks))) (stamp_last ticks stamp mail)
-      ∙ ap (λ one. iteration_with stamp one moment'.seen.mode (helm_posts (plan_of helm) ticks' (length ticks))) parked'
-      ∙ ap (λ one. iteration_with stamp now.parked one (helm_posts (plan_of helm) ticks' (length ticks))) mode')
+      ap (iteration_with stamp now.parked now.mode turned.showings.items)
+      (same_posts helm now turned.showings.items (moment_before (plan_of helm) ticks' (length ticks)) moment' recalls parked' mode' (sym after.1))
+      ∙ sym (ap (λ one. iteration_with one moment'.seen.parked moment'.seen.mode moment'.showings (helm_posts (plan_of helm) ticks' (length ticks))) (stamp_last ticks stamp mail)
+      ∙ ap (λ one. iteration_with stamp one moment'.seen.mode moment'.showings (helm_posts (plan_of helm) ticks' (length ticks))) parked'
+      ∙ ap (λ one. iteration_with stamp now.parked one moment'.showings (helm_posts (plan_of helm) ticks' (length ticks))) mode'
+      ∙ ap (λ one. iteration_with stamp now.parked now.mode one (helm_posts (plan_of helm) ticks' (length ticks))) (sym after.1))
 
-pub ticked : (helm : Helm) (stamp : ℕ) (mail : List Letter) (now : Outlook) → HasLearnt helm.modes mail helm.outlook now
-    → IsTicked helm (helm_after helm stamp now) stamp mail (iteration_by helm stamp now)
-ticked helm stamp mail now learnt = record {
+pub ticked : (helm : Helm) (stamp : ℕ) (mail : List Letter) (now : Outlook) (turned : Turned) → HasLearnt helm.modes mail helm.outlook now
+    → HasTurned helm stamp now turned → clock_of helm ≤ stamp
+    → IsTicked helm (helm_after helm stamp now turned) stamp mail (iteration_by helm stamp now turned)
+ticked helm stamp mail now turned learnt turns later = record {
   plan = refl;
   clock = refl;
-  stands = stands_after helm stamp mail now learnt;
-  is = iterates helm stamp mail now learnt;
+  stands = stands_after helm stamp mail now turned learnt turns later;
+  is = iterates helm stamp mail now turned learnt turns later;
 }

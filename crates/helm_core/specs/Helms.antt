@@ -16,10 +16,12 @@ use Rattle.helm_core.specs.Ticks.{Tick, heard_in_all, is_parked, pairs_mailed, s
 use Rattle.helm_core.specs.Moments.{moment_before}
 use Rattle.helm_core.specs.Posts.{allstop_of}
 use Rattle.helm_core.specs.Iterations.{iteration_at}
+use Rattle.helm_core.specs.Behaviors.{behaviors_before}
+use Rattle.helm_core.specs.Standings.{AreLived}
 
 -- what the helm was made of
 abbrev pub plan_of : Helm → Plan
-plan_of helm = record { axes = helm.domain; opening = helm.opening; decls = helm.modes }
+plan_of helm = record { axes = helm.domain; opening = helm.opening; decls = helm.modes; blocks = helm.blocks }
 
 -- the stamp of its last tick, 0 before the first
 abbrev pub clock_of : Helm → ℕ
@@ -40,11 +42,12 @@ pub record IsOutlook (decls : List Decl) (learnt : List Pair) (outlook : Outlook
 abbrev pub HasLearnt : List Decl → List Letter → Outlook → Outlook → Type 0
 HasLearnt decls mail old new = (learnt : List Pair) → IsOutlook decls learnt old → IsOutlook decls (learnt ++ pairs_mailed mail) new
 
--- The helm stands for the ticks that it has heard: it keeps the last one's stamp, what all their letters come to, and why
--- the vehicle had to stop in the last iteration.
+-- The helm stands for the ticks that it has heard: it keeps the last one's stamp, what all their letters come to, what has
+-- become of its behaviours, and why the vehicle had to stop in the last iteration.
 pub record StandsFor (helm : Helm) (ticks : List Tick) : Type 0 where
   pub clock : clock_of helm ≡ stamp_of_last ticks
   pub outlook : IsOutlook helm.modes (heard_in_all ticks) helm.outlook
+  pub lives : AreLived (clock_of helm) (behaviors_before (plan_of helm) ticks (length ticks)) helm.lives.items
   pub allstop : option_map allstop_text helm.allstop ≡ option_map (allstop_of (plan_of helm)) (moment_before (plan_of helm) ticks (length ticks))
 
 -- The helm has heard one tick more: of whichever ticks it stood for, it stands for them with this one behind, and the

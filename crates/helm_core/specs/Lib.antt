@@ -1,7 +1,9 @@
 pub mod Plans
 pub mod Ticks
+pub mod Behaviors
 pub mod Moments
 pub mod Posts
 pub mod Iterations
+pub mod Standings
 pub mod Helms
 pub mod Kept

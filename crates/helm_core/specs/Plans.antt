@@ -1,23 +1,26 @@
 -- What a helm is made of, and the variables that it registers for.
 use Rattle.std.specs.Prelude.{ℕ, ◌||◌, if◌then◌else◌, List, [], ◌∷◌, ◌++◌, map, fold, codes, bytes_eq}
 use Rattle.std.specs.List.{flat_map, list_any}
+use Rattle.std.specs.Option.{option_to_list}
 use Rattle.moos_post.specs.declared.registration.Reg.{Reg}
 use Rattle.moos_post.specs.declared.value.Pair.{Pair}
 use Rattle.ivp_domain.specs.declared.axis.Axis.{Axis}
 use Rattle.helm_cond.specs.Conditions.{names_in}
 use Rattle.bhv_reader.specs.declared.decl.Decl.{Decl}
 use Rattle.bhv_reader.specs.declared.file.BhvFile.{BhvFile}
+use Rattle.bhv_reader.specs.declared.file.Block.{Block}
 use Rattle.mission_reader.specs.declared.mission.Mission.{Mission}
 
--- what a helm is made of: its domain, the pairs that it posts at first, and its modes
+-- what a helm is made of: its domain, the pairs that it posts at first, its modes, and its behaviours in file order
 pub record Plan : Type 0 where
   pub axes : List Axis
   pub opening : List Pair
   pub decls : List Decl
+  pub blocks : List Block
 
 -- the plan that a mission and a behaviour file make
 abbrev pub plan_made : Mission → BhvFile → Plan
-plan_made mission file = record { axes = mission.domain; opening = file.opening; decls = file.decls }
+plan_made mission file = record { axes = mission.domain; opening = file.opening; decls = file.decls; blocks = file.blocks }
 
 -- the variables of the override, in both spellings, and of the position
 abbrev pub always_read : List (List ℕ)
@@ -28,9 +31,13 @@ always_read =
 abbrev pub decl_names : Decl → List (List ℕ)
 decl_names decl = flat_map names_in decl.conds
 
+-- the variables of a behaviour's conditions, and then the one of its updates
+abbrev pub block_names : Block → List (List ℕ)
+block_names block = flat_map names_in block.common.conds ++ option_to_list block.common.updates
+
 -- every variable that the helm reads, in order, some of them several times
 abbrev pub names_read : Plan → List (List ℕ)
-names_read plan = always_read ++ flat_map decl_names plan.decls
+names_read plan = always_read ++ flat_map decl_names plan.decls ++ flat_map block_names plan.blocks
 
 -- the names, and this one where it isn't among them; MODE is the helm's own and never wanted
 abbrev pub with_wanted : List (List ℕ) → List ℕ → List (List ℕ)

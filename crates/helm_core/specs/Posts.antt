@@ -1,8 +1,10 @@
 -- What the helm posts in an iteration.
 use Rattle.std.specs.Prelude.{ℕ, ℤ, pos, Bool, true, false, if◌then◌else◌, List, [], ◌∷◌, ◌++◌, codes, bytes_eq, Option, Some, None, option_map}
+use Rattle.std.specs.List.{flat_map}
 use Rattle.moos_post.specs.declared.value.Pair.{Pair}
 use Rattle.moos_post.specs.declared.value.Value.TheVariants.{Num, Text}
 use Rattle.bhv_reader.specs.declared.decl.Decl.{Decl}
+use Rattle.helm_core.specs.declared.showing.Showing.{Showing}
 use Rattle.helm_core.specs.Plans.{Plan}
 use Rattle.helm_core.specs.Ticks.{Tick}
 use Rattle.helm_core.specs.Moments.{Moment, moment_at, moment_before}
@@ -45,6 +47,10 @@ are_declared_modes (decl ∷ decls) = true
 abbrev pub mode_post : Plan → Option Moment → Moment → List Pair
 mode_post plan before now = if are_declared_modes plan.decls then on_change (codes "MODE") (λ moment. moment.seen.mode) before now else []
 
+-- the flags that behaviours raise, in file order
+abbrev pub flags_raised : List Showing → List Pair
+flags_raised showings = flat_map (λ one. one.flags) showings
+
 -- the speed is 0, since no behaviour decides on one
 abbrev pub desired_speed : List Pair
 desired_speed = number_pair (codes "DESIRED_SPEED") (pos 0) ∷ []
@@ -52,7 +58,7 @@ desired_speed = number_pair (codes "DESIRED_SPEED") (pos 0) ∷ []
 -- what the helm posts in an iteration after this one, in order
 abbrev pub posts_made : Plan → Option Moment → Moment → List Pair
 posts_made plan before now =
-    on_change (codes "IVPHELM_STATE") state_text before now ++ mode_post plan before now ++ desired_speed
+    on_change (codes "IVPHELM_STATE") state_text before now ++ mode_post plan before now ++ flags_raised now.showings ++ desired_speed
     ++ on_change (codes "IVPHELM_ALLSTOP") (allstop_of plan) before now
 
 -- What the helm posts in iteration i.

@@ -3,14 +3,16 @@ ghost use Rattle.bhv_reader.specs.Validity.{IsValidFile};
 ghost use Rattle.mission_reader.specs.Validity.{IsValidMission};
 ghost use Rattle.helm_core.specs.Plans.{plan_made, wants_of};
 ghost use Rattle.helm_core.specs.Helms.{allstop_text, clock_of, plan_of, HasLearnt, IsTicked, StandsFor};
-ghost use Rattle.helm_core.specs.Kept.{helm_after, iteration_by, posts_by, said_before};
+ghost use Rattle.helm_core.specs.Kept.{helm_after, HasTurned, iteration_by, posts_by, said_before};
 
 use crate::allstop::Allstop;
-use crate::iteration::{Faults, Iteration, States, Updates};
+use crate::iteration::{Faults, Iteration, Updates};
 use crate::outlook::Outlook;
 use crate::posts::{add_changed, add_number};
+use crate::turned::Turned;
 use crate::wanted::Wanted;
-use bhv_reader::BhvFile;
+use bhv_life::Life;
+use bhv_reader::{BhvFile, Blocks};
 use ivp_domain::Domain;
 use mission_reader::Mission;
 use mode_tree::ModeTree;
@@ -28,6 +30,9 @@ pub struct Helm {
     domain: Domain,
     opening: Batch,
     modes: ModeTree,
+    blocks: Blocks,
+    // The lives of the behaviours, in file order, or none before the first iteration.
+    lives: Vec<Life>,
     outlook: Outlook,
     // Why the vehicle had to stop in the last iteration, or None before the first.
     allstop: Option<Allstop>,
@@ -36,35 +41,45 @@ pub struct Helm {
 }
 
 impl Helm {
-    /// The helm of a mission and its behaviour file, which has heard nothing. It runs no behaviours yet: those of the file are
-    /// left out.
+    /// The helm of a mission and its behaviour file, which has heard nothing. Its behaviours live, and raise their flags, but
+    /// give no function yet and take no update.
     pub fn make(alloc: Global, mission: &Mission, file: BhvFile) -> Result<Helm, NoMemory>
         requires mission { IsValidMission mission.now }
         requires file { IsValidFile file }
         ensures plan { IfOk result (λ helm. plan_of helm ≡ plan_made mission.now file) }
         ensures stands { IfOk result (λ helm. StandsFor helm []) }
     {
-        let BhvFile { opening, decls, .. } = file;
+        let BhvFile {
+            opening,
+            decls,
+            blocks,
+            ..
+        } = file;
         let modes = ModeTree::make(decls);
         let outlook = Outlook::blank(alloc, &modes)?;
         Ok(Helm {
             domain: mission.domain,
             opening,
             modes,
+            blocks,
+            lives: Vec::new(alloc),
             outlook,
             allstop: None,
             clock: 0,
         })
     }
 
-    /// What the helm registers for, each variable once: the override in both spellings, the position, and the variables of
-    /// the modes' conditions.
+    /// What the helm registers for, each variable once: the override in both spellings, the position, the variables of
+    /// the modes' conditions, and of each behaviour those of its conditions and the one of its updates.
     pub fn wants(&self, alloc: Global) -> Result<Regs, NoMemory>
         ensures { IfOk result (λ regs. regs ≡ wants_of (plan_of self.now)) }
     {
         let mut wanted = Wanted::always(alloc)?;
         for decl in self.modes.decls() {
             wanted.want_decl(alloc, decl)?;
+        }
+        for block in self.blocks.all() {
+            wanted.want_block(alloc, block)?;
         }
         wanted.regs(alloc)
     }
@@ -77,7 +92,7 @@ impl Helm {
     }
 
     /// One iteration at a stamp, in milliseconds, that isn't before the last one's: the helm learns the mail, sees whether
-    /// it is parked, finds its mode, and lists what it posts. It has 1 to 16 workers for what it solves. Where no memory is
+    /// it is parked, finds its mode, tells of each behaviour what it is, and lists what it posts. It has 1 to 16 workers for what it solves. Where no memory is
     /// left the helm is as it was.
     pub fn tick<R: Threads + Wait + Sync, G: Gate>(
         &mut self,
@@ -95,13 +110,15 @@ impl Helm {
         ensures ticked { IfOk result (IsTicked self.old self.new stamp mail.now) }
     {
         let Some(outlook) = self.outlook_after(alloc, mail.all())? else {
-            let iteration = self.iteration(alloc, stamp, &self.outlook)?;
-            self.end(stamp);
+            let turned = self.turned(alloc, stamp, &self.outlook)?;
+            let iteration = self.iteration(alloc, stamp, &self.outlook, &turned)?;
+            self.end(stamp, turned);
             return Ok(iteration);
         };
-        let iteration = self.iteration(alloc, stamp, &outlook)?;
+        let turned = self.turned(alloc, stamp, &outlook)?;
+        let iteration = self.iteration(alloc, stamp, &outlook, &turned)?;
         self.outlook = outlook;
-        self.end(stamp);
+        self.end(stamp, turned);
         Ok(iteration)
     }
 
@@ -116,26 +133,40 @@ impl Helm {
         Ok(Some(outlook))
     }
 
-    // The iteration at this outlook.
-    fn iteration(&self, alloc: Global, stamp: u64, now: &Outlook) -> Result<Iteration, NoMemory>
-        ensures { IfOk result (λ iteration. iteration ≡ iteration_by self.now stamp now.now) }
+    // The turns of the behaviours at this outlook.
+    fn turned(&self, alloc: Global, stamp: u64, now: &Outlook) -> Result<Turned, NoMemory>
+        ensures { IfOk result (HasTurned self.now stamp now.now) }
+    {
+        Turned::of(alloc, stamp, self.blocks.all(), &self.lives, now)
+    }
+
+    // The iteration at this outlook with these turns.
+    fn iteration(
+        &self,
+        alloc: Global,
+        stamp: u64,
+        now: &Outlook,
+        turned: &Turned,
+    ) -> Result<Iteration, NoMemory>
+        ensures { IfOk result (λ iteration. iteration ≡ iteration_by self.now stamp now.now turned.now) }
     {
         let mode = now.mode.copy(alloc)?;
-        let posts = self.posts(alloc, now)?;
+        let states = turned.states(alloc)?;
+        let posts = self.posts(alloc, now, turned)?;
         Ok(Iteration {
             stamp,
             parked: now.parked,
             mode,
             updates: Updates::new(alloc),
-            states: States::new(alloc),
+            states,
             faults: Faults::new(alloc),
             decision: None,
             posts,
         })
     }
 
-    fn posts(&self, alloc: Global, now: &Outlook) -> Result<Batch, NoMemory>
-        ensures { IfOk result (λ posts. posts ≡ posts_by self.now now.now) }
+    fn posts(&self, alloc: Global, now: &Outlook, turned: &Turned) -> Result<Batch, NoMemory>
+        ensures { IfOk result (λ posts. posts ≡ posts_by self.now now.now turned.now.showings.items) }
     {
         let state = self.said(self.outlook.state());
         let mode = self.said(self.outlook.mode.bytes());
@@ -144,6 +175,7 @@ impl Helm {
         if self.modes.decls().len() > 0 {
             add_changed(alloc, &mut posts, b"MODE", mode, now.mode.bytes())?;
         }
+        turned.add_flags(alloc, &mut posts)?;
         add_number(alloc, &mut posts, b"DESIRED_SPEED", 0)?;
         let allstop = now.allstop().text();
         add_changed(
@@ -157,9 +189,11 @@ impl Helm {
     }
 
     // Keeps what the next iteration asks of this one, once the outlook is this one's.
-    fn end(&mut self, stamp: u64)
-        ensures { self.new ≡ helm_after self.old stamp self.old.outlook }
+    fn end(&mut self, stamp: u64, turned: Turned)
+        ensures { self.new ≡ helm_after self.old stamp self.old.outlook turned }
     {
+        let Turned { lives, .. } = turned;
+        self.lives = lives;
         self.allstop = Some(self.outlook.allstop());
         self.clock = stamp;
     }

@@ -2,7 +2,7 @@
 ghost use Rattle.std.specs.Prelude.{◌≡◌, ◌++◌, ◌∷◌, [], OnOk, option_copied};
 ghost use Rattle.helm_core.specs.Posts.{changed, number_pair, text_pair};
 
-use moos_post::{Batch, Milli, Name, NoMemory, Pair, Txt, Value};
+use moos_post::{Batch, Copied, Milli, Name, NoMemory, Pair, Txt, Value};
 use std::alloc::{AllocError, Global};
 
 // Adds the text where none was before, and where it isn't the one before.
@@ -55,4 +55,17 @@ fn add(alloc: Global, posts: &mut Batch, var: &[u8], value: Value) -> Result<(),
         Ok(()) => Ok(()),
         Err(_) => Err(AllocError),
     }
+}
+
+// Adds copies of these pairs.
+pub(crate) fn add_pairs(alloc: Global, posts: &mut Batch, pairs: &[Pair]) -> Result<(), NoMemory>
+    ensures { OnOk result (posts.new ≡ posts.old ++ pairs.now) }
+{
+    for pair in pairs {
+        match posts.push(pair.copy(alloc)?) {
+            Ok(()) => {},
+            Err(_) => return Err(AllocError),
+        }
+    }
+    Ok(())
 }

@@ -5,6 +5,7 @@ ghost use Rattle.mission_reader.specs.Validity.{IsValidMission};
 ghost use Rattle.helm_core.specs.Helms.{clock_of};
 
 use crate::{Helm, Iteration};
+use bhv_life::BhvState;
 use bhv_reader::{BhvFile, read_behaviors};
 use ivp_domain::Domain;
 use mission_reader::{Mission, read_mission};
@@ -86,7 +87,16 @@ fn show_value(text: &mut Vec<u8>, value: &Value) -> Result<(), AllocError> {
     }
 }
 
-// The stamp in seconds, whether it is parked, the mode, and the posts.
+fn state_word(state: BhvState) -> &'static [u8] {
+    match state {
+        BhvState::Idle => b"Idle",
+        BhvState::Running => b"Running",
+        BhvState::Active => b"Active",
+        BhvState::Completed => b"Completed",
+    }
+}
+
+// The stamp in seconds, whether it is parked, the mode, the states, and the posts.
 fn shown(alloc: Global, iteration: &Iteration) -> Result<Vec<u8>, AllocError> {
     let mut text = Vec::new(alloc);
     let state = if iteration.parked {
@@ -105,6 +115,9 @@ fn shown(alloc: Global, iteration: &Iteration) -> Result<Vec<u8>, AllocError> {
             b":",
         ],
     )?;
+    for state in iteration.states.all() {
+        append(&mut text, &[b" ", state_word(*state)])?;
+    }
     for pair in iteration.posts.all() {
         append(&mut text, &[b" ", pair.var.bytes(), b"="])?;
         show_value(&mut text, &pair.value)?;
@@ -194,6 +207,28 @@ fn without_modes(rt: HostRuntime) -> Result<(), Fail> {
     answers(&rt, alloc, &mut helm, 0, &[], first)
 }
 
+const TIMERS: &[u8] =
+    b"Behavior = BHV_Timer {\n  name = t\n  condition = DEPLOY = true\n  duration = 0.5\n  runflag = A=1\n  endflag = B=1\n}\nBehavior = BHV_Timer {\n  name = u\n  condition = DEPLOY = true\n  duration = 0.5\n  perpetual = true\n  runflag = C=1\n  idleflag = D=1\n}\n";
+
+// Two timers while deployed: one ends for good, the other begins again.
+#[test]
+fn timers(rt: HostRuntime) -> Result<(), Fail> {
+    let alloc = rt.alloc();
+    let mut helm = helm_of(&rt, alloc, TIMERS)?;
+    let pairs = [b"DEPLOY=true".as_slice(), b"MOOS_MANUAL_OVERRIDE=false"];
+    let first =
+        b"0 DRIVE : Running Running IVPHELM_STATE=<DRIVE> A=1 C=1 DESIRED_SPEED=0 IVPHELM_ALLSTOP=<NothingToDo>";
+    answers(&rt, alloc, &mut helm, 0, &pairs, first)?;
+    let second = b"0.25 DRIVE : Running Running DESIRED_SPEED=0";
+    answers(&rt, alloc, &mut helm, 250, &[], second)?;
+    let third = b"0.5 DRIVE : Completed Completed B=1 DESIRED_SPEED=0";
+    answers(&rt, alloc, &mut helm, 500, &[], third)?;
+    let fourth = b"0.75 DRIVE : Completed Running C=1 DESIRED_SPEED=0";
+    answers(&rt, alloc, &mut helm, 750, &[], fourth)?;
+    let off = b"1 DRIVE : Completed Idle D=1 DESIRED_SPEED=0";
+    answers(&rt, alloc, &mut helm, 1000, &[b"DEPLOY=false"], off)
+}
+
 // The variables that it registers for, and those that it posts at first.
 #[test]
 fn wants_and_opening(rt: HostRuntime) -> Result<(), Fail> {
@@ -201,7 +236,7 @@ fn wants_and_opening(rt: HostRuntime) -> Result<(), Fail> {
     let helm = helm_of(
         &rt,
         alloc,
-        b"initialize A = 1\ninitialize B = x\nset MODE = ON {\nDEPLOY = true and NAV_X < 3\n}\nset MODE = NEAR {\nMODE = ON\nC > D or DEPLOY = true or C < 1\n}\n",
+        b"initialize A = 1\ninitialize B = x\nset MODE = ON {\nDEPLOY = true and NAV_X < 3\n}\nset MODE = NEAR {\nMODE = ON\nC > D or DEPLOY = true or C < 1\n}\nBehavior = BHV_Timer {\n  name = t\n  condition = MODE = ON and E = 1\n  updates = T_UP\n}\n",
     )?;
     let mut text = Vec::new(alloc);
     for reg in helm.wants(alloc)?.all() {
@@ -215,7 +250,7 @@ fn wants_and_opening(rt: HostRuntime) -> Result<(), Fail> {
         append(&mut text, &[pair.var.bytes(), b" "])?;
     }
     let wanted =
-        b"MOOS_MANUAL_OVERRIDE *, MOOS_MANUAL_OVERIDE *, NAV_X *, NAV_Y *, NAV_DEPTH *, DEPLOY *, C *, A B ";
+        b"MOOS_MANUAL_OVERRIDE *, MOOS_MANUAL_OVERIDE *, NAV_X *, NAV_Y *, NAV_DEPTH *, DEPLOY *, C *, E *, T_UP *, A B ";
     assert_eq!(rt; text.as_slice(), wanted.as_slice());
     Ok(())
 }

@@ -1,9 +1,9 @@
 // The variables that the helm registers for.
 ghost use Rattle.std.specs.Prelude.{◌≡◌, [], ◌<◌, fold, length, map, slice_get, Some, IfOk, OnOk};
 ghost use Rattle.helm_cond.specs.Conditions.{names_in};
-ghost use Rattle.helm_core.specs.Plans.{always_read, decl_names, reg_wanted, with_wanted};
+ghost use Rattle.helm_core.specs.Plans.{always_read, block_names, decl_names, reg_wanted, with_wanted};
 
-use bhv_reader::Decl;
+use bhv_reader::{Block, Decl};
 use helm_cond::Cond;
 use indexmap::IndexSet;
 use moos_post::{Copied, Name, NoMemory, Pattern, Reg, Regs};
@@ -48,6 +48,19 @@ impl Wanted {
             self.want_cond(alloc, cond)?;
         }
         Ok(())
+    }
+
+    // Those of a behaviour's conditions too, and the one of its updates.
+    pub fn want_block(&mut self, alloc: Global, block: &Block) -> Result<(), NoMemory>
+        ensures { OnOk result (self.new ≡ fold with_wanted self.old (block_names block.now)) }
+    {
+        for cond in block.common.conds.all() {
+            self.want_cond(alloc, cond)?;
+        }
+        match &block.common.updates {
+            Some(updates) => self.want(alloc, updates),
+            None => Ok(()),
+        }
     }
 
     fn want_cond(&mut self, alloc: Global, cond: &Cond) -> Result<(), NoMemory>

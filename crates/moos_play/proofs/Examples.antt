@@ -22,7 +22,7 @@ names = codes "a" ∷ codes "pHelmIvP" ∷ []
 
 -- a helm without modes, which posts nothing to begin with and ticks four times a second
 abbrev plan : Plan
-plan = record { axes = []; opening = []; decls = [] }
+plan = record { axes = []; opening = []; decls = []; blocks = [] }
 
 abbrev helm : Steering
 helm = record { client = 1; plan = plan; period = 250 }
