@@ -4,11 +4,14 @@
     bench/play.py [LINES..]            scripts of growing length; 1,000, 10,000 and 100,000 lines where none are given
     bench/play.py --wide [PROGRAM..]   scripts of many clients, by this program and by turns by each other one named,
                                        which takes the same words
+    bench/play.py --helm [PROGRAM..]   scripts with a helm of 20,000 ticks, likewise
 
 For each length: one client that only posts; one that registers first and posts; and one that registers, posts, and
 fetches at every tenth line. Of many clients: 64 of 256 registrations each that hear none of 80,000 posts; 63 that hear
 each of 90,000; 8 of 256 registrations each, of which one selects each of 90,000 posts; 64 that make their calls at
-stamps of their own; and 64 in a race. Reports go to a file. Nothing here is part of the gate, and no figure is promised.
+stamps of their own; and 64 in a race. With a helm that ticks four times a second: one client that posts once, so that
+nothing comes to a tick but the first; and 64 clients of 100,000 lines that the helm hears none of, or each; and the last in
+a race. Reports go to a file. Nothing here is part of the gate, and no figure is promised.
 """
 import os
 import subprocess
@@ -55,8 +58,46 @@ def race():
     return [f"0 p{k % 64} post X={k}" for k in range(20_000)]
 
 
+def quiet():
+    return ["0 p0 post DEPLOY=true # MOOS_MANUAL_OVERRIDE=false", "4999.75 until"]
+
+
+def posted(name):
+    given = ["0 p0 post DEPLOY=true # MOOS_MANUAL_OVERRIDE=false"]
+    lines = [f"{k * 0.0499:.3f} p{k % 64} post {name}={k}" for k in range(99_998)]
+    return given + lines + ["4999.75 until"]
+
+
+def unwanted():
+    return posted("X")
+
+
+def wanted():
+    return posted("NAV_X")
+
+
+def wanted_race():
+    return posted("NAV_X")
+
+
+MISSION = """ProcessConfig = pHelmIvP
+{{
+  AppTick   = 4
+  behaviors = {}
+  domain    = course:0:359:360
+}}
+"""
+
+MODES = """set MODE = ACTIVE {
+  DEPLOY = true
+} INACTIVE
+"""
+
 # The scripts of many clients, and the words behind each.
 WIDE = [(unheard, []), (heard, []), (chosen, []), (apart, []), (race, ["--race"])]
+
+# The scripts with a helm, likewise.
+HELM = [(quiet, []), (unwanted, []), (wanted, []), (wanted_race, ["--race"])]
 
 
 def measure(program, script, words, report):
@@ -88,12 +129,20 @@ def main():
             with open(script, "w") as out:
                 out.write("\n".join(lines) + "\n")
 
-        if sys.argv[1:2] == ["--wide"]:
-            for make, words in WIDE:
+        def compare(scripts, first):
+            for make, words in scripts:
                 write(make())
                 for program in [MOOS] + sys.argv[2:]:
-                    show(f"{make.__name__} {os.path.basename(program)}", program, script, words, report)
-            return
+                    show(f"{make.__name__} {os.path.basename(program)}", program, script, first + words, report)
+
+        if sys.argv[1:2] == ["--wide"]:
+            return compare(WIDE, [])
+        if sys.argv[1:2] == ["--helm"]:
+            mission, modes = os.path.join(folder, "mission.moos"), os.path.join(folder, "modes.bhv")
+            for name, text in (modes, MODES), (mission, MISSION.format(modes)):
+                with open(name, "w") as out:
+                    out.write(text)
+            return compare(HELM, [mission])
         for lines in [int(word) for word in sys.argv[1:]] or [1_000, 10_000, 100_000]:
             for make in (posts, registered, fetched):
                 write(make(lines))

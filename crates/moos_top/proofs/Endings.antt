@@ -1,6 +1,6 @@
--- What follows from a run's status where nothing failed: a job whose file is good was done, and another was refused.
-use Rattle.std.proofs.Common.{◌≡◌, ℕ, List, inl, inr, refl, ap, sym, subst, ◌∙◌}
-use Rattle.std.specs.Prelude.{Option, Some, None, Result, Ok, Err}
+-- What follows from a run's status where nothing failed: a job whose files are good was done, and another was refused.
+use Rattle.std.proofs.Common.{◌≡◌, ℕ, List, [], ◌∷◌, ◌++◌, inl, inr, refl, ap, sym, subst, ◌∙◌, append_assoc, append-nil}
+use Rattle.std.specs.Prelude.{Option, Some, None}
 use Rattle.moos_text.specs.declared.cause.Cause.{Cause}
 use Rattle.moos_text.specs.declared.cause.ReadFault.{ReadFault}
 use Rattle.moos_text.specs.declared.cause.ReadFault.TheVariants.{At}
@@ -9,74 +9,111 @@ use Rattle.moos_top.specs.declared.status.FileKind.{FileKind}
 use Rattle.moos_top.specs.declared.status.Refusal.{Refusal}
 use Rattle.moos_top.specs.declared.status.Status.{Status}
 use Rattle.moos_top.specs.declared.status.Status.TheVariants.{Done, CheckNo, Usage, LoadFault, WriteFault, Refused, NoMemory}
-use Rattle.moos_top.specs.Jobs.{IsOutput, Task, file_of, job_named, kind_of, task_of}
-use Rattle.moos_top.specs.Run.{Completes, DidJob, HasBytes, IsServed, EndsWith, Refuses, Surroundings}
+use Rattle.moos_top.specs.Jobs.{FileTurn, IsOutput, Ready, Task, Unfit, Wanted, job_named, turn_of}
+use Rattle.moos_top.specs.Run.{AreLoaded, Completes, DidFrom, EndsWith, EndsFrom, IsServed, Refuses, Surroundings, WasWanted}
 use Rattle.moos_top.specs.Steps.{Ended, Sinking, WroteAll}
 
--- what was done with the bytes of a job's file is what the run did
-pub did : (run : Surroundings) (job : Job) (bytes : List ℕ) (status : Status) → job_named run.words ≡ Some job → HasBytes run.told (file_of job) bytes
-    → Ended (kind_of job) (task_of job bytes) run.sink status → EndsWith run status
-did run job bytes Done named content ended = record { job = job; named = named; bytes = bytes; content = content; ended = ended }
-did run job bytes CheckNo named content ended = record { job = job; named = named; bytes = bytes; content = content; ended = ended }
-did run job bytes Usage named content ended = absurd ended
-did run job bytes LoadFault named content ended = absurd ended
-did run job bytes WriteFault named content ended = record { job = job; named = named; bytes = bytes; content = content; ended = ended }
-did run job bytes (Refused refusal) named content ended = record { job = job; named = named; bytes = bytes; content = content; ended = ended }
-did run job bytes NoMemory named content ended = ended
+-- what the job that the words name did from its first file on is what the run did
+pub did : (words : List (List ℕ)) (run : Surroundings) (job : Job) (status : Status) → job_named words ≡ Some job → EndsFrom run job [] status → EndsWith words run status
+did words run job Done named goes = record { job = job; named = named; ended = goes }
+did words run job CheckNo named goes = record { job = job; named = named; ended = goes }
+did words run job Usage named goes = absurd goes
+did words run job LoadFault named goes = record { job = job; named = named; ended = goes }
+did words run job WriteFault named goes = record { job = job; named = named; ended = goes }
+did words run job (Refused refusal) named goes = record { job = job; named = named; ended = goes }
+did words run job NoMemory named goes = goes
 
--- the job that the words name ended by what its file is told to hold
-pub ended_with : (run : Surroundings) (job : Job) (bytes : List ℕ) (read : Result Task ReadFault) (status : Status) → IsServed run job bytes → task_of job bytes ≡ read → DidJob run status
-    → Ended (kind_of job) read run.sink status
-ended_with run job bytes read status served is done =
-    let both : Some done.job ≡ Some job = sym done.named ∙ served.named in
-    let one_job : done.job ≡ job = cc in
-    let told : HasBytes (Some served.files) (file_of done.job) done.bytes = subst (λ (t : Option (List ℕ → Option (List ℕ))). HasBytes t (file_of done.job) done.bytes) served.told done.content in
-    let held : Some done.bytes ≡ Some bytes = sym told ∙ ap (λ (one : Job). served.files (file_of one)) one_job ∙ served.content in
-    let one_file : done.bytes ≡ bytes = cc in
-    let one_read : task_of done.job done.bytes ≡ read = ap (λ (one : Job). task_of one done.bytes) one_job ∙ ap (task_of job) one_file ∙ is in
-    subst (λ (kind : FileKind). Ended kind read run.sink status) (ap kind_of one_job)
-    (subst (λ (one : Result Task ReadFault). Ended (kind_of done.job) one run.sink status) one_read done.ended)
+-- no more file is wanted
+pub data IsOver (turn : FileTurn) : Type 0 where
+  Good : (task : Task) → turn ≡ Ready task → IsOver turn
+  Bad : (kind : FileKind) (fault : ReadFault) → turn ≡ Unfit kind fault → IsOver turn
+
+-- where no more file is wanted none was loaded
+over_first : (told : Option (List ℕ → Option (List ℕ))) (turn : FileTurn) (bytes : List ℕ) → IsOver turn → WasWanted told turn bytes → ⊥
+over_first told turn bytes (Good task is) was = subst (λ turn. WasWanted told turn bytes) is was
+over_first told turn bytes (Bad kind fault is) was = subst (λ turn. WasWanted told turn bytes) is was
+
+-- a file that is wanted is the one that the folder tells
+one_file : (files : List ℕ → Option (List ℕ)) (turn : FileTurn) (one other : List ℕ) → WasWanted (Some files) turn one → WasWanted (Some files) turn other → one ≡ other
+one_file files (Wanted kind name) one other was is = let both : Some one ≡ Some other = sym was ∙ is in cc
+one_file files (Ready task) one other was is = absurd was
+one_file files (Unfit kind fault) one other was is = absurd was
+
+-- two lists of files that a job loads up to its end are one
+one_list : (files : List ℕ → Option (List ℕ)) (job : Job) (front one other : List (List ℕ)) → AreLoaded (Some files) job front one → AreLoaded (Some files) job front other
+    → IsOver (turn_of job (front ++ one)) → IsOver (turn_of job (front ++ other)) → one ≡ other
+one_list files job front [] [] loaded is over last = refl
+one_list files job front [] (bytes ∷ other) loaded is over last =
+    absurd (over_first (Some files) (turn_of job front) bytes (subst (λ all. IsOver (turn_of job all)) (append-nil front) over) is.0)
+one_list files job front (bytes ∷ one) [] loaded is over last =
+    absurd (over_first (Some files) (turn_of job front) bytes (subst (λ all. IsOver (turn_of job all)) (append-nil front) last) loaded.0)
+one_list files job front (bytes ∷ one) (more ∷ other) loaded is over last =
+    let first : bytes ≡ more = one_file files (turn_of job front) bytes more loaded.0 is.0 in
+    let is_same : AreLoaded (Some files) job (front ++ bytes ∷ []) other = subst (λ first. AreLoaded (Some files) job (front ++ first ∷ []) other) (sym first) is.1 in
+    let last_same : IsOver (turn_of job (front ++ bytes ∷ other)) = subst (λ first. IsOver (turn_of job (front ++ first ∷ other))) (sym first) last in
+    let rest = one_list files job (front ++ bytes ∷ []) one other loaded.1 is_same
+    (subst (λ all. IsOver (turn_of job all)) (sym (append_assoc front (bytes ∷ []) one)) over)
+    (subst (λ all. IsOver (turn_of job all)) (sym (append_assoc front (bytes ∷ []) other)) last_same) in
+    ap (λ first. first ∷ one) first ∙ ap (λ rest. more ∷ rest) rest
 
 -- what was written is what the task may write
-pub output_of : (task : Task) (status : Status) (sink : Sinking) (wrote : WroteAll (Ok task) status sink) → IsOutput task status wrote.text
+pub output_of : (task : Task) (status : Status) (sink : Sinking) (wrote : WroteAll (Ready task) status sink) → IsOutput task status wrote.text
 output_of task status sink wrote =
-    let good : Ok task ≡ Ok wrote.task = wrote.good in
+    let good : Ready task ≡ Ready wrote.task = wrote.good in
     let same : wrote.task ≡ task = cc in
     subst (λ (one : Task). IsOutput one status wrote.text) same wrote.output
 
-pub completes : (run : Surroundings) (status : Status) → EndsWith run status → Completes run status
-completes run Done ran job bytes task served good = inl (ended_with run job bytes (Ok task) Done served good ran)
-completes run CheckNo ran job bytes task served good = inl (ended_with run job bytes (Ok task) CheckNo served good ran)
-completes run Usage ran job bytes task served good =
-    let both : None ≡ Some job = sym ran.unnamed ∙ served.named in absurd cc
-completes run LoadFault ran job bytes task served good = absurd (served.loads ran.rose)
-completes run WriteFault ran job bytes task served good = absurd (served.puts ran.ended.rose)
-completes run (Refused refusal) ran job bytes task served good =
-    let read : Ok task ≡ Err (At refusal.line refusal.cause) = (ended_with run job bytes (Ok task) (Refused refusal) served good ran).1 in absurd cc
-completes run NoMemory ran job bytes task served good = inr refl
+module _ (words : List (List ℕ)) (run : Surroundings) (job : Job) (files : List (List ℕ)) (turn : FileTurn) (served : IsServed words run job files) (is : turn_of job files ≡ turn)
+    (over : IsOver turn) where
+  -- the job that the words name ended by what its files are told to hold
+  pub ended_with : (status : Status) (other : Job) → job_named words ≡ Some other → (did : DidFrom run other [] status) → IsOver (turn_of other did.files) → Ended turn run.sink status
+  ended_with status other named did done =
+      let both : Some other ≡ Some job = sym named ∙ served.named in
+      let one_job : other ≡ job = cc in
+      let loaded : AreLoaded (Some served.told) job [] did.files = subst (λ told. AreLoaded told job [] did.files) served.telling (subst (λ job. AreLoaded run.told job [] did.files) one_job did.loaded) in
+      let wanted : AreLoaded (Some served.told) job [] files = subst (λ told. AreLoaded told job [] files) served.telling served.loaded in
+      let same : did.files ≡ files = one_list served.told job [] did.files files loaded wanted (subst (λ job. IsOver (turn_of job did.files)) one_job done) (subst IsOver (sym is) over) in
+      subst (λ turn. Ended turn run.sink status) (ap (λ job. turn_of job did.files) one_job ∙ (ap (turn_of job) same ∙ is)) did.ended
 
--- what was written was read from a good file
-none_written : (fault : ReadFault) (status : Status) (sink : Sinking) → WroteAll (Err fault) status sink → ⊥
-none_written fault status sink wrote = let good : Err fault ≡ Ok wrote.task = wrote.good in cc
+pub completes : (words : List (List ℕ)) (run : Surroundings) (status : Status) → EndsWith words run status → Completes words run status
+completes words run Done ran job files task served good =
+    inl (ended_with words run job files (Ready task) served good (Good task refl) Done ran.job ran.named ran.ended (Good ran.ended.ended.task ran.ended.ended.good))
+completes words run CheckNo ran job files task served good =
+    inl (ended_with words run job files (Ready task) served good (Good task refl) CheckNo ran.job ran.named ran.ended (Good ran.ended.ended.task ran.ended.ended.good))
+completes words run Usage ran job files task served good = let both : None ≡ Some job = sym ran.unnamed ∙ served.named in absurd cc
+completes words run LoadFault ran job files task served good = absurd (served.loads ran.ended.rose)
+completes words run WriteFault ran job files task served good = absurd (served.puts ran.ended.ended.rose)
+completes words run (Refused refusal) ran job files task served good =
+    let ended = ended_with words run job files (Ready task) served good (Good task refl) (Refused refusal) ran.job ran.named ran.ended
+    (Bad refusal.file (At refusal.line refusal.cause) ran.ended.ended.0) in
+    let other : Ready task ≡ Unfit refusal.file (At refusal.line refusal.cause) = ended.0 in absurd cc
+completes words run NoMemory ran job files task served good = inr refl
 
--- two refusals of the same bytes are one
-one_refusal : (read : Result Task ReadFault) (refusal : Refusal) (kind : FileKind) (line : ℕ) (cause : Cause) → refusal.file ≡ kind →
-    read ≡ Err (At refusal.line refusal.cause) → read ≡ Err (At line cause) →
-    Refused refusal ≡ Refused (record { file = kind; line = line; cause = cause })
-one_refusal read refusal kind line cause kind_same one other =
-    let same : Err (At refusal.line refusal.cause) ≡ read = sym one in
+-- what was written was read from good files
+none_written : (kind : FileKind) (fault : ReadFault) (status : Status) (sink : Sinking) → WroteAll (Unfit kind fault) status sink → ⊥
+none_written kind fault status sink wrote = let good : Unfit kind fault ≡ Ready wrote.task = wrote.good in cc
+
+-- two refusals of the same files are one
+one_refusal : (kind : FileKind) (line : ℕ) (cause : Cause) (refusal : Refusal) → Unfit kind (At line cause) ≡ Unfit refusal.file (At refusal.line refusal.cause)
+    → Refused refusal ≡ Refused (record { file = kind; line = line; cause = cause })
+one_refusal kind line cause refusal same =
+    let kind_same : refusal.file ≡ kind = cc in
     let line_same : refusal.line ≡ line = cc in
     let cause_same : refusal.cause ≡ cause = cc in
     λ i. Refused (record { file = kind_same i; line = line_same i; cause = cause_same i })
 
-pub refuses : (run : Surroundings) (status : Status) → EndsWith run status → Refuses run status
-refuses run Done ran job bytes line cause served bad = absurd (none_written (At line cause) Done run.sink (ended_with run job bytes (Err (At line cause)) Done served bad ran))
-refuses run CheckNo ran job bytes line cause served bad = absurd (none_written (At line cause) CheckNo run.sink (ended_with run job bytes (Err (At line cause)) CheckNo served bad ran))
-refuses run Usage ran job bytes line cause served bad =
-    let both : None ≡ Some job = sym ran.unnamed ∙ served.named in absurd cc
-refuses run LoadFault ran job bytes line cause served bad = absurd (served.loads ran.rose)
-refuses run WriteFault ran job bytes line cause served bad = absurd (served.puts ran.ended.rose)
-refuses run (Refused refusal) ran job bytes line cause served bad =
-    let ended = ended_with run job bytes (Err (At line cause)) (Refused refusal) served bad ran in
-    inl (one_refusal (Err (At line cause)) refusal (kind_of job) line cause ended.0 ended.1 refl)
-refuses run NoMemory ran job bytes line cause served bad = inr refl
+pub refuses : (words : List (List ℕ)) (run : Surroundings) (status : Status) → EndsWith words run status → Refuses words run status
+refuses words run Done ran job files kind line cause served bad =
+    absurd (none_written kind (At line cause) Done run.sink
+    (ended_with words run job files (Unfit kind (At line cause)) served bad (Bad kind (At line cause) refl) Done ran.job ran.named ran.ended (Good ran.ended.ended.task ran.ended.ended.good)))
+refuses words run CheckNo ran job files kind line cause served bad =
+    absurd (none_written kind (At line cause) CheckNo run.sink
+    (ended_with words run job files (Unfit kind (At line cause)) served bad (Bad kind (At line cause) refl) CheckNo ran.job ran.named ran.ended (Good ran.ended.ended.task ran.ended.ended.good)))
+refuses words run Usage ran job files kind line cause served bad = let both : None ≡ Some job = sym ran.unnamed ∙ served.named in absurd cc
+refuses words run LoadFault ran job files kind line cause served bad = absurd (served.loads ran.ended.rose)
+refuses words run WriteFault ran job files kind line cause served bad = absurd (served.puts ran.ended.ended.rose)
+refuses words run (Refused refusal) ran job files kind line cause served bad =
+    inl (one_refusal kind line cause refusal
+    (ended_with words run job files (Unfit kind (At line cause)) served bad (Bad kind (At line cause) refl) (Refused refusal) ran.job ran.named ran.ended
+    (Bad refusal.file (At refusal.line refusal.cause) ran.ended.ended.0)).0)
+refuses words run NoMemory ran job files kind line cause served bad = inr refl

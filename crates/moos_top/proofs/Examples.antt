@@ -1,23 +1,25 @@
 -- Command lines, files and exits worked by hand.
 use Rattle.std.proofs.Common.{◌≡◌, [], ◌∷◌, refl}
-use Rattle.std.specs.Prelude.{codes, Some, None, Err}
+use Rattle.std.specs.Prelude.{codes, Some, None}
 use Rattle.clap.specs.Takes.{walk_passes}
 use Rattle.clap.specs.Walk.{walked}
 use Rattle.moos_text.specs.declared.cause.Cause.TheVariants.{P9, S7}
 use Rattle.moos_text.specs.declared.cause.ReadFault.TheVariants.{At}
 use Rattle.script_reader.specs.declared.script.Order.TheVariants.{Stamp, Race}
 use Rattle.moos_top.specs.declared.job.Job.TheVariants.{Play, Solve, Check}
-use Rattle.moos_top.specs.Jobs.{job_named, task_of}
+use Rattle.moos_top.specs.declared.status.FileKind.TheVariants.{Script as ScriptFile, Problem as ProblemFile}
+use Rattle.moos_top.specs.NotRun.{first_not_run}
+use Rattle.moos_top.specs.Jobs.{Unfit, job_named, turn_of}
 
-pub plays : job_named (codes "play" ∷ codes "survey.txt" ∷ []) ≡ Some (Play (codes "survey.txt") Stamp)
+pub plays : job_named (codes "play" ∷ codes "survey.txt" ∷ []) ≡ Some (Play (codes "survey.txt") None Stamp 1)
 unfolding walked walk_passes
 plays = refl
 
-races : job_named (codes "play" ∷ codes "survey.txt" ∷ codes "--race" ∷ []) ≡ Some (Play (codes "survey.txt") Race)
+races : job_named (codes "play" ∷ codes "survey.txt" ∷ codes "--race" ∷ []) ≡ Some (Play (codes "survey.txt") None Race 1)
 unfolding walked walk_passes
 races = refl
 
-races_with_the_flag_in_front : job_named (codes "play" ∷ codes "--race" ∷ codes "survey.txt" ∷ []) ≡ Some (Play (codes "survey.txt") Race)
+races_with_the_flag_in_front : job_named (codes "play" ∷ codes "--race" ∷ codes "survey.txt" ∷ []) ≡ Some (Play (codes "survey.txt") None Race 1)
 unfolding walked walk_passes
 races_with_the_flag_in_front = refl
 
@@ -29,9 +31,21 @@ a_script_is_named : job_named (codes "play" ∷ []) ≡ None
 unfolding walked walk_passes
 a_script_is_named = refl
 
-one_script_is_named : job_named (codes "play" ∷ codes "a" ∷ codes "b" ∷ []) ≡ None
+a_mission_is_named : job_named (codes "play" ∷ codes "a" ∷ codes "b" ∷ []) ≡ Some (Play (codes "a") (Some (codes "b")) Stamp 1)
 unfolding walked walk_passes
-one_script_is_named = refl
+a_mission_is_named = refl
+
+a_mission_has_workers : job_named (codes "play" ∷ codes "a" ∷ codes "--workers" ∷ codes "16" ∷ codes "b" ∷ codes "--race" ∷ []) ≡ Some (Play (codes "a") (Some (codes "b")) Race 16)
+unfolding walked walk_passes
+a_mission_has_workers = refl
+
+one_mission_is_named : job_named (codes "play" ∷ codes "a" ∷ codes "b" ∷ codes "c" ∷ []) ≡ None
+unfolding walked walk_passes
+one_mission_is_named = refl
+
+an_empty_name_is_one : job_named (codes "play" ∷ codes "a" ∷ [] ∷ []) ≡ Some (Play (codes "a") (Some []) Stamp 1)
+unfolding walked walk_passes
+an_empty_name_is_one = refl
 
 pub solves_by_one : job_named (codes "solve" ∷ codes "p" ∷ []) ≡ Some (Solve (codes "p") 1)
 unfolding walked walk_passes
@@ -63,8 +77,19 @@ no_other_job = refl
 no_words : job_named [] ≡ None
 no_words = refl
 
-bad_interval : task_of (Play (codes "a") Stamp) (codes "0 a register X -1") ≡ Err (At 1 S7)
+bad_interval : turn_of (Play (codes "a") None Stamp 1) (codes "0 a register X -1" ∷ []) ≡ Unfit ScriptFile (At 1 S7)
 bad_interval = refl
 
-no_problem : task_of (Solve (codes "p") 1) [] ≡ Err (At 1 P9)
+-- the script is refused before its mission is wanted
+bad_interval_with_a_mission : turn_of (Play (codes "a") (Some (codes "m")) Stamp 1) (codes "0 a register X -1" ∷ []) ≡ Unfit ScriptFile (At 1 S7)
+bad_interval_with_a_mission = refl
+
+no_problem : turn_of (Solve (codes "p") 1) ([] ∷ []) ≡ Unfit ProblemFile (At 1 P9)
 no_problem = refl
+
+-- a condition on the variable Behavior is no behaviour, nor is what is posted to it; a behaviour is found by its line
+a_behavior_is_found : first_not_run (codes "initialize Behavior = BHV_Timer\nset MODE = A {\n  Behavior = BHV_Timer\n}\n\nbehavior = BHV_Timer {\n  name = t\n}\n") ≡ Some 6
+a_behavior_is_found = refl
+
+modes_are_not_found : first_not_run (codes "set MODE = A\n{\n  Behavior = BHV_Timer\n} B\n") ≡ None
+modes_are_not_found = refl

@@ -1,5 +1,6 @@
 -- What the getters read of the matches, over what a command found.
-use Rattle.std.proofs.Common.{◌≡◌, ℕ, ◌<◌, ◌≤◌, ◌^◌, Bool, true, false, List, Option, Some, None, Result, Ok, Err, refl, sym, subst, ◌∙◌, codes, option_map, nat_lt, length, arith}
+use Rattle.std.proofs.Common.{◌≡◌, ℕ, ◌<◌, ◌≤◌, ◌^◌, Bool, true, false, List, Option, Some, None, Result, Ok, Err, refl, sym, subst, ◌∙◌, codes, option_map, nat_lt, length, ap, arith}
+use Rattle.std.specs.Prelude.{if◌then◌else◌, is_none, is_some}
 use Rattle.std.specs.Borrow.{Bor}
 use Rattle.std.proofs.lemmas.Bool.{lt-leb}
 use Rattle.std.proofs.Math.Bool.{and-false}
@@ -9,11 +10,12 @@ use Rattle.clap.specs.Matches.{ReadsOne}
 use Rattle.clap.specs.ValueTests.{is_numeral, is_unsigned_in}
 use Rattle.clap.specs.declared.builder.value_parser.ValueParser.TheVariants.{Unsigned}
 use Rattle.clap.proofs.ValueTestLemmas.{Accepts-accepts, accepts-Accepts}
-use Rattle.clap.specs.Words.{Text, first_value, one_text, rows_of}
+use Rattle.clap.specs.Words.{Text, first_of, first_value, one_text, rows_of}
 use Rattle.clap.specs.declared.parser.matches.Found.{Found}
 use Rattle.clap.proofs.WalkLemmas.{both, first_value-rows, one_text-rows}
 use Rattle.moos_post.specs.Words.{control_place}
 use Rattle.moos_top.specs.Commands.{few, file_in, is_set, text_of, workers_in, workers_of}
+use Rattle.moos_top.specs.Jobs.{mission_in}
 
 -- more bytes than a text can hold are no text, nor are bytes with one that it can't hold
 pub long_no_text : (bytes : List ℕ) → 4096 < length bytes → None ≡ text_of bytes
@@ -37,6 +39,24 @@ file_is f id found is = rw (← first_value-rows f id, ← found, is) refl
 
 pub file_none : (f : Found) (id : Text) {got : Option (Bor Text)} → option_map (λ text. text.now) got ≡ first_value f id → got ≡ None → None ≡ file_in id (rows_of f)
 file_none f id found is = rw (← first_value-rows f id, ← found, is) refl
+
+-- no mission was found
+pub mission_none : (f : Found) (got : Option (Bor Text)) → option_map (λ text. text.now) got ≡ first_value f (codes "mission") → is_some got ≡ false → Some None ≡ mission_in (rows_of f)
+mission_none f None found none = rw (← first_value-rows f (codes "mission"), ← found) refl
+mission_none f (Some text) found none = let both : true ≡ false = none in absurd cc
+
+-- a mission was found whose name is none
+pub mission_bad : (f : Found) (got : Option (Bor Text)) → option_map (λ text. text.now) got ≡ first_value f (codes "mission") → is_some got ≡ true
+    → None ≡ file_in (codes "mission") (rows_of f) → None ≡ mission_in (rows_of f)
+mission_bad f None found some bad = let both : false ≡ true = some in absurd cc
+mission_bad f (Some text) found some bad = found_bad (is_none (first_of (codes "mission") (rows_of f))) there
+  where
+    there : is_none (first_of (codes "mission") (rows_of f)) ≡ false
+    there = ap is_none (sym (first_value-rows f (codes "mission")) ∙ sym found)
+
+    found_bad : (none : Bool) → none ≡ false → None ≡ (if none then Some None else option_map (λ name. Some name) (file_in (codes "mission") (rows_of f)))
+    found_bad false is = ap (λ (name : Option Text). option_map (λ name. Some name) name) bad
+    found_bad true is = absurd cc
 
 -- a text that reads as a number
 workers_read : (text : Text) (number : ℕ) → IsNumeral 10 (without_leading_plus text) → digits_value 10 (without_leading_plus text) < 2 ^ 64

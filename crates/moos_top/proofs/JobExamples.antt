@@ -12,19 +12,21 @@ use Rattle.ivp_cert.proofs.Accepting.{walked_accepts}
 use Rattle.ivp_problem.specs.Problems.{WeightedSum}
 use Rattle.moos_post.specs.declared.entry.Call.TheVariants.{Fetch}
 use Rattle.moos_post.specs.declared.entry.Entry.{Entry}
+use Rattle.bhv_reader.specs.Behaviors.{nothing_said}
+use Rattle.mission_reader.specs.declared.mission.Mission.{Mission}
 use Rattle.moos_client.specs.Calls.{entries_of}
 use Rattle.moos_play.specs.Lawful.{IsLawful}
 use Rattle.script_reader.specs.declared.script.Order.TheVariants.{Stamp, Race}
 use Rattle.script_reader.specs.declared.script.Script.{Script}
-use Rattle.moos_text.specs.declared.cause.Cause.TheVariants.{P1, P9}
+use Rattle.moos_text.specs.declared.cause.Cause.TheVariants.{B1, B3, M1, M8, P1, P9}
 use Rattle.moos_text.specs.declared.cause.ReadFault.TheVariants.{At, NoMemory as Unread}
 use Rattle.moos_top.specs.declared.job.Job.TheVariants.{Play, Solve, Check}
-use Rattle.moos_top.specs.declared.status.FileKind.TheVariants.{Script as ScriptFile, Problem as ProblemFile, Decision as DecisionFile}
+use Rattle.moos_top.specs.declared.status.FileKind.TheVariants.{Script as ScriptFile, Mission as MissionFile, Behaviors as BehaviorsFile, Problem as ProblemFile, Decision as DecisionFile}
 use Rattle.moos_top.specs.declared.status.Status.TheVariants.{Done, CheckNo, Usage, LoadFault, WriteFault, Refused, NoMemory}
 use Rattle.moos_top.specs.Commands.{check_command, few, IsPlain, play_command, race_rule, solve_command, workers_rule}
 use Rattle.moos_top.specs.Exit.{code_of}
 use Rattle.moos_top.specs.Jobs.Task.{Checking, Playing, Solving}
-use Rattle.moos_top.specs.Jobs.{decision_on, file_of, HasFewWorkers, IsAccepted, IsOutput, kind_of, task_of}
+use Rattle.moos_top.specs.Jobs.{decision_on, HasFewWorkers, IsAccepted, IsOutput, Ready, turn_of, Unfit, Wanted, with_few_ticks}
 use Rattle.moos_top.specs.Steps.{Ended, sinking, status_of}
 use Rattle.moos_top.proofs.Playing.{all_entries}
 
@@ -68,22 +70,23 @@ pub printed : decision_lines [] (decision_on problem) ≡ decision_bytes
 unfolding digits
 printed = refl
 
--- the name of a job's file, and what it is
-files : (file_of (Play (codes "s") Stamp) ≡ codes "s") × (file_of (Solve (codes "p") 16) ≡ codes "p") × (file_of (Check (codes "d")) ≡ codes "d")
-files = (refl, refl, refl)
-
-kinds : (kind_of (Play (codes "s") Race) ≡ ScriptFile) × (kind_of (Solve (codes "p") 1) ≡ ProblemFile) × (kind_of (Check (codes "d")) ≡ DecisionFile)
-kinds = (refl, refl, refl)
+-- each job begins with its one file, or with the script, whether there is a mission or not
+first_files : (turn_of (Play (codes "s") None Race 1) [] ≡ Wanted ScriptFile (codes "s")) × (turn_of (Play (codes "s") (Some (codes "m")) Race 1) [] ≡ Wanted ScriptFile (codes "s"))
+    × (turn_of (Solve (codes "p") 16) [] ≡ Wanted ProblemFile (codes "p")) × (turn_of (Check (codes "d")) [] ≡ Wanted DecisionFile (codes "d"))
+first_files = (refl, refl, refl, refl)
 
 -- a job has from 1 to 16 workers
-workers : HasFewWorkers (Solve (codes "p") 1) × HasFewWorkers (Solve (codes "p") 16) × HasFewWorkers (Check (codes "d"))
-workers = ((omega arith, omega arith), (omega arith, omega arith), tt)
+workers : HasFewWorkers (Play (codes "s") None Stamp 16) × HasFewWorkers (Solve (codes "p") 1) × HasFewWorkers (Solve (codes "p") 16) × HasFewWorkers (Check (codes "d"))
+workers = ((omega arith, omega arith), (omega arith, omega arith), (omega arith, omega arith), tt)
 
 no_workers : HasFewWorkers (Solve (codes "p") 0) → ⊥
 no_workers has = omega (arith, has.0)
 
 seventeen_workers : HasFewWorkers (Solve (codes "p") 17) → ⊥
 seventeen_workers has = omega (arith, has.1)
+
+no_workers_of_a_helm : HasFewWorkers (Play (codes "s") (Some (codes "m")) Stamp 0) → ⊥
+no_workers_of_a_helm has = omega (arith, has.0)
 
 -- a number past these counts as 1
 few_workers : (few 0 ≡ 1) × (few 16 ≡ 16) × (few 17 ≡ 1)
@@ -107,7 +110,7 @@ great_default : IsPlain (with_rule (new_app (codes "solve")) (record workers_rul
 great_default is = let passes : false ≡ true = is.defaults in cc
 
 -- the bytes of two decisions: one claims the best point, and the other one the lesser
-checked : task_of (Check (codes "d")) decision_bytes ≡ Ok (Checking decision)
+checked : turn_of (Check (codes "d")) (decision_bytes ∷ []) ≡ Ready (Checking decision)
 checked = refl
 
 abbrev pub poor : Decision
@@ -116,7 +119,7 @@ poor = record decision { claim = record { point = record { at = 0 ∷ 0 ∷ 0 �
 abbrev pub poor_bytes : List ℕ
 poor_bytes = problem_bytes ++ codes "decision 0 5\ncut 0 : 6 1\ndone\n"
 
-poor_checked : task_of (Check (codes "d")) poor_bytes ≡ Ok (Checking poor)
+poor_checked : turn_of (Check (codes "d")) (poor_bytes ∷ []) ≡ Ready (Checking poor)
 poor_checked = refl
 
 -- the first is accepted; the one that claims the lesser point isn't, nor one without a line
@@ -146,8 +149,46 @@ fetches = record { stamp = 0; client = 0; call = Fetch } ∷ []
 abbrev pub script : Script
 script = record { names = codes "a" ∷ []; lines = fetches; stop = 0 }
 
-played : task_of (Play (codes "s") Stamp) (codes "0 a fetch\n") ≡ Ok (Playing Stamp script)
+played : turn_of (Play (codes "s") None Stamp 1) (codes "0 a fetch\n" ∷ []) ≡ Ready (Playing Stamp script None)
 played = refl
+
+-- with a mission, its file is wanted next, and then the behaviour file that it names
+mission_bytes : List ℕ
+mission_bytes = codes "ProcessConfig = pHelmIvP\n{\nbehaviors = b.bhv\ndomain = course:0:359:360\n}\n"
+
+mission : Mission
+mission = record { period = 250; behaviors = codes "b.bhv"; domain = record { name = codes "course"; low = pos 0; high = pos 359000; points = 360 } ∷ []; lines = 5 }
+
+mission_wanted : turn_of (Play (codes "s") (Some (codes "m")) Stamp 1) (codes "0 a fetch\n" ∷ []) ≡ Wanted MissionFile (codes "m")
+mission_wanted = refl
+
+behaviors_wanted : turn_of (Play (codes "s") (Some (codes "m")) Stamp 1) (codes "0 a fetch\n" ∷ mission_bytes ∷ []) ≡ Wanted BehaviorsFile (codes "b.bhv")
+unfolding mission_bytes
+behaviors_wanted = refl
+
+mission_refused : turn_of (Play (codes "s") (Some (codes "m")) Stamp 1) (codes "0 a fetch\n" ∷ codes "}\n" ∷ []) ≡ Unfit MissionFile (At 1 M1)
+mission_refused = refl
+
+-- so all is played with a helm without modes, or the behaviour file is refused, for what its reader says or for a behaviour that isn't run yet
+all_read : turn_of (Play (codes "s") (Some (codes "m")) Stamp 1) (codes "0 a fetch\n" ∷ mission_bytes ∷ [] ∷ []) ≡ Ready (Playing Stamp script (Some (record { mission = mission; file = nothing_said })))
+unfolding mission_bytes mission
+all_read = refl
+
+behaviors_refused : turn_of (Play (codes "s") (Some (codes "m")) Stamp 1) (codes "0 a fetch\n" ∷ mission_bytes ∷ codes "\n}\n" ∷ []) ≡ Unfit BehaviorsFile (At 2 B1)
+unfolding mission_bytes
+behaviors_refused = refl
+
+timer_refused : turn_of (Play (codes "s") (Some (codes "m")) Stamp 1) (codes "0 a fetch\n" ∷ mission_bytes ∷ codes "\nBehavior = BHV_Timer\n{\nname = t\n}\n" ∷ []) ≡ Unfit BehaviorsFile (At 2 B3)
+unfolding mission_bytes
+timer_refused = refl
+
+-- 20,000 iterations are the most: the last of these is at the last stamp
+few_ticks : with_few_ticks (record { names = []; lines = []; stop = 4999999 }) (record mission { period = 250 }) ≡ Ok (record mission { period = 250 })
+few_ticks = refl
+
+many_ticks : with_few_ticks (record { names = []; lines = []; stop = 5000000 }) (record mission { period = 250 }) ≡ Err (At 5 M8)
+unfolding mission
+many_ticks = refl
 
 -- it leaves no other history
 abbrev IsFirst : Entry → Type 0
@@ -175,11 +216,11 @@ no_other other is =
 pub fetches_lawful : IsLawful Stamp script None script.names fetches
 fetches_lawful = record { rest = fetches; opened = refl; steered = refl; own = λ client differs. refl; moments = refl }
 
-reported : IsOutput (Playing Stamp script) Done (codes "%% moosdb play 1\n%% client 0 a\n%% entry 0 0 a fetch\n%% end 1 0\n")
+reported : IsOutput (Playing Stamp script None) Done (codes "%% moosdb play 1\n%% client 0 a\n%% entry 0 0 a fetch\n%% end 1 0\n")
 unfolding digits
-reported = record { history = fetches; lawful = fetches_lawful; printed = refl; listed = λ other is text. no_other other is }
+reported = record { history = fetches; lawful = fetches_lawful; printed = refl; listed = λ other none is text. no_other other is }
 
-nothing_reported : IsOutput (Playing Stamp script) Done [] → ⊥
+nothing_reported : IsOutput (Playing Stamp script None) Done [] → ⊥
 nothing_reported is = let printed = is.printed in cc
 
 -- a reader's refusal is the run's, with the kind of file, and its want of memory is the run's
@@ -187,15 +228,15 @@ statuses : (status_of DecisionFile (At 3 P1) ≡ Refused (record { file = Decisi
 statuses = (refl, refl)
 
 -- how the problem's job ends: all is written, or a front of it where the sink failed
-all_written : Ended ProblemFile (Ok (Solving problem)) (sinking (Some (codes "x")) (Some (codes "x" ++ decision_bytes)) 0 0) Done
+all_written : Ended (Ready (Solving problem)) (sinking (Some (codes "x")) (Some (codes "x" ++ decision_bytes)) 0 0) Done
 unfolding digits
 all_written = record { task = Solving problem; good = refl; text = decision_bytes; output = refl; took = refl }
 
-front_written : Ended ProblemFile (Ok (Solving problem)) (sinking (Some []) (Some (take 20 decision_bytes)) 0 1) WriteFault
+front_written : Ended (Ready (Solving problem)) (sinking (Some []) (Some (take 20 decision_bytes)) 0 1) WriteFault
 unfolding digits
 front_written = record { task = Solving problem; good = refl; status = Done; text = decision_bytes; output = refl; took = (20, omega arith, refl); rose = inl (omega arith) }
 
-failed_without_a_fault : Ended ProblemFile (Ok (Solving problem)) (sinking (Some []) (Some decision_bytes) 0 0) WriteFault → ⊥
+failed_without_a_fault : Ended (Ready (Solving problem)) (sinking (Some []) (Some decision_bytes) 0 0) WriteFault → ⊥
 failed_without_a_fault is =
     elim is.rose [
       | inl rose ↦ omega arith
@@ -203,30 +244,30 @@ failed_without_a_fault is =
     ]
 
 -- a good file isn't refused or half done with; a bad one is refused for what is wrong with it, and nothing is written
-ended_usage : Ended ProblemFile (Ok (Solving problem)) (sinking (Some []) (Some []) 0 0) Usage → ⊥
+ended_usage : Ended (Ready (Solving problem)) (sinking (Some []) (Some []) 0 0) Usage → ⊥
 ended_usage is = is
 
-good_refused : Ended ProblemFile (Ok (Solving problem)) (sinking (Some []) (Some []) 0 0) (Refused (record { file = ProblemFile; line = 1; cause = P9 })) → ⊥
-good_refused is = let read = is.1 in cc
+good_refused : Ended (Ready (Solving problem)) (sinking (Some []) (Some []) 0 0) (Refused (record { file = ProblemFile; line = 1; cause = P9 })) → ⊥
+good_refused is = let read = is.0 in cc
 
-bad_refused : Ended ProblemFile (Err (At 1 P9)) (sinking (Some []) (Some []) 0 0) (Refused (record { file = ProblemFile; line = 1; cause = P9 }))
-bad_refused = (refl, refl, record { taken = refl; faults = refl })
+bad_refused : Ended (Unfit ProblemFile (At 1 P9)) (sinking (Some []) (Some []) 0 0) (Refused (record { file = ProblemFile; line = 1; cause = P9 }))
+bad_refused = (refl, record { taken = refl; faults = refl })
 
-other_line : Ended ProblemFile (Err (At 1 P9)) (sinking (Some []) (Some []) 0 0) (Refused (record { file = ProblemFile; line = 2; cause = P9 })) → ⊥
-other_line is = let read = is.1 in cc
+other_line : Ended (Unfit ProblemFile (At 1 P9)) (sinking (Some []) (Some []) 0 0) (Refused (record { file = ProblemFile; line = 2; cause = P9 })) → ⊥
+other_line is = let read = is.0 in cc
 
-other_kind : Ended ProblemFile (Err (At 1 P9)) (sinking (Some []) (Some []) 0 0) (Refused (record { file = DecisionFile; line = 1; cause = P9 })) → ⊥
+other_kind : Ended (Unfit ProblemFile (At 1 P9)) (sinking (Some []) (Some []) 0 0) (Refused (record { file = DecisionFile; line = 1; cause = P9 })) → ⊥
 other_kind is = let kind = is.0 in cc
 
-refused_and_written : Ended ProblemFile (Err (At 1 P9)) (sinking (Some []) (Some (codes "no\n")) 0 0) (Refused (record { file = ProblemFile; line = 1; cause = P9 })) → ⊥
-refused_and_written is = let taken : Some (codes "no\n") ≡ Some [] = is.2.taken in cc
+refused_and_written : Ended (Unfit ProblemFile (At 1 P9)) (sinking (Some []) (Some (codes "no\n")) 0 0) (Refused (record { file = ProblemFile; line = 1; cause = P9 })) → ⊥
+refused_and_written is = let taken : Some (codes "no\n") ≡ Some [] = is.1.taken in cc
 
-done_with_the_bad : Ended ProblemFile (Err (At 1 P9)) (sinking (Some []) (Some []) 0 0) Done → ⊥
+done_with_the_bad : Ended (Unfit ProblemFile (At 1 P9)) (sinking (Some []) (Some []) 0 0) Done → ⊥
 done_with_the_bad is = let good = is.good in cc
 
-half_done : Ended ProblemFile (Ok (Solving problem)) (sinking (Some []) (Some (take 20 decision_bytes)) 0 0) Done → ⊥
+half_done : Ended (Ready (Solving problem)) (sinking (Some []) (Some (take 20 decision_bytes)) 0 0) Done → ⊥
 half_done is =
-    let good : Ok (Solving problem) ≡ Ok is.task = is.good in
+    let good : Ready (Solving problem) ≡ Ready is.task = is.good in
     let task : is.task ≡ Solving problem = cc in
     let output : is.text ≡ decision_lines [] (decision_on problem) = subst (λ task. IsOutput task Done is.text) task is.output in
     let took : Some (take 20 decision_bytes) ≡ Some is.text = is.took in

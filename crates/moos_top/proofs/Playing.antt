@@ -1,7 +1,7 @@
 -- From a lawful history to its report.
-use Rattle.std.proofs.Common.{◌≡◌, ℕ, zero, suc, ◌<◌, Bool, true, false, cond, not, ◌&&◌, nat_lt, nat_le, nat_eq, List, [], ◌∷◌, length, bytes_eq, codes, refl, ap, sym, ◌∙◌, subst, arith, None, inl, inr}
+use Rattle.std.proofs.Common.{◌≡◌, ℕ, zero, suc, ◌<◌, Bool, true, false, cond, not, ◌&&◌, nat_lt, nat_le, nat_eq, List, [], ◌∷◌, length, bytes_eq, codes, refl, ap, sym, ◌∙◌, subst, arith, None, Some, inl, inr}
 use Rattle.std.specs.List.{All, list_any}
-use Rattle.std.proofs.lemmas.Bool.{and_parts, cases_eq, eq-eqb, ltb-true}
+use Rattle.std.proofs.lemmas.Bool.{and_parts, cases_eq, eq-eqb, lt-ltb, ltb-true}
 use Rattle.std.proofs.lemmas.List.Elements.{All-cons, All-filter, All-head, All-nil, All-tail}
 use Rattle.std.proofs.lemmas.List.Folds.{list_any_at}
 use Rattle.std.proofs.lemmas.Slice.Eq.{bytes_eq-Decides}
@@ -9,11 +9,17 @@ use Rattle.moos_post.specs.declared.entry.Entry.{Entry}
 use Rattle.moos_post.specs.Entries.{IsEntry}
 use Rattle.moos_post.specs.History.{History, name_of}
 use Rattle.moos_client.specs.Calls.{entries_of}
-use Rattle.moos_play.specs.Lawful.{IsLawful}
+use Rattle.helm_core.specs.declared.iteration.Iteration.{Iteration}
+use Rattle.bhv_reader.specs.declared.decl.Decl.{Decl}
+use Rattle.helm_core.specs.Helms.{plan_of}
+use Rattle.helm_core.specs.Posts.{are_declared_modes}
+use Rattle.helm_core.specs.Plans.{plan_made}
+use Rattle.moos_play.specs.declared.run.HelmRun.{HelmRun}
+use Rattle.moos_play.specs.Lawful.{IsLawful, heard_of, helm_number, iterations, names_with, steering_with}
 use Rattle.moos_report.specs.declared.setup.Setup.{Setup}
 use Rattle.moos_report.specs.Community.{HaveOwnNames, IsCommunity, StandOnLines}
 use Rattle.moos_report.specs.Report.{report_text, ReportsTell}
-use Rattle.moos_top.specs.Jobs.{IsReport, no_modes}
+use Rattle.moos_top.specs.Jobs.{HelmFiles, IsReport, no_modes, setup_of, steering_by}
 use Rattle.script_reader.specs.declared.script.Order.{Order}
 use Rattle.script_reader.specs.declared.script.Script.{Script}
 use Rattle.script_reader.specs.Validity.{are_clients, are_lines, keeps_limits, IsValid}
@@ -85,14 +91,14 @@ lawful_community order script history valid lawful = record {
     all : All (IsBy (length script.names)) history
     all = subst (All (IsBy (length script.names))) (sym lawful.opened) (all_entries (IsBy (length script.names)) lawful.rest (own_entries order script history valid lawful))
 
--- the report of a lawful history of the script
+-- the report of a lawful history of the script, which no helm runs beside
 pub reported : (order : Order) (script : Script) (setup : Setup) (names : List (List ℕ)) (history : History) → ReportsTell → IsValid script → setup ≡ no_modes → names ≡ script.names
-    → IsLawful order script None names history → IsReport order script (report_text setup names history [])
+    → IsLawful order script None names history → IsReport order script None (report_text setup names history [])
 reported order script setup names history tell valid plain same among = record {
   history = history;
   lawful = lawful;
   printed = printed;
-  listed = λ other is text.
+  listed = λ other none is text.
       (tell no_modes no_modes script.names script.names history other [] [] (lawful_community order script history valid lawful) (lawful_community order script other valid is)
       named named (sym text ∙ printed)).1;
 }
@@ -110,3 +116,27 @@ reported order script setup names history tell valid plain same among = record {
       modes = λ i d within. absurd (omega (arith, within));
       axes = λ i d within. absurd (omega (arith, within));
     }
+
+-- the report of a lawful history of the script and a helm of these files
+pub reported_with : (order : Order) (script : Script) (files : HelmFiles) (setup : Setup) (run : HelmRun) (names : List (List ℕ)) (history : History) (iterations_made : List Iteration)
+    → setup ≡ setup_of (Some files) → plan_of run.helm ≡ plan_made files.mission files.file → run.period ≡ files.mission.period → names ≡ names_with script (Some run)
+    → IsLawful order script (Some (steering_with script run)) names history
+    → iterations_made ≡ iterations (Some (steering_with script run)) script.stop (heard_of names (helm_number script) history)
+    → IsReport order script (Some files) (report_text setup names history iterations_made)
+reported_with order script files setup run names history iterations_made told plan period named lawful made = record {
+  history = history;
+  lawful = subst (λ names. IsLawful order script (Some (steering_by script files)) names history) named (subst (λ helm. IsLawful order script (Some helm) names history) same lawful);
+  printed =
+      ap (λ setup. report_text setup names history iterations_made) told
+      ∙ ap (λ made. report_text (setup_of (Some files)) names history made) (made ∙ ap (λ helm. iterations (Some helm) script.stop (heard_of names (helm_number script) history)) same)
+      ∙ ap (λ names. report_text (setup_of (Some files)) names history (iterations (Some (steering_by script files)) script.stop (heard_of names (helm_number script) history))) named;
+  listed = λ other none is text. let none : Some files ≡ None = none in absurd cc;
+}
+  where
+    same : steering_with script run ≡ steering_by script files
+    same = λ i. record { client = helm_number script; plan = plan i; period = period i }
+
+-- modes are declared where there is a declaration
+pub declared : (decls : List Decl) → nat_lt 0 (length decls) ≡ are_declared_modes decls
+declared [] = refl
+declared (decl ∷ decls) = lt-ltb 0 (length (decl ∷ decls)) (omega arith)

@@ -16,6 +16,10 @@ use Rattle.moos_post.specs.Words.{is_text}
 abbrev pub file_rule : Text → Rule
 file_rule id = record (new_rule id) { required = true }
 
+-- the name of a file, which may be there
+abbrev pub other_file_rule : Text → Rule
+other_file_rule id = new_rule id
+
 -- `--race`, which may be there once
 abbrev pub race_rule : Rule
 race_rule = record (new_rule (codes "race")) { long = Some (codes "race"); action = Some SetTrue }
@@ -24,9 +28,11 @@ race_rule = record (new_rule (codes "race")) { long = Some (codes "race"); actio
 abbrev pub workers_rule : Rule
 workers_rule = record (new_rule (codes "workers")) { long = Some (codes "workers"); parser = Some (Unsigned 1 16); defaults = codes "1" ∷ [] }
 
--- `play SCRIPT [--race]`
+-- `play SCRIPT [MISSION] [--workers N] [--race]`
 abbrev pub play_command : App
-play_command = with_rule (with_rule (new_app (codes "play")) (file_rule (codes "script"))) race_rule
+play_command =
+    with_rule (with_rule (with_rule (with_rule (new_app (codes "play")) (file_rule (codes "script"))) (other_file_rule (codes "mission"))) workers_rule)
+    race_rule
 
 -- `solve PROBLEM [--workers N]`
 abbrev pub solve_command : App

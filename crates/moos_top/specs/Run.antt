@@ -1,19 +1,19 @@
 -- What a run of the program does, by the status that it ends with.
-use Rattle.std.specs.Prelude.{◌≡◌, ℕ, false, ◌⊎◌, List, Option, Some, None, IfSome, Ok, Err}
+use Rattle.std.specs.Prelude.{◌≡◌, ℕ, false, ◌⊎◌, List, [], ◌∷◌, ◌++◌, Option, Some, None, IfSome}
 use Rattle.moos_io.specs.Faults.{Rose}
 use Rattle.moos_io.specs.Files.{is_among}
 use Rattle.moos_text.specs.declared.cause.Cause.{Cause}
 use Rattle.moos_text.specs.declared.cause.ReadFault.TheVariants.{At}
 use Rattle.moos_top.specs.declared.job.Job.{Job}
+use Rattle.moos_top.specs.declared.status.FileKind.{FileKind}
 use Rattle.moos_top.specs.declared.status.Status.{Status}
 use Rattle.moos_top.specs.declared.status.Status.TheVariants.{Done, CheckNo, Usage, LoadFault, WriteFault, Refused, NoMemory}
-use Rattle.moos_top.specs.Jobs.{Task, file_of, job_named, kind_of, task_of}
+use Rattle.moos_top.specs.Jobs.{FileTurn, Ready, Task, Unfit, Wanted, job_named, turn_of}
 use Rattle.moos_top.specs.Steps.{Ended, IsUntouched, Sinking, WroteAll}
 
--- What surrounds a run: the words of the command line; what the folder tells of its files, the names that it is sure
--- of, and how often it failed before the run and after it; and the sink.
+-- What surrounds a run besides its words: what the folder tells of its files, the names that it is sure of, and how often it
+-- failed before the run and after it; and the sink.
 pub record Surroundings : Type 0 where
-  pub words : List (List ℕ)
   pub told : Option (List ℕ → Option (List ℕ))
   pub sure : List (List ℕ)
   pub load_faults_before : ℕ
@@ -21,64 +21,93 @@ pub record Surroundings : Type 0 where
   pub sink : Sinking
 
 -- the surroundings with these parts, in their order
-abbrev pub surroundings : List (List ℕ) → Option (List ℕ → Option (List ℕ)) → List (List ℕ) → ℕ → ℕ → Sinking → Surroundings
-surroundings words told sure load_faults_before load_faults_after sink =
-    record { words = words; told = told; sure = sure; load_faults_before = load_faults_before; load_faults_after = load_faults_after; sink = sink }
+abbrev pub surroundings : Option (List ℕ → Option (List ℕ)) → List (List ℕ) → ℕ → ℕ → Sinking → Surroundings
+surroundings told sure load_faults_before load_faults_after sink =
+    record { told = told; sure = sure; load_faults_before = load_faults_before; load_faults_after = load_faults_after; sink = sink }
 
 -- the folder's file of this name has these bytes, where the folder tells them
 abbrev pub HasBytes : Option (List ℕ → Option (List ℕ)) → List ℕ → List ℕ → Type 0
 HasBytes told name bytes = IfSome told (λ files. files name ≡ Some bytes)
 
--- the words name a job, and it ended so with the bytes of its file
-pub record DidJob (run : Surroundings) (status : Status) : Type 0 where
+-- these are the bytes of the file that is wanted
+abbrev pub WasWanted : Option (List ℕ → Option (List ℕ)) → FileTurn → List ℕ → Type 0
+WasWanted told (Wanted kind name) bytes = HasBytes told name bytes
+WasWanted told (Ready task) bytes = ⊥
+WasWanted told (Unfit kind fault) bytes = ⊥
+
+-- the job, which has loaded the first files, loads the second ones behind them, each where it is wanted
+abbrev pub AreLoaded : Option (List ℕ → Option (List ℕ)) → Job → List (List ℕ) → List (List ℕ) → Type 0
+AreLoaded told job front [] = Unit {0}
+AreLoaded told job front (bytes ∷ files) = WasWanted told (turn_of job front) bytes × AreLoaded told job (front ++ bytes ∷ []) files
+
+-- the job, which has loaded the first files, loads more of them and ends so
+pub record DidFrom (run : Surroundings) (job : Job) (front : List (List ℕ)) (status : Status) : Type 0 where
+  pub files : List (List ℕ)
+  pub loaded : AreLoaded run.told job front files
+  pub ended : Ended (turn_of job (front ++ files)) run.sink status
+
+-- the job, which has loaded the first files, loads more of them up to one whose loading fails: the folder failed, and it isn't sure
+-- of this file; nothing was written
+pub record FailsFrom (run : Surroundings) (job : Job) (front : List (List ℕ)) : Type 0 where
+  pub rose : Rose run.load_faults_before run.load_faults_after
+  pub files : List (List ℕ)
+  pub loaded : AreLoaded run.told job front files
+  pub kind : FileKind
+  pub name : List ℕ
+  pub wanted : turn_of job (front ++ files) ≡ Wanted kind name
+  pub unsure : is_among run.sure name ≡ false
+  pub silent : IsUntouched run.sink
+
+-- how a job that has loaded the first files goes on and ends; without memory nothing is written
+abbrev pub EndsFrom : Surroundings → Job → List (List ℕ) → Status → Type 0
+EndsFrom run job front Done = DidFrom run job front Done
+EndsFrom run job front CheckNo = DidFrom run job front CheckNo
+EndsFrom run job front Usage = ⊥
+EndsFrom run job front LoadFault = FailsFrom run job front
+EndsFrom run job front WriteFault = DidFrom run job front WriteFault
+EndsFrom run job front (Refused refusal) = DidFrom run job front (Refused refusal)
+EndsFrom run job front NoMemory = IsUntouched run.sink
+
+-- the words name a job, which begins without a file and ends so
+pub record DidJob (words : List (List ℕ)) (run : Surroundings) (status : Status) : Type 0 where
   pub job : Job
-  pub named : job_named run.words ≡ Some job
-  pub bytes : List ℕ
-  pub content : HasBytes run.told (file_of job) bytes
-  pub ended : Ended (kind_of job) (task_of job bytes) run.sink status
+  pub named : job_named words ≡ Some job
+  pub ended : EndsFrom run job [] status
 
 -- Usage: the words name no job. No load failed, and nothing was written.
-pub record HasNoJob (run : Surroundings) : Type 0 where
-  pub unnamed : job_named run.words ≡ None
+pub record HasNoJob (words : List (List ℕ)) (run : Surroundings) : Type 0 where
+  pub unnamed : job_named words ≡ None
   pub load_faults : run.load_faults_after ≡ run.load_faults_before
   pub silent : IsUntouched run.sink
 
--- LoadFault: the folder failed, and it isn't sure of the job's file. Nothing was written.
-pub record FailsToLoad (run : Surroundings) : Type 0 where
-  pub rose : Rose run.load_faults_before run.load_faults_after
-  pub job : Job
-  pub named : job_named run.words ≡ Some job
-  pub unsure : is_among run.sure (file_of job) ≡ false
-  pub silent : IsUntouched run.sink
+-- What a run with these words did that ended with this status. No memory: nothing is written.
+abbrev pub EndsWith : List (List ℕ) → Surroundings → Status → Type 0
+EndsWith words run Done = DidJob words run Done
+EndsWith words run CheckNo = DidJob words run CheckNo
+EndsWith words run Usage = HasNoJob words run
+EndsWith words run LoadFault = DidJob words run LoadFault
+EndsWith words run WriteFault = DidJob words run WriteFault
+EndsWith words run (Refused refusal) = DidJob words run (Refused refusal)
+EndsWith words run NoMemory = IsUntouched run.sink
 
--- What a run did that ended with this status. No memory: nothing is written.
-abbrev pub EndsWith : Surroundings → Status → Type 0
-EndsWith run Done = DidJob run Done
-EndsWith run CheckNo = DidJob run CheckNo
-EndsWith run Usage = HasNoJob run
-EndsWith run LoadFault = FailsToLoad run
-EndsWith run WriteFault = DidJob run WriteFault
-EndsWith run (Refused refusal) = DidJob run (Refused refusal)
-EndsWith run NoMemory = IsUntouched run.sink
-
--- the words name this job, whose file the folder tells to have these bytes, and neither loading nor writing fails
-pub record IsServed (run : Surroundings) (job : Job) (bytes : List ℕ) : Type 0 where
-  pub files : List ℕ → Option (List ℕ)
-  pub told : run.told ≡ Some files
-  pub named : job_named run.words ≡ Some job
-  pub content : files (file_of job) ≡ Some bytes
+-- the words name this job, which loads these files where the folder tells its own, and neither loading nor writing fails
+pub record IsServed (words : List (List ℕ)) (run : Surroundings) (job : Job) (files : List (List ℕ)) : Type 0 where
+  pub told : List ℕ → Option (List ℕ)
+  pub telling : run.told ≡ Some told
+  pub named : job_named words ≡ Some job
+  pub loaded : AreLoaded run.told job [] files
   pub loads : Rose run.load_faults_before run.load_faults_after → ⊥
   pub puts : Rose run.sink.faults_before run.sink.faults_after → ⊥
 
--- a job whose file is good, and that nothing fails at, writes all that it may write and end with this status: it is done,
+-- a job whose files are good, and that nothing fails at, writes all that it may write and end with this status: it is done,
 -- and a check answers whether the decision is accepted; unless no memory was left
-abbrev pub Completes : Surroundings → Status → Type 0
-Completes run status =
-    (job : Job) (bytes : List ℕ) (task : Task) → IsServed run job bytes → task_of job bytes ≡ Ok task → WroteAll (Ok task) status run.sink ⊎ (status ≡ NoMemory)
+abbrev pub Completes : List (List ℕ) → Surroundings → Status → Type 0
+Completes words run status =
+    (job : Job) (files : List (List ℕ)) (task : Task) → IsServed words run job files → turn_of job files ≡ Ready task → WroteAll (Ready task) status run.sink ⊎ (status ≡ NoMemory)
 
--- a job whose file isn't good, and that nothing fails at, is refused with the file's first refusal, unless no memory was
--- left
-abbrev pub Refuses : Surroundings → Status → Type 0
-Refuses run status =
-    (job : Job) (bytes : List ℕ) (line : ℕ) (cause : Cause) → IsServed run job bytes → task_of job bytes ≡ Err (At line cause)
-    → (status ≡ Refused (record { file = kind_of job; line = line; cause = cause })) ⊎ (status ≡ NoMemory)
+-- a job of whose files the last one isn't good, and that nothing fails at, is refused with that file's first refusal, unless no
+-- memory was left
+abbrev pub Refuses : List (List ℕ) → Surroundings → Status → Type 0
+Refuses words run status =
+    (job : Job) (files : List (List ℕ)) (kind : FileKind) (line : ℕ) (cause : Cause) → IsServed words run job files → turn_of job files ≡ Unfit kind (At line cause)
+    → (status ≡ Refused (record { file = kind; line = line; cause = cause })) ⊎ (status ≡ NoMemory)

@@ -1,5 +1,5 @@
--- How a job ends with the bytes of its file: what it wrote, and with which status.
-use Rattle.std.specs.Prelude.{◌≡◌, ℕ, List, Option, Result, Ok, Err}
+-- How a job ends that needs no more files: what it wrote, and with which status.
+use Rattle.std.specs.Prelude.{◌≡◌, ℕ, List, Option}
 use Rattle.moos_io.specs.Faults.{Rose}
 use Rattle.moos_io.specs.Pieces.{Took, TookFront}
 use Rattle.moos_text.specs.declared.cause.ReadFault.{ReadFault}
@@ -7,7 +7,7 @@ use Rattle.moos_text.specs.declared.cause.ReadFault.TheVariants.{At, NoMemory as
 use Rattle.moos_top.specs.declared.status.FileKind.{FileKind}
 use Rattle.moos_top.specs.declared.status.Status.{Status}
 use Rattle.moos_top.specs.declared.status.Status.TheVariants.{Done, CheckNo, Usage, LoadFault, WriteFault, Refused, NoMemory}
-use Rattle.moos_top.specs.Jobs.{IsOutput, Task}
+use Rattle.moos_top.specs.Jobs.{FileTurn, IsOutput, Ready, Task, Unfit}
 
 -- the status for what a reader of such files answers in place of what a file holds
 abbrev pub status_of : FileKind → ReadFault → Status
@@ -31,31 +31,31 @@ pub record IsUntouched (sink : Sinking) : Type 0 where
   pub taken : sink.taken_after ≡ sink.taken_before
   pub faults : sink.faults_after ≡ sink.faults_before
 
--- the sink took all of a text that the job may write and end with this status, of what its file holds
-pub record WroteAll (read : Result Task ReadFault) (status : Status) (sink : Sinking) : Type 0 where
+-- the sink took all of a text that the job may write and end with this status, of what its files hold
+pub record WroteAll (turn : FileTurn) (status : Status) (sink : Sinking) : Type 0 where
   pub task : Task
-  pub good : read ≡ Ok task
+  pub good : turn ≡ Ready task
   pub text : List ℕ
   pub output : IsOutput task status text
   pub took : Took sink.taken_before sink.taken_after text
 
 -- the sink failed, and took a front of what the job else writes, not the whole
-pub record WroteFront (read : Result Task ReadFault) (sink : Sinking) : Type 0 where
+pub record WroteFront (turn : FileTurn) (sink : Sinking) : Type 0 where
   pub task : Task
-  pub good : read ≡ Ok task
+  pub good : turn ≡ Ready task
   pub status : Status
   pub text : List ℕ
   pub output : IsOutput task status text
   pub took : TookFront sink.taken_before sink.taken_after text
   pub rose : Rose sink.faults_before sink.faults_after
 
--- how a job ends whose file, of this kind, holds this or is refused; a refusal is the first one, and then nothing is
--- written, nor where no memory is left
-abbrev pub Ended : FileKind → Result Task ReadFault → Sinking → Status → Type 0
-Ended kind read sink Done = WroteAll read Done sink
-Ended kind read sink CheckNo = WroteAll read CheckNo sink
-Ended kind read sink Usage = ⊥
-Ended kind read sink LoadFault = ⊥
-Ended kind read sink WriteFault = WroteFront read sink
-Ended kind read sink (Refused refusal) = (refusal.file ≡ kind) × (read ≡ Err (At refusal.line refusal.cause)) × IsUntouched sink
-Ended kind read sink NoMemory = IsUntouched sink
+-- how a job ends that stands so with its files; a refusal is the first one, and then nothing is written, nor where no memory is
+-- left
+abbrev pub Ended : FileTurn → Sinking → Status → Type 0
+Ended turn sink Done = WroteAll turn Done sink
+Ended turn sink CheckNo = WroteAll turn CheckNo sink
+Ended turn sink Usage = ⊥
+Ended turn sink LoadFault = ⊥
+Ended turn sink WriteFault = WroteFront turn sink
+Ended turn sink (Refused refusal) = (turn ≡ Unfit refusal.file (At refusal.line refusal.cause)) × IsUntouched sink
+Ended turn sink NoMemory = IsUntouched sink

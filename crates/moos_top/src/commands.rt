@@ -1,7 +1,7 @@
 // The commands of the program's jobs, and what they find in the words of a command line.
 ghost use Rattle.std.specs.Prelude.{◌≡◌, ◌≤◌, IfOk, Some, option_map, false};
 ghost use Rattle.clap.specs.Words.{app_of, found_of, rows_of, rule_of};
-ghost use Rattle.moos_top.specs.Commands.{IsPlain, check_command, file_in, file_rule, found_in, few, is_set, play_command, race_rule, solve_command, text_of, workers_in, workers_rule};
+ghost use Rattle.moos_top.specs.Commands.{IsPlain, check_command, file_in, file_rule, found_in, few, is_set, other_file_rule, play_command, race_rule, solve_command, text_of, workers_in, workers_rule};
 
 use crate::words::Word;
 use clap::error::ErrorKind;
@@ -9,12 +9,14 @@ use clap::{Arg, ArgAction, ArgMatches, Command, value_parser};
 use moos_post::{NoMemory, Txt, TxtFault};
 use std::alloc::{AllocError, Global};
 
-/// `play SCRIPT [--race]`
+/// `play SCRIPT [MISSION] [--workers N] [--race]`
 pub fn play_command<'a>(alloc: Global) -> Result<Command<'a>, NoMemory>
     ensures { IfOk result (λ command. app_of command ≡ play_command) }
 {
     Command::new(alloc, "play")
         .arg(file_arg(alloc, "script"))?
+        .arg(other_file_arg(alloc, "mission"))?
+        .arg(workers_arg(alloc))?
         .arg(race_arg(alloc))
 }
 
@@ -40,6 +42,14 @@ fn file_arg<'a>(alloc: Global, id: &'a str) -> Arg<'a>
     ensures local { result.global ≡ false }
 {
     Arg::new(alloc, id).required(true)
+}
+
+// The name of a file that need not be there.
+fn other_file_arg<'a>(alloc: Global, id: &'a str) -> Arg<'a>
+    ensures rule { rule_of result ≡ other_file_rule id.entry.now }
+    ensures local { result.global ≡ false }
+{
+    Arg::new(alloc, id)
 }
 
 // `--race`

@@ -1,7 +1,7 @@
 // The job that a command line asks for.
 ghost use Rattle.std.specs.Prelude.{◌≡◌, IfOk, IfSome, option_and_then};
 ghost use Rattle.moos_top.specs.Commands.{check_command, found_in, play_command, solve_command};
-ghost use Rattle.moos_top.specs.Jobs.{HasFewWorkers, check_of, file_of, job_named, order_in, play_of, solve_of};
+ghost use Rattle.moos_top.specs.Jobs.{HasFewWorkers, check_of, job_named, mission_in, order_in, play_of, solve_of};
 ghost use Rattle.clap.specs.Words.{found_of, rows_of};
 
 use crate::commands::{
@@ -13,26 +13,26 @@ use moos_play::Order;
 use moos_post::{NoMemory, Txt};
 use std::alloc::Global;
 
-/// A job, with the name of its file.
+/// A job, with the names of the files that its command line names.
 #[derive(Debug, Drop)]
 pub enum Job {
-    /// Plays a script, and reports what came of it.
-    Play { script: Txt, order: Order },
+    /// Plays a script, with the helm of a mission where one is named, and reports what came of it. The helm has so many
+    /// workers, from 1 to 16.
+    Play {
+        script: Txt,
+        mission: Option<Txt>,
+        order: Order,
+        workers: u32,
+    },
     /// Decides a problem by so many workers, from 1 to 16.
-    Solve { problem: Txt, workers: u32 },
+    Solve {
+        problem: Txt,
+        workers: u32,
+    },
     /// Checks a decision.
-    Check { decision: Txt },
-}
-
-/// The name of the job's file.
-pub fn file_name(job: &Job) -> &[u8]
-    ensures { result.now ≡ file_of job.now }
-{
-    match job {
-        Job::Play { script, .. } => script.bytes(),
-        Job::Solve { problem, .. } => problem.bytes(),
-        Job::Check { decision } => decision.bytes(),
-    }
+    Check {
+        decision: Txt,
+    },
 }
 
 /// The job that the words name: the first is that of a job, whose command takes them.
@@ -65,10 +65,31 @@ fn play_of(alloc: Global, matches: &ArgMatches) -> Result<Option<Job>, NoMemory>
     ensures few { IfOk result (λ job. IfSome job HasFewWorkers) }
 {
     let order = order_in(matches);
-    match file_in(alloc, matches, "script") {
-        Ok(Some(script)) => Ok(Some(Job::Play { script, order })),
-        Ok(None) => Ok(None),
-        Err(no_memory) => Err(no_memory),
+    let workers = workers_in(matches);
+    let Some(script) = file_in(alloc, matches, "script")? else {
+        return Ok(None);
+    };
+    match mission_in(alloc, matches)? {
+        Some(mission) => Ok(Some(Job::Play {
+            script,
+            mission,
+            order,
+            workers,
+        })),
+        None => Ok(None),
+    }
+}
+
+// The name of the mission, where one was found; and none where what was found is no name of a file.
+fn mission_in(alloc: Global, matches: &ArgMatches) -> Result<Option<Option<Txt>>, NoMemory>
+    ensures { IfOk result (λ mission. mission ≡ mission_in (rows_of (found_of matches.now))) }
+{
+    if matches.get_str("mission").is_none() {
+        return Ok(Some(None));
+    }
+    match file_in(alloc, matches, "mission")? {
+        Some(name) => Ok(Some(Some(name))),
+        None => Ok(None),
     }
 }
 

@@ -295,11 +295,11 @@ fn other_words_are_usage(rt: HostRuntime) -> Result<(), Fail> {
         &["play"],
         &["Play", "s.txt"],
         &["s.txt"],
-        &["play", "s.txt", "m.moos"],
+        &["play", "s.txt", "m.moos", "b.bhv"],
         &["play", "s\n"],
         &["play", "s.txt", "--race", "--race"],
         &["play", "s.txt", "--race=1"],
-        &["play", "s.txt", "--workers", "2"],
+        &["play", "s.txt", "--workers", "17"],
         &["play", "s.txt", "--help"],
         &["play", "s.txt", "-h"],
         &["solve"],
@@ -395,3 +395,4 @@ fn exit_statuses(rt: HostRuntime) {
 }
 
 mod beside;
+mod missions;

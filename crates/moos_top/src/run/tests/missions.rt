@@ -1,0 +1,167 @@
+// Runs with a mission: what is printed of a helm with modes, and which of the three files is told where one isn't good.
+use super::command_line;
+use crate::run::run;
+use crate::status::{FileKind, Refusal, Status};
+use moos_io::{MemFolder, MemSink, NoGate};
+use moos_text::Cause;
+use std::alloc::Global;
+use std::process::Abort;
+use std::str;
+use std::sync::Wait;
+use std::test::Fail;
+use std::thread::Threads;
+
+const SCRIPT: &str = "0 nav post DEPLOY=true # MOOS_MANUAL_OVERRIDE=false\n0.25 until\n";
+
+const MISSION: &str =
+    "ProcessConfig = pHelmIvP\n{\nAppTick = 4\nbehaviors = b.bhv\ndomain = course:0:359:360\n}\n";
+
+const FAST: &str =
+    "ProcessConfig = pHelmIvP\n{\nAppTick = 1000\nbehaviors = b.bhv\ndomain = course:0:359:360\n}\n";
+
+const MODES: &str = "set MODE = ACTIVE {\nDEPLOY = true\n} INACTIVE\n";
+
+// A mode whose condition only looks like a behaviour, and a behaviour, whose type isn't run yet.
+const TIMER: &str =
+    "initialize Behavior = BHV_Timer\nset MODE = ACTIVE {\nBehavior = BHV_Timer\n} INACTIVE\n\n\
+    behavior = BHV_Timer\n{\nname = t\n}\n";
+
+// What each report begins with: the clients, and that the helm registers.
+const HEAD: &str =
+    "%% moosdb play 1\n%% client 0 nav\n%% client 1 pHelmIvP\n%% entry 0 0 pHelmIvP register\n\
+    %% reg MOOS_MANUAL_OVERRIDE * 0\n%% reg MOOS_MANUAL_OVERIDE * 0\n%% reg NAV_X * 0\n\
+    %% reg NAV_Y * 0\n%% reg NAV_DEPTH * 0\n%% reg DEPLOY * 0\n";
+
+// What may follow: the client's post stands before the helm's first fetch, before its first post, and so on, or behind all.
+const ENDS: [&str; 5] = [
+    "%% entry 1 0 nav post 0 2\n0 DEPLOY nav \"true\"\n0 MOOS_MANUAL_OVERRIDE nav \"false\"\n\
+        %% entry 2 0 pHelmIvP fetch\n%% mail 0 0 DEPLOY nav \"true\"\n\
+        %% mail 1 0 MOOS_MANUAL_OVERRIDE nav \"false\"\n%% entry 3 0 pHelmIvP post 2 4\n\
+        0 IVPHELM_STATE pHelmIvP \"DRIVE\"\n0 MODE pHelmIvP \"ACTIVE\"\n0 DESIRED_SPEED pHelmIvP 0\n\
+        0 IVPHELM_ALLSTOP pHelmIvP \"NothingToDo\"\n%% iteration 0 0 DRIVE\n%% mode ACTIVE\n%% none\n\
+        %% entry 4 0.25 pHelmIvP fetch\n%% entry 5 0.25 pHelmIvP post 6 1\n\
+        0.25 DESIRED_SPEED pHelmIvP 0\n%% iteration 1 0.25 DRIVE\n%% mode ACTIVE\n%% none\n%% end 6 7\n",
+    "%% entry 1 0 pHelmIvP fetch\n%% entry 2 0 nav post 0 2\n0 DEPLOY nav \"true\"\n\
+        0 MOOS_MANUAL_OVERRIDE nav \"false\"\n%% entry 3 0 pHelmIvP post 2 4\n\
+        0 IVPHELM_STATE pHelmIvP \"PARK\"\n0 MODE pHelmIvP \"INACTIVE\"\n0 DESIRED_SPEED pHelmIvP 0\n\
+        0 IVPHELM_ALLSTOP pHelmIvP \"ManualOverride\"\n%% iteration 0 0 PARK\n%% mode INACTIVE\n\
+        %% none\n%% entry 4 0.25 pHelmIvP fetch\n%% mail 0 0 DEPLOY nav \"true\"\n\
+        %% mail 1 0 MOOS_MANUAL_OVERRIDE nav \"false\"\n%% entry 5 0.25 pHelmIvP post 6 4\n\
+        0.25 IVPHELM_STATE pHelmIvP \"DRIVE\"\n0.25 MODE pHelmIvP \"ACTIVE\"\n\
+        0.25 DESIRED_SPEED pHelmIvP 0\n0.25 IVPHELM_ALLSTOP pHelmIvP \"NothingToDo\"\n\
+        %% iteration 1 0.25 DRIVE\n%% mode ACTIVE\n%% none\n%% end 6 10\n",
+    "%% entry 1 0 pHelmIvP fetch\n%% entry 2 0 pHelmIvP post 0 4\n0 IVPHELM_STATE pHelmIvP \"PARK\"\n\
+        0 MODE pHelmIvP \"INACTIVE\"\n0 DESIRED_SPEED pHelmIvP 0\n\
+        0 IVPHELM_ALLSTOP pHelmIvP \"ManualOverride\"\n%% iteration 0 0 PARK\n%% mode INACTIVE\n\
+        %% none\n%% entry 3 0 nav post 4 2\n0 DEPLOY nav \"true\"\n\
+        0 MOOS_MANUAL_OVERRIDE nav \"false\"\n%% entry 4 0.25 pHelmIvP fetch\n\
+        %% mail 4 0 DEPLOY nav \"true\"\n%% mail 5 0 MOOS_MANUAL_OVERRIDE nav \"false\"\n\
+        %% entry 5 0.25 pHelmIvP post 6 4\n0.25 IVPHELM_STATE pHelmIvP \"DRIVE\"\n\
+        0.25 MODE pHelmIvP \"ACTIVE\"\n0.25 DESIRED_SPEED pHelmIvP 0\n\
+        0.25 IVPHELM_ALLSTOP pHelmIvP \"NothingToDo\"\n%% iteration 1 0.25 DRIVE\n%% mode ACTIVE\n\
+        %% none\n%% end 6 10\n",
+    "%% entry 1 0 pHelmIvP fetch\n%% entry 2 0 pHelmIvP post 0 4\n0 IVPHELM_STATE pHelmIvP \"PARK\"\n\
+        0 MODE pHelmIvP \"INACTIVE\"\n0 DESIRED_SPEED pHelmIvP 0\n\
+        0 IVPHELM_ALLSTOP pHelmIvP \"ManualOverride\"\n%% iteration 0 0 PARK\n%% mode INACTIVE\n\
+        %% none\n%% entry 3 0.25 pHelmIvP fetch\n%% entry 4 0 nav post 4 2\n0 DEPLOY nav \"true\"\n\
+        0 MOOS_MANUAL_OVERRIDE nav \"false\"\n%% entry 5 0.25 pHelmIvP post 6 1\n\
+        0.25 DESIRED_SPEED pHelmIvP 0\n%% iteration 1 0.25 PARK\n%% mode INACTIVE\n%% none\n%% end 6 7\n",
+    "%% entry 1 0 pHelmIvP fetch\n%% entry 2 0 pHelmIvP post 0 4\n0 IVPHELM_STATE pHelmIvP \"PARK\"\n\
+        0 MODE pHelmIvP \"INACTIVE\"\n0 DESIRED_SPEED pHelmIvP 0\n\
+        0 IVPHELM_ALLSTOP pHelmIvP \"ManualOverride\"\n%% iteration 0 0 PARK\n%% mode INACTIVE\n\
+        %% none\n%% entry 3 0.25 pHelmIvP fetch\n%% entry 4 0.25 pHelmIvP post 4 1\n\
+        0.25 DESIRED_SPEED pHelmIvP 0\n%% iteration 1 0.25 PARK\n%% mode INACTIVE\n%% none\n\
+        %% entry 5 0 nav post 5 2\n0 DEPLOY nav \"true\"\n0 MOOS_MANUAL_OVERRIDE nav \"false\"\n\
+        %% end 6 7\n",
+];
+
+// Runs these words beside these files, of which the empty ones aren't there.
+fn run_beside<R: Threads + Wait + Sync + Abort>(
+    rt: &R,
+    alloc: Global,
+    line: &[&str],
+    files: [&str; 3],
+) -> Result<(Status, MemSink), Fail> {
+    let words = command_line(rt, alloc, line)?;
+    let mut folder = MemFolder::make(alloc);
+    for (name, text) in ["s.txt", "m.moos", "b.bhv"].into_iter().zip(files) {
+        assert!(rt; text.len() < 10_000);
+        if text.len() > 0 {
+            folder.add(alloc, name.as_bytes(), text.as_bytes())?;
+        }
+    }
+    let mut out = MemSink::make(alloc, 10_000, 10_000)?;
+    let status = run(rt, alloc, &words, &mut folder, &mut out, &NoGate);
+    Ok((status, out))
+}
+
+// Which of the texts that may follow the head does.
+fn end_of(report: &[u8], alloc: Global) -> Result<Option<usize>, Fail> {
+    for (number, end) in ENDS.iter().enumerate() {
+        let text = format!(in alloc; "{HEAD}{end}")?;
+        if report == text.as_bytes() {
+            return Ok(Some(number));
+        }
+    }
+    Ok(None)
+}
+
+#[test]
+fn a_helm_hears_the_client_of_its_stamp(rt: HostRuntime) -> Result<(), Fail> {
+    for line in [
+        ["play", "s.txt", "m.moos"].as_slice(),
+        &["play", "--workers", "16", "s.txt", "m.moos"],
+    ] {
+        let (status, out) = run_beside(&rt, rt.alloc(), line, [SCRIPT, MISSION, MODES])?;
+        assert_eq!(rt; status, Status::Done);
+        assert_eq!(rt; end_of(out.bytes(), rt.alloc())?, Some(0));
+    }
+    Ok(())
+}
+
+#[test]
+fn in_a_race_the_helm_hears_what_came(rt: HostRuntime) -> Result<(), Fail> {
+    for _ in 0..50 {
+        let line = ["play", "s.txt", "m.moos", "--race"];
+        let (status, out) = run_beside(&rt, rt.alloc(), &line, [SCRIPT, MISSION, MODES])?;
+        assert_eq!(rt; status, Status::Done);
+        assert!(rt; end_of(out.bytes(), rt.alloc())?.is_some());
+    }
+    Ok(())
+}
+
+fn refused(file: FileKind, line: u32, cause: Cause) -> Status {
+    Status::Refused(Refusal { file, line, cause })
+}
+
+#[test]
+fn the_first_file_that_fails_is_told(rt: HostRuntime) -> Result<(), Fail> {
+    for (files, status) in [
+        (["0 a", "", ""], refused(FileKind::Script, 1, Cause::S3)),
+        ([SCRIPT, "", MODES], Status::LoadFault),
+        (
+            [SCRIPT, "}\n", ""],
+            refused(FileKind::Mission, 1, Cause::M1),
+        ),
+        ([SCRIPT, MISSION, ""], Status::LoadFault),
+        (
+            [SCRIPT, MISSION, "}\n"],
+            refused(FileKind::Behaviors, 1, Cause::B1),
+        ),
+        (
+            [SCRIPT, MISSION, TIMER],
+            refused(FileKind::Behaviors, 6, Cause::B3),
+        ),
+        (
+            ["20 until\n", FAST, ""],
+            refused(FileKind::Mission, 6, Cause::M8),
+        ),
+        (["19.999 until\n", FAST, ""], Status::LoadFault),
+    ] {
+        let line = ["play", "s.txt", "m.moos"];
+        let (ended, out) = run_beside(&rt, rt.alloc(), &line, files)?;
+        assert_eq!(rt; ended, status);
+        assert_eq!(rt; out.bytes().len(), 0);
+    }
+    Ok(())
+}
