@@ -7,7 +7,8 @@ use Rattle.bhv_reader.specs.declared.spec.Spec.{Spec}
 use Rattle.bhv_reader.specs.Validity.{IsValidSpec}
 use Rattle.bhv_kinds.specs.declared.kind.Kind.{Kind}
 use Rattle.bhv_kinds.specs.Standing.{IsKindOf, IsSoundKind}
-use Rattle.bhv_kinds.specs.Targets.{Headway, headway_at, is_reversed, last_position, vertex_at}
+use Rattle.bhv_kinds.specs.declared.waypoint.Headway.{Headway}
+use Rattle.bhv_kinds.specs.Targets.{headway_at, is_reversed, last_position, vertex_at}
 use Rattle.bhv_kinds.specs.Turns.{KindTurn, Updated, params_at}
 use Rattle.bhv_kinds.specs.Updates.{gives_places, is_of_places, update_parts, updated}
 use Rattle.bhv_kinds.proofs.Pairwise.{updated_axes}

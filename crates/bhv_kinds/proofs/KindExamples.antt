@@ -1,5 +1,5 @@
 -- Updates and steps on worked examples.
-use Rattle.std.proofs.Common.{◌≡◌, ℕ, true, false, Some, None, pos, List, [], ◌∷◌, refl, arith}
+use Rattle.std.proofs.Common.{◌≡◌, ℕ, true, false, Some, None, pos, List, [], ◌∷◌, refl, sym, subst, arith}
 use Rattle.std.specs.Prelude.{Bool, codes, is_some, Option, bytes_eq, if◌then◌else◌, ◌*◌}
 use Rattle.moos_post.specs.declared.value.Value.TheVariants.{Num, Text}
 use Rattle.helm_cond.specs.Learnt.{Knowledge}
@@ -13,7 +13,8 @@ use Rattle.ivp_domain.specs.declared.axis.Axis.{Axis}
 use Rattle.std.proofs.lemmas.Bool.{and_from}
 use Rattle.bhv_kinds.specs.Updates.{gives_places, updated}
 use Rattle.bhv_kinds.specs.Turns.{KindTurn, Stepped, Updated, first_step, params_at, position_of}
-use Rattle.bhv_kinds.specs.Targets.{Headway, first_headway, headway_at, vertex_at}
+use Rattle.bhv_kinds.specs.declared.waypoint.Headway.{Headway}
+use Rattle.bhv_kinds.specs.Targets.{first_headway, headway_at, vertex_at}
 use Rattle.bhv_kinds.specs.Stations.{centre_at}
 
 abbrev spot : ℕ → ℕ → Spot
@@ -162,3 +163,10 @@ three_axes axes (Waypoint a b c d e f) course speed depth = and_from _ _ course 
 three_axes axes (Loiter a b c d e) course speed depth = and_from _ _ course (and_from _ _ speed refl)
 three_axes axes (StationKeep a b c d e) course speed depth = and_from _ _ course (and_from _ _ speed refl)
 three_axes axes (OpRegion a b c) course speed depth = refl
+
+-- a list of one point, and a polygon that is a square
+pub waypoint_valid : (points : List Spot) → points ≡ record { x = pos 0; y = pos 0 } ∷ [] → IsValidSpec (spec (Waypoint points (pos 1000) (pos 10000) (pos 15000) false (Some 1)))
+waypoint_valid points is = subst (λ (p : List Spot). IsValidSpec (spec (Waypoint p (pos 1000) (pos 10000) (pos 15000) false (Some 1)))) (sym is) (record { ranges = record { weight = omega arith; parameters = (refl, refl, refl, refl, omega arith) }; given = refl; relations = refl })
+
+pub loiter_valid : (polygon : List Spot) → polygon ≡ spot 0 0 ∷ spot 100 0 ∷ spot 100 100 ∷ spot 0 100 ∷ [] → IsValidSpec (spec (Loiter polygon (pos 1000) (pos 10000) (pos 20000) true))
+loiter_valid polygon is = subst (λ (p : List Spot). IsValidSpec (spec (Loiter p (pos 1000) (pos 10000) (pos 20000) true))) (sym is) (record { ranges = record { weight = omega arith; parameters = (refl, refl, refl, refl) }; given = refl; relations = refl })

@@ -1,6 +1,9 @@
+pub mod Couples
 pub mod Keeping
 pub mod KindExamples
 pub mod Named
+pub mod Nearest
 pub mod Pairwise
 pub mod Peaks
+pub mod Placed
 pub mod Stepping

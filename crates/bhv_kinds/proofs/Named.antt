@@ -1,14 +1,20 @@
 -- The axis of a name, and functions along it.
-use Rattle.std.proofs.Common.{◌≡◌, ◌<◌, ℕ, ℤ, suc, Bool, true, false, cond, List, [], ◌∷◌, length, Some, None, refl, ap, ◌∙◌, subst, arith}
-use Rattle.std.specs.Prelude.{bytes_eq, nat_abs, position, nat_lt, IfSome}
+use Rattle.std.proofs.Common.{◌≡◌, ◌<◌, ℕ, ℤ, pos, suc, Bool, true, false, cond, List, [], ◌∷◌, length, Some, None, refl, ap, ◌∙◌, subst, arith}
+use Rattle.std.specs.Prelude.{bytes_eq, nat_abs, position, nat_lt, slice_index, IfSome}
 use Rattle.std.specs.List.{list_any, position_or_len}
 use Rattle.std.proofs.lemmas.Bool.{lt-ltb, ltb-true}
 use Rattle.ivp_domain.specs.declared.axis.Axis.{Axis}
+use Rattle.ivp_domain.specs.declared.boxes.Point.{Point}
+use Rattle.ivp_domain.specs.Domains.{is_point}
+use Rattle.ivp_func.specs.declared.piece.Piece.{Piece}
 use Rattle.ivp_func.specs.Functions.{Function}
+use Rattle.ivp_func.specs.Pieces.{value_at}
+use Rattle.ivp_build.specs.Places.{axis_on}
+use Rattle.ivp_build.specs.Shapes.{peak_at}
 use Rattle.ivp_build.specs.declared.shape.Peak.{Peak}
 use Rattle.ivp_build.specs.Builders.{at_most_pieces, peak_pieces}
 use Rattle.bhv_reader.specs.Params.{has_axis}
-use Rattle.bhv_kinds.specs.Utilities.{AtMostOn, PeakOn, axis_number, function_of}
+use Rattle.bhv_kinds.specs.Utilities.{AtMostOn, PeakOn, axis_number, function_of, worth_at}
 
 -- where some item passes, the first that does stands within the list
 first_within : {X : Type 0} (test : X → Bool) (xs : List X) → list_any test xs ≡ true → position_or_len test xs < length xs
@@ -44,3 +50,8 @@ pub limit_function : (axes : List Axis) (name : List ℕ) (number : ℕ) (limit 
 limit_function axes name number limit read width wide max func same limits widths is =
     subst (λ (l : ℤ). func ≡ function_of axes (AtMostOn name l (nat_abs width) max)) limits
     (subst (λ (w : ℤ). func ≡ function_of axes (AtMostOn name read (nat_abs w) max)) widths (is ∙ ap (λ n. record { axes = axes; pieces = at_most_pieces axes n read (nat_abs wide) max }) same))
+
+-- and so are its values
+pub peak_value : (axes : List Axis) (name : List ℕ) (number : ℕ) (peak : Peak) (pieces : List Piece) → number ≡ axis_number axes name → ((p : Point) → is_point axes p ≡ true → value_at pieces p ≡ pos (peak_at (axis_on axes number) peak (slice_index p.at number)))
+    → (p : Point) → is_point axes p ≡ true → value_at pieces p ≡ pos (worth_at axes (PeakOn name peak) p)
+peak_value axes name number peak pieces same value = subst (λ (n : ℕ). (p : Point) → is_point axes p ≡ true → value_at pieces p ≡ pos (peak_at (axis_on axes n) peak (slice_index p.at n))) same value

@@ -1,5 +1,5 @@
 -- What a step makes of the fields of a kind, and what it finds in them.
-use Rattle.std.proofs.Common.{◌≡◌, ◌≤◌, ◌-◌, ◌^◌, ℕ, suc, Bool, true, false, not, ◌&&◌, cond, Option, Some, None, List, ◌∷◌, length, refl, ap, sym, subst, ◌∙◌, arith}
+use Rattle.std.proofs.Common.{◌≡◌, ◌≤◌, ◌-◌, ◌^◌, ℕ, suc, Bool, true, false, not, ◌&&◌, cond, Option, Some, None, List, ◌∷◌, length, refl, ap, subst, arith}
 use Rattle.std.specs.Prelude.{IfSome, min, nat_le, nat_lt, unwrap_or}
 use Rattle.std.specs.Option.{option_or}
 use Rattle.helm_geo.specs.declared.spot.Spot.{Spot}
@@ -9,11 +9,12 @@ use Rattle.bhv_reader.specs.declared.spec.Shape.TheVariants.{Heading, Speed, Dep
 use Rattle.bhv_reader.specs.declared.spec.Spec.{Spec}
 use Rattle.bhv_reader.specs.Ranges.{InRanges}
 use Rattle.bhv_kinds.specs.declared.kind.Kind.{Kind}
+use Rattle.bhv_kinds.specs.declared.waypoint.Headway.{Headway}
 use Rattle.bhv_kinds.specs.declared.situation.Situation.{Situation}
 use Rattle.bhv_kinds.specs.Giving.{finishes_at, situation_at}
-use Rattle.bhv_kinds.specs.Standing.{IsKindOf, IsSoundKind, makes_steps, is_stepped_type}
+use Rattle.bhv_kinds.specs.Standing.{IsKindOf, IsSoundKind}
 use Rattle.bhv_kinds.specs.Stations.{centre_after, centre_at}
-use Rattle.bhv_kinds.specs.Targets.{Headway, captures, captures_at, headway_after, headway_at, is_last, is_last_of, is_reversed, may_repeat, unless_fresh, vertex_after, vertex_at, with_captured}
+use Rattle.bhv_kinds.specs.Targets.{captures, captures_at, headway_after, headway_at, is_last, is_last_of, is_reversed, may_repeat, unless_fresh, vertex_after, vertex_at, with_captured}
 use Rattle.bhv_kinds.specs.Turns.{KindStep, KindTurn, Stepped, params_at, position_of}
 
 -- so many points captured, and the list begun again so often
@@ -55,6 +56,13 @@ with_step kind step = record {
   last = position_of step.known;
   first = option_or kind.first (Some step.stamp);
 }
+
+-- a situation and a kind by their fields
+abbrev pub situation : Option Spot → Bool → ℕ → Option ℕ → Option Spot → ℕ → Situation
+situation here finished captured vertex centre time = record { here = here; finished = finished; captured = captured; vertex = vertex; centre = centre; time = time }
+
+abbrev pub kept : Spec → ℕ → ℕ → Bool → Option ℕ → Option Spot → Option Spot → Option ℕ → Kind
+kept params captured again reversed vertex centre last first = record { params = params; captured = captured; again = again; reversed = reversed; vertex = vertex; centre = centre; last = last; first = first }
 
 -- a limit of repeats is seen by the repeats that are counted
 may_same : (repeat : Option ℕ) (again : ℕ) → IfSome repeat (λ times. times ≤ 10 ^ 6) → may_repeat repeat (min again (10 ^ 6)) ≡ may_repeat repeat again
@@ -152,83 +160,26 @@ stepped_on spec turns kind step sound is =
       first = rw is.first refl;
     }
 
--- a type that goes to no place has no last point, captures nothing and makes for no vertex
-record IsSteady (shape : Shape) : Type 0 where
-  last : (headway : Headway) → is_last shape headway ≡ false
-  headway : (captured : Bool) (headway : Headway) → headway_after shape captured headway ≡ headway
-  vertex : (old chosen : Option ℕ) (before now : Option Spot) → vertex_after shape old chosen before now ≡ chosen
+-- what a step finds, by what its calls give
+pub found_is : (kind : Kind) (step : KindStep) (here : Option Spot) (captured finished : Bool) (after : ℕ) (vertex : Option ℕ) (centre : Option Spot) (time : ℕ)
+    → here ≡ position_of step.known → captured ≡ captures_at kind.params.shape kind.reversed kind.captured kind.last here
+    → after ≡ (headway_after kind.params.shape captured (come kind.captured kind.again)).captured → finished ≡ (is_last kind.params.shape (come kind.captured kind.again) && captured)
+    → vertex ≡ vertex_after kind.params.shape kind.vertex (unless_fresh step.fresh kind.vertex) kind.last here → centre ≡ centre_after step.fresh kind.centre here → time ≡ step.stamp - unwrap_or kind.first step.stamp
+    → situation here finished after vertex centre time ≡ situation_of kind step
+found_is kind step here captured finished after vertex centre time is-here is-captured is-after is-finished is-vertex is-centre is-time =
+    rw (is-after, is-finished, is-vertex, is-centre, is-time, is-captured, is-here) refl
 
-steady : (shape : Shape) → is_stepped_type shape ≡ true → IsSteady shape
-steady (Heading a b c d) is = record { last = λ h. refl; headway = λ b h. refl; vertex = λ a b c d. refl }
-steady (Speed a b c d) is = record { last = λ h. refl; headway = λ b h. refl; vertex = λ a b c d. refl }
-steady (Depth a b c d) is = record { last = λ h. refl; headway = λ b h. refl; vertex = λ a b c d. refl }
-steady (MaxDepth a b) is = record { last = λ h. refl; headway = λ b h. refl; vertex = λ a b c d. refl }
-steady Timer is = record { last = λ h. refl; headway = λ b h. refl; vertex = λ a b c d. refl }
-steady (Waypoint a b c d e f) is = absurd cc
-steady (Loiter a b c d e) is = absurd cc
-steady (StationKeep a b c d e) is = absurd cc
-steady (OpRegion a b c) is = record { last = λ h. refl; headway = λ b h. refl; vertex = λ a b c d. refl }
+-- what a step makes of a kind, by what its calls give
+pub step_is : (kind : Kind) (step : KindStep) (here : Option Spot) (captured reversed : Bool) (after again : ℕ) (vertex : Option ℕ) (centre : Option Spot) (first : Option ℕ)
+    → here ≡ position_of step.known → captured ≡ captures_at kind.params.shape kind.reversed kind.captured kind.last here
+    → after ≡ (headway_after kind.params.shape captured (come kind.captured kind.again)).captured → again ≡ min (headway_after kind.params.shape captured (come kind.captured kind.again)).again (10 ^ 6)
+    → reversed ≡ is_reversed kind.params.shape → vertex ≡ vertex_after kind.params.shape kind.vertex (unless_fresh step.fresh kind.vertex) kind.last here → centre ≡ centre_after step.fresh kind.centre here
+    → first ≡ option_or kind.first (Some step.stamp) → kept kind.params after again reversed vertex centre here first ≡ with_step kind step
+step_is kind step here captured reversed after again vertex centre first is-here is-captured is-after is-again is-reversed' is-vertex is-centre is-first =
+    rw (is-after, is-again, is-reversed', is-vertex, is-centre, is-first, is-captured, is-here) refl
 
--- what a step finds and makes of a kind of such a type
-abbrev pub steady_situation : Kind → KindStep → Situation
-steady_situation kind step = record {
-  here = position_of step.known;
-  finished = false;
-  captured = kind.captured;
-  vertex = unless_fresh step.fresh kind.vertex;
-  centre = centre_after step.fresh kind.centre (position_of step.known);
-  time = step.stamp - unwrap_or kind.first step.stamp;
-}
-
-abbrev pub with_steady_step : Kind → KindStep → Kind
-with_steady_step kind step = record {
-  params = kind.params;
-  captured = kind.captured;
-  again = kind.again;
-  reversed = is_reversed kind.params.shape;
-  vertex = unless_fresh step.fresh kind.vertex;
-  centre = centre_after step.fresh kind.centre (position_of step.known);
-  last = position_of step.known;
-  first = option_or kind.first (Some step.stamp);
-}
-
-pub found_steadily : (spec : Spec) (turns : List KindTurn) (kind : Kind) (step : KindStep) → makes_steps kind ≡ true → IsKindOf spec turns kind → steady_situation kind step ≡ situation_at spec turns step
-found_steadily spec turns kind step stepped is =
-    let shape = kind.params.shape in
-    let s = steady shape stepped in
-    let last = s.last (come kind.captured kind.again) in
-    let headway = s.headway (captures_now kind step) (come kind.captured kind.again) in
-    let vertex = s.vertex kind.vertex (unless_fresh step.fresh kind.vertex) kind.last (position_of step.known) in
-    let same : situation_of kind step ≡ steady_situation kind step = rw (last, headway, vertex) refl in
-    sym same ∙ situation_same spec turns kind step is
-
--- it stays sound
-pub chosen_within : (fresh : Bool) (vertex : Option ℕ) → IfSome vertex (λ v. v ≤ 64) → IfSome (unless_fresh fresh vertex) (λ v. v ≤ 64)
-chosen_within true vertex old = tt
-chosen_within false vertex old = old
-
+-- a centre is a spot
 pub centre_within : (fresh : Bool) (centre now : Option Spot) → IfSome centre (λ spot. is_spot spot ≡ true) → IfSome now (λ spot. is_spot spot ≡ true) → IfSome (centre_after fresh centre now) (λ spot. is_spot spot ≡ true)
 centre_within true centre now old new = new
 centre_within false None now old new = new
 centre_within false (Some spot) now old new = old
-
-steady_sound : (kind : Kind) (step : KindStep) → IfSome (position_of step.known) (λ spot. is_spot spot ≡ true) → IsSoundKind kind → IsSoundKind (with_steady_step kind step)
-steady_sound kind step here is = record {
-  valid = is.valid;
-  captured = is.captured;
-  again = is.again;
-  vertex = chosen_within step.fresh kind.vertex is.vertex;
-  centre = centre_within step.fresh kind.centre (position_of step.known) is.centre here;
-  last = here;
-}
-
--- and stands for one step more
-pub steadily_on : (spec : Spec) (turns : List KindTurn) (kind : Kind) (step : KindStep) → makes_steps kind ≡ true → IfSome (position_of step.known) (λ spot. is_spot spot ≡ true) → IsKindOf spec turns kind → IsKindOf spec (Stepped step ∷ turns) (with_steady_step kind step)
-steadily_on spec turns kind step stepped here is =
-    let shape = kind.params.shape in
-    let s = steady shape stepped in
-    let headway = s.headway (captures_now kind step) (come kind.captured kind.again) in
-    let vertex = s.vertex kind.vertex (unless_fresh step.fresh kind.vertex) kind.last (position_of step.known) in
-    let again : min kind.again (10 ^ 6) ≡ kind.again = omega (arith, is.sound.again) in
-    let same : with_step kind step ≡ with_steady_step kind step = rw (headway, vertex, again) refl in
-    subst (λ (k : Kind). IsKindOf spec (Stepped step ∷ turns) k) same (stepped_on spec turns kind step (subst IsSoundKind (sym same) (steady_sound kind step here is.sound)) is)

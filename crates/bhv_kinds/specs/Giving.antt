@@ -94,21 +94,21 @@ situation_at spec past step = record {
 abbrev pub gives_at : Spec → List KindTurn → KindStep → Given
 gives_at spec past step = gives_by_type (params_at spec past).shape step.known (situation_at spec past step)
 
--- a function of this type mentions the axis of this name
-abbrev pub mentions : Shape → List ℕ → Bool
-mentions shape name = list_any (bytes_eq name) (axes_of shape)
+-- a name is among these
+abbrev pub is_named : List (List ℕ) → List ℕ → Bool
+is_named names name = list_any (bytes_eq name) names
 
--- what is given, with the function over a domain in the utility's place, and the axes that it mentions by its type
-abbrev pub out_of : List Axis → Shape → Given → Out
-out_of axes shape given = record {
+-- what is given, with the function over a domain in the utility's place, and the axes that it mentions of these
+abbrev pub out_of : List Axis → List (List ℕ) → Given → Out
+out_of axes names given = record {
   func = option_map (function_of axes) given.utility;
-  course = is_some given.utility && mentions shape (codes "course");
-  speed = is_some given.utility && mentions shape (codes "speed");
-  depth = is_some given.utility && mentions shape (codes "depth");
+  course = is_some given.utility && is_named names (codes "course");
+  speed = is_some given.utility && is_named names (codes "speed");
+  depth = is_some given.utility && is_named names (codes "depth");
   done = given.done;
   fault = given.fault;
 }
 
--- What a step gives over its domain.
+-- What a step gives over its domain: a function mentions the axes that its type needs.
 abbrev pub out_at : Spec → List KindTurn → KindStep → Out
-out_at spec past step = out_of step.axes (params_at spec past).shape (gives_at spec past step)
+out_at spec past step = out_of step.axes (axes_of (params_at spec past).shape) (gives_at spec past step)

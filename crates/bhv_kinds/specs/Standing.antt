@@ -1,7 +1,6 @@
 -- How a kind stands for the list of a behaviour's updates and steps: each of its fields is what they came to.
-use Rattle.std.specs.Prelude.{◌≡◌, ℕ, ◌≤◌, ◌^◌, nat_le, Bool, List, length, min, IsTrue, IfSome}
+use Rattle.std.specs.Prelude.{◌≡◌, ℕ, ◌≤◌, ◌^◌, Bool, List, min, IsTrue, IfSome}
 use Rattle.helm_geo.specs.Plane.{is_spot}
-use Rattle.bhv_reader.specs.declared.spec.Shape.{Shape}
 use Rattle.bhv_reader.specs.declared.spec.Spec.{Spec}
 use Rattle.ivp_domain.specs.declared.axis.Axis.{Axis}
 use Rattle.bhv_reader.specs.Params.{axes_of, has_axes}
@@ -41,11 +40,3 @@ axes_needed kind = axes_of kind.params.shape
 -- the domain has those axes
 abbrev pub fits_domain : List Axis → Kind → Bool
 fits_domain axes kind = has_axes axes kind.params.shape
-
--- steps are made of this type so far: of each whose functions mention one axis at most
-abbrev pub is_stepped_type : Shape → Bool
-is_stepped_type shape = nat_le (length (axes_of shape)) 1
-
--- steps are made of the kind's type
-abbrev pub makes_steps : Kind → Bool
-makes_steps kind = is_stepped_type kind.params.shape

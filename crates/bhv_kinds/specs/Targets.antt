@@ -6,6 +6,7 @@ use Rattle.helm_geo.specs.Plane.{distance_squared, is_right_of, within}
 use Rattle.bhv_reader.specs.declared.spec.Shape.{Shape}
 use Rattle.bhv_reader.specs.declared.spec.Shape.TheVariants.{Waypoint, Loiter}
 use Rattle.bhv_reader.specs.declared.spec.Spec.{Spec}
+use Rattle.bhv_kinds.specs.declared.waypoint.Headway.{Headway}
 use Rattle.bhv_kinds.specs.Updates.{gives_places}
 use Rattle.bhv_kinds.specs.Turns.{KindStep, KindTurn, Updated, Stepped, params_at, params_at_step, position_of}
 
@@ -27,11 +28,6 @@ has_slipped slip target (Some before) now = within before target slip && nat_lt 
 -- The target is captured within the capture radius, or where it was the target before and is slipped past.
 abbrev pub is_captured : ℕ → ℕ → Spot → Bool → Option Spot → Spot → Bool
 is_captured capture slip target same before now = within now target capture || (same && has_slipped slip target before now)
-
--- how far a waypoint behaviour has come: the captured points of its list, and how often it began the list again
-pub record Headway : Type 0 where
-  pub captured : ℕ
-  pub again : ℕ
 
 -- at the first point, for the first time
 abbrev pub first_headway : Headway
@@ -116,16 +112,23 @@ abbrev pub is_number : ℕ → Option ℕ → Bool
 is_number number None = false
 is_number number (Some other) = number == other
 
--- the vertex after a step at a place that makes for this one: the next, where it is captured
-abbrev pub vertex_beyond : Shape → ℕ → Option ℕ → Option Spot → Spot → ℕ
-vertex_beyond (Loiter polygon speed capture slip clockwise) vertex old before now =
-    if is_captured (nat_abs capture) (nat_abs slip) (spot_at polygon vertex) (is_number vertex old) before now then next_vertex polygon clockwise vertex else vertex
-vertex_beyond other vertex old before now = vertex
+-- a step at a place captures the vertex that it makes for
+abbrev pub captures_vertex : Shape → ℕ → Option ℕ → Option Spot → Spot → Bool
+captures_vertex (Loiter polygon speed capture slip clockwise) vertex old before now =
+    is_captured (nat_abs capture) (nat_abs slip) (spot_at polygon vertex) (is_number vertex old) before now
+captures_vertex other vertex old before now = false
+
+-- the vertex after one that a step makes for: the next, where it is captured
+abbrev pub vertex_beyond : Shape → ℕ → Bool → ℕ
+vertex_beyond (Loiter polygon speed capture slip clockwise) vertex true = next_vertex polygon clockwise vertex
+vertex_beyond other vertex captured = vertex
 
 -- the vertex after a step at a place: it makes for the one before, or for the nearest where none was chosen
 abbrev pub vertex_after : Shape → Option ℕ → Option ℕ → Option Spot → Option Spot → Option ℕ
 vertex_after (Loiter polygon speed capture slip clockwise) old chosen before (Some now) =
-    Some (vertex_beyond (Loiter polygon speed capture slip clockwise) (unwrap_or chosen (nearest_vertex polygon now)) old before now)
+    let shape = Loiter polygon speed capture slip clockwise in
+    let vertex = unwrap_or chosen (nearest_vertex polygon now) in
+    Some (vertex_beyond shape vertex (captures_vertex shape vertex old before now))
 vertex_after other old chosen before now = chosen
 
 -- what was chosen, unless it is to be chosen anew

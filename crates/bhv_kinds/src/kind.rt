@@ -1,21 +1,21 @@
-ghost use Rattle.std.specs.Prelude.{◌≡◌, ◌≤◌, List, [], ◌∷◌, false, IfOk, IfSome, OnErr, IsTrue, is_some};
-ghost use Rattle.ivp_domain.specs.declared.axis.Axis.{Axis};
+ghost use Rattle.std.specs.Prelude.{◌≡◌, ◌-◌, List, [], ◌∷◌, false, IfOk, OnErr, IsTrue, is_some, unwrap_or};
 ghost use Rattle.bhv_reader.specs.declared.spec.Spec.{Spec};
 ghost use Rattle.bhv_reader.specs.Validity.{IsValidSpec};
 ghost use Rattle.helm_cond.specs.Infos.{knowledge_of};
-ghost use Rattle.helm_geo.specs.Plane.{is_spot};
-ghost use Rattle.bhv_kinds.specs.Giving.{out_at, situation_at};
-ghost use Rattle.bhv_kinds.specs.Standing.{IsKindOf, IsSoundKind, axes_needed, fits_domain, makes_steps};
+ghost use Rattle.bhv_kinds.specs.Giving.{out_at};
+ghost use Rattle.bhv_kinds.specs.Standing.{IsKindOf, IsSoundKind, axes_needed, fits_domain};
 ghost use Rattle.bhv_kinds.specs.Targets.{is_reversed};
 ghost use Rattle.bhv_kinds.specs.Turns.{KindTurn, Stepped, Updated, params_at, step_of};
 ghost use Rattle.bhv_kinds.specs.Updates.{updated};
 
 use crate::given::given;
 use crate::known::position;
+use crate::loiter::vertex_after;
 use crate::out::Out;
 use crate::situation::Situation;
 use crate::station::centre_after;
 use crate::updating::{names_places, updated};
+use crate::waypoint::{Headway, captures, finishes, headway_after};
 use bhv_reader::{Shape, Spec};
 use helm_cond::Info;
 use helm_geo::Spot;
@@ -118,27 +118,6 @@ impl Kind {
         Ok(true)
     }
 
-    // What a step finds.
-    #[tactic(auto, using(crate::proofs::Stepping::found_steadily, crate::proofs::Stepping::chosen_within, crate::proofs::Stepping::centre_within))]
-    fn found(&self, info: &Info, stamp: u64, fresh: bool) -> Situation
-        requires sound { IsSoundKind self.now }
-        requires stepped { IsTrue (makes_steps self.now) }
-        ensures found { (spec : Spec) (turns : List KindTurn) (axes : List Axis) → IsKindOf spec turns self.now → result ≡ situation_at spec turns (step_of axes (knowledge_of info.now) stamp fresh) }
-        ensures here { IfSome result.here (λ spot. IsTrue (is_spot spot)) }
-        ensures vertex { IfSome result.vertex (λ vertex. vertex ≤ 64) }
-        ensures centre { IfSome result.centre (λ spot. IsTrue (is_spot spot)) }
-    {
-        let here = position(info);
-        Situation {
-            here,
-            finished: false,
-            captured: self.captured,
-            vertex: if fresh { None } else { self.vertex },
-            centre: centre_after(fresh, self.centre, here),
-            time: stamp.saturating_sub(self.first.unwrap_or(stamp)),
-        }
-    }
-
     /// Makes a step at a stamp in milliseconds, by what is known. `fresh` says that it wasn't stepped in the iteration
     /// before. Where no memory is left nothing changes.
     pub fn step(
@@ -151,20 +130,47 @@ impl Kind {
     ) -> Result<Out, NoMemory>
         requires sound { IsSoundKind self.old }
         requires axes { IsTrue (fits_domain domain.now self.old) }
-        requires stepped { IsTrue (makes_steps self.old) }
         ensures out { IfOk result (λ out. (spec : Spec) (turns : List KindTurn) → IsKindOf spec turns self.old → out ≡ out_at spec turns (step_of domain.now (knowledge_of info.now) stamp fresh)) }
         ensures stands { IfOk result (λ _. (spec : Spec) (turns : List KindTurn) → IsKindOf spec turns self.old → IsKindOf spec (Stepped (step_of domain.now (knowledge_of info.now) stamp fresh) ∷ turns) self.new) }
         ensures sound { IfOk result (λ _. IsSoundKind self.new) }
         ensures axes { IfOk result (λ _. axes_needed self.new ≡ axes_needed self.old) }
         ensures same { OnErr result (self.new ≡ self.old) }
     {
-        let found = self.found(info, stamp, fresh);
-        let out = given(alloc, domain, info, &self.params.shape, &found)?;
+        let here = position(info);
+        let shape = &self.params.shape;
+        let before = Headway {
+            captured: self.captured,
+            again: self.again,
+        };
+        let captured = captures(shape, self.reversed, self.captured, self.last, here);
+        let after = headway_after(shape, captured, &before);
+        let finished = finishes(shape, captured, &before);
+        let vertex = vertex_after(shape, self.vertex, fresh, self.last, here);
+        let centre = centre_after(fresh, self.centre, here);
+        let time = time_since(self.first, stamp);
+        let found = Situation {
+            here,
+            finished,
+            captured: after.captured,
+            vertex,
+            centre,
+            time,
+        };
+        let out = given(alloc, domain, info, shape, &found)?;
         self.reversed = is_reversed(&self.params.shape);
-        self.vertex = found.vertex;
-        self.centre = found.centre;
-        self.last = found.here;
+        self.captured = after.captured;
+        self.again = after.again;
+        self.vertex = vertex;
+        self.centre = centre;
+        self.last = here;
         self.first = self.first.or(Some(stamp));
         Ok(out)
     }
+}
+
+// The time since the first step, in milliseconds.
+fn time_since(first: Option<u64>, stamp: u64) -> u64
+    ensures { result ≡ stamp - unwrap_or first stamp }
+{
+    stamp.saturating_sub(first.unwrap_or(stamp))
 }

@@ -1,11 +1,14 @@
 // Behaviours that want the same in each step: a peak or an upper limit on one axis.
 ghost use Rattle.std.specs.Prelude.{◌≡◌, ◌<◌, ◌≤◌, ◌^◌, bytes_eq, codes, length, position, pos, nat_abs, IfOk, IfSome, IsTrue};
+ghost use Rattle.ivp_domain.specs.declared.boxes.Point.{Point};
 ghost use Rattle.ivp_domain.specs.Axes.{is_end};
+ghost use Rattle.ivp_domain.specs.Domains.{is_point};
+ghost use Rattle.ivp_func.specs.Pieces.{value_at};
 ghost use Rattle.ivp_build.specs.Places.{IsWidth};
 ghost use Rattle.ivp_build.specs.Shapes.{IsPeak};
 ghost use Rattle.bhv_reader.specs.Params.{has_axis};
 ghost use Rattle.bhv_reader.specs.Values.{lies_between};
-ghost use Rattle.bhv_kinds.specs.Utilities.{AtMostOn, PeakOn, axis_number, function_of};
+ghost use Rattle.bhv_kinds.specs.Utilities.{AtMostOn, PeakOn, axis_number, function_of, worth_at};
 
 use ivp_build::{Peak, at_most, peak};
 use ivp_domain::Domain;
@@ -62,7 +65,9 @@ pub fn of_hundred(summit: i64, peakwidth: i64, basewidth: i64, summitdelta: i64)
 pub fn peak_on(alloc: Global, domain: &Domain, name: &[u8], shape: &Peak) -> Result<Func, NoMemory>
     requires axis { IsTrue (has_axis domain.now name.now) }
     requires peak { IsPeak shape.now }
-    ensures { IfOk result (λ func. func ≡ function_of domain.now (PeakOn name.now shape.now)) }
+    ensures pieces { IfOk result (λ func. func ≡ function_of domain.now (PeakOn name.now shape.now)) }
+    ensures value { IfOk result (λ func. (point : Point) → IsTrue (is_point domain.now point) → value_at func.pieces point ≡ pos (worth_at domain.now (PeakOn name.now shape.now) point)) }
+    ensures few { IfOk result (λ func. length func.pieces ≤ 9) }
 {
     let func = peak(alloc, domain, axis_number(domain, name), shape)?;
     Ok(func)

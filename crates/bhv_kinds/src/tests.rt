@@ -3,7 +3,7 @@ ghost use Rattle.std.specs.Prelude.{◌≡◌, ◌<◌, IfOk, IsTrue};
 ghost use Rattle.ivp_domain.specs.Domains.{is_point};
 ghost use Rattle.bhv_reader.specs.declared.spec.Shape.{Shape};
 ghost use Rattle.bhv_reader.specs.Params.{has_axes, has_axis};
-ghost use Rattle.bhv_kinds.specs.Standing.{IsSoundKind, makes_steps};
+ghost use Rattle.bhv_kinds.specs.Standing.{IsSoundKind};
 
 use crate::{BhvFault, Kind, Out};
 use bhv_reader::{Shape, Spec};
@@ -19,7 +19,7 @@ use std::test::Fail;
 
 // A behaviour that keeps the station where it is first stepped.
 #[tactic(auto, using(crate::proofs::KindExamples::station_valid))]
-fn station() -> Kind
+pub(crate) fn station() -> Kind
     ensures { IsSoundKind result }
 {
     Kind::make(Spec {
@@ -101,7 +101,7 @@ fn has_axis(domain: &Domain, name: &[u8]) -> bool
 
 // Four courses round a circle, three speeds and three depths.
 #[tactic(auto, using(crate::proofs::KindExamples::three_axes))]
-fn waters() -> Result<Domain, Fail>
+pub(crate) fn waters() -> Result<Domain, Fail>
     ensures { IfOk result (λ domain. (shape : Shape) → IsTrue (has_axes domain shape)) }
 {
     let axes = [
@@ -129,7 +129,7 @@ fn counted<L: Ledger>(func: &Func, point: &Point, blank: Blank) -> i64
 }
 
 /// The value at the point of an index, where the domain has it.
-fn value(func: &Func, index: u32) -> Option<i64> {
+pub(crate) fn value(func: &Func, index: u32) -> Option<i64> {
     let domain = func.domain();
     if index < domain.points() {
         let point = domain.point_at(index);
@@ -142,8 +142,7 @@ fn value(func: &Func, index: u32) -> Option<i64> {
 // A behaviour of each type, with the parameters that it has by itself where only one is given.
 #[tactic(auto, using(crate::proofs::KindExamples::course_valid))]
 fn course() -> Kind
-    ensures sound { IsSoundKind result }
-    ensures stepped { IsTrue (makes_steps result) }
+    ensures { IsSoundKind result }
 {
     Kind::make(Spec {
         weight: 100,
@@ -158,8 +157,7 @@ fn course() -> Kind
 
 #[tactic(auto, using(crate::proofs::KindExamples::speed_valid))]
 fn speed() -> Kind
-    ensures sound { IsSoundKind result }
-    ensures stepped { IsTrue (makes_steps result) }
+    ensures { IsSoundKind result }
 {
     Kind::make(Spec {
         weight: 100,
@@ -174,8 +172,7 @@ fn speed() -> Kind
 
 #[tactic(auto, using(crate::proofs::KindExamples::depth_valid))]
 fn depth() -> Kind
-    ensures sound { IsSoundKind result }
-    ensures stepped { IsTrue (makes_steps result) }
+    ensures { IsSoundKind result }
 {
     Kind::make(Spec {
         weight: 100,
@@ -190,8 +187,7 @@ fn depth() -> Kind
 
 #[tactic(auto, using(crate::proofs::KindExamples::limit_valid))]
 fn limit() -> Kind
-    ensures sound { IsSoundKind result }
-    ensures stepped { IsTrue (makes_steps result) }
+    ensures { IsSoundKind result }
 {
     Kind::make(Spec {
         weight: 100,
@@ -204,8 +200,7 @@ fn limit() -> Kind
 
 #[tactic(auto, using(crate::proofs::KindExamples::timer_valid))]
 fn timer() -> Kind
-    ensures sound { IsSoundKind result }
-    ensures stepped { IsTrue (makes_steps result) }
+    ensures { IsSoundKind result }
 {
     Kind::make(Spec {
         weight: 100,
@@ -215,8 +210,7 @@ fn timer() -> Kind
 
 #[tactic(auto, using(crate::proofs::KindExamples::region_valid))]
 fn region() -> Kind
-    ensures sound { IsSoundKind result }
-    ensures stepped { IsTrue (makes_steps result) }
+    ensures { IsSoundKind result }
 {
     Kind::make(Spec {
         weight: 100,
@@ -229,7 +223,7 @@ fn region() -> Kind
 }
 
 // What is known of the ship: its place, where it is given, and its depth.
-fn known(alloc: Global, place: Option<(i64, i64)>, depth: i64) -> Result<Info, Fail> {
+pub(crate) fn known(alloc: Global, place: Option<(i64, i64)>, depth: i64) -> Result<Info, Fail> {
     let mut info = Info::make(alloc);
     learn(alloc, &mut info, b"NAV_DEPTH", depth)?;
     if let Some((x, y)) = place {
@@ -254,10 +248,8 @@ fn stepped(
     info: &Info,
     stamp: u64,
 ) -> Result<Out, Fail>
-    requires sound { IsSoundKind kind.old }
-    requires stepped { IsTrue (makes_steps kind.old) }
-    ensures sound { IsSoundKind kind.new }
-    ensures stepped { IsTrue (makes_steps kind.new) }
+    requires { IsSoundKind kind.old }
+    ensures { IsSoundKind kind.new }
 {
     let text = Txt::new(alloc, update).map_err(|_| "a text")?;
     assert!(rt; kind.update(alloc, &text)?);

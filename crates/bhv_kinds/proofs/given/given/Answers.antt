@@ -23,19 +23,19 @@ pub returns-in_ok-func-in-Heading : goal.returns-in_ok-func-in-Heading
 returns-in_ok-func-in-Heading c =
     let ranges = subst (InRanges true) c.in-Heading.is c.requires.ranges in
     let peak = c.of_hundred-peak.ensures.peak ∙ peak_bits 360000 c.in-Heading.heading c.in-Heading.peakwidth c.in-Heading.basewidth c.in-Heading.summitdelta (omega arith) ranges.0 ranges.1 ranges.2 ranges.3 in
-    rw c.in-Heading.is (c.gives.ensures ∙ ap (mentioning true false false) (c.in_ok-func-in-Heading.ensures ∙ ap (on c.args.domain.now (codes "course")) peak))
+    rw c.in-Heading.is (c.gives.ensures ∙ ap (mentioning true false false) (c.in_ok-func-in-Heading.ensures.pieces ∙ ap (on c.args.domain.now (codes "course")) peak))
 
 pub returns-in_ok-func-in-Speed : goal.returns-in_ok-func-in-Speed
 returns-in_ok-func-in-Speed c =
     let ranges = subst (InRanges true) c.in-Speed.is c.requires.ranges in
     let peak = c.of_hundred-peak-in-Speed.ensures.peak ∙ peak_bits 1000000 c.in-Speed.speed c.in-Speed.peakwidth c.in-Speed.basewidth c.in-Speed.summitdelta (omega arith) ranges.0 ranges.1 ranges.2 ranges.3 in
-    rw c.in-Speed.is (c.gives-in-Speed.ensures ∙ ap (mentioning false true false) (c.in_ok-func-in-Speed.ensures ∙ ap (on c.args.domain.now (codes "speed")) peak))
+    rw c.in-Speed.is (c.gives-in-Speed.ensures ∙ ap (mentioning false true false) (c.in_ok-func-in-Speed.ensures.pieces ∙ ap (on c.args.domain.now (codes "speed")) peak))
 
 pub returns-in_ok-func-in-Depth : goal.returns-in_ok-func-in-Depth
 returns-in_ok-func-in-Depth c =
     let ranges = subst (InRanges true) c.in-Depth.is c.requires.ranges in
     let peak = c.of_hundred-peak-in-Depth.ensures.peak ∙ peak_bits 10000000 c.in-Depth.depth c.in-Depth.peakwidth c.in-Depth.basewidth c.in-Depth.summitdelta (omega arith) ranges.0 ranges.1 ranges.2 ranges.3 in
-    rw c.in-Depth.is (c.gives-in-Depth.ensures ∙ ap (mentioning false false true) (c.in_ok-func-in-Depth.ensures ∙ ap (on c.args.domain.now (codes "depth")) peak))
+    rw c.in-Depth.is (c.gives-in-Depth.ensures ∙ ap (mentioning false false true) (c.in_ok-func-in-Depth.ensures.pieces ∙ ap (on c.args.domain.now (codes "depth")) peak))
 
 pub returns-in_ok-func-in-MaxDepth : goal.returns-in_ok-func-in-MaxDepth
 returns-in_ok-func-in-MaxDepth c =

@@ -1,0 +1,136 @@
+// Behaviours that go to a place: a course to steer and a speed to cruise at.
+ghost use Rattle.std.specs.Prelude.{◌≡◌, ◌≤◌, ◌<◌, ◌*◌, ◌^◌, ◌-ℤ◌, nat_abs, pos, codes, length, option_map, IfOk, IfSome, IsTrue};
+ghost use Rattle.ivp_build.specs.Faults.{IsTooMany};
+ghost use Rattle.ivp_build.specs.Shapes.{IsPeak};
+ghost use Rattle.ivp_build.specs.Sums.{HaveRoom, couple_pieces, slope_apart};
+ghost use Rattle.helm_geo.specs.Angles.{bearing};
+ghost use Rattle.helm_geo.specs.Plane.{is_spot};
+ghost use Rattle.bhv_reader.specs.Params.{has_axis};
+ghost use Rattle.bhv_kinds.specs.Giving.{towards};
+ghost use Rattle.bhv_kinds.specs.Utilities.{Flat, PeakOn, Sum, cruise, function_of};
+
+use crate::steady::peak_on;
+use crate::ways::{east_of, north_of};
+use helm_geo::{Spot, bearing};
+use ivp_build::{BuildFault, Peak, couple, flat};
+use ivp_domain::Domain;
+use ivp_func::Func;
+use moos_post::NoMemory;
+use std::alloc::{AllocError, Global};
+
+// A peak of 50 about a course in whole degrees.
+fn steering(degree: u16) -> Peak
+    requires { degree < 360 }
+    ensures peak { result ≡ record { summit = pos (degree * 1000); peakwidth = pos 20000; basewidth = pos 160000; summitdelta = pos 12500; max = pos 50000 } }
+    ensures sound { IsPeak result }
+{
+    Peak {
+        summit: degree as i64 * 1000,
+        peakwidth: 20_000,
+        basewidth: 160_000,
+        summitdelta: 12_500,
+        max: 50_000,
+    }
+}
+
+// A peak of 50 about a speed in thousandths.
+fn cruising(speed: u64) -> Peak
+    requires { speed ≤ 10 ^ 6 }
+    ensures peak { result ≡ record { summit = pos speed; peakwidth = pos 500; basewidth = pos 2000; summitdelta = pos 12500; max = pos 50000 } }
+    ensures sound { IsPeak result }
+{
+    Peak {
+        summit: speed as i64,
+        peakwidth: 500,
+        basewidth: 2_000,
+        summitdelta: 12_500,
+        max: 50_000,
+    }
+}
+
+// Want of memory, the one fault of a sum of so few pieces.
+fn no_memory(fault: BuildFault) -> AllocError
+    requires { IsTooMany 81 fault }
+{
+    match fault {
+        BuildFault::NoMemory => AllocError,
+        BuildFault::TooMany => unreachable!(),
+    }
+}
+
+// The sum of two functions of few pieces.
+#[tactic(auto, using(crate::proofs::Couples::few_enough))]
+fn sum(alloc: Global, one: &Func, other: &Func) -> Result<Func, NoMemory>
+    requires domain { one.now.axes ≡ other.now.axes }
+    requires room { HaveRoom one.now.axes one.now.pieces other.now.pieces }
+    requires apart { IsTrue (slope_apart one.now.pieces other.now.pieces) }
+    requires few { length one.now.pieces ≤ 9 }
+    requires few_others { length other.now.pieces ≤ 9 }
+    ensures { IfOk result (λ func. func ≡ record { axes = one.now.axes; pieces = couple_pieces one.now.pieces other.now.pieces }) }
+{
+    match couple(alloc, one, other) {
+        Ok(sum) => Ok(sum),
+        Err(fault) => Err(no_memory(fault)),
+    }
+}
+
+// A peak on the course and one on the speed at once, each of at most 50.
+fn both(alloc: Global, domain: &Domain, course: &Peak, speed: &Peak) -> Result<Func, NoMemory>
+    requires course_axis { IsTrue (has_axis domain.now (codes "course")) }
+    requires speed_axis { IsTrue (has_axis domain.now (codes "speed")) }
+    requires course { IsPeak course.now }
+    requires speed { IsPeak speed.now }
+    requires course_most { nat_abs course.now.max ≤ 50000 }
+    requires speed_most { nat_abs speed.now.max ≤ 50000 }
+    ensures { IfOk result (λ func. func ≡ function_of domain.now (Sum (PeakOn (codes "course") course.now) (PeakOn (codes "speed") speed.now))) }
+{
+    let one = peak_on(alloc, domain, b"course", course)?;
+    let other = peak_on(alloc, domain, b"speed", speed)?;
+    let func = sum(alloc, &one, &other)?;
+    Ok(func)
+}
+
+/// To stay where the ship is: nothing of the course, and no speed.
+pub fn hold(alloc: Global, domain: &Domain) -> Result<Func, NoMemory>
+    requires speed { IsTrue (has_axis domain.now (codes "speed")) }
+    ensures { IfOk result (λ func. func ≡ function_of domain.now (Sum (Flat 0) (cruise 0))) }
+{
+    let one = flat(alloc, domain, 0)?;
+    let other = peak_on(alloc, domain, b"speed", &cruising(0))?;
+    let func = sum(alloc, &one, &other)?;
+    Ok(func)
+}
+
+// The bearing of a place, and none at the very place.
+fn bearing_of(place: &Spot, here: &Spot) -> Option<u16>
+    requires place { IsTrue (is_spot place.now) }
+    requires here { IsTrue (is_spot here.now) }
+    ensures bearing { result ≡ bearing (place.now.x -ℤ here.now.x) (place.now.y -ℤ here.now.y) }
+    ensures within { IfSome result (λ degree. degree < 360) }
+{
+    bearing(east_of(here, place), north_of(here, place))
+}
+
+/// To go to a place at a speed from here; none at the very place.
+pub fn towards(
+    alloc: Global,
+    domain: &Domain,
+    speed: u64,
+    place: &Spot,
+    here: &Spot,
+) -> Result<Option<Func>, NoMemory>
+    requires course_axis { IsTrue (has_axis domain.now (codes "course")) }
+    requires speed_axis { IsTrue (has_axis domain.now (codes "speed")) }
+    requires speed { speed ≤ 10 ^ 6 }
+    requires place { IsTrue (is_spot place.now) }
+    requires here { IsTrue (is_spot here.now) }
+    ensures { IfOk result (λ func. func ≡ option_map (function_of domain.now) (towards speed place.now here.now)) }
+{
+    match bearing_of(place, here) {
+        Some(degree) => {
+            let func = both(alloc, domain, &steering(degree), &cruising(speed))?;
+            Ok(Some(func))
+        },
+        None => Ok(None),
+    }
+}
