@@ -7,20 +7,20 @@ use Rattle.ivp_problem.specs.Keys.{key_of}
 use Rattle.ivp_problem.specs.Problems.{WeightedSum}
 use Rattle.ivp_problem.specs.Trees.{bound_of, root_of}
 use Rattle.ivp_problem.proofs.Examples.{first, left, right, split, twelve, two, two_is_lawful}
-use Rattle.ivp_pool.specs.Cores.{Core, Drop, Frame, Holds, Keep, Load, Member, pieces_of, Pop, Push, Raise, StepsTo, Skip, start_of, Steal, Step, Stepped}
+use Rattle.ivp_pool.specs.Cores.{Core, Drop, Frame, Holds, Keep, Load, CoreWorker, pieces_of, Pop, Push, Raise, StepsTo, Skip, start_of, Steal, Step, Stepped}
 use Rattle.ivp_pool.specs.Places.{IsDoneOnce, IsOver}
 use Rattle.ivp_pool.proofs.Ending.{finished, ran_keeps, start_keeps}
 
 abbrev frame : Node → ℕ → Frame
 frame node next = record { node = node; next = next }
 
-abbrev member : ℕ → List Node → List Frame → List Node → Member
+abbrev member : ℕ → List Node → List Frame → List Node → CoreWorker
 member low deque hand done = record { low = low; deque = deque; hand = hand; done = done }
 
-abbrev core : ℕ → Member → Member → Core
+abbrev core : ℕ → CoreWorker → CoreWorker → Core
 core word one other = record { word = word; members = one ∷ other ∷ [] }
 
-abbrev holds : (c : Core) (worker : ℕ) (m : Member) (f : Frame) (below : List Frame) → slice_get c.members worker ≡ Some m → m.hand ≡ f ∷ below → Holds c worker
+abbrev holds : (c : Core) (worker : ℕ) (m : CoreWorker) (f : Frame) (below : List Frame) → slice_get c.members worker ≡ Some m → m.hand ≡ f ∷ below → Holds c worker
 holds c worker m f below has hand = record { member = m; has = has; frame = f; below = below; hand = hand }
 
 abbrev root : Node
@@ -29,51 +29,51 @@ root = root_of two
 abbrev best : ℕ
 best = key_of 75 2
 
-abbrev idle : Member
+abbrev idle : CoreWorker
 idle = member 0 [] [] []
 
 abbrev steps : List Step
 steps = Push 0 ∷ Drop 0 ∷ Pop 0 ∷ Push 0 ∷ Keep 0 ∷ Steal 1 0 ∷ Raise 1 (point_from 0 1 0 0) ∷ Drop 1 ∷ Load 0 ∷ Drop 0 ∷ Drop 0 ∷ []
 
 -- worker 0 as the run goes on
-abbrev begun : Member
+abbrev begun : CoreWorker
 begun = member 0 [] (frame root 0 ∷ []) []
 
-abbrev dealt : Member
+abbrev dealt : CoreWorker
 dealt = member 0 (first ∷ []) (frame root 1 ∷ []) []
 
-abbrev ready : Member
+abbrev ready : CoreWorker
 ready = member 0 (first ∷ []) [] (root ∷ [])
 
-abbrev popped : Member
+abbrev popped : CoreWorker
 popped = member 0 [] (frame first 0 ∷ []) (root ∷ [])
 
-abbrev pushed : Member
+abbrev pushed : CoreWorker
 pushed = member 0 (left ∷ []) (frame first 1 ∷ []) (root ∷ [])
 
-abbrev kept : Member
+abbrev kept : CoreWorker
 kept = member 0 (left ∷ []) (frame right 0 ∷ frame first 2 ∷ []) (root ∷ [])
 
-abbrev robbed : Member
+abbrev robbed : CoreWorker
 robbed = member 0 [] (frame right 0 ∷ frame first 2 ∷ []) (root ∷ [])
 
-abbrev told : Member
+abbrev told : CoreWorker
 told = member best [] (frame right 0 ∷ frame first 2 ∷ []) (root ∷ [])
 
-abbrev pruned : Member
+abbrev pruned : CoreWorker
 pruned = member best [] (frame first 2 ∷ []) (right ∷ root ∷ [])
 
-abbrev all_done : Member
+abbrev all_done : CoreWorker
 all_done = member best [] [] (first ∷ right ∷ root ∷ [])
 
 -- and worker 1, which steals the first leaf
-abbrev thief : Member
+abbrev thief : CoreWorker
 thief = member 0 [] (frame left 0 ∷ []) []
 
-abbrev offered : Member
+abbrev offered : CoreWorker
 offered = member best [] (frame left 0 ∷ []) []
 
-abbrev over : Member
+abbrev over : CoreWorker
 over = member best [] [] (left ∷ [])
 
 abbrev last : Core
@@ -146,8 +146,8 @@ run = (
 
 -- it leaves nothing
 nothing_left : IsOver last
-nothing_left zero m has = let same : all_done ≡ m = cc in (ap (λ (x : Member). x.deque) (sym same), ap (λ (x : Member). x.hand) (sym same))
-nothing_left (suc zero) m has = let same : over ≡ m = cc in (ap (λ (x : Member). x.deque) (sym same), ap (λ (x : Member). x.hand) (sym same))
+nothing_left zero m has = let same : all_done ≡ m = cc in (ap (λ (x : CoreWorker). x.deque) (sym same), ap (λ (x : CoreWorker). x.hand) (sym same))
+nothing_left (suc zero) m has = let same : over ≡ m = cc in (ap (λ (x : CoreWorker). x.deque) (sym same), ap (λ (x : CoreWorker). x.hand) (sym same))
 nothing_left (suc (suc worker)) m has = absurd (cc)
 
 -- so the leaf that was stolen is done once, and the word is the best key
@@ -157,11 +157,11 @@ all_finished =
     is.done left (3, refl)
 
 -- no step: a leaf goes though its bound is above what is known
-top_is : (c : Core) (m : Member) (f : Frame) → slice_get c.members 0 ≡ Some m → m.hand ≡ f ∷ [] → (h : Holds c 0) → (h.member ≡ m) × (h.frame ≡ f)
+top_is : (c : Core) (m : CoreWorker) (f : Frame) → slice_get c.members 0 ≡ Some m → m.hand ≡ f ∷ [] → (h : Holds c 0) → (h.member ≡ m) × (h.frame ≡ f)
 top_is c m f has hand h =
     let both : Some h.member ≡ Some m = sym h.has ∙ has in
     let same : h.member ≡ m = cc in
-    let hands : h.frame ∷ h.below ≡ f ∷ [] = sym h.hand ∙ (ap (λ (x : Member). x.hand) same ∙ hand) in
+    let hands : h.frame ∷ h.below ≡ f ∷ [] = sym h.hand ∙ (ap (λ (x : CoreWorker). x.hand) same ∙ hand) in
     (same, let first : h.frame ≡ f = cc in first)
 
 abbrev unknown : Core
@@ -170,13 +170,13 @@ unknown = core 0 (member 0 [] (frame left 0 ∷ []) []) idle
 too_soon : (after : Core) → Stepped two (Drop 0) unknown after → ⊥
 too_soon after (h, may, e) =
     let top = top_is unknown (member 0 [] (frame left 0 ∷ []) []) (frame left 0) refl refl h in
-    let low : h.member.low ≡ 0 = ap (λ (m : Member). m.low) top.0 in
+    let low : h.member.low ≡ 0 = ap (λ (m : CoreWorker). m.low) top.0 in
     let depth : h.frame.node.depth ≡ 2 = ap (λ (f : Frame). f.node.depth) top.1 in
     let bound : bound_of two h.frame.node ≡ key_of 75 2 = ap (λ (f : Frame). bound_of two f.node) top.1 in
     elim may [ inl less ↦ absurd (omega arith) | inr (below, past) ↦ absurd (omega arith) ]
 
 -- the hand of the second worker
-abbrev second_hand : List Member → List Frame
+abbrev second_hand : List CoreWorker → List Frame
 second_hand [] = []
 second_hand (one ∷ []) = []
 second_hand (one ∷ other ∷ members) = other.hand

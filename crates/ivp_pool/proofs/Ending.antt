@@ -12,7 +12,7 @@ use Rattle.ivp_problem.specs.Sums.{best_of, key_at}
 use Rattle.ivp_problem.specs.Trees.{IsNode, root_of}
 use Rattle.ivp_problem.proofs.KeyOrder.{best_most, best_point}
 use Rattle.ivp_problem.proofs.Pieces.{child_depth}
-use Rattle.ivp_pool.specs.Cores.{Core, fresh, holder_of, Member, StepsTo, start_of, Step}
+use Rattle.ivp_pool.specs.Cores.{Core, fresh, holder_of, CoreWorker, StepsTo, start_of, Step}
 use Rattle.ivp_pool.specs.Places.{InDeque, InDone, InHand, IsDoneOnce, IsFinished, IsIn, IsOver, nodes_in, NodePlace, places_in, node_places}
 use Rattle.ivp_pool.proofs.Moving.{beside, Lows, weigh_member}
 use Rattle.ivp_pool.proofs.Opening.{held_fresh, same_places, Stand}
@@ -26,13 +26,13 @@ no_places : (h : NodePlace → ℕ) (others : ℕ) → weigh h (flat_map places_
 no_places h zero = refl
 no_places h (suc others) = no_places h others
 
-low_start : (others worker : ℕ) (member : Member) → slice_get (replicate others (holder_of [])) worker ≡ Some member → member.low ≤ 0
+low_start : (others worker : ℕ) (member : CoreWorker) → slice_get (replicate others (holder_of [])) worker ≡ Some member → member.low ≤ 0
 low_start zero worker member e = absurd (cc)
-low_start (suc others) zero member e = let same : holder_of [] ≡ member = cc in omega (arith, ap (λ (m : Member). m.low) same)
+low_start (suc others) zero member e = let same : holder_of [] ≡ member = cc in omega (arith, ap (λ (m : CoreWorker). m.low) same)
 low_start (suc others) (suc worker) member e = low_start others worker member e
 
 lows_start : (problem : WeightedSum) (others : ℕ) → Lows 0 (start_of problem others).members
-lows_start problem others zero member e = let same : holder_of (fresh (root_of problem) ∷ []) ≡ member = cc in omega (arith, ap (λ (m : Member). m.low) same)
+lows_start problem others zero member e = let same : holder_of (fresh (root_of problem) ∷ []) ≡ member = cc in omega (arith, ap (λ (m : CoreWorker). m.low) same)
 lows_start problem others (suc worker) member e = low_start others worker member e
 
 root_stand : (problem : WeightedSum) → IsProblem problem → Stand problem 0 (InHand (fresh (root_of problem)) ∷ [])
@@ -71,10 +71,10 @@ pub ran_stays : (problem : WeightedSum) (steps : List Step) (core core' : Core) 
 ran_stays problem steps core core' ran node there = some_in (node_places core') node (omega (arith, weight_stays problem steps core core' ran node, in_some (node_places core) node there))
 
 -- nodes that are done
-abbrev AllOver : List Member → Type 0
-AllOver members = (worker : ℕ) (member : Member) → slice_get members worker ≡ Some member → (member.deque ≡ []) × (member.hand ≡ [])
+abbrev AllOver : List CoreWorker → Type 0
+AllOver members = (worker : ℕ) (member : CoreWorker) → slice_get members worker ≡ Some member → (member.deque ≡ []) × (member.hand ≡ [])
 
-over_member : (h : NodePlace → ℕ) (m : Member) → m.deque ≡ [] → m.hand ≡ [] → weigh h (places_in m) ≡ weigh h (map InDone m.done)
+over_member : (h : NodePlace → ℕ) (m : CoreWorker) → m.deque ≡ [] → m.hand ≡ [] → weigh h (places_in m) ≡ weigh h (map InDone m.done)
 over_member h m deque hand = omega (arith, weigh_member h m, ap (λ nodes. weigh h (map InDeque nodes)) deque, ap (λ frames. weigh h (map InHand frames)) hand)
 
 done_in : (node : Node) (nodes : List Node) → 0 < weigh (at node) (map InDone nodes) → IsIn nodes node
@@ -90,17 +90,17 @@ in_done node [] k e = absurd (cc)
 in_done node (x ∷ xs) zero e = let same : x ≡ node = cc in omega (arith, self node, ap (λ (n : Node). one_if (is_same n node)) same)
 in_done node (x ∷ xs) (suc k) e = omega (arith, in_done node xs k e)
 
-done_weighs : (node : Node) (m : Member) → IsIn m.done node → 0 < weigh (at node) (places_in m)
+done_weighs : (node : Node) (m : CoreWorker) → IsIn m.done node → 0 < weigh (at node) (places_in m)
 done_weighs node m (k, e) = omega (arith, weigh_member (at node) m, in_done node m.done k e)
 
 -- a node that is there is done by a worker
-record DoneBy (members : List Member) (node : Node) : Type 0 where
+record DoneBy (members : List CoreWorker) (node : Node) : Type 0 where
   worker : ℕ
-  member : Member
+  member : CoreWorker
   has : slice_get members worker ≡ Some member
   done : IsIn member.done node
 
-done_by : (node : Node) (members : List Member) → AllOver members → 0 < weigh (at node) (flat_map places_in members) → DoneBy members node
+done_by : (node : Node) (members : List CoreWorker) → AllOver members → 0 < weigh (at node) (flat_map places_in members) → DoneBy members node
 done_by node [] over some = absurd (omega (arith, some))
 done_by node (m ∷ members) over some =
     elim (cases_lt 0 (weigh (at node) (places_in m))) [
@@ -111,15 +111,15 @@ done_by node (m ∷ members) over some =
     ]
 
 -- and by one only
-one_worker : (node : Node) (members : List Member) (i j : ℕ) (m n : Member) → slice_get members i ≡ Some m → IsIn m.done node → slice_get members j ≡ Some n → IsIn n.done node → weigh (at node) (flat_map places_in members) ≤ 1 → i ≡ j
+one_worker : (node : Node) (members : List CoreWorker) (i j : ℕ) (m n : CoreWorker) → slice_get members i ≡ Some m → IsIn m.done node → slice_get members j ≡ Some n → IsIn n.done node → weigh (at node) (flat_map places_in members) ≤ 1 → i ≡ j
 one_worker node [] i j m n e in_m e' in_n once = absurd (cc)
 one_worker node (x ∷ members) zero zero m n e in_m e' in_n once = refl
 one_worker node (x ∷ members) zero (suc j) m n e in_m e' in_n once =
     let same : x ≡ m = cc in
-    absurd (omega (arith, once, weigh_append (at node) (places_in x) (flat_map places_in members), ap (λ (y : Member). weigh (at node) (places_in y)) same, done_weighs node m in_m, (beside members j n e').old (at node), done_weighs node n in_n))
+    absurd (omega (arith, once, weigh_append (at node) (places_in x) (flat_map places_in members), ap (λ (y : CoreWorker). weigh (at node) (places_in y)) same, done_weighs node m in_m, (beside members j n e').old (at node), done_weighs node n in_n))
 one_worker node (x ∷ members) (suc i) zero m n e in_m e' in_n once =
     let same : x ≡ n = cc in
-    absurd (omega (arith, once, weigh_append (at node) (places_in x) (flat_map places_in members), ap (λ (y : Member). weigh (at node) (places_in y)) same, done_weighs node n in_n, (beside members i m e).old (at node), done_weighs node m in_m))
+    absurd (omega (arith, once, weigh_append (at node) (places_in x) (flat_map places_in members), ap (λ (y : CoreWorker). weigh (at node) (places_in y)) same, done_weighs node n in_n, (beside members i m e).old (at node), done_weighs node m in_m))
 one_worker node (x ∷ members) (suc i) (suc j) m n e in_m e' in_n once =
     ap suc (one_worker node members i j m n e in_m e' in_n (omega (arith, once, weigh_append (at node) (places_in x) (flat_map places_in members))))
 
@@ -128,7 +128,7 @@ none_in_done : (problem : WeightedSum) (p : Point) (nodes : List Node) → weigh
 none_in_done problem p [] = refl
 none_in_done problem p (x ∷ xs) = omega (arith, none_in_done problem p xs)
 
-none_open : (problem : WeightedSum) (p : Point) (members : List Member) → AllOver members → weigh (has_at problem p) (flat_map places_in members) ≡ 0
+none_open : (problem : WeightedSum) (p : Point) (members : List CoreWorker) → AllOver members → weigh (has_at problem p) (flat_map places_in members) ≡ 0
 none_open problem p [] over = refl
 none_open problem p (m ∷ members) over =
     let is = over 0 m refl in

@@ -1,5 +1,5 @@
 -- Worked examples of parts, in the tree of the worked problem: its root has one child, which has two leaves.
-use Rattle.std.proofs.Common.{◌≡◌, ℕ, ◌+◌, ◌<◌, ◌≤◌, inl, inr, true, false, Some, None, List, [], ◌∷◌, length, refl, sym, ap, subst, arith}
+use Rattle.std.proofs.Common.{◌≡◌, ℕ, ◌+◌, ◌-◌, ◌^◌, ◌<◌, ◌≤◌, inl, inr, true, false, Some, None, List, [], ◌∷◌, length, refl, sym, ap, subst, arith}
 use Rattle.std.specs.Prelude.{IsTrue}
 use Rattle.std.specs.List.{sum_by}
 use Rattle.std.proofs.lemmas.List.Sums.{sum_by-cons}
@@ -15,7 +15,7 @@ use Rattle.ivp_problem.proofs.Examples.{first, left, twelve, two, two_is_lawful}
 use Rattle.ivp_problem.proofs.KeyOrder.{best_most}
 use Rattle.ivp_pool.specs.declared.team.Worker.{Worker}
 use Rattle.ivp_pool.specs.Closing.{AreCovered, Closed, Pushed}
-use Rattle.ivp_pool.specs.Solving.{AreClosed, IsNew, IsSearched, IsWorker, low_of, worker_share, total_of, WentOn}
+use Rattle.ivp_pool.specs.Solving.{AreClosed, IsNew, IsSearched, IsWorker, low_of, total_of, WentOn}
 use Rattle.ivp_pool.proofs.Gluing.{whole}
 use Rattle.ivp_pool.proofs.Growing.{closed_covers}
 use Rattle.ivp_pool.proofs.Teams.{closed_one, searched}
@@ -98,10 +98,6 @@ root_has_four (Expanded (Then part (Then other parts))) is none = absurd is.1.1
 always_four : (count : ℕ) → IsSearched two (key_of 75 2) count → count ≡ 4
 always_four count is = omega (arith, is.size, root_has_four is.part is.is is.none)
 
--- of three nodes the first of two workers gets the first and the last
-shares : (worker_share 2 0 (left ∷ root_of two ∷ left ∷ []) ≡ left ∷ left ∷ []) × (worker_share 2 1 (left ∷ root_of two ∷ left ∷ []) ≡ root_of two ∷ [])
-shares = (refl, refl)
-
 -- a node that a tray took, and one that came back
 pushes : Pushed [] (left ∷ []) left None × Pushed [] [] left (Some left)
 pushes = (refl, (refl, refl))
@@ -175,12 +171,12 @@ called_once = closed_one two (key_of 55 10) [] (left ∷ []) (root_of two) 3 roo
 idle : AreClosed two 0 [] [] 0
 idle = record { tallies = []; each = λ place tally here. absurd (cc); called = λ weigh. refl; passed = λ weigh. refl; size = refl }
 
-closed_by_nobody : (key : ℕ) (nodes : List Node) → AreClosed two key [] nodes 1 → ⊥
-closed_by_nobody key nodes is = at_least is.tallies (is.called (λ node. 1)) is.size
+closed_by_nobody : (key : ℕ) (nodes : List Node) (count : ℕ) → AreClosed two key [] nodes count → count ≡ 0
+closed_by_nobody key nodes count is = none_at is.tallies (is.called (λ node. 1)) is.size
   where
-    at_least : (tallies : List Tally) → sum_by (λ (tally : Tally). 1) tallies ≡ 0 → 1 + length nodes ≡ sum_by (λ (tally : Tally). size_of tally.part) tallies → ⊥
-    at_least [] none size = omega arith
-    at_least (tally ∷ tallies) none size = omega (arith, sum_by-cons (λ (tally : Tally). 1) tally tallies)
+    none_at : (tallies : List Tally) → sum_by (λ (tally : Tally). 1) tallies ≡ 0 → count + length nodes ≡ sum_by (λ (tally : Tally). size_of tally.part) tallies → count ≡ 0
+    none_at [] none size = omega (arith, size)
+    none_at (tally ∷ tallies) none size = absurd (omega (arith, none, sum_by-cons (λ (tally : Tally). 1) tally tallies))
 
 -- a call closes its own node, if no other
 closed_nothing : (key : ℕ) → AreClosed two key (root_of two ∷ []) [] 0 → ⊥
@@ -236,17 +232,15 @@ some_worker = record { at_word = refl; about = refl; empty = refl }
 other_word : IsWorker two (record word { atom = 1 }) (worker 7 1 3) → ⊥
 other_word is = omega (arith, ap (λ (table : TableId). table.atom) is.at_word)
 
--- its first call closed three nodes; with that it didn't forget what it knew, the call is counted, and nothing more
+-- its first call closed three nodes, and it didn't forget what it knew; the count of closed nodes goes round at 2^64, and counts nothing more
 went_on : WentOn two (root_of two ∷ []) (left ∷ []) (worker 0 0 0) (worker (key_of 55 10) 1 3)
-went_on = record { at_word = refl; scout = refl; later = omega arith; calls = refl; count = 3; counted = refl; closed = called_once }
+went_on = record { at_word = refl; scout = refl; later = omega arith; count = 3; wraps = 0; counted = refl; closed = called_once }
+
+went_round : WentOn two (root_of two ∷ []) (left ∷ []) (worker 0 0 (2 ^ 64 - 1)) (worker (key_of 55 10) 1 2)
+went_round = record { at_word = refl; scout = refl; later = omega arith; count = 3; wraps = 1; counted = omega arith; closed = called_once }
 
 forgot : WentOn two [] [] (worker 7 0 0) (worker 6 0 0) → ⊥
 forgot is = omega (arith, is.later)
 
-uncounted_call : WentOn two (root_of two ∷ []) (left ∷ []) (worker 0 0 0) (worker (key_of 55 10) 0 3) → ⊥
-uncounted_call is = omega (arith, is.calls)
-
 counted_without_a_call : WentOn two [] [] (worker 0 0 0) (worker 0 0 1) → ⊥
-counted_without_a_call is =
-    let one : is.count ≡ 1 = omega (arith, is.counted) in
-    closed_by_nobody 0 [] (subst (λ count. AreClosed two 0 [] [] count) one is.closed)
+counted_without_a_call is = omega (arith, is.counted, closed_by_nobody 0 [] is.count is.closed)

@@ -3,12 +3,12 @@ use Rattle.std.proofs.Common.{◌≡◌, ℕ, zero, suc, ◌+◌, ◌≤◌, ◌
 use Rattle.std.specs.Prelude.{set, slice_get}
 use Rattle.std.specs.List.{flat_map}
 use Rattle.ivp_problem.specs.declared.node.Node.{Node}
-use Rattle.ivp_pool.specs.Cores.{Core, Frame, fresh, Has, Holds, Member, Rests, with_member}
+use Rattle.ivp_pool.specs.Cores.{Core, Frame, fresh, Has, Holds, CoreWorker, Rests, with_member}
 use Rattle.ivp_pool.specs.Places.{InDeque, InDone, InHand, NodePlace, places_in, node_places}
 use Rattle.ivp_pool.proofs.Weighing.{weigh, weigh_append}
 
 -- the places of a worker
-pub weigh_member : (h : NodePlace → ℕ) (m : Member) → weigh h (places_in m) ≡ weigh h (map InDeque m.deque) + weigh h (map InHand m.hand) + weigh h (map InDone m.done)
+pub weigh_member : (h : NodePlace → ℕ) (m : CoreWorker) → weigh h (places_in m) ≡ weigh h (map InDeque m.deque) + weigh h (map InHand m.hand) + weigh h (map InDone m.done)
 weigh_member h m = omega (arith, weigh_append h (map InDeque m.deque) (map InHand m.hand ++ map InDone m.done), weigh_append h (map InHand m.hand) (map InDone m.done))
 
 weigh_deque : (h : NodePlace → ℕ) (xs ys : List Node) → weigh h (map InDeque (xs ++ ys)) ≡ weigh h (map InDeque xs) + weigh h (map InDeque ys)
@@ -16,18 +16,18 @@ weigh_deque h [] ys = omega arith
 weigh_deque h (x ∷ xs) ys = omega (arith, weigh_deque h xs ys)
 
 -- the places beside those of one worker
-pub record Beside (members : List Member) (worker : ℕ) (member : Member) : Type 0 where
+pub record Beside (members : List CoreWorker) (worker : ℕ) (member : CoreWorker) : Type 0 where
   pub others : List NodePlace
   pub old : (h : NodePlace → ℕ) → weigh h (flat_map places_in members) ≡ weigh h (places_in member) + weigh h others
-  pub new : (other : Member) (h : NodePlace → ℕ) → weigh h (flat_map places_in (set members worker other)) ≡ weigh h (places_in other) + weigh h others
+  pub new : (other : CoreWorker) (h : NodePlace → ℕ) → weigh h (flat_map places_in (set members worker other)) ≡ weigh h (places_in other) + weigh h others
 
-pub beside : (members : List Member) (worker : ℕ) (member : Member) → slice_get members worker ≡ Some member → Beside members worker member
+pub beside : (members : List CoreWorker) (worker : ℕ) (member : CoreWorker) → slice_get members worker ≡ Some member → Beside members worker member
 beside [] worker member e = absurd (cc)
 beside (m ∷ members) zero member e =
     let same : m ≡ member = cc in
     record {
       others = flat_map places_in members;
-      old = λ h. omega (arith, weigh_append h (places_in m) (flat_map places_in members), ap (λ (n : Member). weigh h (places_in n)) same);
+      old = λ h. omega (arith, weigh_append h (places_in m) (flat_map places_in members), ap (λ (n : CoreWorker). weigh h (places_in n)) same);
       new = λ other h. weigh_append h (places_in other) (flat_map places_in members);
     }
 beside (m ∷ members) (suc worker) member e =
@@ -61,40 +61,40 @@ beside_top core worker holder =
     }
 
 -- a node comes to a deque
-pub received : (core : Core) (worker : ℕ) (node : Node) (taker : Member) → Has core worker taker → (h : NodePlace → ℕ) → weigh h (node_places (with_member core worker (record taker { deque = taker.deque ++ node ∷ [] }))) ≡ h (InDeque node) + weigh h (node_places core)
+pub received : (core : Core) (worker : ℕ) (node : Node) (taker : CoreWorker) → Has core worker taker → (h : NodePlace → ℕ) → weigh h (node_places (with_member core worker (record taker { deque = taker.deque ++ node ∷ [] }))) ≡ h (InDeque node) + weigh h (node_places core)
 received core worker node taker has h =
     let by = beside core.members worker taker has in
-    let more : Member = record taker { deque = taker.deque ++ node ∷ [] } in
+    let more : CoreWorker = record taker { deque = taker.deque ++ node ∷ [] } in
     omega (arith, by.old h, by.new more h, weigh_member h taker, weigh_member h more, weigh_deque h taker.deque (node ∷ []))
 
 -- a node leaves a deque
-pub left : (core : Core) (worker : ℕ) (member : Member) (front : List Node) (node : Node) (behind : List Node) → Has core worker member → member.deque ≡ front ++ node ∷ behind → (h : NodePlace → ℕ) → weigh h (node_places core) ≡ h (InDeque node) + weigh h (node_places (with_member core worker (record member { deque = front ++ behind })))
+pub left : (core : Core) (worker : ℕ) (member : CoreWorker) (front : List Node) (node : Node) (behind : List Node) → Has core worker member → member.deque ≡ front ++ node ∷ behind → (h : NodePlace → ℕ) → weigh h (node_places core) ≡ h (InDeque node) + weigh h (node_places (with_member core worker (record member { deque = front ++ behind })))
 left core worker member front node behind has e h =
     let by = beside core.members worker member has in
-    let less : Member = record member { deque = front ++ behind } in
+    let less : CoreWorker = record member { deque = front ++ behind } in
     omega (arith, by.old h, by.new less h, weigh_member h member, weigh_member h less, ap (λ nodes. weigh h (map InDeque nodes)) e, weigh_deque h front (node ∷ behind), weigh_deque h front behind)
 
 -- a node comes to an empty hand
 pub began : (core : Core) (worker : ℕ) (node : Node) (rests : Rests core worker) → (h : NodePlace → ℕ) → weigh h (node_places (with_member core worker (record rests.member { hand = fresh node ∷ [] }))) ≡ h (InHand (fresh node)) + weigh h (node_places core)
 began core worker node rests h =
     let by = beside core.members worker rests.member rests.has in
-    let more : Member = record rests.member { hand = fresh node ∷ [] } in
+    let more : CoreWorker = record rests.member { hand = fresh node ∷ [] } in
     omega (arith, by.old h, by.new more h, weigh_member h rests.member, weigh_member h more, ap (λ frames. weigh h (map InHand frames)) rests.hand)
 
 -- no worker knows more than this word
-abbrev pub Lows : ℕ → List Member → Type 0
-Lows word members = (worker : ℕ) (member : Member) → slice_get members worker ≡ Some member → member.low ≤ word
+abbrev pub Lows : ℕ → List CoreWorker → Type 0
+Lows word members = (worker : ℕ) (member : CoreWorker) → slice_get members worker ≡ Some member → member.low ≤ word
 
-got_set : (members : List Member) (k : ℕ) (other : Member) (j : ℕ) (member : Member) → slice_get (set members k other) j ≡ Some member → (member ≡ other) ⊎ (slice_get members j ≡ Some member)
+got_set : (members : List CoreWorker) (k : ℕ) (other : CoreWorker) (j : ℕ) (member : CoreWorker) → slice_get (set members k other) j ≡ Some member → (member ≡ other) ⊎ (slice_get members j ≡ Some member)
 got_set [] k other j member e = inr e
 got_set (m ∷ members) zero other zero member e = inl (let same : member ≡ other = cc in same)
 got_set (m ∷ members) zero other (suc j) member e = inr e
 got_set (m ∷ members) (suc k) other zero member e = inr e
 got_set (m ∷ members) (suc k) other (suc j) member e = got_set members k other j member e
 
-pub lows_set : (word : ℕ) (members : List Member) (k : ℕ) (other : Member) → Lows word members → other.low ≤ word → Lows word (set members k other)
+pub lows_set : (word : ℕ) (members : List CoreWorker) (k : ℕ) (other : CoreWorker) → Lows word members → other.low ≤ word → Lows word (set members k other)
 lows_set word members k other lows low = λ j member e.
     elim (got_set members k other j member e) [
-      | inl same ↦ omega (arith, low, ap (λ (m : Member). m.low) same)
+      | inl same ↦ omega (arith, low, ap (λ (m : CoreWorker). m.low) same)
       | inr old ↦ lows j member old
     ]

@@ -8,7 +8,7 @@ use Rattle.ivp_problem.specs.declared.node.Node.{Node}
 use Rattle.ivp_problem.specs.Problems.{IsProblem, WeightedSum}
 use Rattle.ivp_problem.specs.Sums.{key_at}
 use Rattle.ivp_problem.specs.Trees.{child_of}
-use Rattle.ivp_pool.specs.Cores.{Core, Drop, fresh, Has, Holds, Keep, Load, MayDrop, Member, frame_passed, pieces_of, Pop, Push, Raise, Rests, Skip, Steal, Step, Stepped, taker_of, went_on, with_member}
+use Rattle.ivp_pool.specs.Cores.{Core, Drop, fresh, Has, Holds, Keep, Load, MayDrop, CoreWorker, frame_passed, pieces_of, Pop, Push, Raise, Rests, Skip, Steal, Step, Stepped, taker_of, went_on, with_member}
 use Rattle.ivp_pool.specs.Places.{InDeque, InDone, InHand, NodePlace, node_places}
 use Rattle.ivp_pool.proofs.Moving.{began, beside, beside_top, left, Lows, lows_set, received}
 use Rattle.ivp_pool.proofs.Opening.{dropped_stand, known_more, pushed_stand, same_places, skipped_stand, Stand, taken_stand}
@@ -21,10 +21,10 @@ pub record Keeps (problem : WeightedSum) (core : Core) : Type 0 where
   pub stand : Stand problem core.word (node_places core)
 
 -- a worker that learns the word keeps its places
-learnt_places : (core : Core) (worker low : ℕ) (member : Member) → Has core worker member → (h : NodePlace → ℕ) → weigh h (node_places (with_member core worker (record member { low = low }))) ≡ weigh h (node_places core)
+learnt_places : (core : Core) (worker low : ℕ) (member : CoreWorker) → Has core worker member → (h : NodePlace → ℕ) → weigh h (node_places (with_member core worker (record member { low = low }))) ≡ weigh h (node_places core)
 learnt_places core worker low member has h = let by = beside core.members worker member has in omega (arith, by.old h, by.new (record member { low = low }) h)
 
-learnt_keeps : (problem : WeightedSum) (core : Core) (worker : ℕ) (member : Member) → Has core worker member → Keeps problem core → Keeps problem (with_member core worker (record member { low = core.word }))
+learnt_keeps : (problem : WeightedSum) (core : Core) (worker : ℕ) (member : CoreWorker) → Has core worker member → Keeps problem core → Keeps problem (with_member core worker (record member { low = core.word }))
 learnt_keeps problem core worker member has keeps =
     record {
       known = keeps.known;
@@ -47,7 +47,7 @@ raised_keeps problem core point inside keeps =
     }
 
 -- the places after a push
-pushed_places : (core : Core) (worker taker : ℕ) (holder : Holds core worker) (child : Node) (member : Member) → Has (went_on core worker holder) taker member → (h : NodePlace → ℕ) → weigh h (node_places (with_member (went_on core worker holder) taker (record member { deque = member.deque ++ child ∷ [] }))) ≡ weigh h (InHand (frame_passed holder.frame) ∷ InDeque child ∷ (beside_top core worker holder).rest)
+pushed_places : (core : Core) (worker taker : ℕ) (holder : Holds core worker) (child : Node) (member : CoreWorker) → Has (went_on core worker holder) taker member → (h : NodePlace → ℕ) → weigh h (node_places (with_member (went_on core worker holder) taker (record member { deque = member.deque ++ child ∷ [] }))) ≡ weigh h (InHand (frame_passed holder.frame) ∷ InDeque child ∷ (beside_top core worker holder).rest)
 pushed_places core worker taker holder child member has h =
     let by = beside_top core worker holder in
     omega (arith, received (went_on core worker holder) taker child member has h, by.hand (frame_passed holder.frame ∷ holder.below) h)
@@ -57,7 +57,7 @@ top_stand problem core worker holder keeps =
     let by = beside_top core worker holder in
     same_places problem core.word (node_places core) (InHand holder.frame ∷ by.rest) (λ h. sym (by.old h)) keeps.stand
 
-pushed_keeps : (problem : WeightedSum) → IsProblem problem → (core : Core) (worker taker : ℕ) (holder : Holds core worker) (child : Node) (member : Member) → child_of problem holder.frame.node holder.frame.next ≡ Some child → Has (went_on core worker holder) taker member → Keeps problem core → Keeps problem (with_member (went_on core worker holder) taker (record member { deque = member.deque ++ child ∷ [] }))
+pushed_keeps : (problem : WeightedSum) → IsProblem problem → (core : Core) (worker taker : ℕ) (holder : Holds core worker) (child : Node) (member : CoreWorker) → child_of problem holder.frame.node holder.frame.next ≡ Some child → Has (went_on core worker holder) taker member → Keeps problem core → Keeps problem (with_member (went_on core worker holder) taker (record member { deque = member.deque ++ child ∷ [] }))
 pushed_keeps problem h core worker taker holder child member of has keeps =
     let by = beside_top core worker holder in
     let gone = went_on core worker holder in
@@ -79,7 +79,7 @@ kept_keeps problem h core worker holder child of keeps =
     let by = beside_top core worker holder in
     let pushed = pushed_stand problem h core.word holder.frame child by.rest of (top_stand problem core worker holder keeps) in
     let turned = same_places problem core.word (InHand (frame_passed holder.frame) ∷ InDeque child ∷ by.rest) (InDeque child ∷ InHand (frame_passed holder.frame) ∷ by.rest) (λ g. omega arith) pushed in
-    let other : Member = record holder.member { hand = fresh child ∷ frame_passed holder.frame ∷ holder.below } in
+    let other : CoreWorker = record holder.member { hand = fresh child ∷ frame_passed holder.frame ∷ holder.below } in
     record {
       known = keeps.known;
       lows = lows_set core.word core.members worker other keeps.lows (keeps.lows worker holder.member holder.has);
@@ -99,11 +99,11 @@ skipped_keeps problem core worker holder less none keeps =
     }
 
 -- a node of a deque is taken, its own or another's
-taken_keeps : (problem : WeightedSum) → IsProblem problem → (core : Core) (worker from : ℕ) (member : Member) (front : List Node) (node : Node) (behind : List Node) → Has core from member → member.deque ≡ front ++ node ∷ behind → (rests : Rests (with_member core from (record member { deque = front ++ behind })) worker) → Keeps problem core → Keeps problem (with_member (with_member core from (record member { deque = front ++ behind })) worker (record rests.member { hand = fresh node ∷ [] }))
+taken_keeps : (problem : WeightedSum) → IsProblem problem → (core : Core) (worker from : ℕ) (member : CoreWorker) (front : List Node) (node : Node) (behind : List Node) → Has core from member → member.deque ≡ front ++ node ∷ behind → (rests : Rests (with_member core from (record member { deque = front ++ behind })) worker) → Keeps problem core → Keeps problem (with_member (with_member core from (record member { deque = front ++ behind })) worker (record rests.member { hand = fresh node ∷ [] }))
 taken_keeps problem h core worker from member front node behind has e rests keeps =
     let mid = with_member core from (record member { deque = front ++ behind }) in
     let lows : Lows core.word mid.members = lows_set core.word core.members from (record member { deque = front ++ behind }) keeps.lows (keeps.lows from member has) in
-    let other : Member = record rests.member { hand = fresh node ∷ [] } in
+    let other : CoreWorker = record rests.member { hand = fresh node ∷ [] } in
     let old = same_places problem core.word (node_places core) (InDeque node ∷ node_places mid) (λ g. sym (left core from member front node behind has e g)) keeps.stand in
     record {
       known = keeps.known;
@@ -115,7 +115,7 @@ dropped_keeps : (problem : WeightedSum) → IsProblem problem → (core : Core) 
 dropped_keeps problem h core worker holder may keeps =
     let by = beside_top core worker holder in
     let low = keeps.lows worker holder.member holder.has in
-    let other : Member = record holder.member { hand = holder.below; done = holder.frame.node ∷ holder.member.done } in
+    let other : CoreWorker = record holder.member { hand = holder.below; done = holder.frame.node ∷ holder.member.done } in
     record {
       known = keeps.known;
       lows = lows_set core.word core.members worker other keeps.lows low;
@@ -137,7 +137,7 @@ step_keeps problem h (Drop worker) core core' (holder, may, e) keeps = subst (Ke
 abbrev StillThere : Core → Node → Core → Type 0
 StillThere core node core' = weigh (at node) (node_places core) ≤ weigh (at node) (node_places core')
 
-taken_stays : (core : Core) (worker from : ℕ) (member : Member) (front : List Node) (node : Node) (behind : List Node) → Has core from member → member.deque ≡ front ++ node ∷ behind → (rests : Rests (with_member core from (record member { deque = front ++ behind })) worker) → (one : Node) → StillThere core one (with_member (with_member core from (record member { deque = front ++ behind })) worker (record rests.member { hand = fresh node ∷ [] }))
+taken_stays : (core : Core) (worker from : ℕ) (member : CoreWorker) (front : List Node) (node : Node) (behind : List Node) → Has core from member → member.deque ≡ front ++ node ∷ behind → (rests : Rests (with_member core from (record member { deque = front ++ behind })) worker) → (one : Node) → StillThere core one (with_member (with_member core from (record member { deque = front ++ behind })) worker (record rests.member { hand = fresh node ∷ [] }))
 taken_stays core worker from member front node behind has split rests one =
     omega (arith, left core from member front node behind has split (at one), began (with_member core from (record member { deque = front ++ behind })) worker node rests (at one))
 

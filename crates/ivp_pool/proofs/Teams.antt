@@ -1,8 +1,8 @@
 -- How the calls of a worker add up, and those of all workers.
-use Rattle.std.proofs.Common.{◌≡◌, ℕ, suc, ◌+◌, ◌*◌, ◌^◌, ◌<◌, ◌≤◌, Some, List, [], ◌∷◌, ◌++◌, length, map, refl, sym, ap, ◌∙◌, subst, arith, add-zero, length-append}
-use Rattle.std.specs.Prelude.{All, get_or, IsTrue, slice_get}
+use Rattle.std.proofs.Common.{◌≡◌, ℕ, suc, ◌+◌, ◌*◌, ◌^◌, ◌/◌, ◌%◌, ◌≤◌, Some, List, [], ◌∷◌, ◌++◌, length, refl, sym, ap, ◌∙◌, arith, length-append}
+use Rattle.std.specs.Prelude.{All, IsTrue, slice_get}
 use Rattle.std.specs.List.{sum_by, AllByRecursion as Each}
-use Rattle.std.proofs.lemmas.List.Elements.{All-from_recursion, All-head, All-tail}
+use Rattle.std.proofs.lemmas.List.Elements.{All-from_recursion}
 use Rattle.std.proofs.lemmas.List.Sums.{sum_by-append, sum_by-cons}
 use Rattle.moos_io.proofs.Lists.{each_append, each_at, each_from, each_weaker}
 use Rattle.ivp_domain.specs.declared.boxes.Point.{Point}
@@ -13,15 +13,12 @@ use Rattle.ivp_problem.specs.Sums.{key_at}
 use Rattle.ivp_problem.specs.Trees.{IsNode, root_of}
 use Rattle.ivp_pool.specs.Closing.{Closed}
 use Rattle.ivp_pool.specs.Parts.{handed_of, size_of}
-use Rattle.ivp_pool.specs.Solving.{AreClosed, IsSearched, low_of, worker_share, total_of, WentOn}
+use Rattle.ivp_pool.specs.Solving.{AreClosed, IsSearched, low_of, WentOn}
 use Rattle.ivp_pool.specs.declared.team.Worker.{Worker}
-use Rattle.ivp_pool.specs.declared.work.Work.{Work}
 use Rattle.ivp_pool.specs.Tallies.{handed_by, IsTally, IsWholeTree, Tally}
 use Rattle.ivp_pool.proofs.Gluing.{whole}
 use Rattle.ivp_pool.proofs.Growing.{handed_deeper, IsBelow, raised}
-use Rattle.ivp_pool.proofs.Shares.{shares_from}
-use Rattle.ivp_pool.proofs.Standing.{standing, Stands}
-use Rattle.ivp_pool.proofs.Weights.{few_weight, size_most}
+use Rattle.ivp_pool.proofs.Standing.{standing}
 
 -- no call
 pub closed_none : (problem : WeightedSum) (key : ℕ) → AreClosed problem key [] [] 0
@@ -80,25 +77,6 @@ handed_ones problem (tally ∷ tallies) =
       handed_ones problem tallies,
     )
 
--- each call closes few nodes
-pub part_few : (problem : WeightedSum) → IsProblem problem → (key : ℕ) (tally : Tally) → IsTally problem key tally → size_of tally.part ≤ 65 * 2 ^ 22
-part_few problem h key tally is =
-    let stands : Stands problem tally.node.depth 64 tally.node = record { is = is.node; deep = omega arith; most = omega (arith, h.few) } in
-    omega (arith, size_most problem h key tally.node.depth 64 tally.node tally.part stands is.is, few_weight problem tally.node h)
-
--- so do these calls, counted by their nodes
-pub closed_few : (problem : WeightedSum) → IsProblem problem → (key : ℕ) (nodes handed : List Node) (count : ℕ) → AreClosed problem key nodes handed count → count + length handed ≤ length nodes * (65 * 2 ^ 22)
-closed_few problem h key nodes handed count closed = omega (arith, closed.size, all closed.tallies (each_from (IsTally problem key) closed.tallies closed.each), closed.called (λ n. 1), ones nodes, ones closed.tallies)
-  where
-    all : (tallies : List Tally) → Each (IsTally problem key) tallies → sum_by (λ tally. size_of tally.part) tallies ≤ length tallies * (65 * 2 ^ 22)
-    all [] each = omega arith
-    all (tally ∷ tallies) each = omega (arith, sum_by-cons (λ (t : Tally). size_of t.part) tally tallies, part_few problem h key tally each.0, all tallies each.1)
-
-pub call_few : (problem : WeightedSum) → IsProblem problem → (key : ℕ) (took took' : List Node) (node : Node) (count : ℕ) → IsNode problem node → Closed problem key took took' node count → count ≤ 65 * 2 ^ 22
-call_few problem h key took took' node count is closed =
-    let few = part_few problem h key (record { node = node; part = closed.part }) (record { node = is; is = closed.is; here = closed.here }) in
-    omega (arith, few, closed.counted)
-
 -- a worker went on, and then further
 pub went_more : (problem : WeightedSum) (nodes handed nodes' handed' : List Node) (old mid new : Worker) → WentOn problem nodes handed old mid → WentOn problem nodes' handed' mid new → WentOn problem (nodes ++ nodes') (handed ++ handed') old new
 went_more problem nodes handed nodes' handed' old mid new went went' =
@@ -106,8 +84,8 @@ went_more problem nodes handed nodes' handed' old mid new went went' =
       at_word = went'.at_word ∙ went.at_word;
       scout = went'.scout ∙ ap (λ m. (record m.0 { low = low_of new }, m.1)) went.scout;
       later = omega (arith, went.later, went'.later);
-      calls = omega (arith, went.calls, went'.calls, length-append nodes nodes');
       count = went.count + went'.count;
+      wraps = went.wraps + went'.wraps;
       counted = omega (arith, went.counted, went'.counted);
       closed = closed_more problem (low_of mid) (low_of new) (low_of new) nodes handed nodes' handed' went.count went'.count went'.later (omega arith) went.closed went'.closed;
     }
@@ -129,31 +107,6 @@ searched problem h key nodes handed count linked closed =
           most = whole.most;
         }
 
--- how many nodes a team closed
-abbrev pub closed_by : List Worker → ℕ
-closed_by team = total_of (map (λ (worker : Worker). worker.work) team)
-
-pub closed_by-cons : (worker : Worker) (team : List Worker) → closed_by (worker ∷ team) ≡ worker.work.closed + closed_by team
-closed_by-cons worker team = sum_by-cons (λ (work : Work). work.closed) worker.work (map (λ (w : Worker). w.work) team)
-
--- what all workers of a team closed, each its share
-pub record TeamClosed (problem : WeightedSum) (key : ℕ) (nodes : List Node) (old new : List Worker) : Type 0 where
-  pub count : ℕ
-  pub counted : closed_by new ≡ closed_by old + count
-  pub closed : AreClosed problem key nodes [] count
-
-pub team_closed : (problem : WeightedSum) (key workers : ℕ) (nodes : List Node) (from : ℕ) (old new : List Worker) → length new ≡ length old → ((i : ℕ) (d : Worker) → i < length old → WentOn problem (worker_share workers (from + i) nodes) [] (get_or old i d) (get_or new i d)) → All (λ worker. low_of worker ≤ key) new → TeamClosed problem key (shares_from workers nodes from (length old)) old new
-team_closed problem key workers nodes from [] [] same went known = record { count = 0; counted = refl; closed = closed_none problem key }
-team_closed problem key workers nodes from [] (x ∷ xs) same went known = absurd (cc)
-team_closed problem key workers nodes from (x ∷ xs) [] same went known = absurd (cc)
-team_closed problem key workers nodes from (old ∷ olds) (new ∷ news) same went known =
-    let first : WentOn problem (worker_share workers from nodes) [] old new = subst (λ k. WentOn problem (worker_share workers k nodes) [] old new) (add-zero from) (went 0 old (omega arith)) in
-    let later = team_closed problem key workers nodes (suc from) olds news (omega (arith, same)) (λ i d within. subst (λ k. WentOn problem (worker_share workers k nodes) [] (get_or olds i d) (get_or news i d)) (moved i) (went (suc i) d (omega (arith, within)))) (All-tail (λ (worker : Worker). low_of worker ≤ key) new news known) in
-    record {
-      count = first.count + later.count;
-      counted = omega (arith, first.counted, later.counted, closed_by-cons old olds, closed_by-cons new news);
-      closed = closed_more problem (low_of new) key key (worker_share workers from nodes) [] (shares_from workers nodes (suc from) (length olds)) [] first.count later.count (All-head (λ (worker : Worker). low_of worker ≤ key) new news known) (omega arith) first.closed later.closed;
-    }
-  where
-    moved : (i : ℕ) → from + suc i ≡ suc from + i
-    moved i = omega arith
+-- a count modulo 2^64, and how often it went round
+pub counted_on : (old count : ℕ) → old + count ≡ (old + count) % 2 ^ 64 + ((old + count) / 2 ^ 64) * 2 ^ 64
+counted_on old count = omega arith

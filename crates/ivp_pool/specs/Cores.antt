@@ -14,7 +14,7 @@ pub record Frame : Type 0 where
   pub next : ℕ
 
 -- a worker: the key that it knows, its deque, its hand with the top frame first, and the nodes that it is done with
-pub record Member : Type 0 where
+pub record CoreWorker : Type 0 where
   pub low : ℕ
   pub deque : List Node
   pub hand : List Frame
@@ -23,7 +23,7 @@ pub record Member : Type 0 where
 -- the word that all share, and the workers
 pub record Core : Type 0 where
   pub word : ℕ
-  pub members : List Member
+  pub members : List CoreWorker
 
 -- a frame of which no child was passed on yet
 abbrev pub fresh : Node → Frame
@@ -34,7 +34,7 @@ abbrev pub frame_passed : Frame → Frame
 frame_passed frame = record { node = frame.node; next = frame.next + 1 }
 
 -- a worker that knows nothing and holds these frames alone
-abbrev pub holder_of : List Frame → Member
+abbrev pub holder_of : List Frame → CoreWorker
 holder_of hand = record { low = 0; deque = []; hand = hand; done = [] }
 
 -- the start: worker 0 holds the root, and so many others hold nothing
@@ -53,16 +53,16 @@ pub data Step : Type 0 where
   Drop : ℕ → Step
 
 -- this is the worker of a number
-abbrev pub Has : Core → ℕ → Member → Type 0
+abbrev pub Has : Core → ℕ → CoreWorker → Type 0
 Has core worker member = slice_get core.members worker ≡ Some member
 
 -- the core with another one as the worker of a number
-abbrev pub with_member : Core → ℕ → Member → Core
+abbrev pub with_member : Core → ℕ → CoreWorker → Core
 with_member core worker member = record core { members = set core.members worker member }
 
 -- a worker whose hand has a top frame and these below it
 pub record Holds (core : Core) (worker : ℕ) : Type 0 where
-  pub member : Member
+  pub member : CoreWorker
   pub has : Has core worker member
   pub frame : Frame
   pub below : List Frame
@@ -70,7 +70,7 @@ pub record Holds (core : Core) (worker : ℕ) : Type 0 where
 
 -- a worker whose hand is empty
 pub record Rests (core : Core) (worker : ℕ) : Type 0 where
-  pub member : Member
+  pub member : CoreWorker
   pub has : Has core worker member
   pub hand : member.hand ≡ []
 
@@ -85,11 +85,11 @@ pieces_of problem node = pieces_in (next_of problem node)
 
 -- a worker looks at the word, and knows what it holds
 abbrev pub Learnt : Core → ℕ → Core → Type 0
-Learnt core worker core' = (member : Member) × Has core worker member × (core' ≡ with_member core worker (record member { low = core.word }))
+Learnt core worker core' = (member : CoreWorker) × Has core worker member × (core' ≡ with_member core worker (record member { low = core.word }))
 
 -- a node goes to the back of a worker's deque
 abbrev pub Received : Core → ℕ → Node → Core → Type 0
-Received core worker node core' = (taker : Member) × Has core worker taker × (core' ≡ with_member core worker (record taker { deque = taker.deque ++ node ∷ [] }))
+Received core worker node core' = (taker : CoreWorker) × Has core worker taker × (core' ≡ with_member core worker (record taker { deque = taker.deque ++ node ∷ [] }))
 
 -- a node becomes the one frame of a worker whose hand is empty
 abbrev pub Began : Core → ℕ → Node → Core → Type 0
@@ -124,11 +124,11 @@ Stepped problem (Skip worker) core core' =
     (h : Holds core worker) × (h.frame.next < pieces_of problem h.frame.node) × (child_of problem h.frame.node h.frame.next ≡ None) × (core' ≡ went_on core worker h)
 -- the worker takes a node of its own deque
 Stepped problem (Pop worker) core core' =
-    (member : Member) × Has core worker member × (front : List Node) × (node : Node) × (behind : List Node) × (member.deque ≡ front ++ node ∷ behind)
+    (member : CoreWorker) × Has core worker member × (front : List Node) × (node : Node) × (behind : List Node) × (member.deque ≡ front ++ node ∷ behind)
     × Began (with_member core worker (record member { deque = front ++ behind })) worker node core'
 -- the worker takes the first node of a deque
 Stepped problem (Steal worker from) core core' =
-    (victim : Member) × Has core from victim × (node : Node) × (rest : List Node) × (victim.deque ≡ node ∷ rest)
+    (victim : CoreWorker) × Has core from victim × (node : Node) × (rest : List Node) × (victim.deque ≡ node ∷ rest)
     × Began (with_member core from (record victim { deque = rest })) worker node core'
 -- the top frame goes, and the worker is done with its node
 Stepped problem (Drop worker) core core' =

@@ -10,7 +10,7 @@ use Rattle.ivp_problem.specs.declared.node.Node.{Node}
 use Rattle.ivp_problem.specs.Problems.{WeightedSum}
 use Rattle.ivp_problem.specs.Sums.{best_of, key_at}
 use Rattle.ivp_problem.specs.Trees.{child_of, root_of}
-use Rattle.ivp_pool.specs.Cores.{Core, Frame, Has, Member, pieces_of}
+use Rattle.ivp_pool.specs.Cores.{Core, Frame, Has, CoreWorker, pieces_of}
 
 -- where a node of the core is: in a deque, in a hand with the number of its next child, or in a done list
 pub data NodePlace : Type 0 where
@@ -19,7 +19,7 @@ pub data NodePlace : Type 0 where
   InDone : Node → NodePlace
 
 -- the places of a worker
-abbrev pub places_in : Member → List NodePlace
+abbrev pub places_in : CoreWorker → List NodePlace
 places_in member = map InDeque member.deque ++ (map InHand member.hand ++ map InDone member.done)
 
 -- all places of a core
@@ -77,7 +77,7 @@ pub record HasParent (problem : WeightedSum) (core : Core) (node : Node) : Type 
 pub record IsSound (problem : WeightedSum) (core : Core) : Type 0 where
   -- the word is 0 or the key of a point, and no worker knows more
   pub known : IsKnownKey problem core.word
-  pub lows : (worker : ℕ) (member : Member) → Has core worker member → member.low ≤ core.word
+  pub lows : (worker : ℕ) (member : CoreWorker) → Has core worker member → member.low ≤ core.word
   -- each point's key is at most the word, or it lies in exactly one of what deques and frames hold
   pub covered : (p : Point) → IsTrue (is_point problem.axes p) → (key_at problem p ≤ core.word) ⊎ (count_by (λ node. has_point node.area p) (open_of problem core) ≡ 1)
   -- the nodes of deques, frames and done lists are all different
@@ -89,11 +89,11 @@ pub record IsSound (problem : WeightedSum) (core : Core) : Type 0 where
 
 -- no node is left in a deque or a hand
 abbrev pub IsOver : Core → Type 0
-IsOver core = (worker : ℕ) (member : Member) → Has core worker member → (member.deque ≡ []) × (member.hand ≡ [])
+IsOver core = (worker : ℕ) (member : CoreWorker) → Has core worker member → (member.deque ≡ []) × (member.hand ≡ [])
 
 -- a worker is done with the node
 abbrev pub IsDoneBy : Core → Node → ℕ → Type 0
-IsDoneBy core node worker = (member : Member) × Has core worker member × IsIn member.done node
+IsDoneBy core node worker = (member : CoreWorker) × Has core worker member × IsIn member.done node
 
 -- exactly one worker is done with the node
 pub record IsDoneOnce (core : Core) (node : Node) : Type 0 where

@@ -1,5 +1,5 @@
--- What several workers make of a problem: their shares, what their calls closed, and the whole search.
-use Rattle.std.specs.Prelude.{◌≡◌, ℕ, suc, ◌+◌, ◌%◌, ◌≤◌, ◌==◌, if◌then◌else◌, Some, List, [], ◌∷◌, length, slice_get}
+-- What several workers make of a problem: what their calls closed, and the whole search.
+use Rattle.std.specs.Prelude.{◌≡◌, ℕ, ◌+◌, ◌*◌, ◌^◌, ◌≤◌, Some, List, [], length, slice_get}
 use Rattle.std.specs.List.{sum_by}
 use Rattle.best_word.specs.Known.{first_scout}
 use Rattle.atomic_table.specs.Seated.{TableId}
@@ -21,16 +21,6 @@ pub record IsSearched (problem : WeightedSum) (key count : ℕ) : Type 0 where
 -- how many nodes workers closed together
 abbrev pub total_of : List Work → ℕ
 total_of works = sum_by (λ work. work.closed) works
-
--- of nodes that stand from this place on, those that are dealt to a worker: a node's place modulo the number of workers is its worker's number
-abbrev pub dealt_from : ℕ → ℕ → ℕ → List Node → List Node
-dealt_from place workers number [] = []
-dealt_from place workers number (node ∷ nodes) =
-    if place % workers == number then node ∷ dealt_from (suc place) workers number nodes else dealt_from (suc place) workers number nodes
-
--- a worker's share of these nodes
-abbrev pub worker_share : ℕ → ℕ → List Node → List Node
-worker_share workers number nodes = dealt_from 0 workers number nodes
 
 -- calls closed these nodes, each once, while this key was known, handed those to others, and closed so many in all
 pub record AreClosed (problem : WeightedSum) (key : ℕ) (nodes handed : List Node) (count : ℕ) : Type 0 where
@@ -62,7 +52,7 @@ pub record WentOn (problem : WeightedSum) (nodes handed : List Node) (old new : 
   pub at_word : new.scout.table_id ≡ old.scout.table_id
   pub scout : new.scout.me ≡ (record old.scout.me.0 { low = low_of new }, old.scout.me.1)
   pub later : low_of old ≤ low_of new
-  pub calls : new.calls ≡ old.calls + length nodes
   pub count : ℕ
-  pub counted : new.work.closed ≡ old.work.closed + count
+  pub wraps : ℕ
+  pub counted : old.work.closed + count ≡ new.work.closed + wraps * 2 ^ 64
   pub closed : AreClosed problem (low_of new) nodes handed count

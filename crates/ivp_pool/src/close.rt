@@ -53,6 +53,7 @@ pub fn close_one<T: Tray>(
     ensures later { scout.old.me.0.low ≤ scout.new.me.0.low }
     ensures scout { (scout.new.table_id ≡ scout.old.table_id) × (scout.new.me ≡ (record scout.old.me.0 { low = scout.new.me.0.low }, scout.old.me.1)) }
     ensures tray { T.problem tray.new ≡ T.problem tray.old }
+    ensures kept { T.kept tray.new ≡ T.kept tray.old }
 {
     let len = problem.len();
     let known = best.known(scout);

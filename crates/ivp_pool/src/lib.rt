@@ -1,14 +1,19 @@
-//! Search by several workers: one node of the tree at a time, whose children go to a tray for others or are closed at once.
+//! Search by several workers, who take nodes from each other's deques: one node of the tree is closed at a time, and its
+//! children go to the worker's deque or are closed at once.
 //!
 //! The contract for the layer above: `solve` finds the best point of a problem by 1 to 16 workers, whatever their number.
 //! What `close_one` makes of a node is a part of its tree: each node without children there was handed to the tray or has a
 //! bound that the scout's key reaches, so no point of the node is lost.
 //!
-//! Reading order: `tray`, `close`, `law`, `work`, `team`, `solved`.
+//! Reading order: `tray`, `close`, `law`, `work`, `rule`, `deque`, `team`, `setup`, `search`, `solved`.
 #![tactic(auto)]
 
 mod close;
+mod deque;
 mod law;
+mod rule;
+mod search;
+mod setup;
 mod solved;
 mod team;
 mod tray;

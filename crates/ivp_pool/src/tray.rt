@@ -1,8 +1,9 @@
-ghost use Rattle.std.specs.Prelude.{◌≡◌, List};
+ghost use Rattle.std.specs.Prelude.{◌≡◌, List, Option, None};
 ghost use Rattle.ivp_problem.specs.declared.node.Node.{Node};
 ghost use Rattle.ivp_problem.specs.Problems.{WeightedSum};
 ghost use Rattle.ivp_problem.specs.Trees.{IsNode};
 ghost use Rattle.ivp_pool.specs.Closing.{Pushed};
+ghost use Rattle.ivp_pool.specs.Hands.{EndState};
 
 use ivp_problem::Node;
 
@@ -14,9 +15,13 @@ pub trait Tray {
     /// The nodes that it has taken so far, in order.
     ghost took: { Self → List Node };
 
+    /// Where it is a worker's deque: which one, and what else the worker did there. No push changes it.
+    ghost kept: { Self → Option EndState } = { λ _. None };
+
     /// Takes the node, or gives it back.
     fn push(&mut self, node: Node) -> Option<Node>
         requires { IsNode (problem self.old) node }
         ensures problem { problem self.new ≡ problem self.old }
+        ensures kept { kept self.new ≡ kept self.old }
         ensures took { Pushed (took self.old) (took self.new) node result };
 }

@@ -1,9 +1,9 @@
 // Whole searches: worked problems, a hundred generated ones, and workers beside each other.
-ghost use Rattle.std.specs.Prelude.{◌+◌, ◌<◌, ◌≤◌};
-ghost use Rattle.ivp_pool.specs.Solving.{IsNew};
+ghost use Rattle.std.specs.Prelude.{◌<◌, ◌≤◌};
+ghost use Rattle.ivp_pool.specs.Solving.{IsWorker};
 
 use crate::solved::solve;
-use crate::team::{Worker, close_next, team_of};
+use crate::team::{Worker, close_next};
 use crate::tests::{axis, key_at, term, two};
 use crate::tray::Tray;
 use crate::work::{Work, Works};
@@ -204,7 +204,7 @@ fn a_hundred_small_problems(rt: HostRuntime) -> Result<(), Fail> {
     Ok(())
 }
 
-/// Holds each of three workers at the first node of its share until all three are there, for at most 100,000,000 looks.
+/// Holds each of three workers at the first node that it takes until all three are there, for at most 100,000,000 looks.
 #[derive(Drop)]
 struct Beside {
     here: AtomicU64,
@@ -278,9 +278,9 @@ impl<'a> Tray for Watched<'a> {
     }
 }
 
-/// A new worker closes the root, watched by the gate.
+/// A worker closes the root, watched by the gate.
 fn close_watched(problem: &Problem, best: &Best, gate: &Watching, worker: &mut Worker)
-    requires { IsNew problem.now best.now worker.old }
+    requires { IsWorker problem.now best.now worker.old }
 {
     let pushed = &gate.pushed;
     let mut tray = Watched { problem, pushed };
@@ -295,48 +295,76 @@ fn told_before_the_call(rt: HostRuntime) -> Result<(), Fail> {
         pushed: AtomicU64::new(0),
         told_at: AtomicU64::new(9),
     };
-    let (best, mut scout) = Best::make(rt.alloc(), &problem)?;
-    let mut team = team_of(rt.alloc(), &problem, &best, &mut scout, 1)?;
-    close_watched(&problem, &best, &gate, &mut team[0]);
+    let (best, scout) = Best::make(rt.alloc(), &problem)?;
+    let mut worker = Worker {
+        scout,
+        calls: 0,
+        work: Work { closed: 0 },
+    };
+    close_watched(&problem, &best, &gate, &mut worker);
     assert_eq!(rt; gate.told_at.load(Ordering::SeqCst), 0);
     assert_eq!(rt; gate.pushed.load(Ordering::SeqCst), 3);
     Ok(())
 }
 
-/// Counts the calls of three workers, and notes one that comes out of turn.
+/// Counts the calls of two workers, and notes one that comes out of turn. It holds worker 0 at the first node that it takes
+/// until worker 1 has come to its fifth, for at most 100,000,000 looks.
 #[derive(Drop)]
-struct Counting {
-    calls: [AtomicU64; 3],
+struct Holding {
+    calls: [AtomicU64; 2],
     wrong: AtomicBool,
+    late: AtomicBool,
 }
 
-impl Gate for Counting {
+impl Holding {
+    fn wait(&self) {
+        for _ in 0..100_000_000u32 {
+            if self.calls[1].load(Ordering::SeqCst) > 4 {
+                return;
+            }
+        }
+        self.late.store(true, Ordering::SeqCst);
+    }
+}
+
+impl Gate for Holding {
     fn at_node(&self, worker: u32, nth: u64) {
-        if worker >= 3 || self.calls[worker as usize].fetch_add(1, Ordering::SeqCst) != nth {
+        if worker >= 2 || self.calls[worker as usize].fetch_add(1, Ordering::SeqCst) != nth {
             self.wrong.store(true, Ordering::SeqCst);
+        }
+        if worker == 0 && nth == 1 {
+            self.wait();
         }
     }
 
     fn at_call(&self, _client: u32, _nth: u64) {}
 }
 
-/// The root goes to worker 0, and child k to worker k modulo 3.
+/// Four of the root's eight children are dealt to worker 1, so the fifth node that it closes is stolen. Each call closes one
+/// node here, so each worker's number is that of its calls.
 #[test]
-fn each_worker_has_its_share(rt: HostRuntime) -> Result<(), Fail> {
+fn workers_steal(rt: HostRuntime) -> Result<(), Fail> {
     let problem = eight(rt.alloc())?;
-    let gate = Counting {
-        calls: [AtomicU64::new(0), AtomicU64::new(0), AtomicU64::new(0)],
+    let gate = Holding {
+        calls: [AtomicU64::new(0), AtomicU64::new(0)],
         wrong: AtomicBool::new(false),
+        late: AtomicBool::new(false),
     };
-    let solved = solve(&rt, rt.alloc(), &problem, 3, &gate)?;
+    let solved = solve(&rt, rt.alloc(), &problem, 2, &gate)?;
+    assert_eq!(rt; solved.key, key_of(9, 5));
     assert!(rt; !gate.wrong.load(Ordering::SeqCst));
+    assert!(rt; !gate.late.load(Ordering::SeqCst));
+    let calls = [
+        gate.calls[0].load(Ordering::SeqCst),
+        gate.calls[1].load(Ordering::SeqCst),
+    ];
+    assert!(rt; calls[1] > 4);
+    assert_eq!(rt; calls[0].wrapping_add(calls[1]), 9);
     let mut works = Works::new(rt.alloc());
-    for closed in [4, 3, 2] {
-        works.push(Work { closed }).map_err(|_| "room for three")?;
+    for closed in calls {
+        works.push(Work { closed }).map_err(|_| "room for two")?;
     }
     assert_eq!(rt; solved.work.all(), works.all());
-    assert_eq!(rt; works.get(0).closed, gate.calls[0].load(Ordering::SeqCst));
-    assert_eq!(rt; works.get(1).closed, gate.calls[1].load(Ordering::SeqCst));
-    assert_eq!(rt; works.get(2).closed, gate.calls[2].load(Ordering::SeqCst));
+    assert_eq!(rt; works.get(1).closed, calls[1]);
     Ok(())
 }

@@ -1,4 +1,4 @@
-use Rattle.std.proofs.Common.{rules, ◌≡◌, ◌+◌, ◌<◌, length, subst, ap, ◌∙◌, arith}
+use Rattle.std.proofs.Common.{rules, ◌≡◌, ◌+◌, ◌<◌, length, refl, subst, ap, ◌∙◌, arith}
 use Rattle.atomic_table.specs.Table.{Me}
 use Rattle.best_word.specs.declared.best.View.{View}
 use Rattle.ivp_problem.proofs.Pieces.{among_all, children_end, none_to}
@@ -43,6 +43,7 @@ loop-next-init g t c =
       word = c.known-known.ensures.scout.0;
       scout = search rules;
       tray = c.requires.tray;
+      kept = refl;
     }
 
 pub overflow_add-closed : goal.overflow_add-closed
@@ -82,6 +83,7 @@ loop-next-preserved g t c =
             word = w.close_one-closed.ensures.scout.0 ∙ old.word;
             scout = learned c.args.scout.now.me c.loop-next.scout.me w.close_one-closed.new.scout.me old.scout w.close_one-closed.ensures.scout.1;
             tray = w.close_one-closed.ensures.tray ∙ (c.push.ensures.problem ∙ old.tray);
+            kept = w.close_one-closed.ensures.kept ∙ (c.push.ensures.kept ∙ old.kept);
           })
       | in_default-push w ↦
           rw (w.scout-is, w.tray-is, w.closed-is)
@@ -93,6 +95,7 @@ loop-next-preserved g t c =
             word = old.word;
             scout = old.scout;
             tray = c.push.ensures.problem ∙ old.tray;
+            kept = c.push.ensures.kept ∙ old.kept;
           })
     ]
 

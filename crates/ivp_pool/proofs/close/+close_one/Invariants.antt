@@ -18,6 +18,7 @@ invariant-loop-next g l =
       word : l.scout.table_id ≡ l.fn.scout.table_id;
       scout : l.scout.me ≡ (record l.fn.scout.me.0 { low = l.scout.me.0.low }, l.fn.scout.me.1);
       tray : g.T.Tray.problem l.tray ≡ l.problem;
+      kept : g.T.Tray.kept l.tray ≡ g.T.Tray.kept l.fn.tray;
     }
 
 abbrev pub decreases-loop-next : goal.decreases-loop-next

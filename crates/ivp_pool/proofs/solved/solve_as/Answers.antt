@@ -1,0 +1,33 @@
+use Rattle.std.proofs.Common.{◌≡◌, ℕ, List, [], ◌∷◌, ◌++◌, refl, drop, length, map, take, ap, arith, subst, sym, ◌∙◌}
+use Rattle.std.proofs.lemmas.List.Sums.{sum_by-cons}
+use Rattle.std.proofs.Math.Seq.{take-append_seam}
+use Rattle.ivp_pool.specs.declared.work.Work.{Work}
+use Rattle.ivp_pool.specs.declared.team.Member.{Member}
+use Rattle.ivp_pool.specs.Teams.{AreBelow, closed_in}
+use Rattle.ivp_pool.specs.Solving.{IsSearched, total_of}
+use Rattle.ivp_pool.proofs.solved.solve_as.Goals as goal
+
+-- a list that was lent comes back whole
+came_back : {K : Type 0} (len : ℕ) (team rest : List (Member K)) → len ≡ length team → take len (team ++ rest) ≡ team
+came_back len team rest same = ap (λ n. take n (team ++ rest)) same ∙ take-append_seam team rest
+
+-- a count of the members is one of their works
+counts : {K : Type 0} (members : List (Member K)) → closed_in members ≡ total_of (map (λ member. member.worker.work) members)
+counts [] = refl
+counts {K} (member ∷ members) = omega (arith, sum_by-cons (λ (m : Member K). m.worker.work.closed) member members, sum_by-cons (λ (work : Work). work.closed) member.worker.work (map (λ (m : Member K). m.worker.work) members), counts members)
+
+pub best_key-key-requires-clause-searched : goal.best_key-key-requires-clause-searched
+best_key-key-requires-clause-searched g c =
+    let team = c.search.new.members in
+    let back = came_back c.in_ok-team.team.len team (drop (length team) c.in_ok-team.team.items) (omega (arith, c.in_ok-search.ensures.len, ap length c.deref_mut.ensures.value, c.in_ok-team.team.ok)) in
+    c.in_ok-search.ensures.most c.works_of.new.scout.me.0.low (subst (AreBelow c.works_of.new.scout.me.0.low) back c.in_ok-work.ensures.later)
+
+pub returns-clause-closed : goal.returns-clause-closed
+returns-clause-closed g c =
+    let problem = c.args.problem.now in
+    let team = c.search.new.members in
+    let back = came_back c.in_ok-team.team.len team (drop (length team) c.in_ok-team.team.items) (omega (arith, c.in_ok-search.ensures.len, ap length c.deref_mut.ensures.value, c.in_ok-team.team.ok)) in
+    let known = subst (AreBelow c.works_of.new.scout.me.0.low) back c.in_ok-work.ensures.later in
+    let all = c.in_ok-search.ensures.searched c.best_key-key.result (λ k d within. omega (arith, known k d within, c.best_key-key.ensures.later)) in
+    let works = c.in_ok-work.ensures.works ∙ ap (map (λ (member : Member g.row.K.Denot). member.worker.work)) back in
+    subst (λ (i : ℕ × List Work). IsSearched problem i.0 (total_of i.1)) (λ t. (c.best_key-key.ensures.best t, sym works t)) (subst (IsSearched problem c.best_key-key.result) (counts team) all)

@@ -1,0 +1,6 @@
+use Rattle.ivp_pool.specs.Members.{Same}
+use Rattle.ivp_pool.proofs.team.next_node.Given as goal
+
+-- the worker has taken nothing yet
+abbrev pub invariant-loop-step : goal.invariant-loop-step
+invariant-loop-step g l = Same l.fn.member l.member

@@ -1,0 +1,162 @@
+// A whole search by a team: the root's children are dealt, all members work, and what is left is closed.
+ghost use Rattle.std.specs.Prelude.{◌≡◌, ℕ, ◌+◌, ◌<◌, ◌≤◌, [], length, All, IfOk, IsTrue, Some};
+ghost use Rattle.ivp_domain.specs.declared.boxes.Point.{Point};
+ghost use Rattle.ivp_domain.specs.Domains.{is_point};
+ghost use Rattle.ivp_problem.specs.declared.node.Node.{Node};
+ghost use Rattle.ivp_problem.specs.Sums.{key_at};
+ghost use Rattle.ivp_problem.specs.Trees.{IsNode};
+ghost use Rattle.ivp_pool.specs.Members.{Did, IsNewMember, put_in, taken_in};
+ghost use Rattle.ivp_pool.specs.Teams.{AllDid, ends_of, HasEmptied, rows_of, shapes_of, AreBelow, AreWorkers, closed_in};
+ghost use Rattle.ivp_pool.specs.Solving.{IsSearched, IsWorker};
+
+use crate::rule::About;
+use crate::setup::{open_doors, take_back};
+use crate::team::{Member, NoTray, close_next, close_root, work};
+use crate::tray::Tray;
+use best_word::Best;
+use ivp_problem::{Node, Problem, problem_law};
+use moos_io::{Gate, NoMemory};
+use std::alloc::Global;
+use std::sync::Wait;
+use std::thread::{Threads, for_each_mut};
+
+/// Deals the root's children: the one at place `k` goes to the deque of member `k` modulo their number. One that finds no
+/// memory there is closed at once.
+fn deal<K: About, G: Gate>(
+    problem: &Problem,
+    best: &Best,
+    gate: &G,
+    nodes: &[Node],
+    members: &mut [Member<K>],
+)
+    requires problem { problem.now ≡ K.problem }
+    requires nodes { All (IsNode problem.now) nodes.now }
+    requires some { 0 < length members.old }
+    requires workers { AreWorkers problem.now best.now members.old }
+    ensures did { AllDid problem.now best.now nodes.now [] members.old members.new }
+    ensures same { shapes_of members.new ≡ shapes_of members.old }
+{
+    let workers = members.len();
+    let mut none = NoTray { problem };
+    for (place, node) in nodes.iter().enumerate() {
+        if let Some(node) = members[place % workers].deque.put(*node) {
+            close_next(
+                problem,
+                best,
+                gate,
+                0,
+                &mut members[0].worker,
+                node,
+                &mut none,
+            );
+        }
+    }
+}
+
+/// Lets all members work, on a thread of its own each where one can be started.
+fn work_all<K: About + Send + Sync, R: Threads + Wait + Sync, G: Gate>(
+    rt: &R,
+    problem: &Problem,
+    best: &Best,
+    gate: &G,
+    members: &mut [Member<K>],
+)
+    requires problem { problem.now ≡ K.problem }
+    requires some { 0 < length members.old }
+    requires few { length members.old ≤ 16 }
+    requires workers { AreWorkers problem.now best.now members.old }
+    requires doors { All (λ member. length member.doors.items ≡ length members.old) members.old }
+    ensures did { AllDid problem.now best.now [] [] members.old members.new }
+    ensures same { shapes_of members.new ≡ shapes_of members.old }
+{
+    let workers = members.len();
+    let run = |number: usize, member: &mut Member<K>|
+        requires { (problem.now ≡ K.problem) × IsWorker problem.now best.now member.now.worker × (number < length member.now.doors.items) × (length member.now.doors.items ≤ 16) }
+        ensures { Did problem.entry.now member.entry.now member.exit.now }
+    { work(rt, problem, best, gate, number, member) };
+    for_each_mut(rt, members, workers, &run);
+}
+
+/// Closes what is left in a member's deque, as worker 0.
+fn empty_deque<K: About, R: Wait, G: Gate>(
+    rt: &R,
+    problem: &Problem,
+    best: &Best,
+    gate: &G,
+    number: usize,
+    members: &mut [Member<K>],
+)
+    requires problem { problem.now ≡ K.problem }
+    requires number { number < length members.old }
+    requires workers { AreWorkers problem.now best.now members.old }
+    ensures did { AllDid problem.now best.now [] [] members.old members.new }
+    ensures doors { rows_of members.new ≡ rows_of members.old }
+    ensures empty { HasEmptied number (ends_of members.old) (ends_of members.new) }
+{
+    let mut none = NoTray { problem };
+    for _ in rt.forever() {
+        match members[number].deque.pop() {
+            Some(node) => close_next(
+                problem,
+                best,
+                gate,
+                0,
+                &mut members[0].worker,
+                node,
+                &mut none,
+            ),
+            None => break,
+        }
+    }
+}
+
+/// Closes what is left in all deques, as worker 0.
+fn finish<K: About, R: Wait, G: Gate>(
+    rt: &R,
+    problem: &Problem,
+    best: &Best,
+    gate: &G,
+    members: &mut [Member<K>],
+)
+    requires problem { problem.now ≡ K.problem }
+    requires workers { AreWorkers problem.now best.now members.old }
+    requires parts { All (λ member. member.deque.hand.parts ≡ 1024) members.old }
+    requires doors { All (λ member. member.doors.items ≡ []) members.old }
+    ensures did { AllDid problem.now best.now [] [] members.old members.new }
+    ensures settled { (weigh : Node → ℕ) → put_in weigh members.new ≡ taken_in weigh members.new }
+{
+    for number in 0..members.len() {
+        empty_deque(rt, problem, best, gate, number, members);
+    }
+}
+
+/// Searches the whole tree by a new team: the first worker closes the root, whose children are dealt, all work, and what is
+/// left is closed. `Err` is want of memory for the doors.
+pub(crate) fn search<K: About + Send + Sync, R: Threads + Wait + Sync, G: Gate>(
+    rt: &R,
+    alloc: Global,
+    problem: &Problem,
+    best: &Best,
+    gate: &G,
+    members: &mut [Member<K>],
+) -> Result<(), NoMemory>
+    requires problem { problem.now ≡ K.problem }
+    requires new { All (IsNewMember problem.now best.now 0) members.old }
+    requires some { 0 < length members.old }
+    requires few { length members.old ≤ 16 }
+    ensures len { IfOk result (λ _. length members.new ≡ length members.old) }
+    ensures workers { IfOk result (λ _. AreWorkers problem.now best.now members.new) }
+
+    // A key that all workers know of is one that no point of the problem exceeds.
+    ensures searched { IfOk result (λ _. (key : ℕ) → AreBelow key members.new → IsSearched problem.now key (closed_in members.new)) }
+    ensures most { IfOk result (λ _. (key : ℕ) → AreBelow key members.new → (p : Point) → IsTrue (is_point problem.now.axes p) → key_at problem.now p ≤ key) }
+{
+    problem_law(problem);
+    open_doors(alloc, problem, best, members)?;
+    let nodes = close_root(alloc, problem, best, gate, &mut members[0].worker);
+    deal(problem, best, gate, &nodes, members);
+    work_all(rt, problem, best, gate, members);
+    take_back(alloc, members);
+    finish(rt, problem, best, gate, members);
+    Ok(())
+}
