@@ -4,3 +4,9 @@ pub mod Learning
 pub mod Rooted
 pub mod Ticking
 pub mod Living
+pub mod Turning
+pub mod Readying
+pub mod Deciding
+pub mod Hearing
+pub mod Numbering
+pub mod Answering

@@ -1,33 +1,35 @@
 -- One tick more of a helm, by what it keeps.
-use Rattle.std.proofs.Common.{◌≡◌, ℕ, suc, ◌≤◌, Bool, true, false, if◌then◌else◌, List, [], ◌∷◌, ◌++◌, map, length, take, Option, Some, None, option_map, refl, ap, sym, subst, ◌∙◌, arith}
+use Rattle.std.proofs.Common.{◌≡◌, ℕ, suc, ◌≤◌, Bool, if◌then◌else◌, List, [], ◌∷◌, ◌++◌, length, take, Option, Some, None, option_map, refl, ap, sym, subst, ◌∙◌, arith}
 use Rattle.std.specs.Prelude.{codes}
 use Rattle.std.specs.List.{AllZip}
 use Rattle.std.proofs.lemmas.Grind.{flat_map-append, fold-append}
 use Rattle.std.proofs.lemmas.List.{append-nil, take_all}
 use Rattle.moos_post.specs.declared.value.Pair.{Pair}
 use Rattle.moos_db.specs.declared.mail.Letter.{Letter}
+use Rattle.ivp_domain.specs.declared.axis.Axis.{Axis}
 use Rattle.helm_cond.specs.Infos.{knowledge_of}
 use Rattle.helm_cond.specs.Learnt.{latest_of}
 use Rattle.bhv_reader.specs.declared.decl.Decl.{Decl}
+use Rattle.bhv_reader.specs.declared.file.Block.{Block}
 use Rattle.mode_tree.specs.Modes.{mode_text}
 use Rattle.helm_core.specs.declared.allstop.Allstop.{Allstop}
-use Rattle.helm_core.specs.declared.allstop.Allstop.TheVariants.{ManualOverride, NothingToDo}
 use Rattle.helm_core.specs.declared.helm.Helm.{Helm}
 use Rattle.helm_core.specs.declared.iteration.Iteration.{Iteration}
 use Rattle.helm_core.specs.declared.outlook.Outlook.{Outlook}
 use Rattle.helm_core.specs.declared.showing.Showing.{Showing}
 use Rattle.helm_core.specs.declared.turned.Turned.{Turned}
 use Rattle.helm_core.specs.Plans.{Plan}
-use Rattle.helm_core.specs.Behaviors.{BhvSoFar, behaviors_before, showing_of, bhv_after}
-use Rattle.helm_core.specs.Standings.{AreLived, IsLifeAfter, Sees}
-use Rattle.helm_core.specs.Ticks.{Seen, seen_at, Tick, heard_in_all, is_parked, learnt_at, pairs_mailed, tick_of, tick_stamp}
+use Rattle.helm_core.specs.Behaviors.{BhvSoFar, all_after, all_begun, behaviors_before}
+use Rattle.helm_core.specs.Decisions.{decision_made}
+use Rattle.helm_core.specs.Standings.{IsCrewOf, IsKept, Sees}
+use Rattle.helm_core.specs.Ticks.{Seen, seen_at, Tick, heard_at, heard_in_all, is_parked, learnt_at, pairs_mailed, tick_of, tick_stamp}
 use Rattle.helm_core.specs.Moments.{Moment, moment_at, moment_before}
-use Rattle.helm_core.specs.Posts.{allstop_of, are_declared_modes, changed, desired_speed, flags_raised, helm_posts, posts_made, state_text, state_word}
-use Rattle.helm_core.specs.Iterations.{iteration_at}
+use Rattle.helm_core.specs.Posts.{allstop_by, allstop_of, are_declared_modes, changed, desired_posts, flags_raised, helm_posts, posts_made, state_text, state_word}
+use Rattle.helm_core.specs.Iterations.{all_faults, all_states, all_updates, iteration_at}
 use Rattle.helm_core.specs.Helms.{allstop_text, clock_of, plan_of, HasLearnt, IsOutlook, IsTicked, StandsFor}
-use Rattle.helm_core.specs.Kept.{HasTurned, helm_after, iteration_by, posts_by, said_before}
+use Rattle.helm_core.specs.Kept.{HasTurned, IsTurned, helm_after, iteration_by, posts_by, said_before}
 use Rattle.helm_core.proofs.Growing.{before_same, behaviors_same}
-use Rattle.helm_core.proofs.Living.{blocks_kept, lived_after}
+use Rattle.helm_core.proofs.Living.{blocks_kept}
 
 abbrev with_tick : List Tick → ℕ → List Letter → List Tick
 with_tick ticks stamp mail = ticks ++ tick_of stamp mail ∷ []
@@ -49,6 +51,10 @@ stamp_last : (ticks : List Tick) (stamp : ℕ) (mail : List Letter) → tick_sta
 stamp_last [] stamp mail = refl
 stamp_last (first ∷ ticks) stamp mail = stamp_last ticks stamp mail
 
+mail_last : (ticks : List Tick) (stamp : ℕ) (mail : List Letter) → heard_at (with_tick ticks stamp mail) (length ticks) ≡ pairs_mailed mail
+mail_last [] stamp mail = refl
+mail_last (first ∷ ticks) stamp mail = mail_last ticks stamp mail
+
 -- a moment at which just these letters were learnt
 record HasHeard (plan : Plan) (learnt : List Pair) (moment : Moment) : Type 0 where
   parked : moment.seen.parked ≡ is_parked learnt
@@ -61,11 +67,6 @@ now_heard : (plan : Plan) (ticks : List Tick) (stamp : ℕ) (mail : List Letter)
     → HasHeard plan (heard_in_all (with_tick ticks stamp mail)) (moment_at plan (with_tick ticks stamp mail) (length ticks))
 now_heard plan ticks stamp mail =
     heard_by plan (with_tick ticks stamp mail) (length ticks) _ (ap heard_in_all (take_whole ticks (tick_of stamp mail)))
-
--- the text of a reason to stop
-stop_text : (parked : Bool) → (if parked then codes "ManualOverride" else codes "NothingToDo") ≡ allstop_text (if parked then ManualOverride else NothingToDo)
-stop_text true = refl
-stop_text false = refl
 
 said_none : (allstop : Option Allstop) (text : List ℕ) → option_map allstop_text allstop ≡ None → None ≡ option_map (λ one. text) allstop
 said_none None text none = refl
@@ -97,35 +98,36 @@ recalled helm (tick ∷ ticks) stands =
       allstop = sym stands.allstop;
     }
 
-abbrev put_together : List Decl → Option (List ℕ) → Option (List ℕ) → Option (List ℕ) → List ℕ → List ℕ → List Showing → List ℕ → List Pair
-put_together decls state mode allstop state' mode' showings allstop' =
-    changed (codes "IVPHELM_STATE") state state' ++ (if are_declared_modes decls then changed (codes "MODE") mode mode' else []) ++ flags_raised showings ++ desired_speed
-    ++ changed (codes "IVPHELM_ALLSTOP") allstop allstop'
+abbrev put_together : List Decl → List Axis → Option (List ℕ) → Option (List ℕ) → Option (List ℕ) → Bool → List ℕ → List Showing → List Pair
+put_together decls axes state mode allstop parked mode' showings =
+    changed (codes "IVPHELM_STATE") state (state_word parked) ++ (if are_declared_modes decls then changed (codes "MODE") mode mode' else []) ++ flags_raised showings
+    ++ desired_posts axes parked showings ++ changed (codes "IVPHELM_ALLSTOP") allstop (allstop_by axes parked showings)
 
 same_posts : (helm : Helm) (now : Outlook) (showings : List Showing) (before : Option Moment) (moment : Moment) → Recalls helm before
     → moment.seen.parked ≡ now.parked → moment.seen.mode ≡ now.mode → moment.showings ≡ showings → posts_by helm now showings ≡ posts_made (plan_of helm) before moment
-same_posts helm now showings before moment recalls parked mode shown = sym
-    (ap (λ said. put_together helm.modes said (option_map (λ (m : Moment). m.seen.mode) before) (option_map (allstop_of (plan_of helm)) before) (state_text moment) moment.seen.mode moment.showings (allstop_of (plan_of helm) moment)) recalls.state
-    ∙ ap (λ said. put_together helm.modes (said_before helm (state_word helm.outlook.parked)) said (option_map (allstop_of (plan_of helm)) before) (state_text moment) moment.seen.mode moment.showings (allstop_of (plan_of helm) moment)) recalls.mode
-    ∙ ap (λ said. put_together helm.modes (said_before helm (state_word helm.outlook.parked)) (said_before helm helm.outlook.mode) said (state_text moment) moment.seen.mode moment.showings (allstop_of (plan_of helm) moment)) recalls.allstop
-    ∙ ap (λ one. put_together helm.modes (said_before helm (state_word helm.outlook.parked)) (said_before helm helm.outlook.mode) (option_map allstop_text helm.allstop) (state_word one) moment.seen.mode moment.showings (if one then codes "ManualOverride" else codes "NothingToDo")) parked
-    ∙ ap (λ one. put_together helm.modes (said_before helm (state_word helm.outlook.parked)) (said_before helm helm.outlook.mode) (option_map allstop_text helm.allstop) (state_word now.parked) one moment.showings (if now.parked then codes "ManualOverride" else codes "NothingToDo")) mode
-    ∙ ap (λ one. put_together helm.modes (said_before helm (state_word helm.outlook.parked)) (said_before helm helm.outlook.mode) (option_map allstop_text helm.allstop) (state_word now.parked) now.mode one (if now.parked then codes "ManualOverride" else codes "NothingToDo")) shown
-    ∙ ap (put_together helm.modes (said_before helm (state_word helm.outlook.parked)) (said_before helm helm.outlook.mode) (option_map allstop_text helm.allstop) (state_word now.parked) now.mode showings) (stop_text now.parked))
+same_posts helm now showings before moment recalls parked mode shown =
+    let together = put_together helm.modes helm.crew.axes in
+    sym
+    (ap (λ said. together said (option_map (λ (m : Moment). m.seen.mode) before) (option_map (allstop_of (plan_of helm)) before) moment.seen.parked moment.seen.mode moment.showings) recalls.state
+    ∙ ap (λ said. together (said_before helm (state_word helm.outlook.parked)) said (option_map (allstop_of (plan_of helm)) before) moment.seen.parked moment.seen.mode moment.showings) recalls.mode
+    ∙ ap (λ said. together (said_before helm (state_word helm.outlook.parked)) (said_before helm helm.outlook.mode) said moment.seen.parked moment.seen.mode moment.showings) recalls.allstop
+    ∙ ap (λ one. together (said_before helm (state_word helm.outlook.parked)) (said_before helm helm.outlook.mode) (option_map allstop_text helm.allstop) one moment.seen.mode moment.showings) parked
+    ∙ ap (λ one. together (said_before helm (state_word helm.outlook.parked)) (said_before helm helm.outlook.mode) (option_map allstop_text helm.allstop) now.parked one moment.showings) mode
+    ∙ ap (together (said_before helm (state_word helm.outlook.parked)) (said_before helm helm.outlook.mode) (option_map allstop_text helm.allstop) now.parked now.mode) shown)
 
-abbrev iteration_with : ℕ → Bool → List ℕ → List Showing → List Pair → Iteration
-iteration_with stamp parked mode showings posts = record {
+abbrev iteration_with : List Axis → ℕ → Bool → List ℕ → List Showing → List Pair → Iteration
+iteration_with axes stamp parked mode showings posts = record {
   stamp = stamp;
   parked = parked;
   mode = mode;
-  updates = [];
-  states = map (λ (one : Showing). one.outcome.now) showings;
-  faults = [];
-  decision = None;
+  updates = all_updates showings;
+  states = all_states showings;
+  faults = all_faults showings;
+  decision = decision_made axes showings;
   posts = posts;
 }
 
-module _ (helm : Helm) (stamp : ℕ) (mail : List Letter) (now : Outlook) (turned : Turned) (learnt : HasLearnt helm.modes mail helm.outlook now) (turns : HasTurned helm stamp now turned) (later : clock_of helm ≤ stamp) (ticks : List Tick) (stands : StandsFor helm ticks) where
+module _ (helm : Helm) (stamp : ℕ) (mail : List Letter) (now : Outlook) (turned : Turned) (allstop : Allstop) (learnt : HasLearnt helm.modes mail helm.outlook now) (turns : HasTurned helm.crew stamp (pairs_mailed mail) now turned) (stops : allstop_text allstop ≡ allstop_by helm.crew.axes now.parked turned.showings.items) (later : clock_of helm ≤ stamp) (ticks : List Tick) (stands : StandsFor helm ticks) where
   abbrev ticks' : List Tick
   ticks' = with_tick ticks stamp mail
 
@@ -150,50 +152,59 @@ module _ (helm : Helm) (stamp : ℕ) (mail : List Letter) (now : Outlook) (turne
   known' : seen'.known ≡ knowledge_of now.info
   known' = ap latest_of (ap heard_in_all (take_whole ticks (tick_of stamp mail))) ∙ sym seen.known
 
-  sees : Sees seen' stamp now
-  sees = record { when = stamp_last ticks stamp mail; parked = parked'; known = known'; mode = mode' }
+  sees : Sees seen' stamp (pairs_mailed mail) now
+  sees = record { when = stamp_last ticks stamp mail; heard = mail_last ticks stamp mail; parked = parked'; known = known'; mode = mode' }
 
-  lived : AreLived (clock_of helm) ones helm.lives.items
-  lived =
-      subst (λ all. AreLived (clock_of helm) all helm.lives.items) (sym (behaviors_same (plan_of helm) ticks (tick_of stamp mail ∷ []) (length ticks) (omega arith)))
-      stands.lives
+  crew' : IsCrewOf (clock_of helm) ones helm.crew
+  crew' =
+      subst (λ all. IsCrewOf (clock_of helm) all helm.crew) (sym (behaviors_same (plan_of helm) ticks (tick_of stamp mail ∷ []) (length ticks) (omega arith)))
+      stands.crew
 
-  after : AllZip (IsLifeAfter seen') ones turned.lives.items × (turned.showings.items ≡ map (showing_of seen') ones)
-  after = turns (clock_of helm) seen' ones later sees (blocks_kept (plan_of helm) ticks' (length ticks)) lived
+  after : IsTurned seen' (all_begun helm.crew.axes seen' ones) turned
+  after = turns (clock_of helm) seen' ones later sees crew'
 
-  lives_after : AreLived stamp (behaviors_before (plan_of helm) ticks' (length ticks')) turned.lives.items
-  lives_after =
-      subst (λ n. AreLived stamp (behaviors_before (plan_of helm) ticks' n) turned.lives.items) (sym (length_more ticks (tick_of stamp mail)))
-      (subst (λ clock. AreLived clock (map (bhv_after seen') ones) turned.lives.items) (stamp_last ticks stamp mail) (lived_after seen' ones turned.lives.items after.0))
+  kept_after : AllZip (IsKept stamp) (behaviors_before (plan_of helm) ticks' (length ticks')) turned.kept.items
+  kept_after =
+      subst (λ n. AllZip (IsKept stamp) (behaviors_before (plan_of helm) ticks' n) turned.kept.items) (sym (length_more ticks (tick_of stamp mail)))
+      (subst (λ clock. AllZip (IsKept clock) (all_after seen' (all_begun helm.crew.axes seen' ones)) turned.kept.items) (stamp_last ticks stamp mail) after.kept)
 
-  stands_after : StandsFor (helm_after helm stamp now turned) ticks'
+  stands_after : StandsFor (helm_after helm stamp now turned.kept.items allstop) ticks'
   stands_after = record {
     clock = sym (fold-append (λ before (tick : Tick). tick.stamp) 0 ticks (tick_of stamp mail ∷ []));
     outlook = seen;
-    lives = lives_after;
+    crew = record { blocks = blocks_kept (plan_of helm) ticks' (length ticks'); kept = kept_after };
     allstop =
         sym (ap (option_map (allstop_of (plan_of helm))) (ap (moment_before (plan_of helm) ticks') (length_more ticks (tick_of stamp mail)))
-        ∙ ap (λ one. Some (if one then codes "ManualOverride" else codes "NothingToDo")) parked'
-        ∙ ap Some (stop_text now.parked));
+        ∙ ap (λ one. Some (allstop_by helm.crew.axes one moment'.showings)) parked'
+        ∙ ap (λ one. Some (allstop_by helm.crew.axes now.parked one)) (sym after.showings)
+        ∙ ap Some (sym stops));
   }
 
-  iterates : iteration_by helm stamp now turned ≡ iteration_at (plan_of helm) ticks' (length ticks)
+  iterates : iteration_by helm stamp now turned.showings.items ≡ iteration_at (plan_of helm) ticks' (length ticks)
   iterates =
       let recalls : Recalls helm (moment_before (plan_of helm) ticks' (length ticks))
       = subst (Recalls helm) (sym (before_same (plan_of helm) ticks (tick_of stamp mail ∷ []) (length ticks) (omega arith))) (recalled helm ticks stands) in
-      ap (iteration_with stamp now.parked now.mode turned.showings.items)
-      (same_posts helm now turned.showings.items (moment_before (plan_of helm) ticks' (length ticks)) moment' recalls parked' mode' (sym after.1))
-      ∙ sym (ap (λ one. iteration_with one moment'.seen.parked moment'.seen.mode moment'.showings (helm_posts (plan_of helm) ticks' (length ticks))) (stamp_last ticks stamp mail)
-      ∙ ap (λ one. iteration_with stamp one moment'.seen.mode moment'.showings (helm_posts (plan_of helm) ticks' (length ticks))) parked'
-      ∙ ap (λ one. iteration_with stamp now.parked one moment'.showings (helm_posts (plan_of helm) ticks' (length ticks))) mode'
-      ∙ ap (λ one. iteration_with stamp now.parked now.mode one (helm_posts (plan_of helm) ticks' (length ticks))) (sym after.1))
+      ap (iteration_with helm.crew.axes stamp now.parked now.mode turned.showings.items)
+      (same_posts helm now turned.showings.items (moment_before (plan_of helm) ticks' (length ticks)) moment' recalls parked' mode' (sym after.showings))
+      ∙ sym (ap (λ one. iteration_with helm.crew.axes one moment'.seen.parked moment'.seen.mode moment'.showings (helm_posts (plan_of helm) ticks' (length ticks))) (stamp_last ticks stamp mail)
+      ∙ ap (λ one. iteration_with helm.crew.axes stamp one moment'.seen.mode moment'.showings (helm_posts (plan_of helm) ticks' (length ticks))) parked'
+      ∙ ap (λ one. iteration_with helm.crew.axes stamp now.parked one moment'.showings (helm_posts (plan_of helm) ticks' (length ticks))) mode'
+      ∙ ap (λ one. iteration_with helm.crew.axes stamp now.parked now.mode one (helm_posts (plan_of helm) ticks' (length ticks))) (sym after.showings))
 
-pub ticked : (helm : Helm) (stamp : ℕ) (mail : List Letter) (now : Outlook) (turned : Turned) → HasLearnt helm.modes mail helm.outlook now
-    → HasTurned helm stamp now turned → clock_of helm ≤ stamp
-    → IsTicked helm (helm_after helm stamp now turned) stamp mail (iteration_by helm stamp now turned)
-ticked helm stamp mail now turned learnt turns later = record {
+pub ticked : (helm : Helm) (stamp : ℕ) (mail : List Letter) (now : Outlook) (turned : Turned) (allstop : Allstop) → HasLearnt helm.modes mail helm.outlook now
+    → HasTurned helm.crew stamp (pairs_mailed mail) now turned → allstop_text allstop ≡ allstop_by helm.crew.axes now.parked turned.showings.items → clock_of helm ≤ stamp
+    → IsTicked helm (helm_after helm stamp now turned.kept.items allstop) stamp mail (iteration_by helm stamp now turned.showings.items)
+ticked helm stamp mail now turned allstop learnt turns stops later = record {
   plan = refl;
   clock = refl;
-  stands = stands_after helm stamp mail now turned learnt turns later;
-  is = iterates helm stamp mail now turned learnt turns later;
+  stands = stands_after helm stamp mail now turned allstop learnt turns stops later;
+  is = iterates helm stamp mail now turned allstop learnt turns stops later;
 }
+
+abbrev plan_by : List Axis → List Pair → List Decl → List Block → Plan
+plan_by axes opening decls blocks = record { axes = axes; opening = opening; decls = decls; blocks = blocks }
+
+pub same_plan : (axes : List Axis) (opening : List Pair) (axes' : List Axis) (decls decls' : List Decl) (blocks blocks' : List Block) → axes ≡ axes' → decls ≡ decls' → blocks ≡ blocks'
+    → plan_by axes opening decls blocks ≡ plan_by axes' opening decls' blocks'
+same_plan axes opening axes' decls decls' blocks blocks' a b c =
+    ap (λ it. plan_by it opening decls blocks) a ∙ ap (λ it. plan_by axes' opening it blocks) b ∙ ap (plan_by axes' opening decls') c

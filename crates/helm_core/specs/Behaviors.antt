@@ -1,22 +1,35 @@
--- What happens to each behaviour in each iteration. None gives a function yet, and none is done by itself.
-use Rattle.std.specs.Prelude.{ℕ, zero, suc, false, List, [], ◌∷◌, ◌++◌, map}
+-- What happens to each behaviour in each iteration: its updates, its step, and what its turn comes to.
+use Rattle.std.specs.Prelude.{ℕ, zero, suc, nat_lt, Bool, true, false, not, ◌&&◌, if◌then◌else◌, List, [], ◌∷◌, ◌++◌, map, fold, bytes_eq, Option, Some, None, is_some}
+use Rattle.std.specs.List.{list_any}
+use Rattle.std.specs.Option.{option_eq}
+use Rattle.moos_post.specs.declared.value.Pair.{Pair}
+use Rattle.moos_post.specs.declared.value.Value.{Value}
+use Rattle.moos_post.specs.declared.value.Value.TheVariants.{Num, Text}
+use Rattle.ivp_domain.specs.declared.axis.Axis.{Axis}
 use Rattle.bhv_reader.specs.declared.common.Common.{Common}
 use Rattle.bhv_reader.specs.declared.file.Block.{Block}
+use Rattle.bhv_reader.specs.declared.spec.Spec.{Spec}
+use Rattle.bhv_kinds.specs.declared.out.Out.{Out}
+use Rattle.bhv_kinds.specs.Giving.{out_at}
+use Rattle.bhv_kinds.specs.Turns.{KindTurn, Updated, Stepped, params_at, step_of}
+use Rattle.bhv_kinds.specs.Updates.{updated}
 use Rattle.bhv_life.specs.declared.outcome.Outcome.{Outcome}
-use Rattle.bhv_life.specs.Lives.{Beginning, BhvPast, BhvTurn, beginning_of, past_of, turn_after}
+use Rattle.bhv_life.specs.Lives.{Beginning, BhvPast, BhvTurn, beginning_of, can_run, is_fresh, is_stepped, past_of, turn_after}
 use Rattle.bhv_life.specs.Outcomes.{flags_at}
 use Rattle.helm_core.specs.declared.showing.Showing.{Showing}
 use Rattle.helm_core.specs.Plans.{Plan}
 use Rattle.helm_core.specs.Ticks.{Seen, Tick, seen_at}
 
--- a behaviour before an iteration: what the file says of it, and its turns so far in order
+-- a behaviour before an iteration: what the file says of it, its turns so far in order, and its updates and steps so far,
+-- the latest first
 pub record BhvSoFar : Type 0 where
   pub block : Block
   pub lived : List BhvTurn
+  pub turns : List KindTurn
 
 -- a behaviour before the first iteration
 abbrev pub unstarted : Block → BhvSoFar
-unstarted block = record { block = block; lived = [] }
+unstarted block = record { block = block; lived = []; turns = [] }
 
 -- what its turns so far came to
 abbrev pub past_so_far : BhvSoFar → List BhvPast
@@ -26,27 +39,109 @@ past_so_far one = past_of one.block.common one.lived
 abbrev pub beginning_at : Seen → Common → Beginning
 beginning_at seen common = beginning_of common seen.known seen.mode seen.parked seen.stamp
 
+-- updates that were judged: what is then the list of updates and steps, and which of the updates were good
+pub record Judged : Type 0 where
+  pub turns : List KindTurn
+  pub taken : List Bool
+
+-- before the updates of an iteration
+abbrev pub none_judged : List KindTurn → Judged
+none_judged turns = record { turns = turns; taken = [] }
+
+-- one update more of a behaviour with these parameters in its file: a text may be good, a number never is
+abbrev pub judged_with : Spec → Judged → Value → Judged
+judged_with spec so_far (Num number) = record { turns = so_far.turns; taken = so_far.taken ++ false ∷ [] }
+judged_with spec so_far (Text text) = record {
+  turns = Updated text ∷ so_far.turns;
+  taken = so_far.taken ++ is_some (updated (params_at spec so_far.turns) text) ∷ [];
+}
+
+-- a letter more, which is an update where it is of the behaviour's variable for updates
+abbrev pub heard_with : Option (List ℕ) → Spec → Judged → Pair → Judged
+heard_with updates spec so_far letter = if option_eq bytes_eq updates (Some letter.var) then judged_with spec so_far letter.value else so_far
+
+-- the updates among these letters, in order
+abbrev pub judged_in : Option (List ℕ) → Spec → List KindTurn → List Pair → Judged
+judged_in updates spec turns letters = fold (heard_with updates spec) (none_judged turns) letters
+
+-- the updates that an iteration's letters bring, unless the behaviour completed for good in an earlier one
+abbrev pub judged_at : Seen → BhvSoFar → Judged
+judged_at seen one = judged_in one.block.common.updates one.block.spec one.turns (if can_run one.block.common (past_so_far one) then seen.letters else [])
+
+-- what stands where there was no step
+abbrev pub no_out : Out
+no_out = record { func = None; course = false; speed = false; depth = false; done = false; fault = None }
+
+-- a behaviour in an iteration, after its updates and its step: which updates were good, and what the step gave
+pub record BegunTurn : Type 0 where
+  pub standing : BhvSoFar
+  pub taken : List Bool
+  pub out : Out
+
+-- a behaviour after its updates, and after its step where it has one
+abbrev pub begun_by_step : List Axis → Seen → BhvSoFar → Judged → Bool → BegunTurn
+begun_by_step axes seen one judged true =
+    let step = step_of axes seen.known seen.stamp (is_fresh (past_so_far one)) in
+    record { standing = record one { turns = Stepped step ∷ judged.turns }; taken = judged.taken; out = out_at one.block.spec judged.turns step }
+begun_by_step axes seen one judged false = record { standing = record one { turns = judged.turns }; taken = judged.taken; out = no_out }
+
+-- a behaviour in an iteration, before its turn ends
+abbrev pub begun_at : List Axis → Seen → BhvSoFar → BegunTurn
+begun_at axes seen one =
+    begun_by_step axes seen one (judged_at seen one) (is_stepped one.block.common (past_so_far one) (beginning_at seen one.block.common))
+
+-- its step raised a fault
+abbrev pub has_fault : BegunTurn → Bool
+has_fault one = is_some one.out.fault
+
+-- the weight that it has
+abbrev pub weight_now : BegunTurn → ℕ
+weight_now one = (params_at one.standing.block.spec one.standing.turns).weight
+
+-- It is active: its step gave a function, its weight is above 0, and no behaviour raised a fault.
+abbrev pub is_active_in : Bool → BegunTurn → Bool
+is_active_in fault one = is_some one.out.func && nat_lt 0 (weight_now one) && not fault
+
 -- the turn that it has
-abbrev pub turn_at : Seen → BhvSoFar → BhvTurn
-turn_at seen one = record { start = beginning_at seen one.block.common; gave = false; done = false }
+abbrev pub turn_at : Seen → Bool → BegunTurn → BhvTurn
+turn_at seen fault one = record { start = beginning_at seen one.standing.block.common; gave = is_active_in fault one; done = one.out.done }
 
 -- a behaviour after an iteration
-abbrev pub bhv_after : Seen → BhvSoFar → BhvSoFar
-bhv_after seen one = record one { lived = one.lived ++ turn_at seen one ∷ [] }
+abbrev pub bhv_after : Seen → Bool → BegunTurn → BhvSoFar
+bhv_after seen fault one = record one.standing { lived = one.standing.lived ++ turn_at seen fault one ∷ [] }
 
--- what an iteration says of a behaviour whose turn has this outcome: it, and the flags that it raises
-abbrev pub showing_with : Common → Outcome → Showing
-showing_with common outcome = record { outcome = outcome; flags = flags_at common outcome }
+-- what its turn came to
+abbrev pub outcome_at : Seen → Bool → BegunTurn → Outcome
+outcome_at seen fault one = (turn_after one.standing.block.common (past_so_far one.standing) (turn_at seen fault one)).outcome
 
 -- what an iteration says of a behaviour
-abbrev pub showing_of : Seen → BhvSoFar → Showing
-showing_of seen one = showing_with one.block.common (turn_after one.block.common (past_so_far one) (turn_at seen one)).outcome
+abbrev pub showing_of : Seen → Bool → BegunTurn → Showing
+showing_of seen fault one = record {
+  taken = one.taken;
+  out = one.out;
+  weight = weight_now one;
+  active = is_active_in fault one;
+  outcome = outcome_at seen fault one;
+  flags = flags_at one.standing.block.common (outcome_at seen fault one);
+}
+
+-- all behaviours in an iteration, before their turns end
+abbrev pub all_begun : List Axis → Seen → List BhvSoFar → List BegunTurn
+all_begun axes seen before = map (begun_at axes seen) before
+
+-- all behaviours after an iteration
+abbrev pub all_after : Seen → List BegunTurn → List BhvSoFar
+all_after seen all = map (bhv_after seen (list_any has_fault all)) all
+
+-- what an iteration says of all behaviours
+abbrev pub all_showings : Seen → List BegunTurn → List Showing
+all_showings seen all = map (showing_of seen (list_any has_fault all)) all
 
 -- the behaviours before iteration i, in file order
 abbrev pub behaviors_before : Plan → List Tick → ℕ → List BhvSoFar
 behaviors_before plan ticks zero = map unstarted plan.blocks
-behaviors_before plan ticks (suc i) = map (bhv_after (seen_at plan.decls ticks i)) (behaviors_before plan ticks i)
+behaviors_before plan ticks (suc i) = all_after (seen_at plan.decls ticks i) (all_begun plan.axes (seen_at plan.decls ticks i) (behaviors_before plan ticks i))
 
 -- What iteration i says of the behaviours, in file order.
 abbrev pub showings_at : Plan → List Tick → ℕ → List Showing
-showings_at plan ticks i = map (showing_of (seen_at plan.decls ticks i)) (behaviors_before plan ticks i)
+showings_at plan ticks i = all_showings (seen_at plan.decls ticks i) (all_begun plan.axes (seen_at plan.decls ticks i) (behaviors_before plan ticks i))

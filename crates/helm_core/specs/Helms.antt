@@ -7,7 +7,7 @@ use Rattle.helm_cond.specs.Learnt.{latest_of}
 use Rattle.bhv_reader.specs.declared.decl.Decl.{Decl}
 use Rattle.mode_tree.specs.Modes.{mode_text}
 use Rattle.helm_core.specs.declared.allstop.Allstop.{Allstop}
-use Rattle.helm_core.specs.declared.allstop.Allstop.TheVariants.{ManualOverride, NothingToDo}
+use Rattle.helm_core.specs.declared.allstop.Allstop.TheVariants.{BehaviorError, Clear, ManualOverride, MissingDecVars, NothingToDo}
 use Rattle.helm_core.specs.declared.helm.Helm.{Helm}
 use Rattle.helm_core.specs.declared.iteration.Iteration.{Iteration}
 use Rattle.helm_core.specs.declared.outlook.Outlook.{Outlook}
@@ -17,20 +17,23 @@ use Rattle.helm_core.specs.Moments.{moment_before}
 use Rattle.helm_core.specs.Posts.{allstop_of}
 use Rattle.helm_core.specs.Iterations.{iteration_at}
 use Rattle.helm_core.specs.Behaviors.{behaviors_before}
-use Rattle.helm_core.specs.Standings.{AreLived}
+use Rattle.helm_core.specs.Standings.{IsCrewOf}
 
 -- what the helm was made of
 abbrev pub plan_of : Helm → Plan
-plan_of helm = record { axes = helm.domain; opening = helm.opening; decls = helm.modes; blocks = helm.blocks }
+plan_of helm = record { axes = helm.crew.axes; opening = helm.opening; decls = helm.modes; blocks = helm.crew.blocks }
 
 -- the stamp of its last tick, 0 before the first
 abbrev pub clock_of : Helm → ℕ
 clock_of helm = helm.clock
 
--- the text of a reason to stop
+-- the text of a reason to stop, or of none
 abbrev pub allstop_text : Allstop → List ℕ
 allstop_text ManualOverride = codes "ManualOverride"
+allstop_text BehaviorError = codes "BehaviorError"
 allstop_text NothingToDo = codes "NothingToDo"
+allstop_text MissingDecVars = codes "MissingDecVars"
+allstop_text Clear = codes "clear"
 
 -- what is kept of all letters so far: what is known of them, whether they leave the helm parked, and the mode that they give
 pub record IsOutlook (decls : List Decl) (learnt : List Pair) (outlook : Outlook) : Type 0 where
@@ -47,7 +50,7 @@ HasLearnt decls mail old new = (learnt : List Pair) → IsOutlook decls learnt o
 pub record StandsFor (helm : Helm) (ticks : List Tick) : Type 0 where
   pub clock : clock_of helm ≡ stamp_of_last ticks
   pub outlook : IsOutlook helm.modes (heard_in_all ticks) helm.outlook
-  pub lives : AreLived (clock_of helm) (behaviors_before (plan_of helm) ticks (length ticks)) helm.lives.items
+  pub crew : IsCrewOf (clock_of helm) (behaviors_before (plan_of helm) ticks (length ticks)) helm.crew
   pub allstop : option_map allstop_text helm.allstop ≡ option_map (allstop_of (plan_of helm)) (moment_before (plan_of helm) ticks (length ticks))
 
 -- The helm has heard one tick more: of whichever ticks it stood for, it stands for them with this one behind, and the

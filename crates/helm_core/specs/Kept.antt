@@ -1,21 +1,22 @@
 -- What the helm keeps, and what an iteration comes to by it: this serves `tick` alone.
-use Rattle.std.specs.Prelude.{◌≡◌, ◌≤◌, ℕ, Bool, map, not, if◌then◌else◌, List, [], ◌++◌, fold, codes, Option, Some, None, option_map}
-use Rattle.std.specs.List.{AllZip}
+use Rattle.std.specs.Prelude.{◌≡◌, ◌≤◌, ℕ, Bool, length, not, if◌then◌else◌, List, [], ◌++◌, fold, map, codes, Option, Some, option_map}
+use Rattle.std.specs.List.{All, AllZip, list_any}
 use Rattle.moos_post.specs.declared.value.Pair.{Pair}
+use Rattle.ivp_domain.specs.declared.axis.Axis.{Axis}
 use Rattle.helm_cond.specs.Learnt.{Knowledge, known_with}
-use Rattle.bhv_reader.specs.declared.file.Block.{Block}
-use Rattle.bhv_life.specs.declared.life.Life.{Life}
 use Rattle.helm_core.specs.declared.allstop.Allstop.{Allstop}
-use Rattle.helm_core.specs.declared.allstop.Allstop.TheVariants.{ManualOverride, NothingToDo}
+use Rattle.helm_core.specs.declared.behavior.Behavior.{Behavior}
 use Rattle.helm_core.specs.declared.helm.Helm.{Helm}
 use Rattle.helm_core.specs.declared.iteration.Iteration.{Iteration}
 use Rattle.helm_core.specs.declared.outlook.Outlook.{Outlook}
 use Rattle.helm_core.specs.declared.showing.Showing.{Showing}
 use Rattle.helm_core.specs.declared.turned.Turned.{Turned}
 use Rattle.helm_core.specs.Ticks.{Seen, is_false, is_override}
-use Rattle.helm_core.specs.Behaviors.{BhvSoFar, showing_of}
-use Rattle.helm_core.specs.Posts.{are_declared_modes, changed, desired_speed, flags_raised, state_word}
-use Rattle.helm_core.specs.Standings.{AreLived, IsLifeAfter, Sees}
+use Rattle.helm_core.specs.Behaviors.{BegunTurn, BhvSoFar, all_begun, has_fault, showing_of, bhv_after}
+use Rattle.helm_core.specs.Decisions.{decision_made}
+use Rattle.helm_core.specs.Posts.{allstop_by, are_declared_modes, changed, desired_posts, flags_raised, state_word}
+use Rattle.helm_core.specs.Iterations.{all_faults, all_states, all_updates}
+use Rattle.helm_core.specs.Standings.{HelmCrew, IsCrewOf, IsFit, IsKept, IsReady, Sees}
 use Rattle.helm_core.specs.Helms.{allstop_text}
 
 -- what is known once these pairs were learnt too
@@ -34,43 +35,62 @@ parked_after parked learnt = fold parked_with parked learnt
 abbrev pub said_before : Helm → List ℕ → Option (List ℕ)
 said_before helm text = option_map (λ allstop. text) helm.allstop
 
--- why the vehicle must stop at this outlook
-abbrev pub allstop_seen : Outlook → Allstop
-allstop_seen now = if now.parked then ManualOverride else NothingToDo
+-- what the helm posts at this outlook before the numbers that are decided on
+abbrev pub first_posts : Helm → Outlook → List Showing → List Pair
+first_posts helm now showings =
+    changed (codes "IVPHELM_STATE") (said_before helm (state_word helm.outlook.parked)) (state_word now.parked)
+    ++ (if are_declared_modes helm.modes then changed (codes "MODE") (said_before helm helm.outlook.mode) now.mode else [])
+    ++ flags_raised showings
 
--- what the helm posts at this outlook
+-- what it posts, where an iteration says this of the behaviours
 abbrev pub posts_by : Helm → Outlook → List Showing → List Pair
 posts_by helm now showings =
     changed (codes "IVPHELM_STATE") (said_before helm (state_word helm.outlook.parked)) (state_word now.parked)
     ++ (if are_declared_modes helm.modes then changed (codes "MODE") (said_before helm helm.outlook.mode) now.mode else [])
     ++ flags_raised showings
-    ++ desired_speed
-    ++ changed (codes "IVPHELM_ALLSTOP") (option_map allstop_text helm.allstop) (allstop_text (allstop_seen now))
+    ++ desired_posts helm.crew.axes now.parked showings
+    ++ changed (codes "IVPHELM_ALLSTOP") (option_map allstop_text helm.allstop) (allstop_by helm.crew.axes now.parked showings)
 
--- turns at this outlook: of whichever behaviours with these blocks the old lives stood for, the new ones stand for these
--- after an iteration that sees what the outlook says, and the showings are those of this iteration
-abbrev pub AreTurned : List Block → List Life → ℕ → Outlook → Turned → Type 0
-AreTurned blocks lives stamp now turned =
-    (clock : ℕ) (seen : Seen) (ones : List BhvSoFar) → clock ≤ stamp → Sees seen stamp now → map (λ one. one.block) ones ≡ blocks → AreLived clock ones lives
-    → AllZip (IsLifeAfter seen) ones turned.lives.items × (turned.showings.items ≡ map (showing_of seen) ones)
+-- what is kept of the behaviours, and what an iteration says of them, is what these turns came to, by whether there was a fault
+pub record IsTurnedWith (fault : Bool) (seen : Seen) (begun : List BegunTurn) (turned : Turned) : Type 0 where
+  pub kept : AllZip (IsKept seen.stamp) (map (bhv_after seen fault) begun) turned.kept.items
+  pub showings : turned.showings.items ≡ map (showing_of seen fault) begun
 
--- the turns of the helm's behaviours at this outlook
-abbrev pub HasTurned : Helm → ℕ → Outlook → Turned → Type 0
-HasTurned helm stamp now turned = AreTurned helm.blocks helm.lives.items stamp now turned
+-- it is what these turns came to
+abbrev pub IsTurned : Seen → List BegunTurn → Turned → Type 0
+IsTurned seen begun turned = IsTurnedWith (list_any has_fault begun) seen begun turned
 
--- the iteration at this outlook with these turns
-abbrev pub iteration_by : Helm → ℕ → Outlook → Turned → Iteration
-iteration_by helm stamp now turned = record {
+-- turns at this outlook: of whichever behaviours the crew stood for, these are the turns in an iteration that sees this
+abbrev pub HasTurned : HelmCrew → ℕ → List Pair → Outlook → Turned → Type 0
+HasTurned crew stamp letters now turned =
+    (clock : ℕ) (seen : Seen) (ones : List BhvSoFar) → clock ≤ stamp → Sees seen stamp letters now → IsCrewOf clock ones crew
+    → IsTurned seen (all_begun crew.axes seen ones) turned
+
+-- what holds of so many turns over these axes
+pub record AreFit (axes : List Axis) (count : ℕ) (turned : Turned) : Type 0 where
+  pub kept : length turned.kept.items ≡ count
+  pub ready : All (λ kept. IsReady axes kept.kind) turned.kept.items
+  pub showings : length turned.showings.items ≡ count
+  pub fit : All (IsFit axes) turned.showings.items
+
+-- the iteration at this outlook, where it says this of the behaviours
+abbrev pub iteration_by : Helm → ℕ → Outlook → List Showing → Iteration
+iteration_by helm stamp now showings = record {
   stamp = stamp;
   parked = now.parked;
   mode = now.mode;
-  updates = [];
-  states = map (λ one. one.outcome.now) turned.showings.items;
-  faults = [];
-  decision = None;
-  posts = posts_by helm now turned.showings.items;
+  updates = all_updates showings;
+  states = all_states showings;
+  faults = all_faults showings;
+  decision = decision_made helm.crew.axes showings;
+  posts = posts_by helm now showings;
 }
 
 -- the helm after it
-abbrev pub helm_after : Helm → ℕ → Outlook → Turned → Helm
-helm_after helm stamp now turned = record helm { lives = turned.lives; outlook = now; allstop = Some (allstop_seen now); clock = stamp }
+abbrev pub helm_after : Helm → ℕ → Outlook → List Behavior → Allstop → Helm
+helm_after helm stamp now kept allstop = record helm {
+  crew = record helm.crew { kept = kept };
+  outlook = now;
+  allstop = Some allstop;
+  clock = stamp;
+}

@@ -2,6 +2,7 @@ pub mod Plans
 pub mod Ticks
 pub mod Behaviors
 pub mod Moments
+pub mod Decisions
 pub mod Posts
 pub mod Iterations
 pub mod Standings

@@ -1,21 +1,94 @@
 ghost use Rattle.std.specs.Prelude.{◌≡◌};
+ghost use Rattle.bhv_reader.specs.Params.{has_axis};
+ghost use Rattle.helm_core.specs.Decisions.{some_active};
 ghost use Rattle.helm_core.specs.Helms.{allstop_text};
+ghost use Rattle.helm_core.specs.Posts.{allstop_by, lacks_decision, mentions_course, mentions_depth, mentions_speed, some_fault};
 
-// Why the vehicle must stop.
+use crate::showing::Showing;
+use ivp_domain::Domain;
+
+// Why the vehicle must stop, or that it need not.
 #[derive(Clone, Copy, Debug, PartialEq, Eq)]
 pub(crate) enum Allstop {
     ManualOverride,
+    BehaviorError,
     NothingToDo,
+    MissingDecVars,
+    Clear,
 }
 
 impl Allstop {
+    // The reason, by whether the helm is parked and by the behaviours.
+    pub fn of(domain: &Domain, parked: bool, showings: &[Showing]) -> Allstop
+        ensures { allstop_text result ≡ allstop_by domain.now parked showings.now }
+    {
+        if parked {
+            Allstop::ManualOverride
+        } else if some_fault(showings) {
+            Allstop::BehaviorError
+        } else if !some_active(showings) {
+            Allstop::NothingToDo
+        } else if lacks_decision(domain, showings) {
+            Allstop::MissingDecVars
+        } else {
+            Allstop::Clear
+        }
+    }
+
     // What it is posted as.
     pub fn text(&self) -> &'static [u8]
         ensures { result.now ≡ allstop_text self.now }
     {
         match self {
             Allstop::ManualOverride => b"ManualOverride",
+            Allstop::BehaviorError => b"BehaviorError",
             Allstop::NothingToDo => b"NothingToDo",
+            Allstop::MissingDecVars => b"MissingDecVars",
+            Allstop::Clear => b"clear",
         }
     }
+}
+
+// Each is the definition of its name.
+fn some_fault(showings: &[Showing]) -> bool
+    ensures { result ≡ some_fault showings.now }
+{
+    showings.iter().any(|one| one.out.fault.is_some())
+}
+
+pub(crate) fn some_active(showings: &[Showing]) -> bool
+    ensures { result ≡ some_active showings.now }
+{
+    showings.iter().any(|one| one.active)
+}
+
+fn lacks_decision(domain: &Domain, showings: &[Showing]) -> bool
+    ensures { result ≡ lacks_decision domain.now showings.now }
+{
+    has_axis(domain, b"course") && !mentions_course(showings)
+        || has_axis(domain, b"speed") && !mentions_speed(showings)
+}
+
+fn has_axis(domain: &Domain, name: &[u8]) -> bool
+    ensures { result ≡ has_axis domain.now name.now }
+{
+    domain.all().iter().any(|axis| axis.name.bytes() == name)
+}
+
+pub(crate) fn mentions_course(showings: &[Showing]) -> bool
+    ensures { result ≡ mentions_course showings.now }
+{
+    showings.iter().any(|one| one.active && one.out.course)
+}
+
+pub(crate) fn mentions_speed(showings: &[Showing]) -> bool
+    ensures { result ≡ mentions_speed showings.now }
+{
+    showings.iter().any(|one| one.active && one.out.speed)
+}
+
+pub(crate) fn mentions_depth(showings: &[Showing]) -> bool
+    ensures { result ≡ mentions_depth showings.now }
+{
+    showings.iter().any(|one| one.active && one.out.depth)
 }

@@ -1,19 +1,25 @@
-ghost use Rattle.std.specs.Prelude.{◌≡◌, ◌≤◌, [], IfOk, OnErr, option_copied, option_map, unwrap_or};
-ghost use Rattle.bhv_reader.specs.Validity.{IsValidFile};
+ghost use Rattle.std.specs.Prelude.{◌≡◌, ◌≤◌, [], length, IfOk, OnErr, IsTrue, option_copied, option_map, unwrap_or};
+ghost use Rattle.std.specs.List.{All};
+ghost use Rattle.bhv_reader.specs.Validity.{IsValidFile, serves};
 ghost use Rattle.mission_reader.specs.Validity.{IsValidMission};
 ghost use Rattle.helm_core.specs.Plans.{plan_made, wants_of};
+ghost use Rattle.helm_core.specs.Posts.{allstop_by};
+ghost use Rattle.helm_core.specs.Standings.{IsFit, IsReady};
 ghost use Rattle.helm_core.specs.Helms.{allstop_text, clock_of, plan_of, HasLearnt, IsTicked, StandsFor};
-ghost use Rattle.helm_core.specs.Kept.{helm_after, HasTurned, iteration_by, posts_by, said_before};
+ghost use Rattle.helm_core.specs.Kept.{first_posts, helm_after, iteration_by, said_before};
 
-use crate::allstop::Allstop;
-use crate::iteration::{Faults, Iteration, Updates};
+use crate::allstop::{Allstop, mentions_course, mentions_depth, mentions_speed};
+use crate::behavior::Behavior;
+use crate::crew::Crew;
+use crate::decision::{add_desired, add_speed, decision_made};
+use crate::iteration::Iteration;
 use crate::outlook::Outlook;
-use crate::posts::{add_changed, add_number};
+use crate::posts::add_changed;
+use crate::showing::Showing;
+use crate::telling::{add_flags, faults_of, states_of, updates_of};
 use crate::turned::Turned;
 use crate::wanted::Wanted;
-use bhv_life::Life;
-use bhv_reader::{BhvFile, Blocks};
-use ivp_domain::Domain;
+use bhv_reader::BhvFile;
 use mission_reader::Mission;
 use mode_tree::ModeTree;
 use moos_db::{Letter, Mail};
@@ -27,25 +33,23 @@ use std::thread::Threads;
 /// a list of them, each with the stamp of the iteration that heard it.
 #[derive(Drop)]
 pub struct Helm {
-    domain: Domain,
     opening: Batch,
     modes: ModeTree,
-    blocks: Blocks,
-    // The lives of the behaviours, in file order, or none before the first iteration.
-    lives: Vec<Life>,
+    crew: Crew,
     outlook: Outlook,
-    // Why the vehicle had to stop in the last iteration, or None before the first.
+    // Why the vehicle had to stop in the last iteration, if it had to, or None before the first.
     allstop: Option<Allstop>,
     // When the last iteration was, in milliseconds, or 0 before the first.
     clock: u64,
 }
 
 impl Helm {
-    /// The helm of a mission and its behaviour file, which has heard nothing. Its behaviours live, and raise their flags, but
-    /// give no function yet and take no update.
+    /// The helm of a mission and its behaviour file, which has heard nothing. The mission's domain has the axes that the
+    /// behaviours need.
     pub fn make(alloc: Global, mission: &Mission, file: BhvFile) -> Result<Helm, NoMemory>
         requires mission { IsValidMission mission.now }
         requires file { IsValidFile file }
+        requires served { IsTrue (serves mission.now.domain file.blocks) }
         ensures plan { IfOk result (λ helm. plan_of helm ≡ plan_made mission.now file) }
         ensures stands { IfOk result (λ helm. StandsFor helm []) }
     {
@@ -57,12 +61,11 @@ impl Helm {
         } = file;
         let modes = ModeTree::make(decls);
         let outlook = Outlook::blank(alloc, &modes)?;
+        let crew = Crew::make(alloc, mission.domain, blocks)?;
         Ok(Helm {
-            domain: mission.domain,
             opening,
             modes,
-            blocks,
-            lives: Vec::new(alloc),
+            crew,
             outlook,
             allstop: None,
             clock: 0,
@@ -78,7 +81,7 @@ impl Helm {
         for decl in self.modes.decls() {
             wanted.want_decl(alloc, decl)?;
         }
-        for block in self.blocks.all() {
+        for block in self.crew.blocks() {
             wanted.want_block(alloc, block)?;
         }
         wanted.regs(alloc)
@@ -92,16 +95,17 @@ impl Helm {
     }
 
     /// One iteration at a stamp, in milliseconds, that isn't before the last one's: the helm learns the mail, sees whether
-    /// it is parked, finds its mode, tells of each behaviour what it is, and lists what it posts. It has 1 to 16 workers for what it solves. Where no memory is
-    /// left the helm is as it was.
+    /// it is parked, finds its mode, updates its behaviours, steps those that run, decides by the functions of the active
+    /// ones, and lists what it posts. It has 1 to 16 workers for what it solves. Where no memory is left the helm is as it
+    /// was.
     pub fn tick<R: Threads + Wait + Sync, G: Gate>(
         &mut self,
-        _rt: &R,
+        rt: &R,
         alloc: Global,
         stamp: u64,
         mail: &Mail,
         workers: u32,
-        _gate: &G,
+        gate: &G,
     ) -> Result<Iteration, NoMemory>
         requires stamp { clock_of self.old ≤ stamp }
         requires some_worker { 1 ≤ workers }
@@ -109,16 +113,12 @@ impl Helm {
         ensures same { OnErr result (self.new ≡ self.old) }
         ensures ticked { IfOk result (IsTicked self.old self.new stamp mail.now) }
     {
-        let Some(outlook) = self.outlook_after(alloc, mail.all())? else {
-            let turned = self.turned(alloc, stamp, &self.outlook)?;
-            let iteration = self.iteration(alloc, stamp, &self.outlook, &turned)?;
-            self.end(stamp, turned);
-            return Ok(iteration);
-        };
-        let turned = self.turned(alloc, stamp, &outlook)?;
-        let iteration = self.iteration(alloc, stamp, &outlook, &turned)?;
-        self.outlook = outlook;
-        self.end(stamp, turned);
+        let fresh = self.outlook_after(alloc, mail.all())?;
+        let now = self.now(&fresh);
+        let Turned { kept, showings } = self.crew.turned(alloc, stamp, mail.all(), now)?;
+        let allstop = Allstop::of(&self.crew.domain(), now.parked, showings.as_slice());
+        let iteration = self.iteration(rt, alloc, stamp, now, showings, allstop, workers, gate)?;
+        self.end(stamp, fresh, kept, allstop);
         Ok(iteration)
     }
 
@@ -133,40 +133,107 @@ impl Helm {
         Ok(Some(outlook))
     }
 
-    // The turns of the behaviours at this outlook.
-    fn turned(&self, alloc: Global, stamp: u64, now: &Outlook) -> Result<Turned, NoMemory>
-        ensures { IfOk result (HasTurned self.now stamp now.now) }
+    // The outlook of this iteration.
+    fn now<'a>(&'a self, fresh: &'a Option<Outlook>) -> &'a Outlook
+        ensures { result.now ≡ unwrap_or fresh.now self.now.outlook }
     {
-        Turned::of(alloc, stamp, self.blocks.all(), &self.lives, now)
+        match fresh {
+            Some(outlook) => outlook,
+            None => &self.outlook,
+        }
     }
 
-    // The iteration at this outlook with these turns.
-    fn iteration(
+    // Keeps what the next iteration asks of this one.
+    fn end(&mut self, stamp: u64, fresh: Option<Outlook>, kept: Vec<Behavior>, allstop: Allstop)
+        requires one_each { length kept.items ≡ length self.old.crew.blocks }
+        requires ready { All (λ kept. IsReady self.old.crew.axes kept.kind) kept.items }
+        ensures { self.new ≡ helm_after self.old stamp (unwrap_or fresh self.old.outlook) kept.items allstop }
+    {
+        self.crew.go_on(kept);
+        if let Some(outlook) = fresh {
+            self.outlook = outlook;
+        }
+        self.allstop = Some(allstop);
+        self.clock = stamp;
+    }
+
+    // The iteration at this outlook, where it says this of the behaviours.
+    fn iteration<R: Threads + Wait + Sync, G: Gate>(
         &self,
+        rt: &R,
         alloc: Global,
         stamp: u64,
         now: &Outlook,
-        turned: &Turned,
+        showings: Vec<Showing>,
+        allstop: Allstop,
+        workers: u32,
+        gate: &G,
     ) -> Result<Iteration, NoMemory>
-        ensures { IfOk result (λ iteration. iteration ≡ iteration_by self.now stamp now.now turned.now) }
+        requires some_worker { 1 ≤ workers }
+        requires few_workers { workers ≤ 16 }
+        requires few { length showings.items ≤ 64 }
+        requires fit { All (IsFit self.now.crew.axes) showings.items }
+        requires allstop { allstop_text allstop ≡ allstop_by self.now.crew.axes now.now.parked showings.items }
+        ensures { IfOk result (λ iteration. iteration ≡ iteration_by self.now stamp now.now showings.items) }
     {
+        let all = showings.as_slice();
         let mode = now.mode.copy(alloc)?;
-        let states = turned.states(alloc)?;
-        let posts = self.posts(alloc, now, turned)?;
+        let updates = updates_of(alloc, all)?;
+        let states = states_of(alloc, all)?;
+        let faults = faults_of(alloc, all)?;
+        let mut posts = self.first_posts(alloc, now, all)?;
+        let (course, speed, depth) = (
+            mentions_course(all),
+            mentions_speed(all),
+            mentions_depth(all),
+        );
+        let domain = self.crew.domain();
+        let decision = decision_made(rt, alloc, domain, showings, workers, gate)?;
+        add_desired(
+            alloc,
+            &mut posts,
+            b"DESIRED_HEADING",
+            b"course",
+            course,
+            &decision,
+        )?;
+        add_speed(alloc, &mut posts, allstop, speed, &decision)?;
+        add_desired(
+            alloc,
+            &mut posts,
+            b"DESIRED_DEPTH",
+            b"depth",
+            depth,
+            &decision,
+        )?;
+        let before = self.last_allstop();
+        add_changed(
+            alloc,
+            &mut posts,
+            b"IVPHELM_ALLSTOP",
+            before,
+            allstop.text(),
+        )?;
         Ok(Iteration {
             stamp,
             parked: now.parked,
             mode,
-            updates: Updates::new(alloc),
+            updates,
             states,
-            faults: Faults::new(alloc),
-            decision: None,
+            faults,
+            decision,
             posts,
         })
     }
 
-    fn posts(&self, alloc: Global, now: &Outlook, turned: &Turned) -> Result<Batch, NoMemory>
-        ensures { IfOk result (λ posts. posts ≡ posts_by self.now now.now turned.now.showings.items) }
+    // What is posted before the numbers that are decided on.
+    fn first_posts(
+        &self,
+        alloc: Global,
+        now: &Outlook,
+        showings: &[Showing],
+    ) -> Result<Batch, NoMemory>
+        ensures { IfOk result (λ posts. posts ≡ first_posts self.now now.now showings.now) }
     {
         let state = self.said(self.outlook.state());
         let mode = self.said(self.outlook.mode.bytes());
@@ -175,27 +242,8 @@ impl Helm {
         if self.modes.decls().len() > 0 {
             add_changed(alloc, &mut posts, b"MODE", mode, now.mode.bytes())?;
         }
-        turned.add_flags(alloc, &mut posts)?;
-        add_number(alloc, &mut posts, b"DESIRED_SPEED", 0)?;
-        let allstop = now.allstop().text();
-        add_changed(
-            alloc,
-            &mut posts,
-            b"IVPHELM_ALLSTOP",
-            self.last_allstop(),
-            allstop,
-        )?;
+        add_flags(alloc, &mut posts, showings)?;
         Ok(posts)
-    }
-
-    // Keeps what the next iteration asks of this one, once the outlook is this one's.
-    fn end(&mut self, stamp: u64, turned: Turned)
-        ensures { self.new ≡ helm_after self.old stamp self.old.outlook turned }
-    {
-        let Turned { lives, .. } = turned;
-        self.lives = lives;
-        self.allstop = Some(self.outlook.allstop());
-        self.clock = stamp;
     }
 
     // A text of the last iteration, where there was one.

@@ -1,23 +1,31 @@
-// One iteration of the helm: what it learns of its mail, whether it is parked, its mode, what becomes of its behaviours, and
-// what it posts.
+// One iteration of the helm: what it learns of its mail, whether it is parked, its mode, what its behaviours do, what they
+// decide together, and what it posts.
 //
 // The layer above relies on this: a `Helm` stands for the list of mails that it has heard, each with the stamp of its
 // iteration, and `tick` gives the iteration that `iteration_at` of specs/ says of that list with one mail more. After want
 // of memory the helm is as it was.
 //
-// Read `iteration`, `allstop`, `outlook` for what is kept of the mails, `showing` and `turned` for the turns of the
-// behaviours, `posts` for what is posted on change, `wanted` for the variables that are registered for, and `helm` last;
-// `law` says that no iteration depends on a later mail. Of specs/ read `Plans`, `Ticks`, `Behaviors`, `Moments`, `Posts`,
-// `Iterations`, `Standings` and `Helms`; `Kept` serves the files of the crate.
+// Read `iteration`, `allstop`, `outlook` for what is kept of the mails, `behavior` for what is kept of a behaviour, `judging`,
+// `stepping` and `begun` for its turn, `turned` and `crew` for the turns of all, `showing` and `telling` for what is said of
+// them, `decision` for what they decide, `posts` for what is posted, `wanted` for the variables that are registered for, and
+// `helm` last; `law` says that no iteration depends on a later mail. Of specs/ read `Plans`, `Ticks`, `Behaviors`, `Moments`,
+// `Decisions`, `Posts`, `Iterations`, `Standings` and `Helms`; `Kept` serves the files of the crate.
 #![tactic(auto)]
 
 mod allstop;
+mod begun;
+mod behavior;
+mod crew;
+mod decision;
 mod helm;
 mod iteration;
+mod judging;
 mod law;
 mod outlook;
 mod posts;
 mod showing;
+mod stepping;
+mod telling;
 mod turned;
 mod wanted;
 

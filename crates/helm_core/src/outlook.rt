@@ -4,11 +4,10 @@ ghost use Rattle.moos_db.specs.Database.{pair_posted};
 ghost use Rattle.helm_cond.specs.Infos.{knowledge_of};
 ghost use Rattle.mode_tree.specs.Modes.{mode_text};
 ghost use Rattle.helm_core.specs.Helms.{HasLearnt, IsOutlook};
-ghost use Rattle.helm_core.specs.Kept.{allstop_seen, known_after, parked_after, parked_with};
+ghost use Rattle.helm_core.specs.Kept.{known_after, parked_after, parked_with};
 ghost use Rattle.helm_core.specs.Posts.{state_word};
 ghost use Rattle.helm_core.specs.Ticks.{is_false, is_override, pairs_mailed};
 
-use crate::allstop::Allstop;
 use helm_cond::Info;
 use mode_tree::ModeTree;
 use moos_db::Letter;
@@ -62,17 +61,6 @@ impl Outlook {
         ensures { result.now ≡ state_word self.now.parked }
     {
         if self.parked { b"PARK" } else { b"DRIVE" }
-    }
-
-    // Why the vehicle must stop.
-    pub fn allstop(&self) -> Allstop
-        ensures { result ≡ allstop_seen self.now }
-    {
-        if self.parked {
-            Allstop::ManualOverride
-        } else {
-            Allstop::NothingToDo
-        }
     }
 }
 

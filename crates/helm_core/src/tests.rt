@@ -1,6 +1,6 @@
 // Iterations worked by hand, and what they post.
-ghost use Rattle.std.specs.Prelude.{◌≡◌, ◌≤◌, IfOk, OnOk};
-ghost use Rattle.bhv_reader.specs.Validity.{IsValidFile};
+ghost use Rattle.std.specs.Prelude.{◌≡◌, ◌≤◌, IfOk, IsTrue, OnOk};
+ghost use Rattle.bhv_reader.specs.Validity.{IsValidFile, serves};
 ghost use Rattle.mission_reader.specs.Validity.{IsValidMission};
 ghost use Rattle.helm_core.specs.Helms.{clock_of};
 
@@ -20,7 +20,7 @@ use std::test::Fail;
 use std::thread::Threads;
 
 const MISSION: &[u8] =
-    b"ProcessConfig = pHelmIvP\n{\n  AppTick = 4\n  behaviors = a.bhv\n  domain = course:0:359:360\n}\n";
+    b"ProcessConfig = pHelmIvP\n{\n  AppTick = 4\n  behaviors = a.bhv\n  domain = course:0:359:360\n  domain = speed:0:4:41\n}\n";
 
 const MODES: &[u8] =
     b"initialize DEPLOY = false\nset MODE = ACTIVE {\n  DEPLOY = true\n} INACTIVE\n";
@@ -36,7 +36,8 @@ fn mission_of(rt: &impl Abort, alloc: Global) -> Result<Mission, Fail>
 }
 
 fn file_of(rt: &impl Abort, alloc: Global, text: &[u8], domain: &Domain) -> Result<BhvFile, Fail>
-    ensures { IfOk result IsValidFile }
+    ensures valid { IfOk result IsValidFile }
+    ensures served { IfOk result (λ file. IsTrue (serves domain.now file.blocks)) }
 {
     assert!(rt; text.len() < 4_000_000_000);
     match read_behaviors(alloc, text, domain) {
@@ -227,6 +228,31 @@ fn timers(rt: HostRuntime) -> Result<(), Fail> {
     answers(&rt, alloc, &mut helm, 750, &[], fourth)?;
     let off = b"1 DRIVE : Completed Idle D=1 DESIRED_SPEED=0";
     answers(&rt, alloc, &mut helm, 1000, &[b"DEPLOY=false"], off)
+}
+
+const STEERED: &[u8] =
+    b"Behavior = BHV_ConstantHeading {\n  name = h\n  heading = 90\n  updates = H_UP\n}\nBehavior = BHV_ConstantSpeed {\n  name = s\n  speed = 2\n  inactiveflag = N=1\n}\n";
+
+// A heading and a speed are decided on: then the heading is another, while parked none is, and at last it counts no more.
+#[test]
+fn decided(rt: HostRuntime) -> Result<(), Fail> {
+    let alloc = rt.alloc();
+    let mut helm = helm_of(&rt, alloc, STEERED)?;
+    let first =
+        b"0 DRIVE : Active Active IVPHELM_STATE=<DRIVE> DESIRED_HEADING=90 DESIRED_SPEED=2 IVPHELM_ALLSTOP=<clear>";
+    let pairs = [b"MOOS_MANUAL_OVERRIDE=false".as_slice()];
+    answers(&rt, alloc, &mut helm, 0, &pairs, first)?;
+    let second = b"0.25 DRIVE : Active Active DESIRED_HEADING=180 DESIRED_SPEED=2";
+    let pairs = [b"H_UP=heading=400".as_slice(), b"H_UP=heading=180"];
+    answers(&rt, alloc, &mut helm, 250, &pairs, second)?;
+    let parked =
+        b"0.5 PARK : Idle Idle IVPHELM_STATE=<PARK> N=1 DESIRED_SPEED=0 IVPHELM_ALLSTOP=<ManualOverride>";
+    let pairs = [b"MOOS_MANUAL_OVERRIDE=true".as_slice(), b"H_UP=pwt=0"];
+    answers(&rt, alloc, &mut helm, 500, &pairs, parked)?;
+    let missing =
+        b"0.75 DRIVE : Running Active IVPHELM_STATE=<DRIVE> DESIRED_SPEED=0 IVPHELM_ALLSTOP=<MissingDecVars>";
+    let pairs = [b"MOOS_MANUAL_OVERRIDE=false".as_slice()];
+    answers(&rt, alloc, &mut helm, 750, &pairs, missing)
 }
 
 // The variables that it registers for, and those that it posts at first.

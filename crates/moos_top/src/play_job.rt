@@ -1,8 +1,8 @@
 // The job that plays a script, with the helm of a mission or without one: its files one after another, and its report.
-ghost use Rattle.std.specs.Prelude.{◌≡◌, ◌<◌, ◌≤◌, ◌^◌, ◌++◌, ℕ, [], length, map, List, None, Some, Ok, IfOk, IfErr};
+ghost use Rattle.std.specs.Prelude.{◌≡◌, ◌<◌, ◌≤◌, ◌^◌, ◌++◌, ℕ, [], length, map, List, None, Some, Ok, IfOk, IsTrue, IfErr};
 ghost use Rattle.bhv_reader.specs.declared.file.Block.{Block};
 ghost use Rattle.bhv_reader.specs.Behaviors.{behaviors_of};
-ghost use Rattle.bhv_reader.specs.Validity.{IsValidFile};
+ghost use Rattle.bhv_reader.specs.Validity.{IsValidFile, serves};
 ghost use Rattle.mission_reader.specs.Missions.{mission_of};
 ghost use Rattle.mission_reader.specs.Validity.{IsValidMission};
 ghost use Rattle.moos_text.specs.Refusals.{IsFirst, and_then};
@@ -125,6 +125,7 @@ fn read_all_run(alloc: Global, bytes: &[u8], domain: &Domain) -> Result<BhvFile,
     ensures read { IfOk result (λ file. and_then (with_all_run bytes.now) (behaviors_of domain.now bytes.now) ≡ Ok file) }
     ensures refused { IfErr result (λ fault. IsFirst fault (and_then (with_all_run bytes.now) (behaviors_of domain.now bytes.now))) }
     ensures valid { IfOk result IsValidFile }
+    ensures served { IfOk result (λ file. IsTrue (serves domain.now file.blocks)) }
 {
     let file = read_behaviors(alloc, bytes, domain)?;
     match first_not_run(bytes) {
@@ -183,6 +184,7 @@ fn play_helm<R: Threads + Wait + Sync, K: Sink, G: Gate>(
     requires valid { IsValid script.now }
     requires mission { IsValidMission mission.now }
     requires file { IsValidFile file }
+    requires served { IsTrue (serves mission.now.domain file.blocks) }
     ensures { Ended (Ready (Playing order script.now (Some (record { mission = mission.now; file = file }))))
         (sinking (K.taken out.old) (K.taken out.new) (K.faults out.old) (K.faults out.new)) result }
 {

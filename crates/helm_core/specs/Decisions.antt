@@ -1,0 +1,51 @@
+-- The problem of an iteration, and what its best point decides.
+use Rattle.std.specs.Prelude.{◌≡◌, ℕ, ℤ, pos, Bool, IsTrue, if◌then◌else◌, List, slice_index, slice_index_or, bytes_eq, position, Option, Some, None, option_map}
+use Rattle.std.specs.List.{filter_map, list_any}
+use Rattle.ivp_domain.specs.declared.axis.Axis.{Axis}
+use Rattle.ivp_domain.specs.Axes.{no_axis, value_on}
+use Rattle.ivp_domain.specs.declared.boxes.Point.{Point}
+use Rattle.ivp_func.specs.Functions.{Function}
+use Rattle.ivp_problem.specs.declared.term.Term.{Term}
+use Rattle.ivp_problem.specs.Problems.{WeightedSum, is_weight}
+use Rattle.ivp_problem.specs.Sums.{best_of, sum_at}
+use Rattle.ivp_cert.specs.declared.claim.Decision.{Decision}
+use Rattle.ivp_cert.specs.Certificates.{certificate_of}
+use Rattle.helm_core.specs.declared.showing.Showing.{Showing}
+
+-- one is active
+abbrev pub some_active : List Showing → Bool
+some_active showings = list_any (λ one. one.active) showings
+
+-- a function with a weight
+abbrev pub term_of : ℕ → Function → Term
+term_of weight func = record { weight = weight; func = func }
+
+-- the function of an active behaviour, with its weight
+abbrev pub active_term : Showing → Option Term
+active_term one = if one.active then option_map (term_of one.weight) one.out.func else None
+
+-- the term is one of a problem over these axes
+pub record IsFitTerm (axes : List Axis) (term : Term) : Type 0 where
+  pub weight : IsTrue (is_weight term.weight)
+  pub over : term.func.axes ≡ axes
+
+-- the functions of the active behaviours over a domain, in file order
+abbrev pub active_problem : List Axis → List Showing → WeightedSum
+active_problem axes showings = record { axes = axes; terms = filter_map active_term showings }
+
+-- the best point of a problem, its sum and its certificate
+abbrev pub best_decision : WeightedSum → Decision
+best_decision problem = record { problem = problem; claim = record { point = best_of problem; sum = sum_at problem (best_of problem) }; cert = certificate_of problem }
+
+-- what is decided where a behaviour is active
+abbrev pub decision_made : List Axis → List Showing → Option Decision
+decision_made axes showings = if some_active showings then Some (best_decision (active_problem axes showings)) else None
+
+-- the number that a point has on the axis at this place
+abbrev pub number_at : List Axis → Point → Option ℕ → ℤ
+number_at axes point None = pos 0
+number_at axes point (Some place) = value_on (slice_index_or axes place no_axis) (slice_index point.at place)
+
+-- the number that a point has on the axis of this name
+abbrev pub number_on : List Axis → List ℕ → Point → ℤ
+number_on axes name point = number_at axes point (position (λ axis. bytes_eq axis.name name) axes)

@@ -1,0 +1,132 @@
+// The turn of a behaviour in an iteration.
+ghost use Rattle.std.specs.Prelude.{◌≡◌, ℕ, ◌≤◌, List, ◌++◌, ◌&&◌, not, nat_lt, is_some, IfOk, OnOk};
+ghost use Rattle.ivp_domain.specs.declared.axis.Axis.{Axis};
+ghost use Rattle.bhv_life.specs.Outcomes.{flags_at, raised};
+ghost use Rattle.helm_core.specs.Behaviors.{BegunTurn, BhvSoFar};
+ghost use Rattle.helm_core.specs.Standings.{BeginsTurn, IsBegun, IsEnded, IsFitBegun, IsFitEnded, IsKept, IsReady, Sees};
+ghost use Rattle.helm_core.specs.Ticks.{Seen, pairs_mailed};
+
+use crate::behavior::Behavior;
+use crate::judging::judge_all;
+use crate::outlook::Outlook;
+use crate::posts::add_pairs;
+use crate::showing::Showing;
+use crate::stepping::step_in;
+use bhv_kinds::{Kind, Out};
+use bhv_life::{Outcome, Started};
+use bhv_reader::Common;
+use ivp_domain::Domain;
+use moos_db::Letter;
+use moos_post::{Batch, List, NoMemory};
+use std::alloc::Global;
+
+// A turn of a behaviour after its step: which of its updates were good, and what the step gave.
+#[derive(Drop)]
+pub(crate) struct Begun<'a> {
+    pub common: &'a Common,
+    pub kind: Kind,
+    pub started: Started,
+    pub taken: List<bool>,
+    pub out: Out,
+}
+
+// What the helm keeps of a behaviour after its turn, and what the iteration says of it.
+#[derive(Drop)]
+pub(crate) struct EndedTurn {
+    pub kept: Behavior,
+    pub showing: Showing,
+}
+
+// BeginsTurn the turn of a behaviour: its updates come first, and then its step.
+pub(crate) fn begin<'a>(
+    alloc: Global,
+    domain: &Domain,
+    common: &'a Common,
+    kept: &Behavior,
+    stamp: u64,
+    letters: &[Letter],
+    now: &Outlook,
+) -> Result<Begun<'a>, NoMemory>
+    requires ready { IsReady domain.now kept.now.kind }
+    ensures begins { IfOk result (λ begun. (clock : ℕ) (seen : Seen) (one : BhvSoFar) → clock ≤ stamp → Sees seen stamp (pairs_mailed letters.now) now.now → one.block.common ≡ common.now → IsKept clock one kept.now → BeginsTurn domain.now seen one begun) }
+    ensures fit { IfOk result (IsFitBegun domain.now) }
+{
+    let started = kept
+        .life
+        .start(common, &now.info, now.mode.bytes(), now.parked, stamp);
+    let mut kind = kept.kind.copy(alloc)?;
+    let taken = judge_all(alloc, started.phase, &common.updates, letters, &mut kind)?;
+    let out = step_in(alloc, started.phase, domain, &now.info, stamp, &mut kind)?;
+    Ok(Begun {
+        common,
+        kind,
+        started,
+        taken,
+        out,
+    })
+}
+
+impl<'a> Begun<'a> {
+    // Whether its step raised a fault.
+    pub fn has_fault(&self) -> bool
+        ensures { result ≡ is_some self.now.out.fault }
+    {
+        self.out.fault.is_some()
+    }
+
+    // Ends the turn, by whether any behaviour raised a fault.
+    pub fn finish(self, alloc: Global, fault: bool) -> Result<EndedTurn, NoMemory>
+        ensures ends { IfOk result (λ ended. (seen : Seen) (one : BegunTurn) → IsBegun seen one self.entry → IsEnded seen fault one ended) }
+        ensures fit { IfOk result (λ ended. (axes : List Axis) → IsFitBegun axes self.entry → IsFitEnded axes ended) }
+    {
+        let weight = self.kind.weight();
+        let active = is_active(&self.out, weight, fault);
+        let (life, outcome) = self.started.finish(active, self.out.done);
+        let flags = flags_at(alloc, self.common, outcome)?;
+        Ok(EndedTurn {
+            kept: Behavior {
+                kind: self.kind,
+                life,
+            },
+            showing: Showing {
+                taken: self.taken,
+                out: self.out,
+                weight,
+                active,
+                outcome,
+                flags,
+            },
+        })
+    }
+}
+
+// Whether a behaviour with this weight is active: its step gave a function, its weight is above 0, and no behaviour raised
+// a fault.
+fn is_active(out: &Out, weight: u32, fault: bool) -> bool
+    ensures { result ≡ (is_some out.now.func && nat_lt 0 weight && not fault) }
+{
+    out.func.is_some() && weight > 0 && !fault
+}
+
+// The flags that an outcome raises, in order.
+fn flags_at(alloc: Global, common: &Common, outcome: Outcome) -> Result<Batch, NoMemory>
+    ensures { IfOk result (λ flags. flags ≡ flags_at common.now outcome) }
+{
+    let mut flags = Batch::new(alloc);
+    raise(alloc, outcome.inactive, &common.inactiveflags, &mut flags)?;
+    raise(alloc, outcome.idle, &common.idleflags, &mut flags)?;
+    raise(alloc, outcome.run, &common.runflags, &mut flags)?;
+    raise(alloc, outcome.active, &common.activeflags, &mut flags)?;
+    raise(alloc, outcome.ended, &common.endflags, &mut flags)?;
+    Ok(flags)
+}
+
+// Adds flags, where they are raised.
+fn raise(alloc: Global, is_raised: bool, pairs: &Batch, flags: &mut Batch) -> Result<(), NoMemory>
+    ensures { OnOk result (flags.new ≡ flags.old ++ raised is_raised pairs.now) }
+{
+    if is_raised {
+        add_pairs(alloc, flags, pairs.all())?;
+    }
+    Ok(())
+}

@@ -1,0 +1,188 @@
+// What the active behaviours decide together.
+ghost use Rattle.std.specs.Prelude.{◌≡◌, ◌<◌, ◌≤◌, ◌++◌, bytes_eq, length, position, IfOk, IfSome, IsTrue, OnOk};
+ghost use Rattle.std.specs.List.{All, filter_map};
+ghost use Rattle.std.specs.Option.{option_to_list};
+ghost use Rattle.ivp_domain.specs.Domains.{is_point};
+ghost use Rattle.helm_core.specs.Decisions.{IsFitTerm, active_term, best_decision, decision_made, number_on};
+ghost use Rattle.helm_core.specs.Helms.{allstop_text};
+ghost use Rattle.helm_core.specs.Posts.{desired, desired_speed};
+ghost use Rattle.helm_core.specs.Standings.{IsFit};
+
+use crate::allstop::{Allstop, some_active};
+use crate::posts::add_number;
+use crate::showing::Showing;
+use ivp_cert::{Claim, Decision, cut};
+use ivp_domain::{Axis, Domain, Point};
+use ivp_pool::solve;
+use ivp_problem::{Problem, Term, best_law, keys_law, sum_of};
+use moos_io::Gate;
+use moos_post::{Batch, NoMemory};
+use std::alloc::Global;
+use std::sync::Wait;
+use std::thread::Threads;
+
+// The decision, or None exactly where no behaviour is active.
+pub(crate) fn decision_made<R: Threads + Wait + Sync, G: Gate>(
+    rt: &R,
+    alloc: Global,
+    domain: Domain,
+    showings: Vec<Showing>,
+    workers: u32,
+    gate: &G,
+) -> Result<Option<Decision>, NoMemory>
+    requires some_worker { 1 ≤ workers }
+    requires few_workers { workers ≤ 16 }
+    requires few { length showings.items ≤ 64 }
+    requires fit { All (IsFit domain) showings.items }
+    ensures made { IfOk result (λ decision. decision ≡ decision_made domain showings.items) }
+    ensures point { IfOk result (λ decision. IfSome decision (λ made. IsTrue (is_point made.problem.axes made.claim.point))) }
+{
+    if !some_active(showings.as_slice()) {
+        return Ok(None);
+    }
+    let terms = active_terms(alloc, showings)?;
+    let decision = decide(rt, alloc, domain, terms, workers, gate)?;
+    Ok(Some(decision))
+}
+
+// The functions of the active behaviours with their weights, in file order.
+fn active_terms(alloc: Global, showings: Vec<Showing>) -> Result<Vec<Term>, NoMemory>
+    ensures { IfOk result (λ terms. terms.items ≡ filter_map active_term showings.items) }
+{
+    let mut terms = Vec::new(alloc);
+    for showing in showings {
+        add_term(&mut terms, showing)?;
+    }
+    Ok(terms)
+}
+
+fn add_term(terms: &mut Vec<Term>, showing: Showing) -> Result<(), NoMemory>
+    ensures { OnOk result (terms.new.items ≡ terms.old.items ++ option_to_list (active_term showing)) }
+{
+    let Showing {
+        active,
+        out,
+        weight,
+        ..
+    } = showing;
+    match out.func {
+        Some(func) if active => terms.push(Term { weight, func })?,
+        _ => {},
+    }
+    Ok(())
+}
+
+// The best point of the problem that these terms make, its sum and its certificate.
+fn decide<R: Threads + Wait + Sync, G: Gate>(
+    rt: &R,
+    alloc: Global,
+    domain: Domain,
+    terms: Vec<Term>,
+    workers: u32,
+    gate: &G,
+) -> Result<Decision, NoMemory>
+    requires some_worker { 1 ≤ workers }
+    requires few_workers { workers ≤ 16 }
+    requires some { 0 < length terms.items }
+    requires few { length terms.items ≤ 64 }
+    requires fit { All (IsFitTerm domain) terms.items }
+    ensures best { IfOk result (λ decision. decision ≡ best_decision (record { axes = domain; terms = terms.items })) }
+    ensures point { IfOk result (λ decision. IsTrue (is_point decision.problem.axes decision.claim.point)) }
+{
+    let problem = problem_of(domain, terms);
+    best_law(&problem);
+    keys_law(&problem);
+    let solved = solve(rt, alloc, &problem, workers, gate)?;
+    let cert = cut(alloc, &problem, solved.key)?;
+    let claim = Claim {
+        point: solved.point,
+        sum: sum_of(solved.key),
+    };
+    Ok(Decision {
+        problem,
+        claim,
+        cert,
+    })
+}
+
+// The problem that these terms make: none is refused.
+fn problem_of(domain: Domain, terms: Vec<Term>) -> Problem
+    requires some { 0 < length terms.items }
+    requires few { length terms.items ≤ 64 }
+    requires fit { All (IsFitTerm domain) terms.items }
+    ensures { result ≡ record { axes = domain; terms = terms.items } }
+{
+    match Problem::make(domain, terms) {
+        Ok(problem) => problem,
+        Err(_) => unreachable!(),
+    }
+}
+
+// Adds the decided number of an axis, where an active behaviour's function mentions it.
+pub(crate) fn add_desired(
+    alloc: Global,
+    posts: &mut Batch,
+    var: &[u8],
+    name: &[u8],
+    mentioned: bool,
+    decision: &Option<Decision>,
+) -> Result<(), NoMemory>
+    requires point { IfSome decision.now (λ made. IsTrue (is_point made.problem.axes made.claim.point)) }
+    ensures { OnOk result (posts.new ≡ posts.old ++ desired var.now name.now mentioned decision.now) }
+{
+    match decision {
+        Some(made) if mentioned => {
+            let domain = made.problem.domain();
+            add_number(
+                alloc,
+                posts,
+                var,
+                number_on(&domain, name, &made.claim.point),
+            )
+        },
+        _ => Ok(()),
+    }
+}
+
+// Adds the speed: 0 where the vehicle must stop, else the decided one where it is mentioned.
+pub(crate) fn add_speed(
+    alloc: Global,
+    posts: &mut Batch,
+    allstop: Allstop,
+    mentioned: bool,
+    decision: &Option<Decision>,
+) -> Result<(), NoMemory>
+    requires point { IfSome decision.now (λ made. IsTrue (is_point made.problem.axes made.claim.point)) }
+    ensures { OnOk result (posts.new ≡ posts.old ++ desired_speed (allstop_text allstop) mentioned decision.now) }
+{
+    match allstop {
+        Allstop::Clear => add_desired(
+            alloc,
+            posts,
+            b"DESIRED_SPEED",
+            b"speed",
+            mentioned,
+            decision,
+        ),
+        _ => add_number(alloc, posts, b"DESIRED_SPEED", 0),
+    }
+}
+
+// The number that a point has on the axis of this name, 0 where there is none.
+fn number_on(domain: &Domain, name: &[u8], point: &Point) -> i64
+    requires point { IsTrue (is_point domain.now point.now) }
+    ensures { result ≡ number_on domain.now name.now point.now }
+{
+    match axis_named(domain.all(), name) {
+        Some(place) => domain.value(place as u32, point.at[place]),
+        None => 0,
+    }
+}
+
+// The place of the axis of this name.
+fn axis_named(axes: &[Axis], name: &[u8]) -> Option<usize>
+    ensures place { result ≡ position (λ axis. bytes_eq axis.name name.now) axes.now }
+    ensures within { IfSome result (λ place. place < length axes.now) }
+{
+    axes.iter().position(|axis| axis.name.bytes() == name)
+}
