@@ -1,3 +1,4 @@
 mod Examples
 pub mod Scanned
 pub mod Walking
+pub mod Worded
