@@ -1,6 +1,9 @@
 -- Iterations worked by hand.
-use Rattle.std.proofs.Common.{◌≡◌, ℕ, ◌*◌, List, [], ◌∷◌, map, Some, None, refl}
+use Rattle.std.proofs.Common.{◌≡◌, ℕ, ◌*◌, List, [], ◌∷◌, map, Some, None, refl, arith}
 use Rattle.std.specs.Prelude.{Bool, true, false, pos, codes, Option}
+use Rattle.std.proofs.lemmas.Int.{ints}
+use Rattle.std.proofs.lemmas.List.Elements.{All-cons, All-nil}
+use Rattle.moos_post.specs.Entries.{IsPair}
 use Rattle.moos_post.specs.declared.registration.Reg.{Reg}
 use Rattle.moos_post.specs.declared.value.Pair.{Pair}
 use Rattle.moos_post.specs.declared.value.Value.TheVariants.{Text}
@@ -17,6 +20,7 @@ use Rattle.helm_core.specs.Ticks.{Tick, is_parked, stamp_of_last, tick_of}
 use Rattle.helm_core.specs.Moments.{moment_at}
 use Rattle.helm_core.specs.Posts.{helm_posts, number_pair, text_pair}
 use Rattle.helm_core.specs.Iterations.{iteration_at}
+use Rattle.helm_core.specs.WellFormed.{IsWellFormed}
 
 -- a letter of the client of number 0, that says this
 abbrev letter : Pair → Letter
@@ -272,3 +276,20 @@ wants_of_behaviors : wants_of (record plain { blocks = timer 1 (is (codes "MODE"
     ≡ reg (codes "MOOS_MANUAL_OVERRIDE") ∷ reg (codes "MOOS_MANUAL_OVERIDE") ∷ reg (codes "NAV_X") ∷ reg (codes "NAV_Y") ∷ reg (codes "NAV_DEPTH")
     ∷ reg (codes "DEPLOY") ∷ reg (codes "T_UP") ∷ []
 wants_of_behaviors = refl
+
+-- An iteration is well formed, but not where its mode stands on two lines or a variable has a blank.
+second_iteration : IsWellFormed (iteration_at moded run 1)
+second_iteration = record {
+  posts = (omega arith, All-cons IsPair (units (codes "DESIRED_SPEED") 0) [] (record { var = refl; value = (omega (arith, ints), omega (arith, ints)) }) (All-nil IsPair));
+  mode = refl;
+  axes = tt;
+}
+
+mode_on_two_lines : IsWellFormed (record (iteration_at moded run 1) { mode = codes "A\nB" }) → ⊥
+mode_on_two_lines is = let text : false ≡ true = is.mode in cc
+
+variable_with_a_blank : IsWellFormed (record (iteration_at moded run 1) { posts = deploy (codes "true") ∷ text_pair (codes "A B") (codes "x") ∷ [] }) → ⊥
+variable_with_a_blank is =
+    let pair : IsPair (text_pair (codes "A B") (codes "x")) = is.posts.1 1 (deploy (codes "true")) (omega arith) in
+    let name : false ≡ true = pair.var in
+    cc

@@ -10,3 +10,6 @@ pub mod Deciding
 pub mod Hearing
 pub mod Numbering
 pub mod Answering
+pub mod Bounded
+pub mod Pairing
+pub mod WellFormedPlans

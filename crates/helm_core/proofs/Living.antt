@@ -25,14 +25,14 @@ use Rattle.helm_core.specs.Ticks.{Seen, Tick, seen_at}
 use Rattle.helm_core.specs.Behaviors.{Judged, BhvSoFar, all_begun, beginning_at, begun_at, begun_by_step, behaviors_before, judged_at, judged_in, no_out, past_so_far, bhv_after, unstarted}
 use Rattle.helm_core.specs.Standings.{BeginsTurn, HasJudged, HasStepped, IsBegun, IsJudged, IsKept, Sees, letters_in, out_in, turns_in}
 
-abbrev block_of : BhvSoFar → Block
+abbrev pub block_of : BhvSoFar → Block
 block_of one = one.block
 
 step_block : (axes : List Axis) (seen : Seen) (one : BhvSoFar) (judged : Judged) (stepped : Bool) → (begun_by_step axes seen one judged stepped).standing.block ≡ one.block
 step_block axes seen one judged true = refl
 step_block axes seen one judged false = refl
 
-begun_block : (axes : List Axis) (seen : Seen) (one : BhvSoFar) → (begun_at axes seen one).standing.block ≡ one.block
+pub begun_block : (axes : List Axis) (seen : Seen) (one : BhvSoFar) → (begun_at axes seen one).standing.block ≡ one.block
 begun_block axes seen one = step_block axes seen one _ _
 
 blocks_first : (blocks : List Block) → map block_of (map unstarted blocks) ≡ blocks

@@ -8,3 +8,4 @@ pub mod Iterations
 pub mod Standings
 pub mod Helms
 pub mod Kept
+pub mod WellFormed

@@ -8,8 +8,9 @@
 // Read `iteration`, `allstop`, `outlook` for what is kept of the mails, `behavior` for what is kept of a behaviour, `judging`,
 // `stepping` and `begun` for its turn, `turned` and `crew` for the turns of all, `showing` and `telling` for what is said of
 // them, `decision` for what they decide, `posts` for what is posted, `wanted` for the variables that are registered for, and
-// `helm` last; `law` says that no iteration depends on a later mail. Of specs/ read `Plans`, `Ticks`, `Behaviors`, `Moments`,
-// `Decisions`, `Posts`, `Iterations`, `Standings` and `Helms`; `Kept` serves the files of the crate.
+// `helm` last; `law` says that no iteration depends on a later mail, and that what is said is well formed. Of specs/ read `Plans`,
+// `Ticks`, `Behaviors`, `Moments`, `Decisions`, `Posts`, `Iterations`, `WellFormed`, `Standings` and `Helms`; `Kept` serves the
+// files of the crate.
 #![tactic(auto)]
 
 mod allstop;
@@ -31,7 +32,7 @@ mod wanted;
 
 pub use helm::Helm;
 pub use iteration::{BhvError, Faults, Iteration, States, Update, Updates};
-pub use law::iterations_law;
+pub use law::{iterations_law, plan_law};
 
 #[cfg(test)]
 mod tests;
