@@ -12,7 +12,8 @@ use Rattle.moos_post.specs.declared.value.Post.{Post}
 use Rattle.moos_post.specs.declared.value.Value.TheVariants.{Num}
 use Rattle.moos_post.specs.Delivery.{Mailing, mailed_to, mailing}
 use Rattle.moos_post.specs.History.{History}
-use Rattle.moos_mail.specs.Mailboxes.{MailboxState, in_rising_order, is_one_of, IsPlaceOf, with_number}
+use Rattle.moos_mail.specs.declared.stretches.Stretch.{Stretch}
+use Rattle.moos_mail.specs.Mailboxes.{MailboxState, AreStretches, in_rising_order, is_one_of, IsPlaceAmong, numbers_of_all, with_number}
 use Rattle.moos_mail.specs.Registrations.{MadeReg, made_at, live_before, came_through, is_to_mail, is_mailed_at, IsLive, regs_of}
 use Rattle.moos_mail.specs.Sentences.{given_at, mailed_between, posts_before, since, AreOnceEach, IsBefore, IsMadeBy}
 
@@ -123,20 +124,33 @@ in_box = refl
 put_in_order : (with_number 2 (1 ∷ 3 ∷ []) ≡ 1 ∷ 2 ∷ 3 ∷ []) × (in_rising_order (3 ∷ 1 ∷ 2 ∷ []) ≡ box.mailed)
 put_in_order = (refl, refl)
 
-its_place : IsPlaceOf 2 (1 ∷ 3 ∷ []) 1
+-- 1 to 3, and 6
+abbrev some_stretches : List Stretch
+some_stretches = record { first = 1; last = 3 } ∷ record { first = 6; last = 6 } ∷ []
+
+numbers_are : numbers_of_all some_stretches ≡ 1 ∷ 2 ∷ 3 ∷ 6 ∷ []
+numbers_are = refl
+
+are_stretches : AreStretches 1 some_stretches
+are_stretches = (omega arith, omega arith, (omega arith, omega arith, tt))
+
+not_from_two : AreStretches 2 some_stretches → ⊥
+not_from_two are = let from : 2 ≤ 1 = are.0 in omega arith
+
+its_place : IsPlaceAmong 4 some_stretches 1
 its_place = record { within = omega arith; below = below; from = from }
   where
-    below : (k d : ℕ) → k < 1 → get_or (1 ∷ 3 ∷ []) k d < 2
+    below : (k : ℕ) (d : Stretch) → k < 1 → (get_or some_stretches k d).last < 4
     below zero d first = omega arith
     below (suc k) d first = absurd (omega arith)
 
-    from : (k d : ℕ) → 1 ≤ k → k < 2 → 2 ≤ get_or (1 ∷ 3 ∷ []) k d
+    from : (k : ℕ) (d : Stretch) → 1 ≤ k → k < 2 → 4 ≤ (get_or some_stretches k d).last
     from zero d behind inside = absurd (omega arith)
     from (suc zero) d behind inside = omega arith
     from (suc (suc k)) d behind inside = absurd (omega arith)
 
-no_place : IsPlaceOf 2 (1 ∷ 3 ∷ []) 0 → ⊥
-no_place place = let behind : 2 ≤ 1 = place.from 0 0 (omega arith) (omega arith) in omega arith
+no_place : IsPlaceAmong 4 some_stretches 0 → ⊥
+no_place place = let behind : 4 ≤ 3 = place.from 0 (record { first = 1; last = 3 }) (omega arith) (omega arith) in omega arith
 
 -- Live registrations: the second place of an entry ends the first, a later entry ends one of another, and a client's own
 -- entries alone end its registrations.

@@ -1,3 +1,4 @@
+pub mod Among
 pub mod Appending
 pub mod Catching
 pub mod Coming

@@ -1,8 +1,8 @@
 ghost use Rattle.std.specs.Prelude.{◌≡◌, ◌≤◌, ◌+◌, ◌++◌, ◌∷◌, [], false, OnOk, OnErr};
-ghost use Rattle.std.specs.List.Sorted.{IsNonDecreasingBy};
-ghost use Rattle.moos_mail.specs.Mailboxes.{is_one_of, with_number, IsPlaceOf};
+ghost use Rattle.moos_mail.specs.Mailboxes.{is_one_of, with_number};
 
 use crate::Numbers;
+use crate::stretches::{Stretch, add_number, has_number};
 use moos_post::NoMemory;
 use std::alloc::Global;
 use std::marker::Model;
@@ -14,32 +14,23 @@ use std::mem;
 /// order, and the spare room: how many more can be mailed without memory.
 #[derive(Drop)]
 pub struct Mailbox {
-    mailed: Vec<u64>,
+    mailed: Vec<Stretch>,
     waiting: Vec<u64>,
 }
 
 impl Model for Mailbox {
     ghost use Rattle.std.specs.Prelude.{◌-◌, min, vec_len, vec_capacity};
-    ghost use Rattle.std.specs.List.Sorted.{IsNonDecreasingBy};
-    ghost use Rattle.moos_mail.specs.Mailboxes.{MailboxState};
+    ghost use Rattle.moos_mail.specs.Mailboxes.{AreStretches, MailboxState, numbers_of_all};
 
     ghost Value = { MailboxState };
 
     ghost view = { λ mailbox. record {
       waiting = mailbox.waiting.items;
-      mailed = mailbox.mailed.items;
+      mailed = numbers_of_all mailbox.mailed.items;
       spare = min (vec_capacity mailbox.mailed - vec_len mailbox.mailed) (vec_capacity mailbox.waiting - vec_len mailbox.waiting);
     } };
 
-    ghost invariant = { λ mailbox. IsNonDecreasingBy (λ number. number) mailbox.mailed.items };
-}
-
-// Where the number stands among these, which rise, or would.
-fn place_of(numbers: &[u64], number: u64) -> usize
-    requires { IsNonDecreasingBy (λ one. one) numbers.now }
-    ensures { IsPlaceOf number numbers.now result }
-{
-    numbers.partition_point(|one| *one < number)
+    ghost invariant = { λ mailbox. AreStretches 0 mailbox.mailed.items };
 }
 
 impl Mailbox {
@@ -76,8 +67,7 @@ impl Mailbox {
         ensures mailed { self.new.mailed ≡ with_number number self.old.mailed }
         ensures spare { self.old.spare ≤ self.new.spare + 1 }
     {
-        let place = place_of(self.mailed.as_slice(), number);
-        let _ = self.mailed.insert(place, number);
+        add_number(&mut self.mailed, number);
         let _ = self.waiting.push(number);
     }
 
@@ -85,8 +75,7 @@ impl Mailbox {
     pub fn mailed(&self, number: u64) -> bool
         ensures { result ≡ is_one_of number self.now.mailed }
     {
-        let place = place_of(self.mailed.as_slice(), number);
-        place < self.mailed.len() && self.mailed[place] == number
+        has_number(self.mailed.as_slice(), number)
     }
 
     /// The numbers that wait for the next fetch. It takes no memory.
