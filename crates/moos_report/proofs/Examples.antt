@@ -1,5 +1,5 @@
 -- Reports worked by hand.
-use Rattle.std.proofs.Common.{◌≡◌, ℕ, zero, suc, ◌<◌, Bool, true, false, List, [], ◌∷◌, refl, ap, arith, Some, None, flat_map}
+use Rattle.std.proofs.Common.{◌≡◌, ℕ, zero, suc, ◌<◌, Bool, true, false, List, [], ◌∷◌, refl, ap, arith, Some, None, flat_map, take, drop}
 use Rattle.std.specs.Prelude.{codes, pos, negsuc, IsTrue, None, slice_index, slice_index_or, IfSome}
 use Rattle.std.specs.List.{All}
 use Rattle.std.proofs.lemmas.List.Elements.{All-cons, All-nil}
@@ -22,6 +22,7 @@ use Rattle.helm_core.specs.declared.iteration.Iteration.{Iteration}
 use Rattle.moos_report.specs.declared.setup.Setup.{Setup}
 use Rattle.moos_report.specs.Community.{HaveOwnNames, IsCommunity, is_one_line, StandOnLines}
 use Rattle.moos_report.specs.IterationLines.{error_text, iteration_text, outcome_text, states_text}
+use Rattle.moos_report.specs.Parts.{HaveTheirs, ToldPart}
 use Rattle.moos_report.specs.Report.{report_text, unused_text}
 
 -- modes are declared, or not
@@ -90,6 +91,23 @@ helm_report : report_text with_modes vehicle ticks (in_mode 0 false (codes "ACTI
 unfolding digits
 helm_report = refl
 
+-- a history that is cut within a tick: the iteration is told where its Post entry stands, and not where its Fetch entry does
+abbrev part_of : List Entry → List Iteration → ToldPart
+part_of entries iterations = record { entries = entries; iterations = iterations }
+
+abbrev active : ℕ → Iteration
+active stamp = in_mode stamp false (codes "ACTIVE")
+
+cut_in_tick : HaveTheirs vehicle [] 0 (part_of (take 3 ticks) [] ∷ part_of (drop 3 ticks) (active 0 ∷ active 250 ∷ []) ∷ [])
+cut_in_tick =
+    ((no, (no, (no, tt))), (((λ post some. (omega arith, omega arith)), (no, ((λ post some. (omega arith, omega arith)), tt))), tt))
+  where
+    no : {P : Type 0} → false ≡ true → P
+    no e = absurd (false≢true e)
+
+told_too_early : HaveTheirs vehicle [] 0 (part_of (take 3 ticks) (active 0 ∷ []) ∷ part_of (drop 3 ticks) (active 250 ∷ []) ∷ []) → ⊥
+told_too_early theirs = omega (arith, (theirs.1.0.0 refl (omega arith)).0)
+
 -- what follows an entry: what the helm posts before its first fetch is part of no iteration, and each fetch begins the next
 abbrev helm_posts_now : Entry
 helm_posts_now = record { stamp = 0; client = 1; call = Posts [] }
@@ -98,7 +116,7 @@ abbrev fetched : ℕ → Entry
 fetched client = record { stamp = 0; client = client; call = Fetch }
 
 abbrev follows : Setup → List Entry → Entry → List ℕ
-follows setup past entry = outcome_text setup (in_mode 0 true [] ∷ in_mode 500 false (codes "A:B") ∷ []) vehicle past entry
+follows setup past entry = outcome_text setup 0 (in_mode 0 true [] ∷ in_mode 500 false (codes "A:B") ∷ []) vehicle past entry
 
 opening_is_no_iteration : follows with_modes (helm_posts_now ∷ fetched 0 ∷ []) helm_posts_now ≡ []
 opening_is_no_iteration = refl

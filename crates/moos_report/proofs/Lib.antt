@@ -1,3 +1,4 @@
+pub mod AddingUp
 pub mod Cuts
 pub mod Escapes
 pub mod Examples

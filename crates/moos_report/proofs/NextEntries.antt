@@ -145,7 +145,7 @@ iteration_passed setup number iteration clean lines =
 
 -- what holds of nothing, and of each iteration, holds of what follows an entry
 outcome_by : (P : List ℕ → Type 0) (setup : Setup) (iterations : List Iteration) (names : List (List ℕ)) (past : History) (entry : Entry) → StandOnLines setup iterations → P []
-    → ((number : ℕ) (iteration : Iteration) → HasLines iteration → P (iteration_text setup number iteration)) → P (outcome_text setup iterations names past entry)
+    → ((number : ℕ) (iteration : Iteration) → HasLines iteration → P (iteration_text setup number iteration)) → P (outcome_text setup 0 iterations names past entry)
 outcome_by P setup iterations names past entry lines none some = by (is_helm_post names entry) (helm_fetches names past)
   where
     listed : (number : ℕ) (found : Option Iteration) → slice_get iterations number ≡ found → P (listed_text setup number found)
@@ -155,14 +155,14 @@ outcome_by P setup iterations names past entry lines none some = by (is_helm_pos
         let has : HasLines (get_or iterations number iteration) = record { mode = lines.modes number iteration within; axes = lines.axes number iteration within } in
         some number iteration (subst HasLines (get_or_from_slice_get iterations number iteration iteration at) has)
 
-    by : (posts : Bool) (fetches : ℕ) → P (if posts then current_text setup iterations fetches else [])
+    by : (posts : Bool) (fetches : ℕ) → P (if posts then current_text setup 0 iterations fetches else [])
     by false fetches = none
     by true zero = none
     by true (suc number) = listed number (slice_get iterations number) refl
 
 -- what follows an entry is passed over
 pub outcome_skipped : (setup : Setup) (iterations : List Iteration) (names : List (List ℕ)) (past : History) (entry : Entry) → StandOnLines setup iterations
-    → IsPassed (outcome_text setup iterations names past entry)
+    → IsPassed (outcome_text setup 0 iterations names past entry)
 outcome_skipped setup iterations names past entry lines =
     outcome_by IsPassed setup iterations names past entry lines passed_none
     (λ number iteration has. iteration_passed setup number iteration (names_clean setup.behaviors lines.behaviors) has)
@@ -181,7 +181,7 @@ next_differs letter text other next same = other (sym next.letter ∙ same)
 
 -- what follows an entry is no registration
 pub outcome_differs : (setup : Setup) (iterations : List Iteration) (names : List (List ℕ)) (past : History) (entry : Entry) (after : List ℕ) → StandOnLines setup iterations → IsNext after
-    → Differs 114 (outcome_text setup iterations names past entry ++ after)
+    → Differs 114 (outcome_text setup 0 iterations names past entry ++ after)
 outcome_differs setup iterations names past entry after lines next =
     outcome_by (λ text. Differs 114 (text ++ after)) setup iterations names past entry lines (next_differs 114 after (λ same. absurd (omega (arith, same))) next)
     (λ number iteration has same. absurd (omega (arith, same)))

@@ -69,7 +69,7 @@ abbrev Ends : List ℕ → Type 0
 Ends text = (rest : List ℕ) × (text ≡ codes "%% end " ++ rest)
 
 -- entries and the end are what is found
-entries_next : (setup : Setup) (iterations : List Iteration) (names : List (List ℕ)) (past history : History) (end : List ℕ) → Ends end → IsNext (entries_text setup iterations names past history ++ end)
+entries_next : (setup : Setup) (iterations : List Iteration) (names : List (List ℕ)) (past history : History) (end : List ℕ) → Ends end → IsNext (entries_text setup 0 iterations names past history ++ end)
 entries_next setup iterations names past [] end ends = record {
   letter = ap (λ text. get_or text 3 0) ends.1;
   found = ap (next_entry true) ends.1 ∙ sym ends.1;
@@ -78,15 +78,15 @@ entries_next setup iterations names past (entry ∷ later) end ends = record { l
 
 entries_cut : (setup setup' : Setup) (iterations iterations' : List Iteration) (names : List (List ℕ)) (past one other : History) (end end' : List ℕ) → All Named names → HaveOwnNames names
     → All IsEntry one → All IsEntry other → HaveClients (length names) one → HaveClients (length names) other → StandOnLines setup iterations → StandOnLines setup' iterations' → Ends end → Ends end'
-    → entries_text setup iterations names past one ++ end ≡ entries_text setup' iterations' names past other ++ end' → one ≡ other
+    → entries_text setup 0 iterations names past one ++ end ≡ entries_text setup' 0 iterations' names past other ++ end' → one ≡ other
 entries_cut setup setup' iterations iterations' names past [] [] end end' named own h k within within' lines lines' f g e = refl
 entries_cut setup setup' iterations iterations' names past [] (y ∷ other) end end' named own h k within within' lines lines' f g e = absurd (omega (arith, ap (λ l. get_or l 5 0) (sym f.1 ∙ e)))
 entries_cut setup setup' iterations iterations' names past (x ∷ one) [] end end' named own h k within within' lines lines' f g e = absurd (omega (arith, ap (λ l. get_or l 5 0) (e ∙ g.1)))
 entries_cut setup setup' iterations iterations' names past (x ∷ one) (y ∷ other) end end' named own h k within within' lines lines' f g e =
-    let outcome = outcome_text setup iterations names past x in
-    let outcome' = outcome_text setup' iterations' names past y in
-    let left = entries_text setup iterations names (past ++ x ∷ []) one in
-    let left' = entries_text setup' iterations' names (past ++ y ∷ []) other in
+    let outcome = outcome_text setup 0 iterations names past x in
+    let outcome' = outcome_text setup' 0 iterations' names past y in
+    let left = entries_text setup 0 iterations names (past ++ x ∷ []) one in
+    let left' = entries_text setup' 0 iterations' names (past ++ y ∷ []) other in
     let next = entries_next setup iterations names (past ++ x ∷ []) one end f in
     let next' = entries_next setup' iterations' names (past ++ y ∷ []) other end' g in
     let first = entry_cut names past x y (outcome ++ (left ++ end)) (outcome' ++ (left' ++ end')) named own (All-head IsEntry x one h) (All-head IsEntry y other k)
@@ -98,7 +98,7 @@ entries_cut setup setup' iterations iterations' names past (x ∷ one) (y ∷ ot
     ∙ outcome_skipped setup' iterations' names past y lines' (left' ++ end') ∙ next'.found in
     let rest = entries_cut setup setup' iterations iterations' names (past ++ x ∷ []) one other end end' named own (All-tail IsEntry x one h) (All-tail IsEntry y other k)
     (All-tail (λ entry. entry.client < length names) x one within) (All-tail (λ entry. entry.client < length names) y other within') lines lines' f g
-    (behind ∙ (λ i. entries_text setup' iterations' names (past ++ sym first.0 i ∷ []) other ++ end')) in
+    (behind ∙ (λ i. entries_text setup' 0 iterations' names (past ++ sym first.0 i ∷ []) other ++ end')) in
     λ i. first.0 i ∷ rest i
   where
     parted : (entry outcome left end : List ℕ) → (entry ++ (outcome ++ left)) ++ end ≡ entry ++ (outcome ++ (left ++ end))
@@ -124,17 +124,22 @@ clients_cut number (x ∷ one) (y ∷ other) after later h k f g e =
 end_is : (history : History) → Ends (end_text history)
 end_is history = (_, refl)
 
+-- the lines at the head of a report, one behind the other
+head_open : (clients unused after : List ℕ) → (codes "%% moosdb play 1\n" ++ (clients ++ unused)) ++ after ≡ codes "%% moosdb play 1\n" ++ (clients ++ (unused ++ after))
+head_open clients unused after = append_assoc (codes "%% moosdb play 1\n") (clients ++ unused) after ∙ ap (λ text. codes "%% moosdb play 1\n" ++ text) (append_assoc clients unused after)
+
 -- clients and histories of which one report is printed
 pub report_same : ReportsTell
 report_same setup setup' names others history other iterations iterations' h k lines lines' e =
-    let entries : List (List ℕ) → List ℕ = λ names. entries_text setup' iterations' names [] other ++ end_text other in
-    let entries' = entries_text setup iterations names [] history ++ end_text history in
+    let entries : List (List ℕ) → List ℕ = λ names. entries_text setup' 0 iterations' names [] other ++ end_text other in
+    let entries' = entries_text setup 0 iterations names [] history ++ end_text history in
     let unused = flat_map unused_text setup'.unused in
     let unused' = flat_map unused_text setup.unused in
     let next = entries_next setup' iterations' others [] other (end_text other) (end_is other) in
     let next' = entries_next setup iterations names [] history (end_text history) (end_is history) in
     let clients = clients_cut 0 others names (unused ++ entries others) (unused' ++ entries') k.named h.named
-    (unused_differs setup'.unused (entries others) next) (unused_differs setup.unused entries' next') (append_cancel_left (codes "%% moosdb play 1\n") _ _ e) in
+    (unused_differs setup'.unused (entries others) next) (unused_differs setup.unused entries' next')
+    (append_cancel_left (codes "%% moosdb play 1\n") _ _ (sym (head_open (clients_text 0 others) unused (entries others)) ∙ e ∙ head_open (clients_text 0 names) unused' entries')) in
     let behind : entries others ≡ entries' =
     sym next.found ∙ sym (unused_skipped setup' iterations' lines' (entries others)) ∙ ap (next_entry true) clients.1
     ∙ unused_skipped setup iterations lines entries' ∙ next'.found in (

@@ -1,5 +1,5 @@
 -- Lemmas on the parts of a report.
-use Rattle.std.proofs.Common.{◌≡◌, ℕ, zero, suc, ◌+◌, ◌-◌, ◌<◌, ◌≤◌, cond, Some, None, List, [], ◌∷◌, ◌++◌, map, flat_map, length, take, drop, get_or, refl, ap, sym, ◌∙◌, arith, add-one, codes, decimal, length-take, length-take-le}
+use Rattle.std.proofs.Common.{◌≡◌, ℕ, zero, suc, ◌+◌, ◌-◌, ◌<◌, ◌≤◌, cond, Some, None, List, [], ◌∷◌, ◌++◌, map, flat_map, length, take, drop, get_or, refl, ap, sym, ◌∙◌, arith, add-one, codes, decimal, length-take, length-take-le, append-nil, Option}
 use Rattle.std.specs.Prelude.{slice_get, option_map, if◌then◌else◌}
 use Rattle.std.specs.List.{concat, filter}
 use Rattle.std.proofs.Math.Seq.{drop-cons, take-suc}
@@ -7,6 +7,9 @@ use Rattle.std.proofs.lemmas.List.{drop_all}
 use Rattle.std.proofs.lemmas.List.Filters.{length-filter_more}
 use Rattle.std.proofs.lemmas.List.Sums.{count_by-le-length, length-filter}
 use Rattle.std.proofs.lemmas.Option.{get_or_from_slice_get, slice_get_past, slice_get_within}
+use Rattle.moos_io.specs.Faults.{Rose}
+use Rattle.moos_io.specs.Pieces.{Took, TookFront}
+use Rattle.moos_io.specs.Writing.{Went, Stopped, way}
 use Rattle.moos_post.specs.declared.entry.Call.TheVariants.{Post as Posts, Fetch}
 use Rattle.moos_post.specs.declared.entry.Entry.{Entry}
 use Rattle.moos_post.specs.declared.value.Pair.{Pair}
@@ -19,7 +22,7 @@ use Rattle.moos_db.proofs.Growth.{posts-front}
 use Rattle.bhv_life.specs.declared.outcome.BhvState.{BhvState}
 use Rattle.helm_core.specs.declared.iteration.Iteration.{Iteration}
 use Rattle.moos_report.specs.declared.setup.Setup.{Setup}
-use Rattle.moos_report.specs.IterationLines.{behavior_text, current_text, helm_fetches, is_helm_fetch, listed_text, outcome_text, states_text}
+use Rattle.moos_report.specs.IterationLines.{behavior_text, current_text, helm_fetches, is_helm_fetch, iteration_from, listed_text, outcome_text, states_text}
 use Rattle.moos_report.specs.Report.{client_text, clients_text, entry_text, entries_text, said_text, post_text, letter_text, letters_text, call_text}
 
 -- the first elements stand in the front where they stand in the list
@@ -37,11 +40,11 @@ clients_due names number {name = name} at =
     rw (drop-cons names number name within, get_or_from_slice_get names number name name at, add-one) refl
 
 -- the entry that is due, and what follows it
-pub entries_due : (setup : Setup) (iterations : List Iteration) (names : List (List ℕ)) (history : History) (k : ℕ) {entry : Entry} → slice_get history k ≡ Some entry
-    → entries_text setup iterations names (take k history) (drop k history)
+pub entries_due : (setup : Setup) (first : ℕ) (iterations : List Iteration) (names : List (List ℕ)) (history : History) (k : ℕ) {entry : Entry} → slice_get history k ≡ Some entry
+    → entries_text setup first iterations names (take k history) (drop k history)
     ≡ entry_text names (take k history) entry
-    ++ (outcome_text setup iterations names (take k history) entry ++ entries_text setup iterations names (take (k + 1) history) (drop (k + 1) history))
-entries_due setup iterations names history k {entry = entry} at =
+    ++ (outcome_text setup first iterations names (take k history) entry ++ entries_text setup first iterations names (take (k + 1) history) (drop (k + 1) history))
+entries_due setup first iterations names history k {entry = entry} at =
     let within = slice_get_within history k entry at in
     rw (drop-cons history k entry within, add-one, take-suc history k entry within, get_or_from_slice_get history k entry entry at) refl
 
@@ -54,11 +57,29 @@ fetches_more names history k {entry = entry} at =
     ∙ ap (λ it. length (filter (is_helm_fetch names) (take k history)) + cond (is_helm_fetch names it) 1 0) (get_or_from_slice_get history k entry entry at)
     ∙ ap (λ fetches. fetches + (if is_helm_fetch names entry then 1 else 0)) (length-filter (is_helm_fetch names) (take k history))
 
+-- an iteration before the first of a list, and one from there on
+iteration_before : (first number : ℕ) (iterations : List Iteration) → number < first → iteration_from first iterations number ≡ None
+iteration_before zero number iterations before = absurd (omega (arith, before))
+iteration_before (suc first) zero iterations before = refl
+iteration_before (suc first) (suc number) iterations before = iteration_before first number iterations (omega (arith, before))
+
+pub iteration_behind : (first number : ℕ) (iterations : List Iteration) → first ≤ number → iteration_from first iterations number ≡ slice_get iterations (number - first)
+iteration_behind zero number iterations from = let e : number - 0 ≡ number = omega arith in rw e refl
+iteration_behind (suc first) zero iterations from = absurd (omega (arith, from))
+iteration_behind (suc first) (suc number) iterations from =
+    let e : suc number - suc first ≡ number - first = omega arith in rw e (iteration_behind first number iterations (omega (arith, from)))
+
+-- no iteration of a list follows where the helm hasn't fetched so often that its first one has begun
+pub current_none : (setup : Setup) (first : ℕ) (iterations : List Iteration) (fetches : ℕ) → fetches ≤ first → current_text setup first iterations fetches ≡ []
+current_none setup first iterations zero before = refl
+current_none setup first iterations (suc number) before = rw (iteration_before first number iterations (omega (arith, before))) refl
+
 -- the iteration behind a fetch
-pub current_is : (setup : Setup) (iterations : List Iteration) (fetches : ℕ) → (fetches ≡ 0 → ⊥)
-    → current_text setup iterations fetches ≡ listed_text setup (fetches - 1) (slice_get iterations (fetches - 1))
-current_is setup iterations zero some = absurd (some refl)
-current_is setup iterations (suc number) some = let e : suc number - 1 ≡ number = omega arith in rw e refl
+pub current_is : (setup : Setup) (first : ℕ) (iterations : List Iteration) (fetches : ℕ) → first < fetches
+    → current_text setup first iterations fetches ≡ listed_text setup (fetches - 1) (slice_get iterations (fetches - 1 - first))
+current_is setup first iterations zero some = absurd (omega (arith, some))
+current_is setup first iterations (suc number) some =
+    let e : suc number - 1 ≡ number = omega arith in rw (e, iteration_behind first number iterations (omega (arith, some))) refl
 
 -- it fetches in some of the entries at most
 pub fetches_few : (names : List (List ℕ)) (history : History) (k : ℕ) → helm_fetches names (take k history) ≤ k
@@ -128,3 +149,11 @@ no_states (name ∷ names) = refl
 
 pub states_end : (names : List (List ℕ)) (states : List BhvState) (number : ℕ) → length states ≤ number → states_text (drop number names) (drop number states) ≡ []
 states_end names states number past = rw (drop_all number states past) (no_states (drop number names))
+
+-- a text that a sink took whole, without a buffer that held anything before or after
+pub went_whole : {before now : Option (List ℕ)} {faults after : ℕ} {text : List ℕ} → Took before now text → faults ≤ after → Went (way before [] faults) (way now [] after) text
+went_whole {text = text} took later = record { piece = text; took = took; rest = append-nil text; later = later }
+
+pub stopped_whole : {before now : Option (List ℕ)} {faults after : ℕ} {text : List ℕ} → TookFront before now text → faults ≤ after → Rose faults after
+    → Stopped (way before [] faults) (way now [] after) text
+stopped_whole front later rose = record { front = front; later = later; rose = rose }

@@ -111,13 +111,19 @@ abbrev pub listed_text : Setup → ℕ → Option Iteration → List ℕ
 listed_text setup number None = []
 listed_text setup number (Some iteration) = iteration_text setup number iteration
 
--- The iteration that the helm is in after so many fetches: with its first fetch iteration 0 begins, and what it posts before
--- is part of none.
-abbrev pub current_text : Setup → List Iteration → ℕ → List ℕ
-current_text setup iterations zero = []
-current_text setup iterations (suc number) = listed_text setup number (slice_get iterations number)
+-- the iteration of this number, where `first` is the number of the first one in the list
+abbrev pub iteration_from : ℕ → List Iteration → ℕ → Option Iteration
+iteration_from zero iterations number = slice_get iterations number
+iteration_from (suc first) iterations zero = None
+iteration_from (suc first) iterations (suc number) = iteration_from first iterations number
+
+-- The iteration that the helm is in after so many fetches, where the list begins with that of number `first`: with its first
+-- fetch iteration 0 begins, and what it posts before is part of none.
+abbrev pub current_text : Setup → ℕ → List Iteration → ℕ → List ℕ
+current_text setup first iterations zero = []
+current_text setup first iterations (suc number) = listed_text setup number (iteration_from first iterations number)
 
 -- What follows an entry, where `past` stands before it: behind what the helm posts the iteration that it is in.
-abbrev pub outcome_text : Setup → List Iteration → List (List ℕ) → History → Entry → List ℕ
-outcome_text setup iterations names past entry =
-    if is_helm_post names entry then current_text setup iterations (helm_fetches names past) else []
+abbrev pub outcome_text : Setup → ℕ → List Iteration → List (List ℕ) → History → Entry → List ℕ
+outcome_text setup first iterations names past entry =
+    if is_helm_post names entry then current_text setup first iterations (helm_fetches names past) else []

@@ -1,3 +1,4 @@
 pub mod Community
 pub mod IterationLines
+pub mod Parts
 pub mod Report

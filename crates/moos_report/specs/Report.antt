@@ -68,11 +68,12 @@ entry_text names past entry =
     concat (codes "%% entry " ∷ decimal (length past) ∷ codes " " ∷ unsigned_text entry.stamp ∷ codes " " ∷ name_of names entry.client ∷ [])
     ++ call_text names past entry entry.call
 
--- these entries, where `past` stands before them, each with what follows it
-abbrev pub entries_text : Setup → List Iteration → List (List ℕ) → History → History → List ℕ
-entries_text setup iterations names past [] = []
-entries_text setup iterations names past (entry ∷ later) =
-    entry_text names past entry ++ (outcome_text setup iterations names past entry ++ entries_text setup iterations names (past ++ entry ∷ []) later)
+-- these entries, where `past` stands before them, each with what follows it; the iterations are those from number `first` on
+abbrev pub entries_text : Setup → ℕ → List Iteration → List (List ℕ) → History → History → List ℕ
+entries_text setup first iterations names past [] = []
+entries_text setup first iterations names past (entry ∷ later) =
+    entry_text names past entry
+    ++ (outcome_text setup first iterations names past entry ++ entries_text setup first iterations names (past ++ entry ∷ []) later)
 
 -- the line of a client: its number and its name
 abbrev pub client_text : ℕ → List ℕ → List ℕ
@@ -91,11 +92,13 @@ unused_text unused = concat (codes "%% unused " ∷ decimal unused.line ∷ code
 abbrev pub end_text : History → List ℕ
 end_text history = concat (codes "%% end " ∷ decimal (length history) ∷ codes " " ∷ decimal (length (posts_of history)) ∷ codes "\n" ∷ [])
 
+-- how a report begins: its clients, and what the behaviour file has that isn't used
+abbrev pub head_text : Setup → List (List ℕ) → List ℕ
+head_text setup names = codes "%% moosdb play 1\n" ++ (clients_text 0 names ++ flat_map unused_text setup.unused)
+
 -- What is printed of a history, its clients, what the behaviour file has that isn't used, and the helm's iterations.
 abbrev pub report_text : Setup → List (List ℕ) → History → List Iteration → List ℕ
-report_text setup names history iterations =
-    codes "%% moosdb play 1\n"
-    ++ (clients_text 0 names ++ (flat_map unused_text setup.unused ++ (entries_text setup iterations names [] history ++ end_text history)))
+report_text setup names history iterations = head_text setup names ++ (entries_text setup 0 iterations names [] history ++ end_text history)
 
 -- Communities of which one report is printed have the same clients and the same history, whatever the iterations that are
 -- printed with them, and whatever setups.

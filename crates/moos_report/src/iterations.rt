@@ -14,10 +14,11 @@ use moos_io::{Buffer, Failed, Sink};
 use moos_post::{Call, Entry};
 use moos_text::print_seconds;
 
-// What follows an entry, before which the helm has fetched so often.
+// What follows an entry, before which the helm has fetched so often. The iterations begin with the number `first`.
 pub(super) fn put_outcome<K: Sink>(
     setup: &Setup,
     db: &Db,
+    first: u64,
     iterations: &[Iteration],
     entry: &Entry,
     fetches: u64,
@@ -25,12 +26,12 @@ pub(super) fn put_outcome<K: Sink>(
     out: &mut K,
 ) -> Result<(), Failed>
     ensures { Wrote (way (K.taken out.old) buffer.old (K.faults out.old)) (way (K.taken out.new) buffer.new (K.faults out.new))
-        result (if is_helm_post db.now.names entry.now then current_text setup.now iterations.now fetches else []) }
+        result (if is_helm_post db.now.names entry.now then current_text setup.now first iterations.now fetches else []) }
 {
     if !is_helm_post(db, entry) {
         return Ok(());
     }
-    put_current(setup, iterations, fetches, buffer, out)
+    put_current(setup, first, iterations, fetches, buffer, out)
 }
 
 // How often the helm has fetched once this entry is there too.
@@ -57,22 +58,23 @@ fn is_helm(db: &Db, client: u32) -> bool
     name_of(db, client) == b"pHelmIvP".as_slice()
 }
 
-// The iteration that the helm is in after so many fetches.
+// The iteration that the helm is in after so many fetches, if it is among these, which begin with the number `first`.
 fn put_current<K: Sink>(
     setup: &Setup,
+    first: u64,
     iterations: &[Iteration],
     fetches: u64,
     buffer: &mut Buffer,
     out: &mut K,
 ) -> Result<(), Failed>
     ensures { Wrote (way (K.taken out.old) buffer.old (K.faults out.old)) (way (K.taken out.new) buffer.new (K.faults out.new))
-        result (current_text setup.now iterations.now fetches) }
+        result (current_text setup.now first iterations.now fetches) }
 {
-    if fetches == 0 {
+    if fetches <= first {
         return Ok(());
     }
     let number = fetches - 1;
-    match iterations.get(number as usize) {
+    match iterations.get((number - first) as usize) {
         Some(iteration) => put_iteration(setup, number, iteration, buffer, out),
         None => Ok(()),
     }

@@ -1,34 +1,37 @@
 // The report of a database's history: what is printed of its clients, of each entry, of what each fetch gave, and of each
 // iteration of the helm.
 //
-// The contract for the layers above: the report goes to a sink whole, or a front of it where the sink fails, and then the
-// sink's faults rose. No memory is taken: the text is gathered in a buffer on the stack, and what is full goes on.
+// The contract for the layers above: the report, or a part of one, goes to a sink whole, or a front of it where the sink
+// fails, and then the sink's faults rose. No memory is taken: the text is gathered in a buffer on the stack, and what is full
+// goes on.
 //
 // Reading order: `specs/Report` and `specs/IterationLines` say what each line is; here are the entries and their parts, in
 // `iterations` what follows an entry of the helm, in `behaviors` what an iteration tells of its behaviours, in `lines` the
-// lines. `law` says that a report tells its history.
+// lines; `parts` has the report at once, and piece by piece while its history grows. `law` says that a report tells its
+// history, and that the parts of one together are the report.
 #![tactic(auto)]
 
-ghost use Rattle.std.specs.Prelude.{◌≡◌, ◌+◌, ◌<◌, ◌≤◌, ◌++◌, [], ◌∷◌, Some, OnOk, OnErr, length, take, flat_map, codes, decimal, slice_get};
+ghost use Rattle.std.specs.Prelude.{◌≡◌, ◌≤◌, ◌++◌, [], ◌∷◌, Some, length, take, drop, flat_map, codes, decimal, slice_get};
 ghost use Rattle.std.specs.List.{concat};
-ghost use Rattle.moos_io.specs.Faults.{Rose};
-ghost use Rattle.moos_io.specs.Pieces.{Took, TookFront};
 ghost use Rattle.moos_io.specs.Writing.{Wrote, way};
 ghost use Rattle.moos_post.specs.History.{name_of, posts_of, posts_of_entry};
 ghost use Rattle.moos_text.specs.Numbers.{unsigned_text};
-ghost use Rattle.moos_report.specs.Report.{report_text, said_text, clients_text, entries_text, entry_text, call_text, reg_text, letter_text, letters_text, unused_text};
+ghost use Rattle.moos_report.specs.IterationLines.{helm_fetches};
+ghost use Rattle.moos_report.specs.Report.{said_text, clients_text, entries_text, entry_text, call_text, reg_text, letter_text, letters_text, unused_text};
 
 mod behaviors;
 mod iterations;
 mod law;
 mod lines;
+mod parts;
 mod setup;
 #[cfg(test)]
 mod tests;
 
 use self::iterations::{fetches_after, put_outcome};
-pub use self::law::report_law;
-use self::lines::{put, put_client, put_end, put_mail, put_post, put_reg, put_unused};
+pub use self::law::{parts_law, report_law};
+use self::lines::{put, put_client, put_mail, put_post, put_reg, put_unused};
+pub use self::parts::{report, report_end, report_head, report_part};
 pub use self::setup::Setup;
 use bhv_reader::Unused;
 use helm_core::Iteration;
@@ -36,54 +39,6 @@ use moos_db::Db;
 use moos_io::{Buffer, Failed, Sink};
 use moos_post::{Call, Entry, Pair, Pattern, Reg};
 use moos_text::print_seconds;
-
-/// Writes the report of the database's history, and behind what the helm posts its iterations, each by its number. Where the
-/// sink fails, it took a front of the report, not the whole.
-pub fn report<K: Sink>(
-    setup: &Setup,
-    db: &Db,
-    iterations: &[Iteration],
-    out: &mut K,
-) -> Result<(), Failed>
-    ensures ok { OnOk result (Took (K.taken out.old) (K.taken out.new) (report_text setup.now db.now.names db.now.history iterations.now)) }
-    ensures front { OnErr result (TookFront (K.taken out.old) (K.taken out.new) (report_text setup.now db.now.names db.now.history iterations.now)) }
-    ensures later { K.faults out.old ≤ K.faults out.new }
-    ensures rose { OnErr result (Rose (K.faults out.old) (K.faults out.new)) }
-{
-    let mut buffer = Buffer::new();
-    if let Err(failed) = put_report(setup, db, iterations, &mut buffer, out) {
-        return Err(failed);
-    }
-    if let Err(failed) = buffer.flush(out) {
-        return Err(failed);
-    }
-    Ok(())
-}
-
-fn put_report<K: Sink>(
-    setup: &Setup,
-    db: &Db,
-    iterations: &[Iteration],
-    buffer: &mut Buffer,
-    out: &mut K,
-) -> Result<(), Failed>
-    ensures { Wrote (way (K.taken out.old) buffer.old (K.faults out.old)) (way (K.taken out.new) buffer.new (K.faults out.new))
-        result (report_text setup.now db.now.names db.now.history iterations.now) }
-{
-    if let Err(failed) = put(&[b"%% moosdb play 1\n"], buffer, out) {
-        return Err(failed);
-    }
-    if let Err(failed) = put_clients(db, buffer, out) {
-        return Err(failed);
-    }
-    if let Err(failed) = put_unused_list(setup.unused.all(), buffer, out) {
-        return Err(failed);
-    }
-    if let Err(failed) = put_entries(setup, db, iterations, buffer, out) {
-        return Err(failed);
-    }
-    put_end(db.entries(), db.posts(), buffer, out)
-}
 
 fn put_clients<K: Sink>(db: &Db, buffer: &mut Buffer, out: &mut K) -> Result<(), Failed>
     ensures { Wrote (way (K.taken out.old) buffer.old (K.faults out.old)) (way (K.taken out.new) buffer.new (K.faults out.new))
@@ -113,41 +68,57 @@ fn put_unused_list<K: Sink>(
     Ok(())
 }
 
+// The entries from number `from` on, before which the helm has fetched `first` times.
 fn put_entries<K: Sink>(
     setup: &Setup,
     db: &Db,
+    from: u64,
+    first: u64,
     iterations: &[Iteration],
     buffer: &mut Buffer,
     out: &mut K,
 ) -> Result<(), Failed>
+    requires { helm_fetches db.now.names (take from db.now.history) ≡ first }
     ensures { Wrote (way (K.taken out.old) buffer.old (K.faults out.old)) (way (K.taken out.new) buffer.new (K.faults out.new))
-        result (entries_text setup.now iterations.now db.now.names [] db.now.history) }
+        result (entries_text setup.now first iterations.now db.now.names (take from db.now.history) (drop from db.now.history)) }
 {
-    let posts = db.posts();
-    let mut first = 0;
-    let mut fetches = 0;
-    for k in 0..db.entries() {
+    let _ = db.posts();
+    let mut posts = posts_before(db, from);
+    let mut fetches = first;
+    for k in from..db.entries() {
         let entry = db.entry(k);
-        if let Err(failed) = put_entry(db, k, entry, first, buffer, out) {
+        if let Err(failed) = put_entry(db, k, entry, posts, buffer, out) {
             return Err(failed);
         }
-        if let Err(failed) = put_outcome(setup, db, iterations, entry, fetches, buffer, out) {
+        if let Err(failed) = put_outcome(
+            setup, db, first, iterations, entry, fetches, buffer, out,
+        ) {
             return Err(failed);
         }
-        first = posts_after(first, entry, posts);
+        posts += posts_in(entry);
         fetches = fetches_after(db, entry, fetches);
     }
     Ok(())
 }
 
-// The number of the first post behind an entry whose own posts begin at `first`.
-fn posts_after(first: u64, entry: &Entry, posts: u64) -> u64
-    requires { first + length (posts_of_entry entry.now) ≤ posts }
-    ensures { result ≡ first + length (posts_of_entry entry.now) }
+// How many posts the entries before this one made.
+fn posts_before(db: &Db, from: u64) -> u64
+    ensures { result ≡ length (posts_of (take from db.now.history)) }
+{
+    let mut posts = db.posts();
+    for k in from..db.entries() {
+        posts -= posts_in(db.entry(k));
+    }
+    posts
+}
+
+// How many posts an entry makes.
+fn posts_in(entry: &Entry) -> u64
+    ensures { result ≡ length (posts_of_entry entry.now) }
 {
     match &entry.call {
-        Call::Post(batch) => first + batch.len() as u64,
-        _ => first,
+        Call::Post(batch) => batch.len() as u64,
+        _ => 0,
     }
 }
 

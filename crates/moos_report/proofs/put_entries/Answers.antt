@@ -1,4 +1,4 @@
-use Rattle.std.proofs.Common.{◌+◌, [], refl, arith}
+use Rattle.std.proofs.Common.{◌+◌, refl, sym, arith, take, drop}
 use Rattle.moos_db.proofs.Growth.{posts-more, posts-take}
 use Rattle.moos_report.specs.Report.{entries_text}
 use Rattle.moos_report.proofs.Reporting.{entries_due, fetches_few, fetches_more}
@@ -6,25 +6,30 @@ use Rattle.moos_io.proofs.Passages.{leads_start, leads_on, leads_failed}
 use Rattle.moos_report.proofs.put_entries.Goals as goal
 
 pub loop-k-init : goal.loop-k-init
-loop-k-init g c = (leads_start _ (entries_text c.args.setup.now c.args.iterations.now c.args.db.now.names [] c.args.db.now.history), refl, refl)
+loop-k-init g c =
+    let history = c.args.db.now.history in (
+      leads_start _ (entries_text c.args.setup.now c.args.first c.args.iterations.now c.args.db.now.names (take c.args.from history) (drop c.args.from history)),
+      c.posts_before-posts.ensures,
+      sym c.requires,
+    )
 
 pub returns-in-Err : goal.returns-in-Err
 returns-in-Err g c =
-    let due = entries_due c.args.setup.now c.args.iterations.now c.args.db.now.names c.args.db.now.history c.loop-k.k c.entry-entry.ensures in
+    let due = entries_due c.args.setup.now c.args.first c.args.iterations.now c.args.db.now.names c.args.db.now.history c.loop-k.k c.entry-entry.ensures in
     record { ok = tt; front = leads_failed _ c.loop-k.invariant.0 due c.in-Err.ensures.front }
 
 pub returns-in-Err-put_outcome : goal.returns-in-Err-put_outcome
 returns-in-Err-put_outcome g c =
-    let due = entries_due c.args.setup.now c.args.iterations.now c.args.db.now.names c.args.db.now.history c.loop-k.k c.entry-entry.ensures in
+    let due = entries_due c.args.setup.now c.args.first c.args.iterations.now c.args.db.now.names c.args.db.now.history c.loop-k.k c.entry-entry.ensures in
     let outcome = rw c.loop-k.invariant.2 at c.in-Err-put_outcome.ensures.front in
     record { ok = tt; front = leads_failed _ (leads_on c.loop-k.invariant.0 due c.in_default.ensures.ok) refl outcome }
 
-pub posts_after-first-requires : goal.posts_after-first-requires
-posts_after-first-requires g c =
+pub overflow_add-posts : goal.overflow_add-posts
+overflow_add-posts g c =
     let history = c.args.db.now.history in
     let more = posts-more history c.loop-k.k c.entry-entry.ensures in
     let within = posts-take history (c.loop-k.k + 1) in
-    omega (arith, more, within, c.loop-k.invariant.1, c.posts-posts.ensures)
+    omega (arith, more, within, c.loop-k.invariant.1, c.posts_in-posts.ensures, c.posts.ensures, c.posts.type_inv)
 
 pub fetches_after-fetches-requires : goal.fetches_after-fetches-requires
 fetches_after-fetches-requires g c =
@@ -34,11 +39,11 @@ pub loop-k-preserved : goal.loop-k-preserved
 loop-k-preserved g c =
     let history = c.args.db.now.history in
     let names = c.args.db.now.names in
-    let due = entries_due c.args.setup.now c.args.iterations.now names history c.loop-k.k c.entry-entry.ensures in
+    let due = entries_due c.args.setup.now c.args.first c.args.iterations.now names history c.loop-k.k c.entry-entry.ensures in
     let outcome = rw c.loop-k.invariant.2 at c.in_default-put_outcome.ensures.ok in
     let posts = posts-more history c.loop-k.k c.entry-entry.ensures in
     let fetches = fetches_more names history c.loop-k.k c.entry-entry.ensures in (
       leads_on (leads_on c.loop-k.invariant.0 due c.in_default.ensures.ok) refl outcome,
-      omega (arith, posts, c.loop-k.invariant.1, c.posts_after-first.ensures),
+      omega (arith, posts, c.loop-k.invariant.1, c.posts_in-posts.ensures),
       omega (arith, fetches, c.loop-k.invariant.2, c.fetches_after-fetches.ensures),
     )

@@ -1,4 +1,4 @@
-use Rattle.std.proofs.Common.{◌≡◌, [], length, take, drop}
+use Rattle.std.proofs.Common.{◌≡◌, length, take, drop}
 use Rattle.moos_post.specs.History.{posts_of}
 use Rattle.moos_report.specs.IterationLines.{helm_fetches}
 use Rattle.moos_report.specs.Report.{entries_text}
@@ -10,6 +10,7 @@ abbrev pub invariant-loop-k : goal.invariant-loop-k
 invariant-loop-k g l =
     Leads (way (g.K.Sink.taken l.initial.out) l.initial.buffer (g.K.Sink.faults l.initial.out))
     (way (g.K.Sink.taken l.out) l.buffer (g.K.Sink.faults l.out))
-    (entries_text l.setup l.iterations l.db.names (take l.k l.db.history) (drop l.k l.db.history)) (entries_text l.setup l.iterations l.db.names [] l.db.history)
-    × (l.first ≡ length (posts_of (take l.k l.db.history)))
+    (entries_text l.setup l.first l.iterations l.db.names (take l.k l.db.history) (drop l.k l.db.history))
+    (entries_text l.setup l.first l.iterations l.db.names (take l.from l.db.history) (drop l.from l.db.history))
+    × (l.posts ≡ length (posts_of (take l.k l.db.history)))
     × (l.fetches ≡ helm_fetches l.db.names (take l.k l.db.history))

@@ -1,5 +1,5 @@
 use Rattle.moos_io.proofs.Passages.{took_whole, took_front}
-use Rattle.moos_report.proofs.report.Goals as goal
+use Rattle.moos_report.proofs.parts.report_part.Goals as goal
 
 pub returns-in-Err-flush-clause-front : goal.returns-in-Err-flush-clause-front
 returns-in-Err-flush-clause-front g c = took_front c.new-buffer.ensures c.in_default.ensures.ok c.in-Err-flush.ensures.front

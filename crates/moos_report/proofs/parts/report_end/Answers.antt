@@ -1,0 +1,12 @@
+use Rattle.moos_io.proofs.Passages.{took_whole, took_front}
+use Rattle.moos_report.proofs.parts.report_end.Goals as goal
+
+pub returns-in-Err-flush-clause-front : goal.returns-in-Err-flush-clause-front
+returns-in-Err-flush-clause-front g c =
+    let wrote = rw (c.entries.ensures, c.posts.ensures) at c.in_default.ensures.ok in
+    took_front c.new-buffer.ensures wrote c.in-Err-flush.ensures.front
+
+pub returns-clause-ok : goal.returns-clause-ok
+returns-clause-ok g c =
+    let wrote = rw (c.entries.ensures, c.posts.ensures) at c.in_default.ensures.ok in
+    took_whole c.new-buffer.ensures c.flush.ensures.empty wrote c.in_default-flush.ensures.ok

@@ -1,0 +1,114 @@
+// A report at once, and part by part.
+ghost use Rattle.std.specs.Prelude.{◌≡◌, ◌≤◌, OnOk, OnErr, take, drop};
+ghost use Rattle.moos_io.specs.Faults.{Rose};
+ghost use Rattle.moos_io.specs.Pieces.{Took, TookFront};
+ghost use Rattle.moos_io.specs.Writing.{Wrote, way};
+ghost use Rattle.moos_report.specs.IterationLines.{helm_fetches};
+ghost use Rattle.moos_report.specs.Report.{end_text, entries_text, head_text, report_text};
+
+use super::lines::{put, put_end};
+use super::{put_clients, put_entries, put_unused_list};
+use crate::setup::Setup;
+use helm_core::Iteration;
+use moos_db::Db;
+use moos_io::{Buffer, Failed, Sink};
+
+/// Writes the report of the database's history, and behind what the helm posts its iterations, each by its number. Where the
+/// sink fails, it took a front of the report, not the whole.
+pub fn report<K: Sink>(
+    setup: &Setup,
+    db: &Db,
+    iterations: &[Iteration],
+    out: &mut K,
+) -> Result<(), Failed>
+    ensures ok { OnOk result (Took (K.taken out.old) (K.taken out.new) (report_text setup.now db.now.names db.now.history iterations.now)) }
+    ensures front { OnErr result (TookFront (K.taken out.old) (K.taken out.new) (report_text setup.now db.now.names db.now.history iterations.now)) }
+    ensures later { K.faults out.old ≤ K.faults out.new }
+    ensures rose { OnErr result (Rose (K.faults out.old) (K.faults out.new)) }
+{
+    if let Err(failed) = report_head(setup, db, out) {
+        return Err(failed);
+    }
+    if let Err(failed) = report_part(setup, db, 0, 0, iterations, out) {
+        return Err(failed);
+    }
+    if let Err(failed) = report_end(db, out) {
+        return Err(failed);
+    }
+    Ok(())
+}
+
+/// Writes how a report begins, which no entry changes. Where the sink fails, it took a front of that, not the whole.
+pub fn report_head<K: Sink>(setup: &Setup, db: &Db, out: &mut K) -> Result<(), Failed>
+    ensures ok { OnOk result (Took (K.taken out.old) (K.taken out.new) (head_text setup.now db.now.names)) }
+    ensures front { OnErr result (TookFront (K.taken out.old) (K.taken out.new) (head_text setup.now db.now.names)) }
+    ensures later { K.faults out.old ≤ K.faults out.new }
+    ensures rose { OnErr result (Rose (K.faults out.old) (K.faults out.new)) }
+{
+    let mut buffer = Buffer::new();
+    if let Err(failed) = put_head(setup, db, &mut buffer, out) {
+        return Err(failed);
+    }
+    if let Err(failed) = buffer.flush(out) {
+        return Err(failed);
+    }
+    Ok(())
+}
+
+fn put_head<K: Sink>(setup: &Setup, db: &Db, buffer: &mut Buffer, out: &mut K) -> Result<(), Failed>
+    ensures { Wrote (way (K.taken out.old) buffer.old (K.faults out.old)) (way (K.taken out.new) buffer.new (K.faults out.new))
+        result (head_text setup.now db.now.names) }
+{
+    if let Err(failed) = put(&[b"%% moosdb play 1\n"], buffer, out) {
+        return Err(failed);
+    }
+    if let Err(failed) = put_clients(db, buffer, out) {
+        return Err(failed);
+    }
+    put_unused_list(setup.unused.all(), buffer, out)
+}
+
+/// Writes the entries from number `from` on, and behind what the helm posts its iterations, the first of which has the number
+/// `first`: so often the helm has fetched before. Where the sink fails, it took a front of that, not the whole.
+pub fn report_part<K: Sink>(
+    setup: &Setup,
+    db: &Db,
+    from: u64,
+    first: u64,
+    iterations: &[Iteration],
+    out: &mut K,
+) -> Result<(), Failed>
+    requires { helm_fetches db.now.names (take from db.now.history) ≡ first }
+    ensures ok { OnOk result (Took (K.taken out.old) (K.taken out.new)
+        (entries_text setup.now first iterations.now db.now.names (take from db.now.history) (drop from db.now.history))) }
+    ensures front { OnErr result (TookFront (K.taken out.old) (K.taken out.new)
+        (entries_text setup.now first iterations.now db.now.names (take from db.now.history) (drop from db.now.history))) }
+    ensures later { K.faults out.old ≤ K.faults out.new }
+    ensures rose { OnErr result (Rose (K.faults out.old) (K.faults out.new)) }
+{
+    let mut buffer = Buffer::new();
+    if let Err(failed) = put_entries(setup, db, from, first, iterations, &mut buffer, out) {
+        return Err(failed);
+    }
+    if let Err(failed) = buffer.flush(out) {
+        return Err(failed);
+    }
+    Ok(())
+}
+
+/// Writes how the report of the database's history ends. Where the sink fails, it took a front of that, not the whole.
+pub fn report_end<K: Sink>(db: &Db, out: &mut K) -> Result<(), Failed>
+    ensures ok { OnOk result (Took (K.taken out.old) (K.taken out.new) (end_text db.now.history)) }
+    ensures front { OnErr result (TookFront (K.taken out.old) (K.taken out.new) (end_text db.now.history)) }
+    ensures later { K.faults out.old ≤ K.faults out.new }
+    ensures rose { OnErr result (Rose (K.faults out.old) (K.faults out.new)) }
+{
+    let mut buffer = Buffer::new();
+    if let Err(failed) = put_end(db.entries(), db.posts(), &mut buffer, out) {
+        return Err(failed);
+    }
+    if let Err(failed) = buffer.flush(out) {
+        return Err(failed);
+    }
+    Ok(())
+}
