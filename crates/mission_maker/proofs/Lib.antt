@@ -1,0 +1,5 @@
+mod Examples
+mod Drawing
+pub mod Rising
+pub mod Validity
+mod Variables
