@@ -1,0 +1,72 @@
+// The text of a summary.
+ghost use Rattle.std.specs.Prelude.{◌≤◌, OnOk, OnErr};
+ghost use Rattle.moos_io.specs.Faults.{Rose};
+ghost use Rattle.moos_io.specs.Pieces.{Took, TookFront};
+ghost use Rattle.moos_io.specs.Writing.{Wrote, way};
+ghost use Rattle.run_summary.specs.Summary.{counts_text, summary_text};
+
+use crate::counts::{RunCounts, counts_of};
+use helm_core::Iteration;
+use moos_db::Db;
+use moos_io::{Buffer, Failed, Sink};
+
+/// Writes the summary of the run of the mission with this number. Where the sink fails, it took a front of it, not the whole.
+pub fn summary<K: Sink>(
+    number: u64,
+    db: &Db,
+    iterations: &[Iteration],
+    out: &mut K,
+) -> Result<(), Failed>
+    ensures ok { OnOk result (Took (K.taken out.old) (K.taken out.new) (summary_text number db.now.names db.now.history iterations.now)) }
+    ensures front { OnErr result (TookFront (K.taken out.old) (K.taken out.new) (summary_text number db.now.names db.now.history iterations.now)) }
+    ensures later { K.faults out.old ≤ K.faults out.new }
+    ensures rose { OnErr result (Rose (K.faults out.old) (K.faults out.new)) }
+{
+    let counts = counts_of(db, iterations);
+    let mut buffer = Buffer::new();
+    if let Err(failed) = put_counts(number, &counts, &mut buffer, out) {
+        return Err(failed);
+    }
+    if let Err(failed) = buffer.flush(out) {
+        return Err(failed);
+    }
+    Ok(())
+}
+
+fn put_counts<K: Sink>(
+    number: u64,
+    counts: &RunCounts,
+    buffer: &mut Buffer,
+    out: &mut K,
+) -> Result<(), Failed>
+    ensures { Wrote (way (K.taken out.old) buffer.old (K.faults out.old)) (way (K.taken out.new) buffer.new (K.faults out.new))
+        result (counts_text number counts.now) }
+{
+    let (mut number_digits, mut entries, mut posts) = (
+        itoa::Buffer::new(),
+        itoa::Buffer::new(),
+        itoa::Buffer::new(),
+    );
+    let (mut mailed, mut iterations) = (itoa::Buffer::new(), itoa::Buffer::new());
+    let (mut decisions, mut total) = (itoa::Buffer::new(), itoa::Buffer::new());
+    buffer.write(
+        out,
+        &[
+            b"generated ",
+            number_digits.format(number).as_bytes(),
+            b"\nentries ",
+            entries.format(counts.entries).as_bytes(),
+            b"\nposts ",
+            posts.format(counts.posts).as_bytes(),
+            b"\nmailed ",
+            mailed.format(counts.mailed).as_bytes(),
+            b"\niterations ",
+            iterations.format(counts.iterations).as_bytes(),
+            b"\ndecisions ",
+            decisions.format(counts.decisions).as_bytes(),
+            b"\ntotal ",
+            total.format(counts.total).as_bytes(),
+            b"\n",
+        ],
+    )
+}
