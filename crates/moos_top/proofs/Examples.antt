@@ -8,7 +8,6 @@ use Rattle.moos_text.specs.declared.cause.ReadFault.TheVariants.{At}
 use Rattle.script_reader.specs.declared.script.Order.TheVariants.{Stamp, Race}
 use Rattle.moos_top.specs.declared.job.Job.TheVariants.{Play, Solve, Check}
 use Rattle.moos_top.specs.declared.status.FileKind.TheVariants.{Script as ScriptFile, Problem as ProblemFile}
-use Rattle.moos_top.specs.NotRun.{first_not_run}
 use Rattle.moos_top.specs.Jobs.{Unfit, job_named, turn_of}
 
 pub plays : job_named (codes "play" ∷ codes "survey.txt" ∷ []) ≡ Some (Play (codes "survey.txt") None Stamp 1)
@@ -86,10 +85,3 @@ bad_interval_with_a_mission = refl
 
 no_problem : turn_of (Solve (codes "p") 1) ([] ∷ []) ≡ Unfit ProblemFile (At 1 P9)
 no_problem = refl
-
--- a condition on the variable Behavior is no behaviour, nor is what is posted to it; a behaviour is found by its line
-a_behavior_is_found : first_not_run (codes "initialize Behavior = BHV_Timer\nset MODE = A {\n  Behavior = BHV_Timer\n}\n\nbehavior = BHV_Timer {\n  name = t\n}\n") ≡ Some 6
-a_behavior_is_found = refl
-
-modes_are_not_found : first_not_run (codes "set MODE = A\n{\n  Behavior = BHV_Timer\n} B\n") ≡ None
-modes_are_not_found = refl

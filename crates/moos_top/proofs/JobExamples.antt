@@ -13,12 +13,14 @@ use Rattle.ivp_problem.specs.Problems.{WeightedSum}
 use Rattle.moos_post.specs.declared.entry.Call.TheVariants.{Fetch}
 use Rattle.moos_post.specs.declared.entry.Entry.{Entry}
 use Rattle.bhv_reader.specs.Behaviors.{nothing_said}
+use Rattle.bhv_reader.specs.declared.file.Block.{Block}
+use Rattle.bhv_reader.specs.declared.spec.Shape.TheVariants.{Timer}
 use Rattle.mission_reader.specs.declared.mission.Mission.{Mission}
 use Rattle.moos_client.specs.Calls.{entries_of}
 use Rattle.moos_play.specs.Lawful.{IsLawful}
 use Rattle.script_reader.specs.declared.script.Order.TheVariants.{Stamp, Race}
 use Rattle.script_reader.specs.declared.script.Script.{Script}
-use Rattle.moos_text.specs.declared.cause.Cause.TheVariants.{B1, B3, M1, M8, P1, P9}
+use Rattle.moos_text.specs.declared.cause.Cause.TheVariants.{B1, M1, M8, P1, P9}
 use Rattle.moos_text.specs.declared.cause.ReadFault.TheVariants.{At, NoMemory as Unread}
 use Rattle.moos_top.specs.declared.job.Job.TheVariants.{Play, Solve, Check}
 use Rattle.moos_top.specs.declared.status.FileKind.TheVariants.{Script as ScriptFile, Mission as MissionFile, Behaviors as BehaviorsFile, Problem as ProblemFile, Decision as DecisionFile}
@@ -169,18 +171,37 @@ behaviors_wanted = refl
 mission_refused : turn_of (Play (codes "s") (Some (codes "m")) Stamp 1) (codes "0 a fetch\n" ∷ codes "}\n" ∷ []) ≡ Unfit MissionFile (At 1 M1)
 mission_refused = refl
 
--- so all is played with a helm without modes, or the behaviour file is refused, for what its reader says or for a behaviour that isn't run yet
+-- so all is played with a helm of both files, also of an empty one, or the behaviour file is refused
 all_read : turn_of (Play (codes "s") (Some (codes "m")) Stamp 1) (codes "0 a fetch\n" ∷ mission_bytes ∷ [] ∷ []) ≡ Ready (Playing Stamp script (Some (record { mission = mission; file = nothing_said })))
 unfolding mission_bytes mission
 all_read = refl
 
+timer : Block
+timer = record {
+  common = record {
+    name = codes "t";
+    conds = [];
+    runflags = [];
+    idleflags = [];
+    activeflags = [];
+    inactiveflags = [];
+    endflags = [];
+    updates = None;
+    duration = None;
+    idle_decay = true;
+    perpetual = false;
+  };
+  spec = record { weight = 100; shape = Timer };
+}
+
+timer_read : turn_of (Play (codes "s") (Some (codes "m")) Stamp 1) (codes "0 a fetch\n" ∷ mission_bytes ∷ codes "\nBehavior = BHV_Timer\n{\nname = t\n}\n" ∷ [])
+    ≡ Ready (Playing Stamp script (Some (record { mission = mission; file = record nothing_said { blocks = timer ∷ [] } })))
+unfolding mission_bytes mission timer
+timer_read = refl
+
 behaviors_refused : turn_of (Play (codes "s") (Some (codes "m")) Stamp 1) (codes "0 a fetch\n" ∷ mission_bytes ∷ codes "\n}\n" ∷ []) ≡ Unfit BehaviorsFile (At 2 B1)
 unfolding mission_bytes
 behaviors_refused = refl
-
-timer_refused : turn_of (Play (codes "s") (Some (codes "m")) Stamp 1) (codes "0 a fetch\n" ∷ mission_bytes ∷ codes "\nBehavior = BHV_Timer\n{\nname = t\n}\n" ∷ []) ≡ Unfit BehaviorsFile (At 2 B3)
-unfolding mission_bytes
-timer_refused = refl
 
 -- 20,000 iterations are the most: the last of these is at the last stamp
 few_ticks : with_few_ticks (record { names = []; lines = []; stop = 4999999 }) (record mission { period = 250 }) ≡ Ok (record mission { period = 250 })

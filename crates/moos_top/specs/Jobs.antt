@@ -18,11 +18,10 @@ use Rattle.mission_reader.specs.Missions.{mission_of}
 use Rattle.moos_post.specs.History.{History}
 use Rattle.moos_report.specs.declared.setup.Setup.{Setup}
 use Rattle.moos_report.specs.Report.{report_text}
-use Rattle.moos_text.specs.declared.cause.Cause.TheVariants.{B3, M8}
+use Rattle.moos_text.specs.declared.cause.Cause.TheVariants.{M8}
 use Rattle.moos_text.specs.declared.cause.ReadFault.{ReadFault}
 use Rattle.moos_text.specs.declared.cause.ReadFault.TheVariants.{At}
 use Rattle.moos_text.specs.Refusals.{and_then}
-use Rattle.moos_top.specs.NotRun.{first_not_run}
 use Rattle.moos_top.specs.Commands.{check_command, file_in, found_in, is_set, play_command, solve_command, workers_in}
 use Rattle.moos_play.specs.Lawful.{IsLawful, Steering, helm_number, heard_of, iterations, names_with}
 use Rattle.moos_top.specs.declared.job.Job.{Job}
@@ -105,21 +104,12 @@ turn_behind kind next (Err fault) = Unfit kind fault
 abbrev pub with_few_ticks : Script → Mission → Result Mission ReadFault
 with_few_ticks script mission = if nat_le (script.stop / mission.period + 1) 20000 then Ok mission else Err (At mission.lines M8)
 
--- a file without a behaviour that isn't run yet; else it is refused at the line of the first one
-abbrev pub without_line : BhvFile → Option ℕ → Result BhvFile ReadFault
-without_line file None = Ok file
-without_line file (Some line) = Err (At line B3)
-
--- the file of these bytes, in which each behaviour is run, or else it is refused
-abbrev pub with_all_run : List ℕ → BhvFile → Result BhvFile ReadFault
-with_all_run bytes file = without_line file (first_not_run bytes)
-
 -- behind a script and a mission, by the bytes of the behaviour file
 abbrev pub behaviors_turn : Order → Script → Mission → List (List ℕ) → FileTurn
 behaviors_turn order script mission [] = Wanted BehaviorsFile mission.behaviors
 behaviors_turn order script mission (bytes ∷ more) =
     turn_behind BehaviorsFile (λ file. Ready (Playing order script (Some (record { mission = mission; file = file }))))
-    (and_then (with_all_run bytes) (behaviors_of mission.domain bytes))
+    (behaviors_of mission.domain bytes)
 
 -- behind a script, by the bytes of the mission and what is behind it
 abbrev pub mission_turn : Order → Script → List ℕ → List (List ℕ) → FileTurn

@@ -1,6 +1,5 @@
 pub mod Commands
 pub mod Exit
 pub mod Jobs
-pub mod NotRun
 pub mod Run
 pub mod Steps

@@ -4,14 +4,13 @@
 //! what was written. With `Done` that is the report of a lawful history of the script that the words name, or the
 //! decision on the problem with its certificate, or that the decision is accepted.
 //!
-//! Reading order: `words`, `commands`, `job` and `status`, `decide`, `not_run`, `play_job`, and `run` last. `main` is the trusted
-//! edge, which hands the real command line, files and standard output to `run`.
+//! Reading order: `words`, `commands`, `job` and `status`, `decide`, `play_job`, and `run` last. `main` is the trusted edge,
+//! which hands the real command line, files and standard output to `run`.
 #![tactic(auto)]
 
 mod commands;
 mod decide;
 mod job;
-mod not_run;
 mod play_job;
 mod run;
 mod status;

@@ -1,12 +1,11 @@
 // The job that plays a script, with the helm of a mission or without one: its files one after another, and its report.
 ghost use Rattle.std.specs.Prelude.{◌≡◌, ◌<◌, ◌≤◌, ◌^◌, ◌++◌, ℕ, [], length, map, List, None, Some, Ok, IfOk, IsTrue, IfErr};
 ghost use Rattle.bhv_reader.specs.declared.file.Block.{Block};
-ghost use Rattle.bhv_reader.specs.Behaviors.{behaviors_of};
 ghost use Rattle.bhv_reader.specs.Validity.{IsValidFile, serves};
 ghost use Rattle.mission_reader.specs.Missions.{mission_of};
 ghost use Rattle.mission_reader.specs.Validity.{IsValidMission};
 ghost use Rattle.moos_text.specs.Refusals.{IsFirst, and_then};
-ghost use Rattle.moos_top.specs.Jobs.{Ready, behaviors_turn, mission_turn, no_modes, turn_of, with_all_run, with_few_ticks};
+ghost use Rattle.moos_top.specs.Jobs.{Ready, behaviors_turn, mission_turn, no_modes, turn_of, with_few_ticks};
 ghost use Rattle.moos_top.specs.Jobs.Task.{Playing};
 ghost use Rattle.moos_top.specs.Run.{EndsFrom, surroundings};
 ghost use Rattle.moos_top.specs.Steps.{Ended, sinking};
@@ -14,12 +13,10 @@ ghost use Rattle.moos_top.specs.declared.job.Job.{Job};
 ghost use Rattle.moos_top.specs.declared.job.Job.TheVariants.{Play};
 ghost use Rattle.script_reader.specs.Validity.{IsValid};
 
-use crate::not_run::first_not_run;
 use crate::run::{load, refused, unloaded, written};
 use crate::status::{FileKind, Status};
 use bhv_reader::{BhvFile, Block, read_behaviors};
 use helm_core::Helm;
-use ivp_domain::Domain;
 use mission_reader::{Mission, read_mission};
 use moos_io::{Folder, Gate, Sink};
 use moos_play::{HelmRun, Order, play};
@@ -119,24 +116,6 @@ fn read_for(alloc: Global, script: &Script, bytes: &[u8]) -> Result<Mission, Rea
     }
 }
 
-// Reads a behaviour file over a domain. A behaviour that isn't run yet is refused as one of a type that isn't known.
-fn read_all_run(alloc: Global, bytes: &[u8], domain: &Domain) -> Result<BhvFile, ReadFault>
-    requires short { length bytes.now < 2 ^ 32 }
-    ensures read { IfOk result (λ file. and_then (with_all_run bytes.now) (behaviors_of domain.now bytes.now) ≡ Ok file) }
-    ensures refused { IfErr result (λ fault. IsFirst fault (and_then (with_all_run bytes.now) (behaviors_of domain.now bytes.now))) }
-    ensures valid { IfOk result IsValidFile }
-    ensures served { IfOk result (λ file. IsTrue (serves domain.now file.blocks)) }
-{
-    let file = read_behaviors(alloc, bytes, domain)?;
-    match first_not_run(bytes) {
-        None => Ok(file),
-        Some(line) => Err(ReadFault::At {
-            line,
-            cause: Cause::B3,
-        }),
-    }
-}
-
 // Loads and reads the behaviour file of the mission, and plays the script with a helm of both.
 fn play_behaviors<R: Threads + Wait + Sync, F: Folder, K: Sink, G: Gate>(
     rt: &R,
@@ -162,7 +141,7 @@ fn play_behaviors<R: Threads + Wait + Sync, F: Folder, K: Sink, G: Gate>(
         Ok(bytes) => bytes,
         Err(fault) => return unloaded(fault),
     };
-    match read_all_run(alloc, &bytes, &mission.domain) {
+    match read_behaviors(alloc, &bytes, &mission.domain) {
         Ok(file) => play_helm(rt, alloc, script, mission, file, order, workers, out, gate),
         Err(fault) => refused(FileKind::Behaviors, fault),
     }

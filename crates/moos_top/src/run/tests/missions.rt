@@ -21,11 +21,6 @@ const FAST: &str =
 
 const MODES: &str = "set MODE = ACTIVE {\nDEPLOY = true\n} INACTIVE\n";
 
-// A mode whose condition only looks like a behaviour, and a behaviour, whose type isn't run yet.
-const TIMER: &str =
-    "initialize Behavior = BHV_Timer\nset MODE = ACTIVE {\nBehavior = BHV_Timer\n} INACTIVE\n\n\
-    behavior = BHV_Timer\n{\nname = t\n}\n";
-
 // What each report begins with: the clients, and that the helm registers.
 const HEAD: &str =
     "%% moosdb play 1\n%% client 0 nav\n%% client 1 pHelmIvP\n%% entry 0 0 pHelmIvP register\n\
@@ -147,10 +142,6 @@ fn the_first_file_that_fails_is_told(rt: HostRuntime) -> Result<(), Fail> {
         (
             [SCRIPT, MISSION, "}\n"],
             refused(FileKind::Behaviors, 1, Cause::B1),
-        ),
-        (
-            [SCRIPT, MISSION, TIMER],
-            refused(FileKind::Behaviors, 6, Cause::B3),
         ),
         (
             ["20 until\n", FAST, ""],
