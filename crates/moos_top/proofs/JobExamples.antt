@@ -30,7 +30,7 @@ use Rattle.moos_top.specs.Exit.{code_of}
 use Rattle.moos_top.specs.Jobs.Task.{Checking, Playing, Solving}
 use Rattle.moos_top.specs.Jobs.{decision_on, HasFewWorkers, IsAccepted, IsOutput, Ready, turn_of, Unfit, Wanted, with_few_ticks}
 use Rattle.moos_top.specs.Steps.{Ended, sinking, status_of}
-use Rattle.moos_top.proofs.Playing.{all_entries}
+use Rattle.moos_top.proofs.Communities.{all_entries}
 
 -- one function over two points, of value 5 and 6
 abbrev pub problem : WeightedSum
@@ -239,7 +239,7 @@ fetches_lawful = record { rest = fetches; opened = refl; steered = refl; own = �
 
 reported : IsOutput (Playing Stamp script None) Done (codes "%% moosdb play 1\n%% client 0 a\n%% entry 0 0 a fetch\n%% end 1 0\n")
 unfolding digits
-reported = record { history = fetches; lawful = fetches_lawful; printed = refl; listed = λ other none is text. no_other other is }
+reported = record { history = fetches; lawful = fetches_lawful; printed = refl; listed = λ other is text. no_other other is }
 
 nothing_reported : IsOutput (Playing Stamp script None) Done [] → ⊥
 nothing_reported is = let printed = is.printed in cc

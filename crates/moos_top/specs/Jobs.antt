@@ -159,12 +159,12 @@ report_on script helm history =
 abbrev pub IsLawfulWith : Order → Script → Option HelmFiles → History → Type 0
 IsLawfulWith order script helm history = IsLawful order script (option_map (steering_by script) helm) (names_with script helm) history
 
--- The text is the report of a lawful history. Without a helm it is the one that the text lists: no other lawful history has it.
+-- The text is the report of a lawful history, which is the one that the text lists: no other lawful history has it.
 pub record IsReport (order : Order) (script : Script) (helm : Option HelmFiles) (text : List ℕ) : Type 0 where
   pub history : History
   pub lawful : IsLawfulWith order script helm history
   pub printed : text ≡ report_on script helm history
-  pub listed : (other : History) → helm ≡ None → IsLawfulWith order script helm other → text ≡ report_on script helm other → other ≡ history
+  pub listed : (other : History) → IsLawfulWith order script helm other → text ≡ report_on script helm other → other ≡ history
 
 -- the decision on a problem: its best point, the sum there, and its certificate
 abbrev pub decision_on : WeightedSum → Decision

@@ -16,7 +16,7 @@ ghost use Rattle.script_reader.specs.Validity.{IsValid};
 use crate::run::{load, refused, unloaded, written};
 use crate::status::{FileKind, Status};
 use bhv_reader::{BhvFile, Block, read_behaviors};
-use helm_core::Helm;
+use helm_core::{Helm, plan_law};
 use mission_reader::{Mission, read_mission};
 use moos_io::{Folder, Gate, Sink};
 use moos_play::{HelmRun, Order, play};
@@ -185,10 +185,14 @@ fn play_helm<R: Threads + Wait + Sync, K: Sink, G: Gate>(
         period: mission.period,
     };
     match play(rt, alloc, script, Some(run), order, workers, gate) {
-        Ok(ran) => written(
-            Status::Done,
-            report(&setup, &ran.db, ran.iterations.all(), out),
-        ),
+        Ok(ran) => {
+            plan_law();
+            report_law();
+            written(
+                Status::Done,
+                report(&setup, &ran.db, ran.iterations.all(), out),
+            )
+        },
         Err(_) => Status::NoMemory,
     }
 }

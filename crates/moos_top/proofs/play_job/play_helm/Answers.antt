@@ -22,6 +22,8 @@ returns-in-Ok-play g c =
       modes = (ap (nat_lt 0) c.len.ensures ∙ declared c.args.file.decls) i;
     } in
     put_ends _ (Playing c.args.order c.args.script.now (Some files)) _ Done c.written.result _ c.report.result (λ all. all) refl
-    (reported_with c.args.order c.args.script.now files setup run c.in-Ok-play.ran.db.names c.in-Ok-play.ran.db.history c.all-in-Ok-play.result.now told c.in-Ok-make.ensures.plan refl
+    (reported_with c.args.order c.args.script.now files setup run c.in-Ok-play.ran.db.names c.in-Ok-play.ran.db.history c.all-in-Ok-play.result.now
+    c.report_law.ensures c.requires.valid
+    (record { file = c.requires.file; formed = c.plan_law.ensures c.args.mission.now c.args.file c.requires.mission c.requires.file }) told c.in-Ok-make.ensures.plan refl
     c.in-Ok-play.ensures.names c.in-Ok-play.ensures.lawful (c.all-in-Ok-play.ensures ∙ c.in-Ok-play.ensures.iterations))
     c.report.ensures.ok c.report.ensures.front c.report.ensures.rose c.written.ensures.all c.written.ensures.fault
