@@ -1,9 +1,10 @@
 -- The plan of a valid mission and a valid behaviour file is well formed.
-use Rattle.std.proofs.Common.{◌≡◌, ℕ, Bool, true, false, cond, ◌&&◌, ◌||◌, ◌==◌, nat_le, List, [], ◌∷◌, ◌++◌, length, map, flat_map, Option, Some, None, refl, arith}
+use Rattle.std.proofs.Common.{◌≡◌, ℕ, Bool, true, false, cond, ◌&&◌, ◌||◌, nat_le, List, [], ◌∷◌, ◌++◌, length, map, flat_map, Option, Some, None, refl, arith}
 use Rattle.std.specs.Prelude.{IfSome, IsTrue, bytes_eq, codes, fold}
 use Rattle.std.specs.List.{All, list_all, list_any, AllByRecursion as Each}
 use Rattle.std.specs.Option.{option_to_list}
-use Rattle.std.proofs.lemmas.Bool.{and_from, and_parts, le-leb}
+use Rattle.std.proofs.lemmas.Bool.{and_parts}
+use Rattle.std.proofs.lemmas.Bool.Decides.{nat_tests}
 use Rattle.std.proofs.lemmas.List.Elements.{All-from_recursion, recursion_from_All}
 use Rattle.moos_io.proofs.Lists.{each_append, each_true, each_weaker, true_each}
 use Rattle.moos_post.specs.Entries.{IsPair, IsReg}
@@ -78,23 +79,15 @@ all_wanted names [] all more = all
 all_wanted names (name ∷ rest) all more = all_wanted (with_wanted names name) rest (wanted_named names name all more.0) more.1
 
 -- a name is a pattern
-pattern_byte : (byte : ℕ) → is_name_byte byte ≡ true → is_pattern_byte byte ≡ true
-pattern_byte byte is = by (is_name_byte byte) is
-  where
-    by : (b : Bool) → b ≡ true → (b || byte == 42 || byte == 63) ≡ true
-    by true e = refl
-    by false e = absurd cc
-
 name_pattern : (name : List ℕ) → IsNamed name → IsTrue (is_pattern name)
 name_pattern [] is = absurd cc
 name_pattern (first ∷ rest) is =
     let name = first ∷ rest in
     let parts = and_parts (begins_name first && list_all is_name_byte name) (nat_le (length name) 64) is in
     let bytes = (and_parts (begins_name first) (list_all is_name_byte name) parts.0).1 in
-    and_from (nat_le 1 (length name) && list_all is_pattern_byte name) (nat_le (length name) 64)
-    (and_from (nat_le 1 (length name)) (list_all is_pattern_byte name) (le-leb 1 (length name) (omega arith))
-    (true_each is_pattern_byte name (each_weaker (λ byte. is_name_byte byte ≡ true) (λ byte. is_pattern_byte byte ≡ true) pattern_byte name (each_true is_name_byte name bytes))))
-    parts.1
+    let all : list_all is_pattern_byte name ≡ true
+    = true_each is_pattern_byte name (each_weaker (λ byte. is_name_byte byte ≡ true) (λ byte. is_pattern_byte byte ≡ true) (λ byte is. grind (arith, nat_tests)) name (each_true is_name_byte name bytes)) in
+    grind (arith, nat_tests)
 
 all_regs : (names : List (List ℕ)) → Each IsNamed names → Each IsReg (map reg_wanted names)
 all_regs [] all = tt
