@@ -1,5 +1,5 @@
 -- How an inbox of the delivery rule, and what is kept of it, grows with the history.
-use Rattle.std.proofs.Common.{◌≡◌, ℕ, zero, suc, ◌+◌, ◌<◌, ◌≤◌, Bool, true, false, ◌==◌, nat_le, List, [], ◌∷◌, ◌++◌, length, map, filter, take, drop, slice_get, Option, None, Some, All, add-one, refl, ap, sym, ◌∙◌, arith, subst, length-append, if◌then◌else◌}
+use Rattle.std.proofs.Common.{◌≡◌, ℕ, zero, suc, ◌+◌, ◌<◌, ◌≤◌, Bool, true, false, ◌||◌, ◌==◌, not, nat_le, List, [], ◌∷◌, ◌++◌, length, map, filter, take, drop, slice_get, Option, None, Some, All, add-one, refl, ap, sym, ◌∙◌, arith, subst, length-append, if◌then◌else◌}
 use Rattle.std.proofs.lemmas.Bool.{eq-eqb, ne_eqb}
 use Rattle.std.proofs.lemmas.List.{take-append-le, take_all, length-take}
 use Rattle.std.proofs.lemmas.List.Elements.{All-map, All-weaker, All-filter}
@@ -7,11 +7,13 @@ use Rattle.std.proofs.lemmas.List.Folds.{list_any_none}
 use Rattle.std.proofs.lemmas.List.Sums.{fold-append}
 use Rattle.std.proofs.lemmas.Option.{slice_get_within}
 use Rattle.std.proofs.Math.Seq.{take-append_seam}
-use Rattle.moos_post.specs.declared.entry.Call.TheVariants.{Fetch}
+use Rattle.moos_post.specs.declared.entry.Call.{Call}
+use Rattle.moos_post.specs.declared.entry.Call.TheVariants.{Register, Unregister, Post as Posts, Fetch}
 use Rattle.moos_post.specs.declared.entry.Entry.{Entry}
+use Rattle.moos_post.specs.declared.value.Post.{Post}
 use Rattle.moos_post.specs.Delivery.{Inbox, Mailing, with_entry, empty_inbox, inbox_of, mail_after, mail_at, mail_of_entry, is_fetch}
 use Rattle.moos_post.specs.History.{History, posts_of, posts_of_entry}
-use Rattle.moos_db.specs.Subscribers.{SubscriberState, kept_of, kept_own, kept_posts, kept_entry, empty_kept, IsSubscriber, IsFresh}
+use Rattle.moos_db.specs.Subscribers.{SubscriberState, kept_of, kept_own, kept_posts, kept_entry, empty_kept, is_posting, passes_by, IsSubscriber, IsFresh}
 use Rattle.moos_db.proofs.Catching.{kept_posts-own, fresh-own}
 use Rattle.moos_db.proofs.Keeping.{kept-entry}
 use Rattle.moos_mail.proofs.Appending.{any_in_order}
@@ -133,6 +135,23 @@ IsSubscriber-entry names history client old called posted entry seen there call 
     (sym (ap (λ (k : SubscriberState). record k { seen = seen }) (posts ∙ ap (λ k. kept_posts names entry.stamp entry.client k entry.call) call)
     ∙ ap (λ n. record (kept_posts names entry.stamp entry.client own entry.call) { seen = n }) next))
     (IsSubscriber-next names history client old entry there inbox)
+
+-- An entry that passes by changes nothing beside its posts.
+passing-own : (names : List (List ℕ)) (posts : List Post) (kept : SubscriberState) (own : Bool) (call : Call) → is_posting call || not own ≡ true →
+    kept ≡ (if own then kept_own names posts kept call else kept)
+passing-own names posts kept false call passes = refl
+passing-own names posts kept true (Register regs) passes = absurd (let e : false ≡ true = passes in cc)
+passing-own names posts kept true (Unregister var source) passes = absurd (let e : false ≡ true = passes in cc)
+passing-own names posts kept true (Posts batch) passes = refl
+passing-own names posts kept true Fetch passes = absurd (let e : false ≡ true = passes in cc)
+
+-- An inbox after the next entry, which passes by.
+pub IsSubscriber-passing : (names : List (List ℕ)) (history : History) (client : ℕ) (old posted : SubscriberState) (entry : Entry) (seen : ℕ) → slice_get history old.seen ≡ Some entry →
+    passes_by client entry ≡ true → posted ≡ kept_posts names entry.stamp entry.client old entry.call →
+    seen ≡ suc old.seen → IsSubscriber names history client old → IsSubscriber names history client (record posted { seen = seen })
+IsSubscriber-passing names history client old posted entry seen there passes posts next inbox =
+    IsSubscriber-entry names history client old old posted entry seen there
+    (passing-own names (take old.posts (posts_of history)) old (entry.client == client) entry.call passes) posts next inbox
 
 -- The posts that it has seen before those of the entry.
 pub posts-called : (names : List (List ℕ)) (history : History) (client : ℕ) (old called : SubscriberState) (entry : Entry) →

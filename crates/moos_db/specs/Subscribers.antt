@@ -1,5 +1,5 @@
 -- What is kept of one client: its inbox of the delivery rule, without the posts themselves.
-use Rattle.std.specs.Prelude.{◌≡◌, ℕ, suc, ◌≤◌, Bool, false, ◌&&◌, ◌==◌, not, if◌then◌else◌, List, [], ◌∷◌, ◌++◌, length, map, filter, fold, take, Option, None, Some, bytes_eq, slice_get}
+use Rattle.std.specs.Prelude.{◌≡◌, ℕ, suc, ◌≤◌, Bool, true, false, ◌&&◌, ◌||◌, ◌==◌, not, if◌then◌else◌, List, [], ◌∷◌, ◌++◌, length, map, filter, fold, take, Option, None, Some, bytes_eq, slice_get}
 use Rattle.std.specs.List.{list_any}
 use Rattle.moos_post.specs.declared.entry.Call.{Call}
 use Rattle.moos_post.specs.declared.entry.Call.TheVariants.{Register, Unregister, Post as Posts, Fetch}
@@ -164,6 +164,17 @@ kept_posts names stamp client kept (Register regs) = kept
 kept_posts names stamp client kept (Unregister var source) = kept
 kept_posts names stamp client kept (Posts batch) = kept_batch stamp (name_of names client) kept batch
 kept_posts names stamp client kept Fetch = kept
+
+-- the call posts
+abbrev pub is_posting : Call → Bool
+is_posting (Register regs) = false
+is_posting (Unregister var source) = false
+is_posting (Posts batch) = true
+is_posting Fetch = false
+
+-- of this entry the client needs to know no more than its posts: it is another one's, or a post
+abbrev pub passes_by : ℕ → Entry → Bool
+passes_by client entry = is_posting entry.call || not (entry.client == client)
 
 -- after one entry more, where these are the posts before it
 abbrev pub kept_entry : List (List ℕ) → ℕ → List Post → SubscriberState → Entry → SubscriberState

@@ -49,26 +49,6 @@ fn empty_subscribers(alloc: Global, clients: usize) -> Result<Vec<Subscriber>, N
     Ok(subscribers)
 }
 
-// The entry that was made last is seen for each client.
-fn deliver(
-    alloc: Global,
-    names: &Names,
-    log: &Log,
-    latest: &Latest,
-    variables: &Variables,
-    subscribers: &mut Vec<Subscriber>,
-)
-    requires few { length subscribers.old.items < 2 ^ 32 }
-    requires latest { IsLatest (posts_of log.now.entries) latest.now }
-    requires subscribers { AreSubscribers names.now log.now.entries subscribers.old.items }
-    ensures each { length subscribers.new.items ≡ length subscribers.old.items }
-    ensures subscribers { AreSubscribers names.now log.now.entries subscribers.new.items }
-{
-    for client in 0..subscribers.len() {
-        subscribers[client].follow(alloc, names, log, latest, variables, client as u32);
-    }
-}
-
 // The letter with the post that has this number.
 fn letter_at(alloc: Global, log: &Log, number: u64) -> Result<Letter, NoMemory>
     requires { number < length (posts_of log.now.entries) }
@@ -137,6 +117,36 @@ fn fetch(
     Ok(mail)
 }
 
+// Adds a call of the client that registers or withdraws. What is kept of the client sees all entries before it first, so
+// that it can see this one as soon as it is made.
+fn add_own(
+    alloc: Global,
+    names: &Names,
+    log: &mut Log,
+    latest: &Latest,
+    variables: &Variables,
+    subscribers: &mut Vec<Subscriber>,
+    entry: Entry,
+) -> Result<(), NoMemory>
+    requires within { entry.client < length subscribers.old.items }
+    requires latest { IsLatest (posts_of log.old.entries) latest.now }
+    requires subscribers { AreSubscribers names.now log.old.entries subscribers.old.items }
+    ensures ok { OnOk result (log.new ≡ record {
+      entries = log.old.entries ++ entry ∷ [];
+      letters = log.old.letters ++ [] ∷ [];
+    }) }
+    ensures same { OnErr result (log.new ≡ log.old) }
+    ensures each { length subscribers.new.items ≡ length subscribers.old.items }
+    ensures subscribers { AreSubscribers names.now log.new.entries subscribers.new.items }
+{
+    let client = entry.client;
+    let subscriber = &mut subscribers[client as usize];
+    subscriber.follow_all(alloc, names, log, variables, client)?;
+    log.append(alloc, entry)?;
+    subscriber.follow(alloc, names, log, latest, variables, client);
+    Ok(())
+}
+
 impl Db {
     ghost use Rattle.moos_db.specs.Database.{after_entry, pair_posted, origin_of, AreLetters};
 
@@ -156,23 +166,24 @@ impl Db {
         })
     }
 
-    // Adds an entry that is no fetch.
+    // Adds a call of the client that registers or withdraws.
     fn add(&mut self, alloc: Global, entry: Entry) -> Result<(), NoMemory>
-        requires { is_fetch entry.call ≡ false }
+        requires within { entry.client < length self.old.names }
+        requires other { is_fetch entry.call ≡ false }
         ensures ok { OnOk result (self.new ≡ after_entry self.old entry) }
         ensures same { OnErr result (self.new ≡ self.old) }
     {
         self.latest.see_posts(alloc, &self.log, self.log.posts())?;
-        self.log.append(alloc, entry)?;
         self.variables.see_posts(alloc, &self.log);
-        deliver(
+        add_own(
             alloc,
             &self.names,
-            &self.log,
+            &mut self.log,
             &self.latest,
             &self.variables,
             &mut self.subscribers,
-        );
+            entry,
+        )?;
         Ok(())
     }
 
@@ -248,14 +259,15 @@ impl Db {
         ensures same { OnErr result (self.new ≡ self.old) }
     {
         let call = Call::Post(batch);
-        self.add(
+        self.log.append(
             alloc,
             Entry {
                 stamp,
                 client,
                 call,
             },
-        )
+        )?;
+        Ok(())
     }
 
     /// The client is given all that was mailed to it since its fetch before, in the order of mailing.
@@ -270,7 +282,7 @@ impl Db {
         })) }
         ensures same { OnErr result (self.new ≡ self.old) }
     {
-        self.latest.see_posts(alloc, &self.log, self.log.posts())?;
+        self.variables.see_posts(alloc, &self.log);
         let mail = fetch(
             alloc,
             &self.names,
@@ -280,14 +292,6 @@ impl Db {
             client,
             stamp,
         )?;
-        deliver(
-            alloc,
-            &self.names,
-            &self.log,
-            &self.latest,
-            &self.variables,
-            &mut self.subscribers,
-        );
         Ok(mail)
     }
 

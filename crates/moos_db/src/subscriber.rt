@@ -1,7 +1,7 @@
-ghost use Rattle.std.specs.Prelude.{◌≡◌, suc, ◌+◌, ◌-◌, ◌^◌, ◌<◌, ◌≤◌, ◌==◌, [], false, length, take, not, ◌&&◌, ◌++◌, ◌∷◌, IfOk, OnOk, OnErr, Some, slice_get, if◌then◌else◌};
+ghost use Rattle.std.specs.Prelude.{◌≡◌, suc, ◌+◌, ◌-◌, ◌^◌, ◌<◌, ◌≤◌, ◌==◌, [], true, false, length, take, not, ◌&&◌, ◌++◌, ◌∷◌, IfOk, OnOk, OnErr, Some, slice_get, if◌then◌else◌};
 ghost use Rattle.std.specs.List.{list_any};
 ghost use Rattle.moos_post.specs.History.{name_of, posts_of, posts_of_entry};
-ghost use Rattle.moos_db.specs.Subscribers.{IsSubscriber, is_new_held};
+ghost use Rattle.moos_db.specs.Subscribers.{IsSubscriber, is_new_held, passes_by};
 ghost use Rattle.moos_db.specs.Tables.{IsLatest, rows_of};
 
 use crate::latest::Latest;
@@ -16,8 +16,9 @@ use std::marker::Model;
 // What is kept of one client: how many entries were seen for it, how many posts there were in these, its live
 // registrations in the order in which they were made, and its mailbox.
 //
-// Each entry is seen as soon as it is made: a post by all of the client's live registrations, and a registration by the
-// latest post of each variable. Where memory ends on the way all this begins anew, and is made from the history when
+// A registration is seen as soon as it is made, and is tried on the latest post of each variable. The posts are seen when
+// the client itself next registers, withdraws or fetches: all that came since, one after another, so that what is kept of
+// one client is at hand for them all. Where memory ends on the way all this begins anew, and is made from the history when
 // the client fetches next.
 #[derive(Drop)]
 pub(crate) struct Subscriber {
@@ -49,6 +50,13 @@ fn source_of(names: &Names, client: u32) -> &[u8]
         Some(name) => name.bytes(),
         None => &[],
     }
+}
+
+// Whether the client needs to know no more of the entry than its posts: it is another one's, or a post.
+fn passes_by(entry: &Entry, client: u32) -> bool
+    ensures { result ≡ passes_by client entry.now }
+{
+    matches!(&entry.call, Call::Post(_)) || entry.client != client
 }
 
 impl Subscriber {
@@ -364,7 +372,53 @@ impl Subscriber {
         }
     }
 
-    // All entries. Without memory the client stays as it was.
+    // The next entry, this one, of which the client needs to know no more than its posts.
+    fn see_passing(
+        &mut self,
+        alloc: Global,
+        names: &Names,
+        log: &Log,
+        variables: &Variables,
+        client: u32,
+        entry: &Entry,
+    ) -> Result<(), NoMemory>
+        requires subscriber { IsSubscriber names.now log.now.entries client self.old }
+        requires next { slice_get log.now.entries self.old.seen ≡ Some entry.now }
+        requires passing { passes_by client entry.now ≡ true }
+        requires fits { length (posts_of log.now.entries) < 2 ^ 64 }
+        requires few { length log.now.entries < 2 ^ 64 - 1 }
+        ensures subscriber { IfOk result (λ _. IsSubscriber names.now log.now.entries client self.new) }
+        ensures next { IfOk result (λ _. self.new.seen ≡ suc self.old.seen) }
+    {
+        let seen = self.seen;
+        self.see_posts(alloc, names, variables, entry)?;
+        self.seen = seen + 1;
+        Ok(())
+    }
+
+    // The entries up to the next that is a call of the client's own other than a post.
+    fn follow_passing(
+        &mut self,
+        alloc: Global,
+        names: &Names,
+        log: &Log,
+        variables: &Variables,
+        client: u32,
+    ) -> Result<(), NoMemory>
+        requires { IsSubscriber names.now log.now.entries client self.old }
+        ensures { IfOk result (λ _. IsSubscriber names.now log.now.entries client self.new) }
+    {
+        'entries: while self.seen < log.len() as u64 {
+            let entry = log.entry(self.seen as usize);
+            if !passes_by(entry, client) {
+                return Ok(());
+            }
+            self.see_passing(alloc, names, log, variables, client, entry)?;
+        }
+        Ok(())
+    }
+
+    // All entries. Without memory what is kept begins anew.
     pub fn follow_all(
         &mut self,
         alloc: Global,
@@ -378,6 +432,11 @@ impl Subscriber {
         ensures all { OnOk result (self.new.seen ≡ length log.now.entries) }
         ensures few { OnOk result (self.new.seen < 2 ^ 64 - 1) }
     {
+        let passed = self.follow_passing(alloc, names, log, variables, client);
+        if let Err(no_memory) = passed {
+            *self = Subscriber::new(alloc);
+            return Err(no_memory);
+        }
         if self.seen < log.len() as u64 {
             *self = made_anew(alloc, names, log, variables, client)?;
         }
