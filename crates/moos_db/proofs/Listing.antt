@@ -1,5 +1,5 @@
 -- The places of the registrations that a variable's list has, and a post that comes through these alone.
-use Rattle.std.proofs.Common.{◌≡◌, ℕ, suc, ◌+◌, ◌<◌, Bool, true, false, cond, ◌&&◌, ◌||◌, List, [], ◌∷◌, ◌++◌, append-nil, append_assoc, length, length-append, map, fold, take, get_or, All, Some, slice_get, set, refl, sym, ap, ◌∙◌, arith}
+use Rattle.std.proofs.Common.{◌≡◌, ℕ, suc, ◌+◌, ◌<◌, Bool, true, false, cond, ◌&&◌, ◌||◌, not, List, [], ◌∷◌, ◌++◌, append-nil, append_assoc, length, length-append, map, fold, take, get_or, All, Some, slice_get, set, refl, sym, ap, ◌∙◌, arith}
 use Rattle.std.specs.List.{list_any}
 use Rattle.std.proofs.Math.Seq.{take-suc}
 use Rattle.std.proofs.lemmas.List.{length-take}
@@ -8,7 +8,7 @@ use Rattle.std.proofs.lemmas.List.Sums.{fold-append}
 use Rattle.moos_post.specs.Patterns.{matches}
 use Rattle.std.proofs.lemmas.Option.{slice_get-get_or}
 use Rattle.moos_post.specs.Delivery.{is_past}
-use Rattle.moos_db.specs.Subscribers.{SubscriptionState, is_due_held, passed, with_stamp}
+use Rattle.moos_db.specs.Subscribers.{SubscriptionState, has_patterns, is_due_held, passed, with_stamp, without_held}
 use Rattle.moos_db.specs.Tables.{number_of}
 use Rattle.moos_db.specs.Index.{matching_from, pass_found, pass_place, Passing}
 
@@ -20,6 +20,16 @@ front-append false x all front back is = is
 front-all : {A : Type 0} (P : A → Type 0) (b : Bool) (x : A) (xs : List A) → P x → All P xs → All P (cond b (x ∷ xs) xs)
 front-all P true x xs here rest = All-cons P x xs here rest
 front-all P false x xs here rest = rest
+
+-- where no registration has both patterns none is withdrawn
+pub none-withdrawn : (var source : List ℕ) (helds : List SubscriptionState) → list_any (has_patterns var source) helds ≡ false → helds ≡ without_held var source helds
+none-withdrawn var source [] none = refl
+none-withdrawn var source (held ∷ helds) none = through (has_patterns var source held) none (none-withdrawn var source helds)
+  where
+    through : (has : Bool) → has || list_any (has_patterns var source) helds ≡ false → (list_any (has_patterns var source) helds ≡ false → helds ≡ without_held var source helds) →
+        held ∷ helds ≡ cond (not has) (held ∷ without_held var source helds) (without_held var source helds)
+    through true all rest = absurd (let e : true ≡ false = all in cc)
+    through false all rest = ap (λ more. held ∷ more) (rest all)
 
 -- one registration more goes last where its pattern matches
 matching-push : (place : ℕ) (var : List ℕ) (helds : List SubscriptionState) (held : SubscriptionState) →

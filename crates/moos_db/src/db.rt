@@ -15,6 +15,9 @@ use moos_post::{Batch, Call, Copied, Entry, Name, Names, NoMemory, Pair, Pattern
 use std::alloc::Global;
 use std::marker::Model;
 
+// So many entries are at hand in a processor's cache while one client after another sees them.
+const BLOCK: usize = 256;
+
 /// The database of a community's messages.
 ///
 /// Contracts see its clients' names by number and the history of the calls that it answered with Ok.
@@ -47,6 +50,29 @@ fn empty_subscribers(alloc: Global, clients: usize) -> Result<Vec<Subscriber>, N
         subscribers.push(Subscriber::new(alloc))?;
     }
     Ok(subscribers)
+}
+
+// Brings what is kept of each client up to date whenever so many entries more were made.
+fn follow_block(
+    alloc: Global,
+    names: &Names,
+    log: &Log,
+    variables: &mut Variables,
+    subscribers: &mut Vec<Subscriber>,
+)
+    requires few { length subscribers.old.items < 2 ^ 32 }
+    requires subscribers { AreSubscribers names.now log.now.entries subscribers.old.items }
+    ensures each { length subscribers.new.items ≡ length subscribers.old.items }
+    ensures subscribers { AreSubscribers names.now log.now.entries subscribers.new.items }
+{
+    if log.len() % BLOCK != 0 {
+        return;
+    }
+    variables.see_posts(alloc, log);
+    for client in 0..subscribers.len() {
+        // Without memory what is kept of the client has begun anew.
+        let _ = subscribers[client].follow_all(alloc, names, log, variables, client as u32);
+    }
 }
 
 // The letter with the post that has this number.
@@ -267,6 +293,13 @@ impl Db {
                 call,
             },
         )?;
+        follow_block(
+            alloc,
+            &self.names,
+            &self.log,
+            &mut self.variables,
+            &mut self.subscribers,
+        );
         Ok(())
     }
 

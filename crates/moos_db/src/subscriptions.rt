@@ -1,6 +1,6 @@
 ghost use Rattle.std.specs.Prelude.{◌≡◌, [], map, fold, IfOk};
 ghost use Rattle.std.specs.List.{list_any};
-ghost use Rattle.moos_db.specs.Subscribers.{is_due_held, passed, is_new_held, caught, without_held, with_held};
+ghost use Rattle.moos_db.specs.Subscribers.{has_patterns, is_due_held, passed, is_new_held, caught, without_held, with_held};
 
 use crate::index::{Listed, list_var, pass_places, places_at};
 use crate::subscription::Subscription;
@@ -139,7 +139,14 @@ fn pass_new(
     Ok(())
 }
 
-// The registrations without the one that has both these patterns.
+// Whether one of the registrations has both these patterns.
+fn has_both(lives: &[Subscription], var: &Pattern, source: &Pattern) -> bool
+    ensures { result ≡ list_any (has_patterns var.now source.now) lives.now }
+{
+    lives.iter().any(|live| live.has_patterns(var, source))
+}
+
+// The registrations without the one that has both these patterns. Where there is none nothing moves.
 fn without(
     alloc: Global,
     lives: Vec<Subscription>,
@@ -148,6 +155,9 @@ fn without(
 ) -> Result<Vec<Subscription>, NoMemory>
     ensures { IfOk result (λ left. left.items ≡ without_held var.now source.now lives.items) }
 {
+    if !has_both(lives.as_slice(), var, source) {
+        return Ok(lives);
+    }
     let mut left = Vec::with_capacity(alloc, lives.len())?;
     for live in lives {
         if !live.has_patterns(var, source) {

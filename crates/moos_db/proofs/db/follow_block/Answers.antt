@@ -1,0 +1,15 @@
+use Rattle.std.proofs.Common.{◌∙◌, sym, subst, rules, length-set}
+use Rattle.moos_db.specs.Subscribers.{IsSubscriber}
+use Rattle.moos_db.proofs.Whole.{AreSubscribers-at, AreSubscribers-set}
+use Rattle.moos_db.proofs.db.follow_block.Goals as goal
+
+pub follow_all-requires : goal.follow_all-requires
+follow_all-requires c =
+    subst (IsSubscriber c.args.names.now c.args.log.now.entries c.loop-client.client) (sym c.index_mut.ensures.value)
+    (AreSubscribers-at _ _ c.loop-client.subscribers.items _ _ (search rules) c.loop-client.invariant.subscribers)
+
+pub loop-client-preserved : goal.loop-client-preserved
+loop-client-preserved c = record {
+  each = length-set c.loop-client.subscribers.items _ _ ∙ c.loop-client.invariant.each;
+  subscribers = AreSubscribers-set _ _ _ _ _ c.follow_all.ensures.subscriber c.loop-client.invariant.subscribers;
+}
