@@ -1,8 +1,8 @@
 -- Tables with a number for each variable: the stamps of the last posts that came through a registration, and the
 -- numbers of the latest posts.
-use Rattle.std.specs.Prelude.{◌≡◌, ℕ, suc, ◌≤◌, Bool, if◌then◌else◌, List, [], ◌∷◌, length, fold, find, take, Option, option_map, bytes_eq}
+use Rattle.std.specs.Prelude.{◌≡◌, ◌≢◌, None, ℕ, suc, ◌≤◌, Bool, if◌then◌else◌, List, [], ◌∷◌, length, fold, find, take, Option, option_map, bytes_eq}
 use Rattle.moos_post.specs.declared.value.Post.{Post}
-use Rattle.moos_post.specs.Delivery.{is_latest}
+use Rattle.moos_post.specs.Delivery.{is_latest, is_past}
 
 -- a variable and its number
 pub record Row : Type 0 where
@@ -22,6 +22,13 @@ abbrev pub with_row : List ℕ → ℕ → List Row → List Row
 with_row var number [] = record { var = var; number = number } ∷ []
 with_row var number (row ∷ rows) =
     if is_of var row then record row { number = number } ∷ rows else row ∷ with_row var number rows
+
+-- the variable has a number, and this one takes its place just where it passes: where that one is at least the interval
+-- below
+pub record IsPassed (var : List ℕ) (number interval : ℕ) (passes : Bool) (before after : List Row) : Type 0 where
+  pub stood : number_of var before ≢ None
+  pub past : passes ≡ is_past (number_of var before) number interval
+  pub rows : after ≡ (if passes then with_row var number before else before)
 
 -- the last stamp of each variable among the posts that came
 abbrev pub lasts_of : List Post → List Row

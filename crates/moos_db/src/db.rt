@@ -52,7 +52,7 @@ fn empty_subscribers(alloc: Global, clients: usize) -> Result<Vec<Subscriber>, N
     Ok(subscribers)
 }
 
-// Brings what is kept of each client up to date whenever so many entries more were made.
+// Brings what is kept of each client that has a registration up to date, whenever so many entries more were made.
 fn follow_block(
     alloc: Global,
     names: &Names,
@@ -70,8 +70,10 @@ fn follow_block(
     }
     variables.see_posts(alloc, log);
     for client in 0..subscribers.len() {
-        // Without memory what is kept of the client has begun anew.
-        let _ = subscribers[client].follow_all(alloc, names, log, variables, client as u32);
+        if subscribers[client].listens() {
+            // Without memory what is kept of the client has begun anew.
+            let _ = subscribers[client].follow_all(alloc, names, log, variables, client as u32);
+        }
     }
 }
 
@@ -284,7 +286,7 @@ impl Db {
         })) }
         ensures same { OnErr result (self.new ≡ self.old) }
     {
-        let call = Call::Post(batch);
+        let call = Call::Post(self.variables.share(alloc, &batch)?);
         self.log.append(
             alloc,
             Entry {

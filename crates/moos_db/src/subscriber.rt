@@ -75,6 +75,11 @@ impl Subscriber {
         }
     }
 
+    // Whether the client has a live registration, as far as was seen.
+    pub fn listens(&self) -> bool {
+        self.lives.any()
+    }
+
     // How many entries were seen.
     pub fn seen(&self) -> u64
         ensures { result ≡ self.now.seen }

@@ -4,7 +4,7 @@ ghost use Rattle.moos_db.specs.Subscribers.{picks, has_patterns, held_of_reg, wi
 
 use crate::table::Table;
 use moos_post::{Copied, Name, NoMemory, Pattern, Reg};
-use moos_reg::{due, matches};
+use moos_reg::matches;
 use std::alloc::Global;
 use std::marker::Model;
 
@@ -59,13 +59,6 @@ impl Subscription {
         })
     }
 
-    // Whether a post is due here: of this stamp and variable, from the client with this name.
-    pub fn is_due(&self, stamp: u64, var: &Name, source: &[u8]) -> bool
-        ensures { result ≡ is_due_held stamp var.now source.now self.now }
-    {
-        picks(&self.reg, var, source) && due(self.lasts.number_of(var), stamp, self.reg.interval)
-    }
-
     // Whether it was made at this entry and selects a post of this variable from the client with this name.
     pub fn is_new_for(&self, made: u64, var: &Name, source: &[u8]) -> bool
         ensures { result ≡ is_new_held made var.now source.now self.now }
@@ -106,11 +99,16 @@ impl Subscription {
         ensures due { IfOk result (λ due. due ≡ is_due_held stamp var.now source.now self.old) }
         ensures passed { IfOk result (λ _. self.new ≡ passed stamp var.now source.now self.old) }
     {
-        let due = self.is_due(stamp, var, source);
-        if due {
-            self.pass(alloc, stamp, var)?;
+        if !picks(&self.reg, var, source) {
+            return Ok(false);
         }
-        Ok(due)
+        match self.lasts.pass(var, stamp, self.reg.interval) {
+            Some(due) => Ok(due),
+            None => {
+                self.pass(alloc, stamp, var)?;
+                Ok(true)
+            }
+        }
     }
 
     // The post comes through where the registration is new and selects it.

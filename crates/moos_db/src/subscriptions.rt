@@ -42,6 +42,11 @@ impl Subscriptions {
         }
     }
 
+    // Whether there is one.
+    pub fn any(&self) -> bool {
+        !self.lives.is_empty()
+    }
+
     // A post of this stamp and variable, from the client with this name, comes through each registration at which it is
     // due. Tells whether there is one. The number is the one under which the variable's list is kept. Where memory ends on
     // the way there are no lists.

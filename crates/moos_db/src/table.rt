@@ -4,6 +4,7 @@ ghost use Rattle.moos_db.specs.Tables.{rows_of, latest_from};
 
 use indexmap::IndexMap;
 use moos_post::{Name, NoMemory};
+use moos_reg::due;
 use std::alloc::Global;
 use std::marker::Model;
 
@@ -24,7 +25,8 @@ impl Model for Table {
 }
 
 impl Table {
-    ghost use Rattle.moos_db.specs.Tables.{number_of, with_row};
+    ghost use Rattle.std.specs.Prelude.{Bool, None, Some};
+    ghost use Rattle.moos_db.specs.Tables.{IsPassed, number_of, with_row};
 
     pub fn new(alloc: Global) -> Table
         ensures { result ≡ [] }
@@ -39,6 +41,20 @@ impl Table {
         ensures { result ≡ number_of var.now self.now }
     {
         self.rows.get(var.bytes()).copied()
+    }
+
+    // This number takes the place of the variable's, where it has one and that is at least the interval below. Tells whether
+    // it does, where the variable has one.
+    pub fn pass(&mut self, var: &Name, number: u64, interval: u64) -> Option<bool>
+        ensures none { result ≡ None → (number_of var.now self.old ≡ None) × (self.new ≡ self.old) }
+        ensures passed { (passes : Bool) → result ≡ Some passes → IsPassed var.now number interval passes self.old self.new }
+    {
+        let Some(stands) = self.rows.get_mut(var.bytes()) else {
+            return None;
+        };
+        let passes = due(Some(*stands), number, interval);
+        *stands = if passes { number } else { *stands };
+        Some(passes)
     }
 
     // Gives the variable this number.
