@@ -1,3 +1,4 @@
 pub mod Draws
 pub mod Generated
 pub mod Stamps
+pub mod Survey

@@ -1,1 +1,2 @@
+pub mod SoleHistory
 pub mod Summary
