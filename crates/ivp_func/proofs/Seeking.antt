@@ -1,10 +1,13 @@
 -- The least piece that meets an area, sought in cells.
-use Rattle.std.proofs.Common.{◌≡◌, ℕ, zero, suc, ◌+◌, ◌<◌, ◌≤◌, true, false, Option, Some, None, List, [], ◌∷◌, ◌++◌, length, sym, subst, inl, inr, arith, IsTrue}
+use Rattle.std.proofs.Common.{◌≡◌, ℕ, zero, suc, ◌+◌, ◌-◌, ◌<◌, ◌≤◌, true, false, Option, Some, None, List, [], ◌∷◌, ◌++◌, length, length-append, take, drop, ap, ◌∙◌, sym, subst, inl, inr, arith, IsTrue}
 use Rattle.std.specs.Prelude.{slice_get, slice_index, IfSome, IfOk, Result, Ok, Err}
+use Rattle.std.specs.List.{slice_range}
 use Rattle.std.specs.Result.{result_ok}
 use Rattle.std.specs.Borrow.{Bor}
 use Rattle.std.specs.Option.{option_copied}
+use Rattle.std.proofs.Math.Seq.{drop-append_seam, take-length}
 use Rattle.std.proofs.lemmas.Bool.{cases_Bool, cases_lt}
+use Rattle.std.proofs.lemmas.List.{drop-append-le, length-drop, take-append-le}
 use Rattle.ivp_domain.specs.declared.axis.Axis.{Axis}
 use Rattle.ivp_domain.specs.declared.boxes.BoxN.{BoxN}
 use Rattle.ivp_domain.specs.declared.boxes.Point.{Point}
@@ -36,16 +39,34 @@ meeting_more pieces area from until next next' so_far one =
       ];
     }
 
--- the numbers of a cell are those of pieces
-pub cell_within : (pieces : List Piece) (place : BoxN) (cell : Cell) → IsCell pieces place cell → (k : ℕ) → k < length cell.numbers.items → slice_index cell.numbers.items k < length pieces
-cell_within pieces place cell is = subst (λ numbers. (k : ℕ) → k < length numbers → slice_index numbers k < length pieces) (sym is.listed) (listed_within pieces place)
+-- a cell's part of the numbers stays where more are added behind them
+pub cell_stays : (pieces : List Piece) (place : BoxN) (numbers more : List ℕ) (cell : Cell) → IsCell pieces numbers place cell → IsCell pieces (numbers ++ more) place cell
+cell_stays pieces place numbers more cell is =
+    let from : cell.from ≤ length numbers = omega (arith, is.order, is.within) in
+    let part : cell.to - cell.from ≤ length (drop cell.from numbers) = rw length-drop (omega (arith, is.within)) in
+    record {
+      area = is.area;
+      order = is.order;
+      within = rw length-append (omega (arith, is.within));
+      listed = ap (take (cell.to - cell.from)) (drop-append-le cell.from numbers more from) ∙ (take-append-le (cell.to - cell.from) (drop cell.from numbers) more part ∙ is.listed);
+    }
 
-pub cell_rising : (pieces : List Piece) (place : BoxN) (cell : Cell) → IsCell pieces place cell → IsRising cell.numbers.items
-cell_rising pieces place cell is = subst IsRising (sym is.listed) (listed_rising pieces place)
+-- what was added behind some numbers is its own part of all
+pub part_added : (numbers more : List ℕ) → slice_range (numbers ++ more) (length numbers) (length (numbers ++ more)) ≡ more
+part_added numbers more =
+    let count : length (numbers ++ more) - length numbers ≡ length more = rw length-append (omega arith) in
+    ap (take (length (numbers ++ more) - length numbers)) (drop-append_seam numbers more) ∙ (ap (λ n. take n more) count ∙ take-length more)
+
+-- the numbers of a cell are those of pieces
+pub cell_within : (pieces : List Piece) (place : BoxN) (numbers : List ℕ) (cell : Cell) → IsCell pieces numbers place cell → (k : ℕ) → k < length (slice_range numbers cell.from cell.to) → slice_index (slice_range numbers cell.from cell.to) k < length pieces
+cell_within pieces place numbers cell is = subst (λ (all : List ℕ). (k : ℕ) → k < length all → slice_index all k < length pieces) (sym is.listed) (listed_within pieces place)
+
+pub cell_rising : (pieces : List Piece) (place : BoxN) (numbers : List ℕ) (cell : Cell) → IsCell pieces numbers place cell → IsRising (slice_range numbers cell.from cell.to)
+cell_rising pieces place numbers cell is = subst IsRising (sym is.listed) (listed_rising pieces place)
 
 -- a piece that has a point of the area in the last cell
-in_last_cell : (axes : List Axis) (pieces : List Piece) (area : BoxN) (from next number n : ℕ) (cell : Cell) (piece : Piece) (p : Point) → is_box_of axes area ≡ true → IsCell pieces (cell_box axes number) cell → (share area cell.area ≡ true → NoneLess pieces area from next cell.numbers.items) → from ≤ n → slice_get pieces n ≡ Some piece → piece_has p piece ≡ true → has_point area p ≡ true → cell_at axes p ≡ number → next ≤ n
-in_last_cell axes pieces area from next number n cell piece p fits is looked above stands held inside same =
+in_last_cell : (axes : List Axis) (pieces : List Piece) (area : BoxN) (from next number n : ℕ) (numbers : List ℕ) (cell : Cell) (piece : Piece) (p : Point) → is_box_of axes area ≡ true → IsCell pieces numbers (cell_box axes number) cell → (share area cell.area ≡ true → NoneLess pieces area from next (slice_range numbers cell.from cell.to)) → from ≤ n → slice_get pieces n ≡ Some piece → piece_has p piece ≡ true → has_point area p ≡ true → cell_at axes p ≡ number → next ≤ n
+in_last_cell axes pieces area from next number n numbers cell piece p fits is looked above stands held inside same =
     let place = cell_box axes number in
     let in_place : has_point place p ≡ true = subst (λ k. has_point (cell_box axes k) p ≡ true) same (in_cell axes p (area_point axes area p fits inside)) in
     let in_area : has_point cell.area p ≡ true = subst (λ (b : BoxN). has_point b p ≡ true) (sym is.area) in_place in
@@ -55,11 +76,11 @@ in_last_cell axes pieces area from next number n cell piece p fits is looked abo
     subst (λ m. next ≤ m) kept.here (least kept.place kept.within (subst (λ m. from ≤ m) (sym kept.here) above) (subst (λ m. IsTrue (meets pieces area m)) (sym kept.here) met))
 
 -- a cell more was passed: it has no point of the area, or its numbers were looked at
-pub passed_cell : (axes : List Axis) (pieces : List Piece) (area : BoxN) (from next next' first number : ℕ) (cell : Cell) → is_box_of axes area ≡ true → IsCell pieces (cell_box axes number) cell → next' ≤ next → (share area cell.area ≡ true → NoneLess pieces area from next' cell.numbers.items) → NoneLessIn axes pieces area from next first number → NoneLessIn axes pieces area from next' first (number + 1)
-passed_cell axes pieces area from next next' first number cell fits is less looked so_far n piece p above stands held inside begin below =
+pub passed_cell : (axes : List Axis) (pieces : List Piece) (area : BoxN) (from next next' first number : ℕ) (numbers : List ℕ) (cell : Cell) → is_box_of axes area ≡ true → IsCell pieces numbers (cell_box axes number) cell → next' ≤ next → (share area cell.area ≡ true → NoneLess pieces area from next' (slice_range numbers cell.from cell.to)) → NoneLessIn axes pieces area from next first number → NoneLessIn axes pieces area from next' first (number + 1)
+passed_cell axes pieces area from next next' first number numbers cell fits is less looked so_far n piece p above stands held inside begin below =
     elim (cases_lt (cell_at axes p) number) [
       | inl before ↦ omega (arith, less, so_far n piece p above stands held inside begin before)
-      | inr last ↦ in_last_cell axes pieces area from next' number n cell piece p fits is looked above stands held inside (omega arith)
+      | inr last ↦ in_last_cell axes pieces area from next' number n numbers cell piece p fits is looked above stands held inside (omega arith)
     ]
 
 -- what is known behind some cells
@@ -67,19 +88,19 @@ pub record SoFar (axes : List Axis) (pieces : List Piece) (area : BoxN) (from fi
   pub meeting : IsMeeting pieces area from (length pieces) next
   pub least : NoneLessIn axes pieces area from next first number
 
-pub cell_looked : (axes : List Axis) (pieces : List Piece) (area : BoxN) (from next next' first number : ℕ) (cell : Cell) → is_box_of axes area ≡ true → IsCell pieces (cell_box axes number) cell → IsMeeting pieces area from next next' → NoneLess pieces area from next' cell.numbers.items → SoFar axes pieces area from first number next → SoFar axes pieces area from first (number + 1) next'
-cell_looked axes pieces area from next next' first number cell fits is one least so_far =
+pub cell_looked : (axes : List Axis) (pieces : List Piece) (area : BoxN) (from next next' first number : ℕ) (numbers : List ℕ) (cell : Cell) → is_box_of axes area ≡ true → IsCell pieces numbers (cell_box axes number) cell → IsMeeting pieces area from next next' → NoneLess pieces area from next' (slice_range numbers cell.from cell.to) → SoFar axes pieces area from first number next → SoFar axes pieces area from first (number + 1) next'
+cell_looked axes pieces area from next next' first number numbers cell fits is one least so_far =
     record {
       meeting = meeting_more pieces area from (length pieces) next next' so_far.meeting one;
-      least = passed_cell axes pieces area from next next' first number cell fits is one.most (λ _. least) so_far.least;
+      least = passed_cell axes pieces area from next next' first number numbers cell fits is one.most (λ _. least) so_far.least;
     }
 
-pub cell_apart : (axes : List Axis) (pieces : List Piece) (area : BoxN) (from next first number : ℕ) (cell : Cell) → is_box_of axes area ≡ true → IsCell pieces (cell_box axes number) cell → share area cell.area ≡ false → SoFar axes pieces area from first number next → SoFar axes pieces area from first (number + 1) next
-cell_apart axes pieces area from next first number cell fits is apart so_far =
+pub cell_apart : (axes : List Axis) (pieces : List Piece) (area : BoxN) (from next first number : ℕ) (numbers : List ℕ) (cell : Cell) → is_box_of axes area ≡ true → IsCell pieces numbers (cell_box axes number) cell → share area cell.area ≡ false → SoFar axes pieces area from first number next → SoFar axes pieces area from first (number + 1) next
+cell_apart axes pieces area from next first number numbers cell fits is apart so_far =
     let same : next ≤ next = omega arith in
     record {
       meeting = so_far.meeting;
-      least = passed_cell axes pieces area from next next first number cell fits is same (λ shared. absurd (cc)) so_far.least;
+      least = passed_cell axes pieces area from next next first number numbers cell fits is same (λ shared. absurd (cc)) so_far.least;
     }
 
 -- all cells of the area were passed

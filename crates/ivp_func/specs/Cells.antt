@@ -1,5 +1,6 @@
 -- What a grid keeps, and what is known of the least piece that meets an area while it is sought.
 use Rattle.std.specs.Prelude.{◌≡◌, ℕ, ◌<◌, ◌≤◌, Bool, ◌&&◌, nat_le, IsTrue, Some, List, length, slice_get, slice_index}
+use Rattle.std.specs.List.{slice_range}
 use Rattle.ivp_domain.specs.declared.axis.Axis.{Axis}
 use Rattle.ivp_domain.specs.declared.boxes.BoxN.{BoxN}
 use Rattle.ivp_domain.specs.declared.boxes.Point.{Point}
@@ -11,15 +12,17 @@ use Rattle.ivp_func.specs.declared.piece.Piece.{Piece}
 use Rattle.ivp_func.specs.Grids.{cell_at, cell_box, cells_of, meeting, meets}
 use Rattle.ivp_func.specs.Pieces.{piece_has}
 
--- a cell of this box has it, and the numbers of the pieces that share a point with it
-pub record IsCell (pieces : List Piece) (place : BoxN) (cell : Cell) : Type 0 where
+-- a cell of this box has it, and its part of the numbers is that of the pieces that share a point with it
+pub record IsCell (pieces : List Piece) (numbers : List ℕ) (place : BoxN) (cell : Cell) : Type 0 where
   pub area : cell.area ≡ place
-  pub listed : cell.numbers.items ≡ meeting pieces place
+  pub order : cell.from ≤ cell.to
+  pub within : cell.to ≤ length numbers
+  pub listed : slice_range numbers cell.from cell.to ≡ meeting pieces place
 
 -- the grid has each cell of its domain, by its number
 pub record IsGrid (pieces : List Piece) (grid : Grid) : Type 0 where
   pub count : length grid.cells.items ≡ cells_of grid.cuts
-  pub each : (number : ℕ) (cell : Cell) → slice_get grid.cells.items number ≡ Some cell → IsCell pieces (cell_box grid.cuts number) cell
+  pub each : (number : ℕ) (cell : Cell) → slice_get grid.cells.items number ≡ Some cell → IsCell pieces grid.numbers.items (cell_box grid.cuts number) cell
 
 -- each place of the area on this axis is one of the other box
 abbrev pub lies_on : ℕ → BoxN → BoxN → Bool

@@ -148,7 +148,7 @@ impl Func {
         requires { k < cells_of self.now.axes }
         ensures { result.now ≡ meeting self.now.pieces (cell_box self.now.axes k) }
     {
-        &self.grid.cells[k as usize].numbers
+        self.grid.numbers_of(&self.grid.cells[k as usize])
     }
 
     /// The least number from `from` on of a piece whose box shares a point with the area. `None`

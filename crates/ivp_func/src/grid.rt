@@ -1,5 +1,5 @@
-ghost use Rattle.std.specs.Prelude.{◌≡◌, ℕ, ◌+◌, ◌<◌, ◌≤◌, length, slice_index, IfOk, IfSome, IfNone, IsTrue, false};
-ghost use Rattle.std.specs.List.{All, filter};
+ghost use Rattle.std.specs.Prelude.{◌≡◌, ℕ, ◌+◌, ◌++◌, ◌<◌, ◌≤◌, length, slice_index, IfOk, IfSome, IfNone, IsTrue, false};
+ghost use Rattle.std.specs.List.{All, filter, slice_range};
 ghost use Rattle.ivp_domain.specs.declared.boxes.Point.{Point};
 ghost use Rattle.ivp_domain.specs.Boxes.{has_point, numbers_from};
 ghost use Rattle.ivp_func.specs.Cells.{IsGrid, IsLeast, IsMeeting, IsNear, IsRising, NoneLess, NoneLessIn, lies_in};
@@ -11,11 +11,12 @@ use crate::piece::Piece;
 use ivp_domain::{BoxN, Domain, Point};
 use std::alloc::{AllocError, Global};
 
-/// A cell: its box, and the numbers of the pieces whose boxes share a point with it, rising.
+/// A cell: its box, and from where to where the numbers of its pieces stand in the grid.
 #[derive(Debug, Drop)]
 pub(crate) struct Cell {
     pub(crate) area: BoxN,
-    pub(crate) numbers: Vec<u32>,
+    from: usize,
+    to: usize,
 }
 
 /// The cells of a domain by their numbers, and the pieces of each.
@@ -23,6 +24,8 @@ pub(crate) struct Cell {
 pub(crate) struct Grid {
     cuts: Cuts,
     pub(crate) cells: Vec<Cell>,
+    /// Of each cell the numbers of the pieces whose boxes share a point with it, rising; one cell behind the other.
+    numbers: Vec<u32>,
 }
 
 /// Where an area may lie in more cells than this, the pieces are looked at in order: it is large, and the next one is near.
@@ -50,17 +53,17 @@ fn meets(pieces: &[Piece], number: u32, area: &BoxN) -> bool
     share(area, &pieces[number as usize].area)
 }
 
-/// Those of these numbers whose pieces share a point with the area.
-fn meeting_of(
-    alloc: Global,
+/// These, and behind them those of the numbers whose pieces share a point with the area.
+fn with_meeting(
+    before: Vec<u32>,
     pieces: &[Piece],
     numbers: &[u32],
     area: &BoxN,
 ) -> Result<Vec<u32>, AllocError>
     requires { All (λ number. number < length pieces.now) numbers.now }
-    ensures { IfOk result (λ kept. kept.items ≡ filter (meets pieces.now area.now) numbers.now) }
+    ensures { IfOk result (λ kept. kept.items ≡ before.items ++ filter (meets pieces.now area.now) numbers.now) }
 {
-    let mut kept = Vec::new(alloc);
+    let mut kept = before;
     for number in numbers {
         if meets(pieces, *number, area) {
             kept.push(*number)?;
@@ -126,32 +129,39 @@ fn hull(one: &BoxN, other: &BoxN) -> BoxN
 /// What is near the cells from one, whose box is given, to the last one that stands in its row.
 fn near_row(
     alloc: Global,
+    cuts: &Cuts,
     pieces: &[Piece],
     all: &[u32],
+    number: usize,
     area: &BoxN,
-    last: &BoxN,
 ) -> Result<Near, AllocError>
     requires few { length pieces.now ≤ 4096 }
     requires all { all.now ≡ numbers_from 0 (length pieces.now) }
+    requires cell { number < cells_of cuts.now }
     ensures near { IfOk result (IsNear pieces.now) }
     ensures around { IfOk result (λ near. IsTrue (lies_in area.now near.around)) }
 {
-    let around = hull(area, last);
-    let numbers = meeting_of(alloc, pieces, all, &around)?;
+    let count = cuts.cells();
+    let last = (number + (cuts.cells_a_row() - 1)).min(count - 1);
+    let around = hull(area, &cuts.cell_box(last));
+    let numbers = with_meeting(Vec::new(alloc), pieces, all, &around)?;
     Ok(Near { around, numbers })
 }
 
-/// What is near a cell: the same as before where the cell lies there, or else what is near its row from it on.
+/// What is near a cell, whose box is given: the same as before where the cell lies there, or else what is near its row from
+/// it on.
 fn near_cell(
     alloc: Global,
+    cuts: &Cuts,
     pieces: &[Piece],
     all: &[u32],
     near: Near,
+    number: usize,
     area: &BoxN,
-    last: &BoxN,
 ) -> Result<Near, AllocError>
     requires few { length pieces.now ≤ 4096 }
     requires all { all.now ≡ numbers_from 0 (length pieces.now) }
+    requires cell { number < cells_of cuts.now }
     requires near { IsNear pieces.now near }
     ensures near { IfOk result (IsNear pieces.now) }
     ensures around { IfOk result (λ near. IsTrue (lies_in area.now near.around)) }
@@ -159,7 +169,7 @@ fn near_cell(
     if lies_in(area, &near.around) {
         return Ok(near);
     }
-    near_row(alloc, pieces, all, area, last)
+    near_row(alloc, cuts, pieces, all, number, area)
 }
 
 impl Grid {
@@ -171,24 +181,32 @@ impl Grid {
     {
         let cuts = Cuts::of(domain);
         let count = cuts.cells();
-        let row = cuts.cells_a_row();
         let all = all_numbers(alloc, pieces)?;
         let mut cells = Vec::with_capacity(alloc, count)?;
-        let mut near = near_row(
-            alloc,
-            pieces,
-            &all,
-            &cuts.cell_box(0),
-            &cuts.cell_box((row - 1).min(count - 1)),
-        )?;
+        let mut numbers = Vec::new(alloc);
+        let mut near = near_row(alloc, &cuts, pieces, &all, 0, &cuts.cell_box(0))?;
         for number in 0..count {
             let area = cuts.cell_box(number);
-            let last = cuts.cell_box((number + (row - 1)).min(count - 1));
-            near = near_cell(alloc, pieces, &all, near, &area, &last)?;
-            let numbers = meeting_of(alloc, pieces, &near.numbers, &area)?;
-            cells.push(Cell { area, numbers })?;
+            near = near_cell(alloc, &cuts, pieces, &all, near, number, &area)?;
+            let from = numbers.len();
+            numbers = with_meeting(numbers, pieces, &near.numbers, &area)?;
+            let to = numbers.len();
+            cells.push(Cell { area, from, to })?;
         }
-        Ok(Grid { cuts, cells })
+        Ok(Grid {
+            cuts,
+            cells,
+            numbers,
+        })
+    }
+
+    /// The numbers of the pieces of a cell.
+    pub(crate) fn numbers_of(&self, cell: &Cell) -> &[u32]
+        requires order { cell.now.from ≤ cell.now.to }
+        requires within { cell.now.to ≤ length self.now.numbers.items }
+        ensures { result.now ≡ slice_range self.now.numbers.items cell.now.from cell.now.to }
+    {
+        &self.numbers[cell.from..cell.to]
     }
 
     /// The first cell that may have points of an area: that of its low corner.
@@ -259,7 +277,7 @@ fn next_in_cells(
     for number in first..last + 1 {
         let cell = &grid.cells[number];
         if share(area, &cell.area) {
-            next = next_in(&cell.numbers, pieces, area, from, next);
+            next = next_in(grid.numbers_of(cell), pieces, area, from, next);
         }
     }
     next

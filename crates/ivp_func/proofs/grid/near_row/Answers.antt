@@ -3,7 +3,7 @@ use Rattle.std.specs.List.{All}
 use Rattle.ivp_func.proofs.Meetings.{numbers_below}
 use Rattle.ivp_func.proofs.grid.near_row.Goals as goal
 
-pub meeting_of-requires : goal.meeting_of-requires
-meeting_of-requires c =
+pub with_meeting-requires : goal.with_meeting-requires
+with_meeting-requires c =
     let count = length c.args.pieces.now in
     subst (λ (all : List ℕ). All (λ number. number < count) all) (sym c.requires.all) (numbers_below count)

@@ -1,4 +1,4 @@
-use Rattle.std.proofs.Common.{◌≡◌, ℕ, ◌<◌, List, length, Some, sym, ap, subst, ◌∙◌, arith, length-append}
+use Rattle.std.proofs.Common.{◌≡◌, ℕ, ◌<◌, ◌≤◌, ◌++◌, List, length, Some, sym, ap, subst, ◌∙◌, arith, length-append}
 use Rattle.std.specs.Prelude.{slice_get}
 use Rattle.std.specs.List.{All, filter}
 use Rattle.std.proofs.lemmas.List.Elements.{All-filter}
@@ -7,11 +7,11 @@ use Rattle.ivp_func.specs.declared.grid.Cell.{Cell}
 use Rattle.ivp_func.specs.Cells.{IsCell}
 use Rattle.ivp_func.specs.Grids.{cell_box, meeting, meets}
 use Rattle.ivp_func.proofs.Meetings.{listed_among, numbers_below}
-use Rattle.ivp_func.proofs.Seeking.{each_pushed}
+use Rattle.ivp_func.proofs.Seeking.{cell_stays, each_pushed, part_added}
 use Rattle.ivp_func.proofs.grid.Grid.make.Goals as goal
 
-pub meeting_of-requires : goal.meeting_of-requires
-meeting_of-requires c =
+pub with_meeting-requires : goal.with_meeting-requires
+with_meeting-requires c =
     let pieces = c.args.pieces.now in
     let near = c.in_ok-near-2.near in
     let same = c.deref-in-loop-number-2.ensures.value ∙ c.in_ok-near-2.ensures.near in
@@ -25,14 +25,26 @@ loop-number-preserved c =
     let near = c.in_ok-near-2.near in
     let area = c.cell_box-area.result in
     let cells = c.loop-number.cells.items in
-    let cell : Cell = record { area = area; numbers = c.in_ok-numbers.numbers } in
-    let among = c.in_ok-numbers.ensures ∙ (ap (filter (meets pieces area)) (c.deref-in-loop-number-2.ensures.value ∙ c.in_ok-near-2.ensures.near) ∙ listed_among pieces area near.around c.in_ok-near-2.ensures.around) in
-    let is : IsCell pieces (cell_box axes c.loop-number.number) cell = record { area = c.cell_box-area.ensures; listed = among ∙ ap (meeting pieces) c.cell_box-area.ensures } in
-    let last : IsCell pieces (cell_box axes (length cells)) cell = subst (λ n. IsCell pieces (cell_box axes n) cell) (sym c.loop-number.invariant.count) is in
+    let before = c.loop-number.numbers.items in
+    let after = c.in_ok-numbers.numbers.items in
+    let added : after ≡ before ++ meeting pieces area = c.in_ok-numbers.ensures ∙ ap (λ (part : List ℕ). before ++ part) (ap (filter (meets pieces area)) (c.deref-in-loop-number-2.ensures.value ∙ c.in_ok-near-2.ensures.near) ∙ listed_among pieces area near.around c.in_ok-near-2.ensures.around) in
+    let from : c.len-from.result ≡ length before = omega (arith, c.len-from.ensures, c.loop-number.numbers.ok) in
+    let to : c.len-to.result ≡ length after = omega (arith, c.len-to.ensures, c.in_ok-numbers.numbers.ok) in
+    let grows : length before ≤ length after = rw (added, length-append) (omega arith) in
+    let cell : Cell = record { area = area; from = c.len-from.result; to = c.len-to.result } in
+    let is : IsCell pieces after (cell_box axes c.loop-number.number) cell =
+    record {
+      area = c.cell_box-area.ensures;
+      order = omega (arith, from, to, grows);
+      within = omega (arith, to);
+      listed = rw (from, to) (rw added (part_added before (meeting pieces area))) ∙ ap (meeting pieces) c.cell_box-area.ensures;
+    } in
+    let last : IsCell pieces after (cell_box axes (length cells)) cell = subst (λ n. IsCell pieces after (cell_box axes n) cell) (sym c.loop-number.invariant.count) is in
+    let stay = λ (n : ℕ) (one : Cell) (e : slice_get cells n ≡ Some one). subst (λ (all : List ℕ). IsCell pieces all (cell_box axes n) one) (sym added) (cell_stays pieces (cell_box axes n) before (meeting pieces area) one (c.loop-number.invariant.each n one e)) in
     record {
       near = c.in_ok-near-2.ensures.near;
       count = rw (c.in_ok-push.ensures.items, length-append) (omega (arith, c.loop-number.invariant.count));
-      each = subst (λ (all : List Cell). (n : ℕ) (one : Cell) → slice_get all n ≡ Some one → IsCell pieces (cell_box axes n) one) (sym c.in_ok-push.ensures.items) (each_pushed (λ n one. IsCell pieces (cell_box axes n) one) cells cell c.loop-number.invariant.each last);
+      each = subst (λ (all : List Cell). (n : ℕ) (one : Cell) → slice_get all n ≡ Some one → IsCell pieces after (cell_box axes n) one) (sym c.in_ok-push.ensures.items) (each_pushed (λ n one. IsCell pieces after (cell_box axes n) one) cells cell stay last);
     }
 
 pub returns-clause-grid : goal.returns-clause-grid

@@ -10,5 +10,5 @@ invariant-loop-number l =
     record {
       near : IsNear l.pieces l.near;
       count : length l.cells.items ≡ l.number;
-      each : (number : ℕ) (cell : Cell) → slice_get l.cells.items number ≡ Some cell → IsCell l.pieces (cell_box l.cuts number) cell;
+      each : (number : ℕ) (cell : Cell) → slice_get l.cells.items number ≡ Some cell → IsCell l.pieces l.numbers.items (cell_box l.cuts number) cell;
     }
