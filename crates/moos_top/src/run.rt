@@ -187,6 +187,4 @@ pub fn written(meant: Status, put: Result<(), Failed>) -> Status
 }
 
 #[cfg(test)]
-mod scripts;
-#[cfg(test)]
 mod tests;

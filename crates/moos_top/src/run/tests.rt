@@ -1,6 +1,6 @@
 // Whole runs over folders and sinks in memory: what is written, and how each ends.
 use crate::run::run;
-use crate::status::{FileKind, Refusal, Status, code};
+use crate::status::{FileKind, Refusal, Status};
 use crate::words::{Word, Words};
 use moos_io::{Gate, MemFolder, MemSink, NoGate};
 use moos_text::Cause;
@@ -92,7 +92,7 @@ fn run_under<R: Threads + Wait + Sync + Abort, G: Gate>(
 }
 
 // Such a run ends so, and writes this.
-pub(super) fn ends_so<R: Threads + Wait + Sync + Abort>(
+fn ends_so<R: Threads + Wait + Sync + Abort>(
     rt: &R,
     alloc: Global,
     line: &[&str],
@@ -103,18 +103,6 @@ pub(super) fn ends_so<R: Threads + Wait + Sync + Abort>(
     let (ended, out) = run_on(rt, alloc, line, text)?;
     assert_eq!(rt; ended, status, "{line:?}: {text}");
     assert_eq!(rt; out.bytes(), written.as_bytes(), "{line:?}: {text}");
-    Ok(())
-}
-
-#[test]
-fn good_scripts_are_played(rt: HostRuntime) -> Result<(), Fail> {
-    for (text, written) in [
-        ("", "%% moosdb play 1\n%% end 0 0\n"),
-        (FIRST_SCRIPT, FIRST_REPORT),
-    ] {
-        let line = ["play", "f.txt"];
-        ends_so(&rt, rt.alloc(), &line, text, Status::Done, written)?;
-    }
     Ok(())
 }
 
@@ -202,21 +190,18 @@ fn decisions_are_checked(rt: HostRuntime) -> Result<(), Fail> {
 fn bad_files_are_refused(rt: HostRuntime) -> Result<(), Fail> {
     let heavy = levels(rt.alloc(), "10001")?;
     for (job, text, file, line, cause) in [
-        ("play", "0 a register X#", FileKind::Script, 1, Cause::S6),
         (
             "play",
-            "1 a fetch\n0 a fetch\n",
+            "1 a post X=1\n0.5 a fetch\n",
             FileKind::Script,
             2,
             Cause::S2,
         ),
-        (
-            "play",
-            "\n// nobody\n0 a post X=\n",
-            FileKind::Script,
-            3,
-            Cause::S5,
-        ),
+        ("play", "0 pHelmIvP fetch", FileKind::Script, 1, Cause::S9),
+        ("play", "0 a jump", FileKind::Script, 1, Cause::S3),
+        ("play", "0 a post X=\"open", FileKind::Script, 1, Cause::S5),
+        ("play", "0 a register N#", FileKind::Script, 1, Cause::S6),
+        ("play", "0 a register X -1", FileKind::Script, 1, Cause::S7),
         ("play", FIRST_PROBLEM, FileKind::Script, 1, Cause::S1),
         ("solve", "", FileKind::Problem, 1, Cause::P9),
         ("solve", heavy.as_str(), FileKind::Problem, 3, Cause::P6),
@@ -370,29 +355,7 @@ fn a_failed_put_leaves_a_front(rt: HostRuntime) -> Result<(), Fail> {
     leaves(&rt, rt.alloc(), "solve", FIRST_PROBLEM, "ivp 1\nd")
 }
 
-#[test]
-fn exit_statuses(rt: HostRuntime) {
-    let file = FileKind::Script;
-    let cause = Cause::S1;
-    for (status, number) in [
-        (Status::Done, 0),
-        (Status::CheckNo, 1),
-        (Status::Usage, 2),
-        (Status::LoadFault, 3),
-        (Status::WriteFault, 4),
-        (
-            Status::Refused(Refusal {
-                file,
-                line: 1,
-                cause,
-            }),
-            5,
-        ),
-        (Status::NoMemory, 6),
-    ] {
-        assert_eq!(rt; code(&status), number);
-    }
-}
-
+mod behaviors;
 mod beside;
 mod missions;
+mod scripts;

@@ -178,28 +178,20 @@ fn reports_are_of_the_history_that_came(rt: HostRuntime) -> Result<(), Fail> {
     Ok(())
 }
 
-/// Holds client 0 at its first call until client 1 is at its own, or lets go after a while; and notes a call of worker 2.
+/// Holds client 0 at its first call until client 1 is at its own, and, where three workers are wanted, the first two at what
+/// comes behind the root until the third one is at a node; or lets go after a while.
 #[derive(Drop)]
 struct Watch {
+    workers: u32,
     other: AtomicBool,
-    missed: AtomicBool,
     third: AtomicBool,
+    missed: AtomicBool,
 }
 
-impl Gate for Watch {
-    fn at_node(&self, worker: u32, _nth: u64) {
-        if worker == 2 {
-            self.third.store(true, Ordering::SeqCst);
-        }
-    }
-
-    fn at_call(&self, client: u32, _nth: u64) {
-        if client == 1 {
-            self.other.store(true, Ordering::SeqCst);
-            return;
-        }
+impl Watch {
+    fn wait_for(&self, flag: &AtomicBool) {
         for _ in 0..100_000_000u32 {
-            if self.other.load(Ordering::SeqCst) {
+            if flag.load(Ordering::SeqCst) {
                 return;
             }
             spin_loop();
@@ -208,18 +200,37 @@ impl Gate for Watch {
     }
 }
 
-fn no_calls_yet() -> Watch {
+impl Gate for Watch {
+    fn at_node(&self, worker: u32, nth: u64) {
+        if worker == 2 {
+            self.third.store(true, Ordering::SeqCst);
+        } else if self.workers == 3 && (worker == 1 || nth > 0) {
+            self.wait_for(&self.third);
+        }
+    }
+
+    fn at_call(&self, client: u32, _nth: u64) {
+        if client == 1 {
+            self.other.store(true, Ordering::SeqCst);
+        } else {
+            self.wait_for(&self.other);
+        }
+    }
+}
+
+fn watching(workers: u32) -> Watch {
     Watch {
+        workers,
         other: AtomicBool::new(false),
-        missed: AtomicBool::new(false),
         third: AtomicBool::new(false),
+        missed: AtomicBool::new(false),
     }
 }
 
 // The two lines have stamps of their own, so in rounds the second client would wait for the first.
 #[test]
 fn a_race_has_no_rounds(rt: HostRuntime) -> Result<(), Fail> {
-    let gate = no_calls_yet();
+    let gate = watching(1);
     let line = ["play", "f.txt", "--race"];
     let (status, _) = run_under(&rt, rt.alloc(), &line, "0 a fetch\n1 b fetch\n", &gate)?;
     assert_eq!(rt; status, Status::Done);
@@ -227,17 +238,17 @@ fn a_race_has_no_rounds(rt: HostRuntime) -> Result<(), Fail> {
     Ok(())
 }
 
-// The root has a child for each of three workers.
+// The root has a child for each of three workers, of whom no one takes another's while he is held at his own.
 #[test]
 fn so_many_workers_as_are_asked_for(rt: HostRuntime) -> Result<(), Fail> {
     let problem =
         "ivp 1\ndomain a:0:2:3\nfunction 1\npiece 0 0 0 0\npiece 1 1 5 0\npiece 2 2 0 0\nend\n";
-    for (workers, third) in [("2", false), ("3", true)] {
-        let gate = no_calls_yet();
-        let line = ["solve", "f.txt", "--workers", workers];
+    for (workers, asked) in [(2, "2"), (3, "3")] {
+        let gate = watching(workers);
+        let line = ["solve", "f.txt", "--workers", asked];
         let (status, _) = run_under(&rt, rt.alloc(), &line, problem, &gate)?;
         assert_eq!(rt; status, Status::Done);
-        assert!(rt; gate.third.load(Ordering::SeqCst) == third);
+        assert!(rt; gate.third.load(Ordering::SeqCst) == (workers == 3));
     }
     Ok(())
 }

@@ -1,23 +1,24 @@
 // Runs with a mission: what is printed of a helm with modes, and which of the three files is told where one isn't good.
+use super::behaviors::ALPHA;
 use super::command_line;
 use crate::run::run;
 use crate::status::{FileKind, Refusal, Status};
 use moos_io::{MemFolder, MemSink, NoGate};
 use moos_text::Cause;
-use std::alloc::Global;
+use std::alloc::{AllocError, Global};
 use std::process::Abort;
 use std::str;
 use std::sync::Wait;
 use std::test::Fail;
 use std::thread::Threads;
 
-const SCRIPT: &str = "0 nav post DEPLOY=true # MOOS_MANUAL_OVERRIDE=false\n0.25 until\n";
+pub(super) const SCRIPT: &str = "0 nav post DEPLOY=true # MOOS_MANUAL_OVERRIDE=false\n0.25 until\n";
 
-const MISSION: &str =
-    "ProcessConfig = pHelmIvP\n{\nAppTick = 4\nbehaviors = b.bhv\ndomain = course:0:359:360\n}\n";
+pub(super) const MISSION: &str =
+    "ProcessConfig = pHelmIvP\n{\nAppTick = 4\nbehaviors = alpha.bhv\ndomain = course:0:359:360\n}\n";
 
 const FAST: &str =
-    "ProcessConfig = pHelmIvP\n{\nAppTick = 1000\nbehaviors = b.bhv\ndomain = course:0:359:360\n}\n";
+    "ProcessConfig = pHelmIvP\n{\nAppTick = 1000\nbehaviors = alpha.bhv\ndomain = course:0:359:360\n}\n";
 
 const MODES: &str = "set MODE = ACTIVE {\nDEPLOY = true\n} INACTIVE\n";
 
@@ -71,7 +72,7 @@ const ENDS: [&str; 5] = [
 ];
 
 // Runs these words beside these files, of which the empty ones aren't there.
-fn run_beside<R: Threads + Wait + Sync + Abort>(
+pub(super) fn run_beside<R: Threads + Wait + Sync + Abort>(
     rt: &R,
     alloc: Global,
     line: &[&str],
@@ -79,13 +80,13 @@ fn run_beside<R: Threads + Wait + Sync + Abort>(
 ) -> Result<(Status, MemSink), Fail> {
     let words = command_line(rt, alloc, line)?;
     let mut folder = MemFolder::make(alloc);
-    for (name, text) in ["s.txt", "m.moos", "b.bhv"].into_iter().zip(files) {
+    for (name, text) in ["s.txt", "m.moos", "alpha.bhv"].into_iter().zip(files) {
         assert!(rt; text.len() < 10_000);
         if text.len() > 0 {
             folder.add(alloc, name.as_bytes(), text.as_bytes())?;
         }
     }
-    let mut out = MemSink::make(alloc, 10_000, 10_000)?;
+    let mut out = MemSink::make(alloc, 1_000_000, 10_000)?;
     let status = run(rt, alloc, &words, &mut folder, &mut out, &NoGate);
     Ok((status, out))
 }
@@ -129,6 +130,19 @@ fn refused(file: FileKind, line: u32, cause: Cause) -> Status {
     Status::Refused(Refusal { file, line, cause })
 }
 
+// Played, these files end so, and nothing is written.
+fn is_told<R: Threads + Wait + Sync + Abort>(
+    rt: &R,
+    alloc: Global,
+    files: [&str; 3],
+    status: Status,
+) -> Result<(), Fail> {
+    let (ended, out) = run_beside(rt, alloc, &["play", "s.txt", "m.moos"], files)?;
+    assert_eq!(rt; ended, status);
+    assert_eq!(rt; out.bytes().len(), 0);
+    Ok(())
+}
+
 #[test]
 fn the_first_file_that_fails_is_told(rt: HostRuntime) -> Result<(), Fail> {
     for (files, status) in [
@@ -149,10 +163,65 @@ fn the_first_file_that_fails_is_told(rt: HostRuntime) -> Result<(), Fail> {
         ),
         (["19.999 until\n", FAST, ""], Status::LoadFault),
     ] {
-        let line = ["play", "s.txt", "m.moos"];
-        let (ended, out) = run_beside(&rt, rt.alloc(), &line, files)?;
-        assert_eq!(rt; ended, status);
-        assert_eq!(rt; out.bytes().len(), 0);
+        is_told(&rt, rt.alloc(), files, status)?;
+    }
+    Ok(())
+}
+
+// A text with the first of these words made another one, or ended before them.
+fn changed(alloc: Global, text: &str, old: &str, new: Option<&str>) -> Result<String, AllocError> {
+    match (text.split_once(old), new) {
+        (Some((before, behind)), Some(new)) => format!(in alloc; "{before}{new}{behind}"),
+        (Some((before, _)), None) => before.to_string(alloc),
+        (None, _) => text.to_string(alloc),
+    }
+}
+
+// The survey, each of its files changed so, ends so.
+fn survey_ends<R: Threads + Wait + Sync + Abort>(
+    rt: &R,
+    alloc: Global,
+    old: &str,
+    new: Option<&str>,
+    status: Status,
+) -> Result<(), Fail> {
+    let script = changed(alloc, ALPHA[0], old, new)?;
+    let mission = changed(alloc, ALPHA[1], old, new)?;
+    let behaviors = changed(alloc, ALPHA[2], old, new)?;
+    is_told(
+        rt,
+        alloc,
+        [script.as_str(), mission.as_str(), behaviors.as_str()],
+        status,
+    )
+}
+
+#[test]
+fn a_changed_survey_is_refused(rt: HostRuntime) -> Result<(), Fail> {
+    for (old, new, file, line, cause) in [
+        (
+            "  capture_radius = 2.0\n",
+            None,
+            FileKind::Behaviors,
+            30,
+            Cause::B2,
+        ),
+        (
+            "BHV_Waypoint",
+            Some("BHV_Way"),
+            FileKind::Behaviors,
+            4,
+            Cause::B3,
+        ),
+        (
+            "speed:0:4:41",
+            Some("speed:4:4:1"),
+            FileKind::Mission,
+            10,
+            Cause::M3,
+        ),
+    ] {
+        survey_ends(&rt, rt.alloc(), old, new, refused(file, line, cause))?;
     }
     Ok(())
 }
