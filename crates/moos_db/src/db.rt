@@ -286,7 +286,7 @@ impl Db {
         })) }
         ensures same { OnErr result (self.new ≡ self.old) }
     {
-        let call = Call::Post(self.variables.share(alloc, &batch)?);
+        let call = Call::Post(batch);
         self.log.append(
             alloc,
             Entry {
