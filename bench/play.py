@@ -7,11 +7,11 @@
     bench/play.py --helm [PROGRAM..]   scripts with a helm of 20,000 ticks, likewise
 
 For each length: one client that only posts; one that registers first and posts; and one that registers, posts, and
-fetches at every tenth line. Of many clients: 64 of 256 registrations each that hear none of 80,000 posts; 63 that hear
-each of 90,000; 8 of 256 registrations each, of which one selects each of 90,000 posts; 64 that make their calls at
-stamps of their own; and 64 in a race. With a helm that ticks four times a second: one client that posts once, so that
-nothing comes to a tick but the first; and 64 clients of 100,000 lines that the helm hears none of, or each; and the last in
-a race. Reports go to a file. Nothing here is part of the gate, and no figure is promised.
+fetches at every tenth line. Of many clients, each of which fetches once at the end: 64 of 256 registrations each that hear
+none of 80,000 posts; 63 that hear each of 90,000; and 8 of 256 registrations each, of which one selects each of 90,000
+posts. Further 64 that post at stamps of their own, and 64 in a race. With a helm that ticks four times a second: one client
+that posts once, so that nothing comes to a tick but the first; and 64 clients of 100,000 lines that the helm hears none of,
+or each; and the last in a race. Reports go to a file. Nothing here is part of the gate, and no figure is promised.
 """
 import os
 import subprocess
@@ -35,19 +35,22 @@ def fetched(lines):
     return ["0 pA register X"] + body
 
 
+def asked_and_fetched(clients, patterns, posted):
+    asked = [f"{client * 0.001:.3f} p{client} register {pattern}" for client in clients for pattern in patterns]
+    said = [f"{1 + k * 0.001:.3f} p0 post {pair}" for k, pair in enumerate(posted)]
+    return asked + said + [f"{100 + client * 0.001:.3f} p{client} fetch" for client in clients]
+
+
 def unheard():
-    asked = [f"0 p{client} register V{k}" for client in range(64) for k in range(256)]
-    return asked + [f"{1 + k * 0.001:.3f} p0 post X={k}" for k in range(80_000)]
+    return asked_and_fetched(range(64), [f"N{k}" for k in range(256)], [f"V{k % 256}={k}" for k in range(80_000)])
 
 
 def heard():
-    asked = [f"0 p{client} register X" for client in range(1, 64)]
-    return asked + [f"{1 + k * 0.001:.3f} p0 post X={k}" for k in range(90_000)]
+    return asked_and_fetched(range(1, 64), ["V*"], [f"V{k % 256}={k}" for k in range(90_000)])
 
 
 def chosen():
-    asked = [f"0 p{client} register V{k}" for client in range(8) for k in range(256)]
-    return asked + [f"{1 + k * 0.001:.3f} p0 post V{k % 256}={k}" for k in range(90_000)]
+    return asked_and_fetched(range(8), [f"V{k}" for k in range(256)], [f"V{k % 256}={k}" for k in range(90_000)])
 
 
 def apart():
