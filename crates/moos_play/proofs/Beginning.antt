@@ -1,5 +1,6 @@
 -- How a run begins.
-use Rattle.std.proofs.Common.{◌≡◌, ℕ, ◌+◌, ◌*◌, ◌^◌, ◌<◌, ◌≤◌, true, cond, List, [], ◌∷◌, ◌++◌, length, length-append, Option, None, Some, sym, ap, ◌∙◌, subst, arith}
+use Rattle.std.proofs.Common.{◌≡◌, ℕ, ◌+◌, ◌*◌, ◌^◌, ◌<◌, ◌≤◌, true, cond, List, [], ◌∷◌, ◌++◌, drop, length, length-append, Option, None, Some, sym, ap, ◌∙◌, subst, arith}
+use Rattle.std.proofs.lemmas.List.{drop_all}
 use Rattle.std.specs.Prelude.{codes, IfSome, option_map, option_to_list}
 use Rattle.moos_play.specs.declared.playing.Play.{Play}
 use Rattle.moos_play.specs.declared.run.HelmRun.{HelmRun}
@@ -58,5 +59,6 @@ new_steers names n s seen is empty = subst (λ (seen : History). Steers names s 
   stands = is.stands;
   many = sym is.ticks;
   own = sym (ap (λ b. cond b (opening_of (steering_of s)) [] ++ ticks_of (steering_of s) [] s.ticks) is.opened ∙ ap (λ n. ticks_of (steering_of s) [] n) is.ticks);
-  same = is.iterations ∙ sym (ap (λ n. iterations_of (plan_of s.helm) [] n) is.ticks);
+  few = omega (arith, is.told);
+  same = is.iterations ∙ sym (ap (drop s.told) (ap (λ n. iterations_of (plan_of s.helm) [] n) is.ticks) ∙ drop_all s.told [] (omega arith));
 })

@@ -45,7 +45,7 @@ grown_beside helm lines result before after whole on ok n other = at_ok result _
 pub stands_on : (names : List (List ℕ)) (number : ℕ) (steersman : Option Steersman) (history rest : History) → StandsAt names number steersman history → entries_of number rest ≡ [] → StandsAt names number steersman (history ++ rest)
 stands_on names number None history rest so none = filter-append (λ entry. entry.client == number) history rest ∙ ap (λ front. front ++ entries_of number rest) so ∙ none
 stands_on names number (Some s) history rest so none =
-    (so.0, so.1, steered_on names (steering_of s) s.helm s.opened s.ticks s.iterations history rest so.2 (subst (λ n. entries_of n rest ≡ []) (sym so.0) none))
+    (so.0, so.1, steered_on names (steering_of s) s.helm s.opened s.ticks s.told s.iterations history rest so.2 (subst (λ n. entries_of n rest ≡ []) (sym so.0) none))
 
 -- some lines are played
 pub lines_under : (order : Order) (script : Script) (lock : CommunityLock) (steersman : Option Steersman) (from to : ℕ) (lines : List Entry) (first after : SeatState) → (under : IsUnderWay order script lock steersman from first)
@@ -327,9 +327,9 @@ tick_under order script lock old new from first after valid under gathered on st
 
 -- the opening
 pub opened_first : (lock : CommunityLock) (number : ℕ) (result : Result (Unit {0}) AllocError) (old new : Steersman) (first after : SeatState) → KnowsNothing first → IsUnopened number old → IsGathered lock after → GoesOn (IsAlone old.number) first after
-    → steering_of new ≡ steering_of old → OnOk result (Steers lock.base new after.seen) → OnOk result ((new.opened ≡ true) × (new.ticks ≡ 0)) → OnOk result (HasOpened lock number (Some new) after)
-opened_first lock number (Err _) old new first after nothing is gathered on steering steers reached = tt
-opened_first lock number (Ok _) old new first after nothing is gathered on steering steers reached = record {
+    → steering_of new ≡ steering_of old → new.told ≡ old.told → OnOk result (Steers lock.base new after.seen) → OnOk result ((new.opened ≡ true) × (new.ticks ≡ 0)) → OnOk result (HasOpened lock number (Some new) after)
+opened_first lock number (Err _) old new first after nothing is gathered on steering told steers reached = tt
+opened_first lock number (Ok _) old new first after nothing is gathered on steering told steers reached = record {
   gathered = gathered;
   whole = on.whole;
   opened = on.later.1 ∙ ap (λ front. front ++ on.later.0) nothing.seen ∙ only_own old.number on.later.0 (λ n other. grown (IsAlone old.number) first after whole on n other)
@@ -338,6 +338,7 @@ opened_first lock number (Ok _) old new first after nothing is gathered on steer
       ∙ ap (λ n. opening_of (steering_of new) ++ ticks_of (steering_of new) (heard_of lock.base new.number after.seen) n) reached.1 ∙ append-nil (opening_of (steering_of new));
   steered = (ap (λ (helm : Steering). helm.client) steering ∙ is.own, reached.0, steers);
   ticks = (reached.1, subst (λ (helm : Steering). 1 ≤ helm.period) (sym steering) is.period);
+  told = told ∙ is.told;
 }
   where
     whole : IsWhole first

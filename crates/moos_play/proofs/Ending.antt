@@ -1,5 +1,5 @@
 -- The history of the lock once it is closed, and what makes a run over.
-use Rattle.std.proofs.Common.{◌≡◌, ◌≢◌, ℕ, ◌≤◌, ◌==◌, ◌++◌, Bool, true, false, cond, List, [], ◌∷◌, length, nat_lt, Option, None, Some, arith, refl, subst, sym, ap, ◌∙◌, append-nil, eq-eqb}
+use Rattle.std.proofs.Common.{◌≡◌, ◌≢◌, ℕ, ◌≤◌, ◌==◌, ◌++◌, Bool, true, false, cond, List, [], ◌∷◌, drop, length, nat_lt, Option, None, Some, arith, refl, subst, sym, ap, ◌∙◌, append-nil, eq-eqb}
 use Rattle.std.specs.Prelude.{IfSome, is_none, option_map}
 use Rattle.std.specs.List.{list_all}
 use Rattle.std.proofs.lemmas.Bool.{and_parts, false≢true}
@@ -17,7 +17,7 @@ use Rattle.moos_play.specs.declared.run.HelmRun.{HelmRun}
 use Rattle.moos_play.specs.declared.steersman.Steersman.{Steersman}
 use Rattle.moos_play.specs.Lawful.{heard_of, helm_number, IsLawful, iterations, iterations_of, KeepsOrder, moment_of, never_falls, opening, opening_of, Steering, steering_with, ticks, ticks_of, ticks_to}
 use Rattle.moos_play.specs.Rounds.{CommunityLock, IsWhole}
-use Rattle.moos_play.specs.Steered.{helm_of, IsAtPlay, IsUnderWay, iterations_in, KeepsTime, left_of, StandsAt, steering_of, ticks_left}
+use Rattle.moos_play.specs.Steered.{helm_of, IsAtPlay, IsUnderWay, iterations_in, KeepsTime, left_of, StandsAt, steering_of, ticks_left, told_in}
 use Rattle.moos_play.proofs.Coming.{lines_clients}
 use Rattle.moos_play.proofs.Histories.{none_left, own_rest}
 use Rattle.script_reader.specs.declared.script.Order.{Order}
@@ -85,14 +85,15 @@ lawful_over order script lock steersman from first under over ticked = record {
         ∙ ap (λ front. front ++ ticks_of (steering_of s) (heard_of lock.base s.number first.seen) (ticks_to script.stop (steering_of s))) (sym (own_opening (steering_of s)))))
 
 -- and so are the iterations
-pub iterations_over : (order : Order) (script : Script) (lock : CommunityLock) (steersman : Option Steersman) (from : ℕ) (first : SeatState) → IsUnderWay order script lock steersman from first → HasTicked script.stop steersman
+pub iterations_over : (order : Order) (script : Script) (lock : CommunityLock) (steersman : Option Steersman) (from : ℕ) (first : SeatState) → IsUnderWay order script lock steersman from first → HasTicked script.stop steersman → told_in steersman ≡ 0
     → iterations_in steersman ≡ iterations (helm_of steersman) script.stop (heard_of lock.base (helm_number script) first.seen)
-iterations_over order script lock steersman from first under ticked = by steersman under.steered ticked
+iterations_over order script lock steersman from first under ticked none = by steersman under.steered ticked none
   where
-    by : (s : Option Steersman) → StandsAt lock.base (helm_number script) s first.seen → HasTicked script.stop s → iterations_in s ≡ iterations (helm_of s) script.stop (heard_of lock.base (helm_number script) first.seen)
-    by None so ticked = refl
-    by (Some s) so ticked =
-        so.2.same ∙ ap (λ n. iterations_of (plan_of s.helm) (heard_of lock.base s.number first.seen) n) ticked
+    by : (s : Option Steersman) → StandsAt lock.base (helm_number script) s first.seen → HasTicked script.stop s → told_in s ≡ 0 → iterations_in s ≡ iterations (helm_of s) script.stop (heard_of lock.base (helm_number script) first.seen)
+    by None so ticked none = refl
+    by (Some s) so ticked none =
+        so.2.same ∙ ap (λ told. drop told (iterations_of (plan_of s.helm) (heard_of lock.base s.number first.seen) s.ticks)) none
+        ∙ ap (λ n. iterations_of (plan_of s.helm) (heard_of lock.base s.number first.seen) n) ticked
         ∙ ap (λ n. iterations_of (plan_of s.helm) (heard_of lock.base n first.seen) (ticks_to script.stop (steering_of s))) so.0
 
 -- nothing is left
@@ -111,10 +112,10 @@ lawful_end order script play helm names history at none order_is helm_is names_i
     (lawful_over play.order script play.lock play.steersman play.from play.first.seat at.under (omega (arith, none)) (over_ticks script play play.steersman at.period (omega (arith, none)))))))
 
 -- and its iterations are those of the history
-pub iterations_end : (script : Script) (play : Play) (helm : Option Steering) (names : List (List ℕ)) (history : History) (done : List Iteration) → IsAtPlay script play → left_of script play ≡ 0 → helm_of play.steersman ≡ helm
+pub iterations_end : (script : Script) (play : Play) (helm : Option Steering) (names : List (List ℕ)) (history : History) (done : List Iteration) → IsAtPlay script play → left_of script play ≡ 0 → told_in play.steersman ≡ 0 → helm_of play.steersman ≡ helm
     → names ≡ play.lock.base → history ≡ play.first.seat.seen → done ≡ iterations_in play.steersman → done ≡ iterations helm script.stop (heard_of names (helm_number script) history)
-iterations_end script play helm names history done at none helm_is names_is history_is done_is =
-    done_is ∙ iterations_over play.order script play.lock play.steersman play.from play.first.seat at.under (over_ticks script play play.steersman at.period (omega (arith, none)))
+iterations_end script play helm names history done at none untold helm_is names_is history_is done_is =
+    done_is ∙ iterations_over play.order script play.lock play.steersman play.from play.first.seat at.under (over_ticks script play play.steersman at.period (omega (arith, none))) untold
     ∙ ap (λ helm. iterations helm script.stop (heard_of play.lock.base (helm_number script) play.first.seat.seen)) helm_is
     ∙ ap (λ names. iterations helm script.stop (heard_of names (helm_number script) play.first.seat.seen)) (sym names_is)
     ∙ ap (λ history. iterations helm script.stop (heard_of names (helm_number script) history)) (sym history_is)

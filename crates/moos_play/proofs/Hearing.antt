@@ -1,5 +1,5 @@
 -- What a client hears in a history that goes on, and the helm's entries and iterations over that.
-use Rattle.std.proofs.Common.{◌≡◌, ℕ, zero, suc, ◌≤◌, ◌==◌, ◌&&◌, Bool, true, false, cond, List, [], ◌∷◌, ◌++◌, length, refl, sym, ap, ◌∙◌, arith, append-nil, append_assoc, eq-eqb, ◌*◌}
+use Rattle.std.proofs.Common.{◌≡◌, ℕ, zero, suc, ◌≤◌, ◌==◌, ◌&&◌, Bool, true, false, cond, List, [], ◌∷◌, ◌++◌, length, length-append, refl, sym, ap, ◌∙◌, arith, append-nil, append_assoc, eq-eqb, ◌*◌}
 use Rattle.std.proofs.lemmas.List.Elements.{filter-append}
 use Rattle.helm_core.proofs.Growing.{iteration_same}
 use Rattle.helm_core.specs.declared.iteration.Iteration.{Iteration}
@@ -92,6 +92,11 @@ heard_fetch names client old new stamp next =
 -- others go on
 pub heard_on : (names : List (List ℕ)) (client : ℕ) (history rest : History) → entries_of client rest ≡ [] → heard_of names client (history ++ rest) ≡ heard_of names client history
 heard_on names client history rest none = heard_before names client history rest none
+
+-- there is an iteration a tick
+pub iterations_many : (plan : Plan) (heard : List Tick) (n : ℕ) → length (iterations_of plan heard n) ≡ n
+iterations_many plan heard zero = refl
+iterations_many plan heard (suc n) = length-append (iterations_of plan heard n) (iteration_at plan heard n ∷ []) ∙ omega (arith, iterations_many plan heard n)
 
 -- the first ticks don't depend on what is heard later
 pub ticks_stay : (helm : Steering) (heard more : List Tick) (n : ℕ) → n ≤ length heard → ticks_of helm (heard ++ more) n ≡ ticks_of helm heard n

@@ -38,18 +38,18 @@ number_on seat after stamp call called = ap (λ s. s.number) called.after
 
 -- a helm that has heard nothing opens
 open_now : (names : List (List ℕ)) (s : Steersman) (old new : History) → s.opened ≡ false → s.ticks ≡ 0 → Steers names s old → heard_of names s.number new ≡ heard_of names s.number old
-    → entries_of s.number new ≡ entries_of s.number old ++ opening_of (steering_of s) → IsSteered names (steering_of s) s.helm true s.ticks s.iterations new
+    → entries_of s.number new ≡ entries_of s.number old ++ opening_of (steering_of s) → IsSteered names (steering_of s) s.helm true s.ticks s.told s.iterations new
 open_now names s old new opened ticks so heard entries =
-    subst (λ n. IsSteered names (steering_of s) s.helm true n s.iterations new) (sym ticks)
-    (opened_on names (steering_of s) s.helm s.iterations old new
-    (subst (λ n. IsSteered names (steering_of s) s.helm false n s.iterations old) ticks (subst (λ b. IsSteered names (steering_of s) s.helm b s.ticks s.iterations old) opened so)) heard entries)
+    subst (λ n. IsSteered names (steering_of s) s.helm true n s.told s.iterations new) (sym ticks)
+    (opened_on names (steering_of s) s.helm s.told s.iterations old new
+    (subst (λ n. IsSteered names (steering_of s) s.helm false n s.told s.iterations old) ticks (subst (λ b. IsSteered names (steering_of s) s.helm b s.ticks s.told s.iterations old) opened so)) heard entries)
 
 -- what is said of a steersman is said of it after more calls
-pub recounted : (names : List (List ℕ)) (s t : Steersman) (after seat : SeatState) → t ≡ record s { calls = t.calls } → seat ≡ after → IsSteered names (steering_of s) s.helm true s.ticks s.iterations after.seen
-    → IsSteered names (steering_of t) t.helm true t.ticks t.iterations seat.seen
+pub recounted : (names : List (List ℕ)) (s t : Steersman) (after seat : SeatState) → t ≡ record s { calls = t.calls } → seat ≡ after → IsSteered names (steering_of s) s.helm true s.ticks s.told s.iterations after.seen
+    → IsSteered names (steering_of t) t.helm true t.ticks t.told t.iterations seat.seen
 recounted names s t after seat is same so =
-    subst (λ (seat : SeatState). IsSteered names (steering_of t) t.helm true t.ticks t.iterations seat.seen) (sym same)
-    (subst (λ (t : Steersman). IsSteered names (steering_of t) t.helm true t.ticks t.iterations after.seen) (sym is) so)
+    subst (λ (seat : SeatState). IsSteered names (steering_of t) t.helm true t.ticks t.told t.iterations seat.seen) (sym same)
+    (subst (λ (t : Steersman). IsSteered names (steering_of t) t.helm true t.ticks t.told t.iterations after.seen) (sym is) so)
 
 -- calls are counted twice
 pub counted_twice : (s t u v : Steersman) → t ≡ record s { calls = t.calls } → u ≡ record t { calls = u.calls } → v ≡ u → v ≡ record s { calls = v.calls }
@@ -62,7 +62,7 @@ counted_once s t v first is = subst (λ (v : Steersman). v ≡ record s { calls 
 
 -- the opening without pairs to post
 pub opens_alone : (names : List (List ℕ)) (s : Steersman) (seat after : SeatState) (regs : List Reg) → s.opened ≡ false → s.ticks ≡ 0 → Steers names s seat.seen → seat.number ≡ s.number → HasOwn seat
-    → IsCalled seat after 0 (Register regs) → regs ≡ wants_of (plan_of s.helm) → length (plan_of s.helm).opening ≤ 0 → IsSteered names (steering_of s) s.helm true s.ticks s.iterations after.seen
+    → IsCalled seat after 0 (Register regs) → regs ≡ wants_of (plan_of s.helm) → length (plan_of s.helm).opening ≤ 0 → IsSteered names (steering_of s) s.helm true s.ticks s.told s.iterations after.seen
 opens_alone names s seat after regs opened ticks so is own called regs_is none =
     open_now names s seat.seen after.seen opened ticks so (heard_next names s.number seat.seen after.seen registering next refl)
     (entries_next s.number seat.seen after.seen registering next ∙ ap (λ regs. entries_of s.number seat.seen ++ entry_of s.number 0 (Register regs) ∷ []) regs_is
@@ -77,7 +77,7 @@ opens_alone names s seat after regs opened ticks so is own called regs_is none =
 -- the opening with pairs to post
 pub opens_posting : (names : List (List ℕ)) (s : Steersman) (seat between after : SeatState) (regs : List Reg) (pairs : List Pair) → s.opened ≡ false → s.ticks ≡ 0 → Steers names s seat.seen → seat.number ≡ s.number → HasOwn seat
     → IsCalled seat between 0 (Register regs) → regs ≡ wants_of (plan_of s.helm) → IsCalled between after 0 (Posts pairs) → pairs ≡ (plan_of s.helm).opening → 0 < length (plan_of s.helm).opening
-    → IsSteered names (steering_of s) s.helm true s.ticks s.iterations after.seen
+    → IsSteered names (steering_of s) s.helm true s.ticks s.told s.iterations after.seen
 opens_posting names s seat between after regs pairs opened ticks so is own called regs_is posted pairs_is some =
     open_now names s seat.seen after.seen opened ticks so (heard_next names s.number between.seen after.seen posting last refl ∙ heard_next names s.number seat.seen between.seen registering next refl)
     (entries_next s.number between.seen after.seen posting last ∙ ap (λ front. front ++ posting ∷ []) (entries_next s.number seat.seen between.seen registering next)
@@ -107,12 +107,12 @@ two_calls seat between after stamp later call other first second =
 pub ticks_once : (names : List (List ℕ)) (s t : Steersman) (helm : Helm) (seat between after : SeatState) (stamp : ℕ) (mail : List Letter) (iteration : Iteration) (posts : List Pair) (done : List Iteration)
     → t ≡ record s { helm = helm; calls = t.calls } → done ≡ t.iterations ++ iteration ∷ [] → stamp ≡ s.ticks * s.period → Steers names s seat.seen → seat.number ≡ s.number → HasOwn seat
     → IsFetched seat between names stamp mail → IsTicked s.helm helm stamp mail iteration → IsCalled between after stamp (Posts posts) → posts ≡ iteration.posts
-    → IsSteered names (steering_of t) t.helm t.opened (t.ticks + 1) done after.seen
+    → IsSteered names (steering_of t) t.helm t.opened (t.ticks + 1) t.told done after.seen
 ticks_once names s t helm seat between after stamp mail iteration posts done is done_is stamp_is so number own fetched ticked posted posts_is =
-    subst (λ done. IsSteered names (steering_of t) t.helm t.opened (t.ticks + 1) done after.seen) (sym done_is)
-    (subst (λ (t : Steersman). IsSteered names (steering_of t) t.helm t.opened (t.ticks + 1) (t.iterations ++ iteration ∷ []) after.seen) (sym is)
-    (subst (λ n. IsSteered names (steering_of (record s { helm = helm })) helm s.opened n (s.iterations ++ iteration ∷ []) after.seen) count
-    (subst (λ (plan : Plan). IsSteered names (record { client = s.number; plan = plan; period = s.period }) helm s.opened (suc s.ticks) (s.iterations ++ iteration ∷ []) after.seen) (sym ticked.plan) core)))
+    subst (λ done. IsSteered names (steering_of t) t.helm t.opened (t.ticks + 1) t.told done after.seen) (sym done_is)
+    (subst (λ (t : Steersman). IsSteered names (steering_of t) t.helm t.opened (t.ticks + 1) t.told (t.iterations ++ iteration ∷ []) after.seen) (sym is)
+    (subst (λ n. IsSteered names (steering_of (record s { helm = helm })) helm s.opened n s.told (s.iterations ++ iteration ∷ []) after.seen) count
+    (subst (λ (plan : Plan). IsSteered names (record { client = s.number; plan = plan; period = s.period }) helm s.opened (suc s.ticks) s.told (s.iterations ++ iteration ∷ []) after.seen) (sym ticked.plan) core)))
   where
     count : suc s.ticks ≡ s.ticks + 1
     count = omega arith
@@ -120,10 +120,10 @@ ticks_once names s t helm seat between after stamp mail iteration posts done is 
     called : IsCalled seat between stamp Fetch
     called = called_of seat between names stamp mail fetched
 
-    core : IsSteered names (steering_of s) helm s.opened (suc s.ticks) (s.iterations ++ iteration ∷ []) after.seen
+    core : IsSteered names (steering_of s) helm s.opened (suc s.ticks) s.told (s.iterations ++ iteration ∷ []) after.seen
     core =
         let first = subst (λ stamp. (next : IsNext s.number seat.seen between.seen (entry_of s.number stamp Fetch)) × (mail ≡ letters_after names s.number (seat.seen ++ next.between))) stamp_is (fetch_next s.number seat between names stamp mail number own fetched) in
         let last = subst (λ (posts : List Pair). IsNext s.number between.seen after.seen (entry_of s.number (s.ticks * s.period) (Posts posts))) posts_is
         (subst (λ stamp. IsNext s.number between.seen after.seen (entry_of s.number stamp (Posts posts))) stamp_is (call_next s.number between after stamp (Posts posts) (number_on seat between stamp Fetch called ∙ number) (called_own seat between stamp Fetch called) posted)) in
-        ticked_on names (steering_of s) s.helm helm s.opened s.ticks s.iterations seat.seen between.seen after.seen mail iteration so refl first.0 first.1
+        ticked_on names (steering_of s) s.helm helm s.opened s.ticks s.told s.iterations seat.seen between.seen after.seen mail iteration so refl first.0 first.1
         (subst (λ stamp. IsTicked s.helm helm stamp mail iteration) stamp_is ticked) last

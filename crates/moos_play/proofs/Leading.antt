@@ -88,7 +88,7 @@ known_first first n is = ap (λ b. cond b first.mine (events_in first.met n)) (e
 pub steers_on : (names : List (List ℕ)) (s : Steersman) (seat after : SeatState) → Steers names s seat.seen → HasOwn seat → seat.number ≡ s.number → Begins after.seen seat.seen → known_of after seat.number ≡ seat.mine
     → IsWhole after → Steers names s after.seen
 steers_on names s seat after so own number begins known whole =
-    subst (Steers names s) (sym begins.1) (steered_on names (steering_of s) s.helm s.opened s.ticks s.iterations seat.seen begins.0 so (subst (λ n. entries_of n begins.0 ≡ []) number none))
+    subst (Steers names s) (sym begins.1) (steered_on names (steering_of s) s.helm s.opened s.ticks s.told s.iterations seat.seen begins.0 so (subst (λ n. entries_of n begins.0 ≡ []) number none))
   where
     none : entries_of seat.number begins.0 ≡ []
     none = append_cancel_left (entries_of seat.number seat.seen) (entries_of seat.number begins.0) []

@@ -3,10 +3,12 @@ pub mod Mets
 pub mod Rounds
 pub mod Taking
 pub mod Played
+pub mod Handing
 pub mod Hearing
 pub mod Steering
 pub mod Helming
 pub mod Leading
+pub mod Lending
 pub mod Racing
 pub mod Histories
 pub mod Coming

@@ -1,6 +1,6 @@
 -- The helm's calls at its seat, one after the other.
-use Rattle.std.proofs.Common.{◌≡◌, ℕ, suc, ◌<◌, ◌≤◌, ◌==◌, ◌*◌, ◌+◌, Bool, true, false, cond, List, [], ◌∷◌, ◌++◌, length, length-append, nat_lt, refl, sym, ap, ◌∙◌, subst, arith, append-nil, append_assoc}
-use Rattle.std.proofs.lemmas.List.{append_cancel_left}
+use Rattle.std.proofs.Common.{◌≡◌, ℕ, suc, ◌<◌, ◌≤◌, ◌==◌, ◌*◌, ◌+◌, Bool, true, false, cond, List, [], ◌∷◌, ◌++◌, length, length-append, drop, nat_lt, refl, sym, ap, ◌∙◌, subst, arith, append-nil, append_assoc}
+use Rattle.std.proofs.lemmas.List.{append_cancel_left, drop-append-le}
 use Rattle.std.proofs.lemmas.List.Elements.{filter-append}
 use Rattle.std.proofs.lemmas.Bool.Decides.{nat_tests}
 use Rattle.helm_core.specs.declared.helm.Helm.{Helm}
@@ -21,7 +21,7 @@ use Rattle.moos_post.specs.History.{History, posts_of}
 use Rattle.moos_play.specs.Lawful.{Steering, heard_of, iterations_of, opening_of, ticks_of}
 use Rattle.moos_play.specs.Rounds.{Anything, HasMade, Makes}
 use Rattle.moos_play.specs.Steered.{HasOwn, IsSteered, opened_by}
-use Rattle.moos_play.proofs.Hearing.{entries_next, heard_fetch, heard_next, heard_on, IsNext, iterations_stay, ticks_stay}
+use Rattle.moos_play.proofs.Hearing.{entries_next, heard_fetch, heard_next, heard_on, IsNext, iterations_many, iterations_stay, ticks_stay}
 
 -- a seat makes whatever it makes
 pub anything : {added : List Entry} {before after : SeatState} → HasMade added before after → Makes Anything before after
@@ -73,9 +73,9 @@ called_own seat after stamp call called =
     eq_self n = grind (arith, nat_tests)
 
 -- others go on: the helm stands as it did
-pub steered_on : (names : List (List ℕ)) (helm : Steering) (state : Helm) (opened : Bool) (count : ℕ) (done : List Iteration) (history rest : History) → IsSteered names helm state opened count done history
-    → entries_of helm.client rest ≡ [] → IsSteered names helm state opened count done (history ++ rest)
-steered_on names helm state opened count done history rest so none =
+pub steered_on : (names : List (List ℕ)) (helm : Steering) (state : Helm) (opened : Bool) (count told : ℕ) (done : List Iteration) (history rest : History) → IsSteered names helm state opened count told done history
+    → entries_of helm.client rest ≡ [] → IsSteered names helm state opened count told done (history ++ rest)
+steered_on names helm state opened count told done history rest so none =
     let heard : heard_of names helm.client history ≡ heard_of names helm.client (history ++ rest) = sym (heard_on names helm.client history rest none) in
     record {
       clock = so.clock;
@@ -83,17 +83,19 @@ steered_on names helm state opened count done history rest so none =
       many = ap length (sym heard) ∙ so.many;
       own = filter-append (λ entry. entry.client == helm.client) history rest ∙ ap (λ end. entries_of helm.client history ++ end) none ∙ append-nil (entries_of helm.client history)
           ∙ so.own ∙ ap (λ heard. opened_by opened helm ++ ticks_of helm heard count) heard;
-      same = so.same ∙ ap (λ heard. iterations_of helm.plan heard count) heard;
+      few = so.few;
+      same = so.same ∙ ap (λ heard. drop told (iterations_of helm.plan heard count)) heard;
     }
 
 -- the opening: its entries come, and nothing is heard
-pub opened_on : (names : List (List ℕ)) (helm : Steering) (state : Helm) (done : List Iteration) (old new : History) → IsSteered names helm state false 0 done old
-    → heard_of names helm.client new ≡ heard_of names helm.client old → entries_of helm.client new ≡ entries_of helm.client old ++ opening_of helm → IsSteered names helm state true 0 done new
-opened_on names helm state done old new so heard entries = record {
+pub opened_on : (names : List (List ℕ)) (helm : Steering) (state : Helm) (told : ℕ) (done : List Iteration) (old new : History) → IsSteered names helm state false 0 told done old
+    → heard_of names helm.client new ≡ heard_of names helm.client old → entries_of helm.client new ≡ entries_of helm.client old ++ opening_of helm → IsSteered names helm state true 0 told done new
+opened_on names helm state told done old new so heard entries = record {
   clock = so.clock;
   stands = subst (StandsFor state) (sym heard) so.stands;
   many = ap length heard ∙ so.many;
   own = entries ∙ ap (λ front. front ++ opening_of helm) so.own ∙ sym (append-nil (opening_of helm));
+  few = so.few;
   same = so.same;
 }
 
@@ -111,11 +113,11 @@ opening_none helm none = ap (λ b. entry_of helm.client 0 (Register (wants_of he
     lt_none n h = grind (arith, nat_tests)
 
 -- one tick more
-pub ticked_on : (names : List (List ℕ)) (helm : Steering) (old new : Helm) (opened : Bool) (count : ℕ) (done : List Iteration) (before between after : History) (mail : List Letter) (iteration : Iteration)
-    → IsSteered names helm old opened count done before → plan_of old ≡ helm.plan → (fetched : IsNext helm.client before between (entry_of helm.client (count * helm.period) Fetch))
+pub ticked_on : (names : List (List ℕ)) (helm : Steering) (old new : Helm) (opened : Bool) (count told : ℕ) (done : List Iteration) (before between after : History) (mail : List Letter) (iteration : Iteration)
+    → IsSteered names helm old opened count told done before → plan_of old ≡ helm.plan → (fetched : IsNext helm.client before between (entry_of helm.client (count * helm.period) Fetch))
     → mail ≡ letters_after names helm.client (before ++ fetched.between) → IsTicked old new (count * helm.period) mail iteration
-    → IsNext helm.client between after (entry_of helm.client (count * helm.period) (Posts iteration.posts)) → IsSteered names helm new opened (suc count) (done ++ iteration ∷ []) after
-ticked_on names helm old new opened count done before between after mail iteration so plan fetched mail_is ticked posted = record {
+    → IsNext helm.client between after (entry_of helm.client (count * helm.period) (Posts iteration.posts)) → IsSteered names helm new opened (suc count) told (done ++ iteration ∷ []) after
+ticked_on names helm old new opened count told done before between after mail iteration so plan fetched mail_is ticked posted = record {
   clock = subst (λ clock. clock ≤ suc count * helm.period) (sym ticked.clock) (omega arith);
   stands = subst (StandsFor new) (sym heard) (ticked.stands start so.stands);
   many = ap length heard ∙ length-append start (tick ∷ []) ∙ omega (arith, so.many);
@@ -123,7 +125,10 @@ ticked_on names helm old new opened count done before between after mail iterati
       ∙ append_assoc (entries_of helm.client before) (fetching ∷ []) (posting ∷ []) ∙ ap (λ front. front ++ fetching ∷ posting ∷ []) so.own
       ∙ append_assoc (opened_by opened helm) (ticks_of helm start count) (fetching ∷ posting ∷ [])
       ∙ ap (λ ticks. opened_by opened helm ++ ticks) (ap (λ front. front ++ fetching ∷ posting ∷ []) ticks ∙ ap (λ (iteration : Iteration). ticks_of helm now count ++ fetching ∷ entry_of helm.client (count * helm.period) (Posts iteration.posts) ∷ []) answer);
-  same = ap (λ front. front ++ iteration ∷ []) (so.same ∙ sym (ap (λ heard. iterations_of helm.plan heard count) heard ∙ iterations_stay helm.plan start (tick ∷ []) count enough)) ∙ ap (λ iteration. iterations_of helm.plan now count ++ iteration ∷ []) answer;
+  few = omega (arith, so.few);
+  same = ap (λ front. front ++ iteration ∷ []) (so.same ∙ ap (drop told) (sym (ap (λ heard. iterations_of helm.plan heard count) heard ∙ iterations_stay helm.plan start (tick ∷ []) count enough)))
+      ∙ ap (λ iteration. drop told (iterations_of helm.plan now count) ++ iteration ∷ []) answer
+      ∙ sym (drop-append-le told (iterations_of helm.plan now count) (iteration_at helm.plan now count ∷ []) (omega (arith, so.few, iterations_many helm.plan now count)));
 }
   where
     start : List Tick

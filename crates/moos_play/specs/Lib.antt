@@ -1,3 +1,4 @@
 pub mod Lawful
+pub mod Plays
 pub mod Rounds
 pub mod Steered

@@ -25,18 +25,19 @@ abbrev pub opened_by : Bool → Steering → List Entry
 opened_by opened helm = if opened then opening_of helm else []
 
 -- After so many ticks a helm stands for what it has heard in a history, its entries there are its opening and those of
--- the ticks, and these are the iterations done.
-pub record IsSteered (names : List (List ℕ)) (helm : Steering) (state : Helm) (opened : Bool) (count : ℕ) (done : List Iteration) (history : History) : Type 0 where
+-- the ticks, and these are the iterations behind those that were handed out.
+pub record IsSteered (names : List (List ℕ)) (helm : Steering) (state : Helm) (opened : Bool) (count told : ℕ) (done : List Iteration) (history : History) : Type 0 where
   pub clock : clock_of state ≤ count * helm.period
   pub stands : StandsFor state (heard_of names helm.client history)
   pub many : length (heard_of names helm.client history) ≡ count
   pub own : entries_of helm.client history ≡ opened_by opened helm ++ ticks_of helm (heard_of names helm.client history) count
-  pub same : done ≡ iterations_of helm.plan (heard_of names helm.client history) count
+  pub few : told ≤ count
+  pub same : done ≡ drop told (iterations_of helm.plan (heard_of names helm.client history) count)
 
 -- the same of a steersman
 abbrev pub Steers : List (List ℕ) → Steersman → History → Type 0
 Steers names steersman history =
-    IsSteered names (steering_of steersman) steersman.helm steersman.opened steersman.ticks steersman.iterations history
+    IsSteered names (steering_of steersman) steersman.helm steersman.opened steersman.ticks steersman.told steersman.iterations history
 
 -- the history of the seat has of its own number just the seat's entries
 abbrev pub HasOwn : SeatState → Type 0
@@ -57,6 +58,7 @@ pub record MaySteer (lock : CommunityLock) (seat : SeatState) (steersman : Steer
 pub record HasSteered {E : Type 0} (lock : CommunityLock) (ticks : ℕ) (before after : SeatState) (old new : Steersman) (result : Result (Unit {0}) E) : Type 0 where
   pub made : Makes Anything before after
   pub same : steering_of new ≡ steering_of old
+  pub told : new.told ≡ old.told
   pub own : OnOk result (HasOwn after)
   pub steered : OnOk result (Steers lock.base new after.seen)
   pub reached : OnOk result ((new.opened ≡ true) × (new.ticks ≡ ticks))
@@ -149,6 +151,7 @@ pub record IsUnopened (number : ℕ) (steersman : Steersman) : Type 0 where
   pub own : steersman.number ≡ number
   pub opened : steersman.opened ≡ false
   pub ticks : steersman.ticks ≡ 0
+  pub told : steersman.told ≡ 0
   pub iterations : steersman.iterations ≡ []
   pub stands : StandsFor steersman.helm []
   pub period : 1 ≤ steersman.period
@@ -160,6 +163,7 @@ pub record HasOpened (lock : CommunityLock) (number : ℕ) (steersman : Option S
   pub opened : first.seen ≡ opening (helm_of steersman)
   pub steered : StandsAt lock.base number steersman first.seen
   pub ticks : IfSome steersman (λ helm. (helm.ticks ≡ 0) × (1 ≤ helm.period))
+  pub told : IfSome steersman (λ helm. helm.told ≡ 0)
 
 -- A run of a script between two rounds, with a seat and a count of calls for each client.
 pub record IsAtPlay (script : Script) (play : Play) : Type 0 where
@@ -168,8 +172,14 @@ pub record IsAtPlay (script : Script) (play : Play) : Type 0 where
   pub seats : length play.lock.base ≡ length script.names + length (option_to_list play.steersman)
   pub period : IfSome play.steersman (λ helm. (1 ≤ helm.period) × (helm.ticks ≤ ticks_to script.stop (steering_of helm)))
 
+-- how many iterations were handed out
+abbrev pub told_in : Option Steersman → ℕ
+told_in None = 0
+told_in (Some steersman) = steersman.told
+
 -- what stays the same from round to round
 pub record GoesOnWith (before after : Play) : Type 0 where
+  pub script : after.script.now ≡ before.script.now
   pub lock : after.lock ≡ before.lock
   pub order : after.order ≡ before.order
   pub helm : helm_of after.steersman ≡ helm_of before.steersman

@@ -5,19 +5,23 @@
 //! over what it heard in this history, nobody else has one, and in order Stamp no stamp goes back.
 //!
 //! Reading order: `player`, one client's calls; `round`, the clients of a round beside each other; `steersman`, the helm's
-//! calls; `race`, the helm beside the clients; `seats`, how a run begins; `stamps`, what is next; `playing`, from round to
-//! round; `run`, the whole.
+//! calls; `race`, the helm beside the clients; `seats`, how a run begins; `stamps`, what is next; `playing`, from one step to
+//! the next; `by_round`, a run that is played round by round; `run`, the whole.
 #![tactic(auto)]
 
+mod by_round;
 mod player;
 mod playing;
 mod race;
 mod round;
+mod round_made;
 mod run;
 mod seats;
 mod stamps;
 mod steersman;
 
+pub use playing::Play;
+pub use round_made::Round;
 pub use run::{HelmRun, Ran, play};
 pub use script_reader::Order;
 pub use steersman::Iterations;

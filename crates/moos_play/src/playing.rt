@@ -1,8 +1,8 @@
-// A run from round to round: the clients' lines and the helm's ticks, in the order that was asked for.
+// A run from one step to the next: the clients' lines and the helm's ticks, in the order that was asked for.
 ghost use Rattle.std.specs.Prelude.{◌≡◌, ◌≢◌, ◌<◌, ◌≤◌, None, Ok, true, false, drop, length, option_map, IfOk, OnOk, IfSome};
-ghost use Rattle.moos_play.specs.Lawful.{names_with, steering_with, MayStart};
-ghost use Rattle.moos_play.specs.Rounds.{IsGathered, IsWhole};
-ghost use Rattle.moos_play.specs.Steered.{GoesOnWith, helm_of, IsAtPlay, IsBehind, IsDue, iterations_in, left_of, tick_due};
+ghost use Rattle.moos_play.specs.Lawful.{names_with, opening, steering_with, MayStart};
+ghost use Rattle.moos_play.specs.Plays.{helm_in, history_in, IsBetween, IsSeated, clients_in, StaysSeated, untold_in};
+ghost use Rattle.moos_play.specs.Steered.{GoesOnWith, IsAtPlay, IsBehind, IsDue, left_of, tick_due, told_in};
 ghost use Rattle.script_reader.specs.Validity.{IsValid};
 
 use crate::player::Player;
@@ -22,10 +22,10 @@ use std::sync::Wait;
 use std::thread::Threads;
 use turn_lock::TurnLock;
 
-/// A run between two rounds: the seat of the first client, which has taken in all others, the helm where there is one, how
-/// many calls each of the other clients has made, and how many lines are played.
+/// A script that is played round by round. Between two rounds the seat of the first client has taken in all others.
 #[derive(Drop)]
-pub(crate) struct Play {
+pub struct Play<'a> {
+    pub(crate) script: &'a Script,
     pub(crate) lock: Lock,
     pub(crate) first: Player,
     pub(crate) steersman: Option<Steersman>,
@@ -34,23 +34,25 @@ pub(crate) struct Play {
     pub(crate) order: Order,
 }
 
-impl Play {
+impl<'a> Play<'a> {
     /// A run of this script that has yet to play its first line. The helm, where there is one, has made its opening.
-    pub(crate) fn make<R: Threads + Wait + Sync, G: Gate>(
+    pub fn make<R: Threads + Wait + Sync, G: Gate>(
         rt: &R,
         alloc: Global,
-        script: &Script,
+        script: &'a Script,
         helm: Option<HelmRun>,
         order: Order,
         gate: &G,
-    ) -> Result<Play, NoMemory>
+    ) -> Result<Play<'a>, NoMemory>
         requires valid { IsValid script.now }
         requires helm { IfSome helm MayStart }
         requires some { 0 < length (names_with script.now helm) }
+        ensures script { IfOk result (λ play. play.script.now ≡ script.now) }
         ensures order { IfOk result (λ play. play.order ≡ order) }
-        ensures names { IfOk result (λ play. play.lock.base ≡ names_with script.now helm) }
-        ensures helm { IfOk result (λ play. helm_of play.steersman ≡ option_map (steering_with script.now) helm) }
-        ensures at_play { IfOk result (IsAtPlay script.now) }
+        ensures names { IfOk result (λ play. clients_in play ≡ names_with script.now helm) }
+        ensures helm { IfOk result (λ play. helm_in play ≡ option_map (steering_with script.now) helm) }
+        ensures begun { IfOk result (λ play. history_in play ≡ opening (helm_in play)) }
+        ensures between { IfOk result IsBetween }
     {
         let clients = script.names.len() as u32;
         let names = names_for(alloc, script, &helm)?;
@@ -69,6 +71,7 @@ impl Play {
             ended: Ok(()),
         };
         Ok(Play {
+            script,
             lock,
             first,
             steersman,
@@ -78,9 +81,9 @@ impl Play {
         })
     }
 
-    /// Plays the next round: in order Stamp the lines of the next stamp or the helm's next tick, and in order Race
-    /// everything. It answers false where nothing was left.
-    pub(crate) fn round<R: Threads + Wait + Sync, G: Gate>(
+    /// Plays the next step: in order Stamp the lines of the next stamp or the helm's next tick, and in order Race
+    /// everything. It answers false where nothing was left. Also where memory is missing the first seat has all others.
+    pub(crate) fn go_on<R: Threads + Wait + Sync, G: Gate>(
         &mut self,
         rt: &R,
         alloc: Global,
@@ -93,8 +96,10 @@ impl Play {
         requires workers { (1 ≤ workers) × (workers ≤ 16) }
         ensures at_play { OnOk result (IsAtPlay script.now self.new) }
         ensures same { OnOk result (GoesOnWith self.old self.new) }
+        ensures told { OnOk result (told_in self.new.steersman ≡ told_in self.old.steersman) }
+        ensures seated { StaysSeated self.old self.new }
         ensures more { result ≡ Ok true → left_of script.now self.new < left_of script.now self.old }
-        ensures over { result ≡ Ok false → left_of script.now self.new ≡ 0 }
+        ensures over { result ≡ Ok false → (left_of script.now self.old ≡ 0) × (self.new ≡ self.old) }
     {
         let tick = tick_due(&self.steersman, script.stop);
         let to = due_end(script.lines.all(), self.from, tick);
@@ -125,6 +130,8 @@ impl Play {
         requires some { (self.old.from ≡ to) → (tick_due script.now.stop self.old.steersman ≢ None) }
         ensures at_play { OnOk result (IsAtPlay script.now self.new) }
         ensures same { OnOk result (GoesOnWith self.old self.new) }
+        ensures told { OnOk result (told_in self.new.steersman ≡ told_in self.old.steersman) }
+        ensures seated { StaysSeated self.old self.new }
         ensures more { OnOk result (left_of script.now self.new < left_of script.now self.old) }
     {
         if self.from < to {
@@ -149,6 +156,8 @@ impl Play {
         requires some { self.old.from < to }
         ensures at_play { OnOk result (IsAtPlay script.now self.new) }
         ensures same { OnOk result (GoesOnWith self.old self.new) }
+        ensures told { OnOk result (told_in self.new.steersman ≡ told_in self.old.steersman) }
+        ensures seated { StaysSeated self.old self.new }
         ensures more { OnOk result (left_of script.now self.new < left_of script.now self.old) }
     {
         let lines = &script.lines.all()[self.from..to];
@@ -174,6 +183,8 @@ impl Play {
         requires behind { IsBehind (tick_due script.now.stop self.old.steersman) (drop self.old.from script.now.lines) }
         ensures at_play { OnOk result (IsAtPlay script.now self.new) }
         ensures same { OnOk result (GoesOnWith self.old self.new) }
+        ensures told { OnOk result (told_in self.new.steersman ≡ told_in self.old.steersman) }
+        ensures seated { StaysSeated self.old self.new }
         ensures more { OnOk result (left_of script.now self.new < left_of script.now self.old) }
     {
         let Some(steersman) = &mut self.steersman else {
@@ -201,6 +212,8 @@ impl Play {
         requires race { self.old.order ≡ Order.Race }
         ensures at_play { OnOk result (IsAtPlay script.now self.new) }
         ensures same { OnOk result (GoesOnWith self.old self.new) }
+        ensures told { OnOk result (told_in self.new.steersman ≡ told_in self.old.steersman) }
+        ensures seated { StaysSeated self.old self.new }
         ensures over { OnOk result (left_of script.now self.new ≡ 0) }
     {
         if self.steersman.is_none() {
@@ -224,6 +237,8 @@ impl Play {
         requires none { self.old.steersman ≡ None }
         ensures at_play { OnOk result (IsAtPlay script.now self.new) }
         ensures same { OnOk result (GoesOnWith self.old self.new) }
+        ensures told { OnOk result (told_in self.new.steersman ≡ told_in self.old.steersman) }
+        ensures seated { StaysSeated self.old self.new }
         ensures over { OnOk result (left_of script.now self.new ≡ 0) }
     {
         let to = script.lines.len();
@@ -250,6 +265,8 @@ impl Play {
         requires some { self.old.steersman ≢ None }
         ensures at_play { OnOk result (IsAtPlay script.now self.new) }
         ensures same { OnOk result (GoesOnWith self.old self.new) }
+        ensures told { OnOk result (told_in self.new.steersman ≡ told_in self.old.steersman) }
+        ensures seated { StaysSeated self.old self.new }
         ensures over { OnOk result (left_of script.now self.new ≡ 0) }
     {
         let Some(steersman) = &mut self.steersman else {
@@ -267,15 +284,15 @@ impl Play {
         Ok(())
     }
 
-    /// Ends the run: its database with the history so far, and the helm's iterations.
-    pub(crate) fn end(self, alloc: Global) -> Ran
-        requires gathered { IsGathered self.lock self.first.seat }
-        requires whole { IsWhole self.first.seat }
-        ensures names { result.db.names ≡ self.lock.base }
-        ensures history { result.db.history ≡ self.first.seat.seen }
-        ensures iterations { result.iterations ≡ iterations_in self.steersman }
+    /// Ends the run: its database with the history so far, and those of the helm's iterations that no round has handed out.
+    pub fn end(self, alloc: Global) -> Ran
+        requires { IsSeated self }
+        ensures names { result.db.names ≡ clients_in self.entry }
+        ensures history { result.db.history ≡ history_in self.entry }
+        ensures iterations { result.iterations ≡ untold_in self.entry }
     {
         let Play {
+            script: _,
             lock,
             first,
             steersman,

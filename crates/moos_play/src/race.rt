@@ -44,6 +44,7 @@ pub(crate) fn race<R: Threads + Wait + Sync, G: Gate>(
     ensures goes_on { GoesOn (IsPlayedBeside steersman.old.number lines.now result) first.old.seat first.new.seat }
     ensures calls { length calls.new ≡ length calls.old }
     ensures same { steering_of steersman.new ≡ steering_of steersman.old }
+    ensures told { steersman.new.told ≡ steersman.old.told }
     ensures steered { OnOk result (Steers lock.now.base steersman.new first.new.seat.seen) }
     ensures reached { OnOk result ((steersman.new.opened ≡ true) × (steersman.new.ticks ≡ ticks)) }
 {

@@ -66,6 +66,6 @@ pub fn play<R: Threads + Wait + Sync, G: Gate>(
         return Ok(Ran { db, iterations });
     }
     let mut play = Play::make(rt, alloc, script, helm, order, gate)?;
-    while play.round(rt, alloc, script, workers, gate)? {}
+    while play.go_on(rt, alloc, script, workers, gate)? {}
     Ok(play.end(alloc))
 }

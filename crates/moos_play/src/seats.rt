@@ -49,6 +49,7 @@ pub(crate) fn steersman_for(alloc: Global, clients: u32, helm: Option<HelmRun>) 
         opened: false,
         ticks: 0,
         calls: 0,
+        told: 0,
         iterations: List::new(alloc),
     })
 }

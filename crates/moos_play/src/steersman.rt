@@ -17,7 +17,7 @@ use std::thread::Threads;
 pub type Iterations = List<Iteration>;
 
 /// The helm at play: its number, the milliseconds from one tick to the next, whether it has opened, how many ticks and
-/// how many calls it has made, and its iterations so far.
+/// how many calls it has made, how many of its iterations were handed out, and those after them.
 #[derive(Drop)]
 pub(crate) struct Steersman {
     pub(crate) helm: Helm,
@@ -26,6 +26,7 @@ pub(crate) struct Steersman {
     pub(crate) opened: bool,
     pub(crate) ticks: u64,
     pub(crate) calls: u64,
+    pub(crate) told: u64,
     pub(crate) iterations: Iterations,
 }
 
@@ -50,6 +51,7 @@ pub(crate) fn steer<R: Threads + Wait + Sync, G: Gate>(
     requires workers { (1 ≤ workers) × (workers ≤ 16) }
     ensures made { Makes Anything seat.old seat.new }
     ensures same { steering_of steersman.new ≡ steering_of steersman.old }
+    ensures told { steersman.new.told ≡ steersman.old.told }
     ensures own { OnOk result (HasOwn seat.new) }
     ensures steered { OnOk result (Steers lock.now.base steersman.new seat.new.seen) }
     ensures reached { OnOk result ((steersman.new.opened ≡ true) × (steersman.new.ticks ≡ ticks)) }
@@ -86,6 +88,7 @@ fn open<R: Wait, G: Gate>(
     requires opened { steersman.old.opened ≡ false → steersman.old.ticks ≡ 0 }
     ensures made { Makes Anything seat.old seat.new }
     ensures same { steering_of steersman.new ≡ steering_of steersman.old }
+    ensures told { steersman.new.told ≡ steersman.old.told }
     ensures own { OnOk result (HasOwn seat.new) }
     ensures steered { OnOk result (Steers lock.now.base steersman.new seat.new.seen) }
     ensures opened { OnOk result ((steersman.new.opened ≡ true) × (steersman.new.ticks ≡ steersman.old.ticks)) }
@@ -122,6 +125,7 @@ fn tick<R: Threads + Wait + Sync, G: Gate>(
     requires workers { (1 ≤ workers) × (workers ≤ 16) }
     ensures made { Makes Anything seat.old seat.new }
     ensures same { steering_of steersman.new ≡ steering_of steersman.old }
+    ensures told { steersman.new.told ≡ steersman.old.told }
     ensures own { OnOk result (HasOwn seat.new) }
     ensures steered { OnOk result (Steers lock.now.base steersman.new seat.new.seen) }
     ensures on { OnOk result ((steersman.new.opened ≡ steersman.old.opened) × (steersman.new.ticks ≡ steersman.old.ticks + 1)) }
@@ -162,6 +166,7 @@ pub(crate) fn lead<R: Threads + Wait + Sync, G: Gate>(
     ensures gathered { IsGathered lock.now first.new }
     ensures goes_on { GoesOn (IsAlone steersman.old.number) first.old first.new }
     ensures same { steering_of steersman.new ≡ steering_of steersman.old }
+    ensures told { steersman.new.told ≡ steersman.old.told }
     ensures steered { OnOk result (Steers lock.now.base steersman.new first.new.seen) }
     ensures reached { OnOk result ((steersman.new.opened ≡ true) × (steersman.new.ticks ≡ ticks)) }
 {

@@ -1,20 +1,32 @@
-use Rattle.std.proofs.Common.{◌≡◌, ◌∙◌, Err, ap, arith, length, nat_lt, refl, subst, sym, true}
+use Rattle.std.proofs.Common.{◌≡◌, ◌∙◌, [], Err, append-nil, ap, arith, length, nat_lt, refl, rules, subst, sym, true}
 use Rattle.std.specs.List.{list_all}
 use Rattle.moos_post.specs.declared.entry.Entry.{Entry}
 use Rattle.moos_play.specs.Lawful.{Steering}
-use Rattle.moos_play.specs.Rounds.{AreBusy, IsPlayedBeside, times_met}
+use Rattle.moos_client.specs.Calls.{entries_of}
+use Rattle.moos_play.specs.Rounds.{AreBusy, GoesOn, IsPlayedBeside, times_met}
 use Rattle.moos_play.specs.Steered.{HasOwn, Steers}
 use Rattle.moos_play.proofs.Leading.{known_met, led_steered}
 use Rattle.moos_play.proofs.Played.{ok_part}
 use Rattle.moos_play.proofs.Racing.{alone_beside, helm_absent, helm_with, may_steer, race_round}
 use Rattle.moos_play.proofs.Rounds.{none_past}
 use Rattle.moos_play.proofs.Taking.{at_ok, ended_apart, round_gathered, round_goes_on, seen_gathered}
+use Rattle.turn_lock.proofs.Fronts.{begins_itself}
 use Rattle.turn_lock.proofs.Mets.{is_taken}
+use Rattle.turn_lock.specs.Passes.{known_of}
 use Rattle.moos_play.proofs.race.race.Goals as goal
 
 pub returns-then-steersman-eq0-clause-goes_on : goal.returns-then-steersman-eq0-clause-goes_on
 returns-then-steersman-eq0-clause-goes_on g c =
     alone_beside c.args.steersman.now.number c.args.lines.now c.lead.result c.args.first.now.seat c.lead.new.first (λ n. none_past (length c.args.calls.now) n c.args.lines.now c.requires.lines (omega (arith, c.requires.number, c.if-steersman-eq0.true))) c.lead.ensures.goes_on
+
+pub returns-in_err-players-clause-goes_on : goal.returns-in_err-players-clause-goes_on
+returns-in_err-players-clause-goes_on g c =
+    subst (GoesOn (IsPlayedBeside c.args.steersman.now.number c.args.lines.now c.from_residual.result) c.args.first.now.seat) (sym c.in_err-players.ensures.same)
+    (record {
+      later = begins_itself c.args.first.now.seat.seen;
+      known = λ n. record { added = []; is = sym (append-nil (known_of c.args.first.now.seat n)); allowed = λ other. record { front = (entries_of n c.args.lines.now, refl); all = search rules } };
+      whole = c.requires.whole;
+    })
 
 pub part-seat-requires-clause-first : goal.part-seat-requires-clause-first
 part-seat-requires-clause-first g c =

@@ -1,4 +1,5 @@
 use Rattle.std.proofs.Common.{◌∙◌, Ok, ap, arith, rules}
+use Rattle.moos_play.specs.Steered.{left_of}
 use Rattle.moos_play.proofs.Ending.{iterations_end, lawful_end, lawful_none}
 use Rattle.moos_play.proofs.run.play.Goals as goal
 
@@ -8,10 +9,12 @@ returns-then-is_none-clause-lawful g c =
 
 pub returns-clause-lawful : goal.returns-clause-lawful
 returns-clause-lawful g c =
-    lawful_end c.args.order c.args.script.now c.round.new.self _ c.end.result.db.names c.end.result.db.history c.in_ok-round.ensures.at_play (c.in_ok-round.ensures.over (ap Ok c.if-branch.false))
-    (c.in_ok-round.ensures.same.order ∙ c.loop-play.invariant.order) (c.in_ok-round.ensures.same.helm ∙ c.loop-play.invariant.helm) c.end.ensures.names c.end.ensures.history
+    let over = c.in_ok-go_on.ensures.over (ap Ok c.if-branch.false) in
+    lawful_end c.args.order c.args.script.now c.go_on.new.self _ c.end.result.db.names c.end.result.db.history c.in_ok-go_on.ensures.at_play (ap (left_of c.args.script.now) over.1 ∙ over.0)
+    (c.in_ok-go_on.ensures.same.order ∙ c.loop-play.invariant.order) (c.in_ok-go_on.ensures.same.helm ∙ c.loop-play.invariant.helm) c.end.ensures.names c.end.ensures.history
 
 pub returns-clause-iterations : goal.returns-clause-iterations
 returns-clause-iterations g c =
-    iterations_end c.args.script.now c.round.new.self _ c.end.result.db.names c.end.result.db.history c.end.result.iterations c.in_ok-round.ensures.at_play (c.in_ok-round.ensures.over (ap Ok c.if-branch.false))
-    (c.in_ok-round.ensures.same.helm ∙ c.loop-play.invariant.helm) c.end.ensures.names c.end.ensures.history c.end.ensures.iterations
+    let over = c.in_ok-go_on.ensures.over (ap Ok c.if-branch.false) in
+    iterations_end c.args.script.now c.go_on.new.self _ c.end.result.db.names c.end.result.db.history c.end.result.iterations c.in_ok-go_on.ensures.at_play (ap (left_of c.args.script.now) over.1 ∙ over.0) (c.in_ok-go_on.ensures.told ∙ c.loop-play.invariant.told)
+    (c.in_ok-go_on.ensures.same.helm ∙ c.loop-play.invariant.helm) c.end.ensures.names c.end.ensures.history c.end.ensures.iterations

@@ -13,4 +13,4 @@ lead-requires-clause-steered g c κs lives =
 pub returns-in-Some-clause-opened : goal.returns-in-Some-clause-opened
 returns-in-Some-clause-opened g c =
     let new = subst (λ s. IfSome s (λ helm. IsUnopened c.args.clients helm × (c.args.clients < length c.args.lock.now.base))) c.in-Some.is c.requires.new in
-    opened_first c.args.lock.now c.args.clients c.lead.result c.in-Some.steersman c.lead.new.steersman c.args.first.now c.lead.new.first c.requires.nothing new.0 c.lead.ensures.gathered c.lead.ensures.goes_on c.lead.ensures.same c.lead.ensures.steered c.lead.ensures.reached
+    opened_first c.args.lock.now c.args.clients c.lead.result c.in-Some.steersman c.lead.new.steersman c.args.first.now c.lead.new.first c.requires.nothing new.0 c.lead.ensures.gathered c.lead.ensures.goes_on c.lead.ensures.same c.lead.ensures.told c.lead.ensures.steered c.lead.ensures.reached

@@ -10,6 +10,7 @@ invariant-loop-steersman g l = record {
   own : HasOwn l.seat;
   steered : Steers l.lock.base l.steersman l.seat.seen;
   same : steering_of l.steersman ≡ steering_of l.fn.steersman;
+  told : l.steersman.told ≡ l.fn.steersman.told;
   opened : l.steersman.opened ≡ true;
   ticks : l.steersman.ticks ≤ l.fn.ticks;
 }

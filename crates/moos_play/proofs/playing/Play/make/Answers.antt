@@ -2,6 +2,7 @@ use Rattle.std.proofs.Common.{◌∙◌, ap, refl, rules}
 use Rattle.std.specs.Prelude.{option_map}
 use Rattle.moos_play.specs.Steered.{run_as}
 use Rattle.moos_play.proofs.Beginning.{few_names, new_within, play_made}
+use Rattle.moos_play.proofs.Handing.{told_begin}
 use Rattle.moos_play.proofs.playing.Play.make.Goals as goal
 
 pub make-requires : goal.make-requires
@@ -14,7 +15,10 @@ open_all-requires-clause-new g c κs lives =
 pub returns-clause-helm : goal.returns-clause-helm
 returns-clause-helm g c = c.in_ok-open_all.ensures.same ∙ c.steersman_for-steersman.ensures.helm ∙ ap (λ n. option_map (run_as n) c.args.helm) c.len-clients.ensures
 
-pub returns-clause-at_play : goal.returns-clause-at_play
-returns-clause-at_play g c =
-    play_made c.args.script.now c.args.helm c.len-clients.result c.steersman_for-steersman.result _ c.requires.valid.lines c.len-clients.ensures c.in_ok-open_all.ensures.same c.steersman_for-steersman.ensures.helm (search rules)
-    c.in_ok-open_all.ensures.opened c.in_ok-calls.ensures refl
+pub returns-clause-between : goal.returns-clause-between
+returns-clause-between g c = record {
+  valid = c.requires.valid;
+  at_play = play_made c.args.script.now c.args.helm c.len-clients.result c.steersman_for-steersman.result _ c.requires.valid.lines c.len-clients.ensures c.in_ok-open_all.ensures.same c.steersman_for-steersman.ensures.helm (search rules)
+      c.in_ok-open_all.ensures.opened c.in_ok-calls.ensures refl;
+  told = told_begin _ c.in_ok-open_all.ensures.opened.ticks c.in_ok-open_all.ensures.opened.told;
+}

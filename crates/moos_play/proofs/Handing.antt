@@ -1,0 +1,200 @@
+-- The iterations of a round, and a run after they were handed out.
+use Rattle.std.proofs.Common.{◌≡◌, ℕ, zero, suc, ◌+◌, ◌-◌, inl, inr, ◌≤◌, List, [], ◌∷◌, ◌++◌, length, take, drop, Bool, true, false, nat_le, Option, None, Some, refl, sym, ap, ◌∙◌, subst, arith, append_assoc}
+use Rattle.std.specs.Prelude.{option_map, option_to_list, slice_get, IfSome}
+use Rattle.std.proofs.lemmas.Bool.Decides.{nat_tests}
+use Rattle.std.proofs.lemmas.List.{drop_all, take-append-drop, take-append-le, take_all}
+use Rattle.helm_core.specs.Helms.{plan_of}
+use Rattle.helm_core.specs.Iterations.{iteration_at}
+use Rattle.helm_core.specs.Plans.{Plan}
+use Rattle.helm_core.specs.Ticks.{Tick}
+use Rattle.moos_client.specs.Calls.{SeatState}
+use Rattle.moos_post.specs.declared.entry.Entry.{Entry}
+use Rattle.moos_post.specs.History.{History}
+use Rattle.moos_play.specs.declared.playing.Play.{Play}
+use Rattle.moos_play.specs.declared.steersman.Steersman.{Steersman}
+use Rattle.moos_play.specs.Lawful.{heard_in, heard_of, helm_number, iterations_of, Steering, ticks_to}
+use Rattle.moos_play.specs.Plays.{handed, handed_of, IsBetween, IsStampOver, iterations_made, left_in, made_by, stamp_next, StaysSeated, untold_in}
+use Rattle.moos_play.specs.Rounds.{CommunityLock}
+use Rattle.moos_play.specs.Steered.{GoesOnWith, helm_of, IsAtPlay, IsUnderWay, iterations_in, KeepsTime, left_of, StandsAt, steering_of, Steers, tick_due, ticks_left, told_in}
+use Rattle.moos_play.proofs.Hearing.{heard_append, iterations_many, iterations_stay}
+use Rattle.script_reader.specs.declared.script.Order.{Order}
+use Rattle.script_reader.specs.declared.script.Order.TheVariants.{Stamp, Race}
+use Rattle.script_reader.specs.declared.script.Script.{Script}
+use Rattle.script_reader.specs.Validity.{IsValid}
+
+-- the first of the iterations
+iterations_front : (plan : Plan) (heard : List Tick) (n m : ℕ) → n ≤ m → take n (iterations_of plan heard m) ≡ iterations_of plan heard n
+iterations_front plan heard n zero below = let none : n ≡ 0 = omega (arith, below) in rw none refl
+iterations_front plan heard n (suc m) below = by (nat_le n m) refl (iterations_front plan heard n m)
+  where
+    all : n ≡ suc m → take n (iterations_of plan heard (suc m)) ≡ iterations_of plan heard n
+    all same = take_all n (iterations_of plan heard (suc m)) (omega (arith, same, iterations_many plan heard (suc m))) ∙ ap (iterations_of plan heard) (sym same)
+
+    front : n ≤ m → take n (iterations_of plan heard (suc m)) ≡ take n (iterations_of plan heard m)
+    front less = take-append-le n (iterations_of plan heard m) (iteration_at plan heard m ∷ []) (omega (arith, less, iterations_many plan heard m))
+
+    by : (b : Bool) → nat_le n m ≡ b → (n ≤ m → take n (iterations_of plan heard m) ≡ iterations_of plan heard n) → take n (iterations_of plan heard (suc m)) ≡ iterations_of plan heard n
+    by true e before = let less : n ≤ m = grind (arith, nat_tests) in front less ∙ before less
+    by false e before = all (grind (arith, nat_tests))
+
+-- the iterations over a history that goes on: those before, and those behind them
+told_on : (names : List (List ℕ)) (s t : Steersman) (history rest : History) → steering_of t ≡ steering_of s → s.told ≡ s.ticks → t.told ≡ s.told → Steers names s history → Steers names t (history ++ rest)
+    → made_by names (history ++ rest) (Some t) ≡ made_by names history (Some s) ++ t.iterations
+told_on names s t history rest same told kept before after =
+    let heard = heard_of names s.number history in
+    let more = heard_in names s.number history rest in
+    let is : iterations_of (plan_of t.helm) (heard_of names t.number (history ++ rest)) t.ticks ≡ iterations_of (plan_of s.helm) (heard ++ more) t.ticks =
+    ap (λ (helm : Steering). iterations_of helm.plan (heard_of names helm.client (history ++ rest)) t.ticks) same ∙ ap (λ heard. iterations_of (plan_of s.helm) heard t.ticks) (heard_append names s.number [] history rest) in
+    let count : t.told ≡ s.ticks = kept ∙ told in
+    let front : take t.told (iterations_of (plan_of s.helm) (heard ++ more) t.ticks) ≡ iterations_of (plan_of s.helm) heard s.ticks =
+    iterations_front (plan_of s.helm) (heard ++ more) t.told t.ticks after.few ∙ ap (iterations_of (plan_of s.helm) (heard ++ more)) count
+    ∙ iterations_stay (plan_of s.helm) heard more s.ticks (omega (arith, before.many)) in
+    is ∙ sym (take-append-drop t.told (iterations_of (plan_of s.helm) (heard ++ more) t.ticks))
+    ∙ ap (λ first. first ++ drop t.told (iterations_of (plan_of s.helm) (heard ++ more) t.ticks)) front
+    ∙ ap (λ last. iterations_of (plan_of s.helm) heard s.ticks ++ last) (ap (drop t.told) (sym is) ∙ sym after.same)
+
+-- the same of a run with a helm or without
+pub made_on : (names : List (List ℕ)) (number : ℕ) (before after : Option Steersman) (history later rest : History) → later ≡ history ++ rest → helm_of after ≡ helm_of before → IfSome before (λ s. s.told ≡ s.ticks) → told_in after ≡ told_in before
+    → StandsAt names number before history → StandsAt names number after later → made_by names later after ≡ made_by names history before ++ iterations_in after
+made_on names number None None history later rest is same told kept stood stands = refl
+made_on names number None (Some t) history later rest is same told kept stood stands = absurd cc
+made_on names number (Some s) None history later rest is same told kept stood stands = absurd cc
+made_on names number (Some s) (Some t) history later rest is same told kept stood stands =
+    subst (λ later. made_by names later (Some t) ≡ made_by names history (Some s) ++ t.iterations) (sym is)
+    (told_on names s t history rest (cc) told kept stood.2 (subst (Steers names t) is stands.2))
+
+-- a helm whose iterations are handed out stands where it stood
+handed_steers : (names : List (List ℕ)) (s : Steersman) (history : History) → Steers names s history → Steers names (handed_of s) history
+handed_steers names s history so = record {
+  clock = so.clock;
+  stands = so.stands;
+  many = so.many;
+  own = so.own;
+  few = omega arith;
+  same = sym (drop_all s.ticks (iterations_of (plan_of s.helm) (heard_of names s.number history) s.ticks) (omega (arith, iterations_many (plan_of s.helm) (heard_of names s.number history) s.ticks)));
+}
+
+handed_under : (order : Order) (script : Script) (lock : CommunityLock) (steersman : Option Steersman) (from : ℕ) (first : SeatState) → IsUnderWay order script lock steersman from first
+    → IsUnderWay order script lock (option_map handed_of steersman) from first
+handed_under order script lock None from first under = under
+handed_under order script lock (Some s) from first under = record {
+  gathered = under.gathered;
+  whole = under.whole;
+  within = under.within;
+  rest = under.rest;
+  opened = under.opened;
+  own = under.own;
+  steered = (under.steered.0, under.steered.1, handed_steers lock.base s first.seen under.steered.2);
+  timed = by order under.timed;
+}
+  where
+    by : (order : Order) → KeepsTime order script (Some s) from under.rest → KeepsTime order script (Some (handed_of s)) from under.rest
+    by Stamp timed = record { left = timed.left; early = timed.early }
+    by Race timed = tt
+
+-- so does the run
+pub handed_at_play : (script : Script) (play : Play) → IsAtPlay script play → IsAtPlay script (handed play)
+handed_at_play script play at = record {
+  under = handed_under play.order script play.lock play.steersman play.from play.first.seat at.under;
+  calls = at.calls;
+  seats = at.seats ∙ ap (λ n. length script.names + n) (many play.steersman);
+  period = period play.steersman at.period;
+}
+  where
+    many : (s : Option Steersman) → length (option_to_list s) ≡ length (option_to_list (option_map handed_of s))
+    many None = refl
+    many (Some s) = refl
+
+    period : (s : Option Steersman) → IfSome s (λ helm. (1 ≤ helm.period) × (helm.ticks ≤ ticks_to script.stop (steering_of helm)))
+        → IfSome (option_map handed_of s) (λ helm. (1 ≤ helm.period) × (helm.ticks ≤ ticks_to script.stop (steering_of helm)))
+    period None so = tt
+    period (Some s) so = so
+
+-- before the first tick there are none to hand out
+pub told_begin : (steersman : Option Steersman) → IfSome steersman (λ helm. (helm.ticks ≡ 0) × (1 ≤ helm.period)) → IfSome steersman (λ helm. helm.told ≡ 0) → IfSome steersman (λ helm. helm.told ≡ helm.ticks)
+told_begin None ticks told = tt
+told_begin (Some s) ticks told = told ∙ sym ticks.0
+
+-- all of them are handed out
+pub handed_told : (steersman : Option Steersman) → IfSome (option_map handed_of steersman) (λ helm. helm.told ≡ helm.ticks)
+handed_told None = tt
+handed_told (Some s) = refl
+
+-- how the helm is run stays the same
+helm_handed : (steersman : Option Steersman) → helm_of (option_map handed_of steersman) ≡ helm_of steersman
+helm_handed None = refl
+helm_handed (Some s) = refl
+
+-- and so are the iterations so far
+made_handed : (names : List (List ℕ)) (history : History) (steersman : Option Steersman) → made_by names history (option_map handed_of steersman) ≡ made_by names history steersman
+made_handed names history None = refl
+made_handed names history (Some s) = refl
+
+-- what holds of two runs under other names
+pub at_ends : (R : Play → Play → Type 0) (before start after last : Play) → before ≡ start → last ≡ after → R before after → R start last
+at_ends R before start after last same is so = subst (λ (play : Play). R play last) same (subst (R before) (sym is) so)
+
+-- a run that goes on twice
+pub stays_twice : (before middle after : Play) → StaysSeated before middle → StaysSeated middle after → StaysSeated before after
+stays_twice before middle after one other = record {
+  seated = other.seated;
+  lock = other.lock ∙ one.lock;
+  later = (one.later.0 ++ other.later.0, other.later.1 ∙ ap (λ front. front ++ other.later.0) one.later.1 ∙ append_assoc before.first.seat.seen one.later.0 other.later.0);
+}
+
+pub goes_on_twice : (before middle after : Play) → GoesOnWith before middle → GoesOnWith middle after → GoesOnWith before after
+goes_on_twice before middle after one other = record {
+  script = other.script ∙ one.script;
+  lock = other.lock ∙ one.lock;
+  order = other.order ∙ one.order;
+  helm = other.helm ∙ one.helm;
+}
+
+-- a run goes on with its own script
+pub at_own : (before after : Play) → GoesOnWith before after → IsAtPlay before.script.now after → IsAtPlay after.script.now after
+at_own before after on at = subst (λ (script : Script). IsAtPlay script after) (sym on.script) at
+
+pub left_own : (before after : Play) → GoesOnWith before after → left_in after ≡ left_of before.script.now after
+left_own before after on = ap (λ (script : Script). left_of script after) on.script
+
+-- what was handed out changes nothing of the rest
+pub stays_handed : (before after : Play) → StaysSeated before after → StaysSeated before (handed after)
+stays_handed before after stays = record {
+  seated = record { gathered = stays.seated.gathered; whole = stays.seated.whole };
+  lock = stays.lock;
+  later = stays.later;
+}
+
+pub goes_on_handed : (before after : Play) → GoesOnWith before after → GoesOnWith before (handed after)
+goes_on_handed before after on = record { script = on.script; lock = on.lock; order = on.order; helm = helm_handed after.steersman ∙ on.helm }
+
+left_handed : (script : Script) (from : ℕ) (steersman : Option Steersman) → length script.lines - from + ticks_left script.stop (option_map handed_of steersman) ≡ length script.lines - from + ticks_left script.stop steersman
+left_handed script from None = refl
+left_handed script from (Some s) = refl
+
+next_handed : (order : Order) (stop : ℕ) (line : Option ℕ) (steersman : Option Steersman) → stamp_next order stop (tick_due stop (option_map handed_of steersman)) line ≡ stamp_next order stop (tick_due stop steersman) line
+next_handed order stop line None = refl
+next_handed order stop line (Some s) = refl
+
+pub finished_handed : (play : Play) (stamp : ℕ) → IsStampOver play stamp → IsStampOver (handed play) stamp
+finished_handed play stamp (inl none) = inl (left_handed play.script.now play.from play.steersman ∙ none)
+finished_handed play stamp (inr other) =
+    inr (λ same. other (sym (next_handed play.order play.script.now.stop (option_map (λ (line : Entry). line.stamp) (slice_get play.script.now.lines play.from)) play.steersman) ∙ same))
+
+pub fewer_handed : (play : Play) → left_in (handed play) ≡ left_in play
+fewer_handed play = left_handed play.script.now play.from play.steersman
+
+-- the run between two rounds, once all iterations are handed out
+pub handed_between : (play : Play) → IsValid play.script.now → IsAtPlay play.script.now play → IsBetween (handed play)
+handed_between play valid at = record { valid = valid; at_play = handed_at_play play.script.now play at; told = handed_told play.steersman }
+
+-- the iterations of a round follow those before
+pub round_iterations : (before after : Play) → IsBetween before → IsAtPlay after.script.now after → StaysSeated before after → GoesOnWith before after → told_in after.steersman ≡ told_in before.steersman
+    → iterations_made (handed after) ≡ iterations_made before ++ untold_in after
+round_iterations before after between at stays on told =
+    made_handed after.lock.base after.first.seat.seen after.steersman
+    ∙ ap (λ names. made_by names after.first.seat.seen after.steersman) (ap (λ (lock : CommunityLock). lock.base) on.lock)
+    ∙ made_on before.lock.base (helm_number before.script.now) before.steersman after.steersman before.first.seat.seen after.first.seat.seen stays.later.0 stays.later.1 on.helm between.told told
+    between.at_play.under.steered
+    (subst (λ (script : Script). StandsAt before.lock.base (helm_number script) after.steersman after.first.seat.seen) on.script
+    (subst (λ (lock : CommunityLock). StandsAt lock.base (helm_number after.script.now) after.steersman after.first.seat.seen) on.lock at.under.steered))

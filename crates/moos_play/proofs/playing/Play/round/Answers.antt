@@ -1,0 +1,45 @@
+use Rattle.std.proofs.Common.{◌∙◌, ◌++◌, ap, subst, sym}
+use Rattle.moos_play.specs.declared.playing.Play.{Play}
+use Rattle.moos_play.specs.Plays.{IsBetween, IsStampOver, handed, iterations_made, StaysSeated, untold_in}
+use Rattle.moos_play.specs.Steered.{GoesOnWith}
+use Rattle.moos_play.proofs.Handing.{at_ends, finished_handed, goes_on_handed, goes_on_twice, handed_between, round_iterations, stays_handed, stays_twice}
+use Rattle.script_reader.specs.Validity.{IsValid}
+use Rattle.moos_play.proofs.playing.Play.round.Goals as goal
+
+pub returns-clause-seated : goal.returns-clause-seated
+returns-clause-seated g c =
+    at_ends StaysSeated c.count_entries-from.new.self c.args.self.now (handed c.finish_stamp.new.self) c.hand_out-iterations.new.self c.count_entries-from.ensures.same c.hand_out-iterations.ensures.told
+    (stays_handed c.count_entries-from.new.self c.finish_stamp.new.self
+    (stays_twice c.count_entries-from.new.self c.go_on.new.self c.finish_stamp.new.self c.in_ok-go_on.ensures.seated c.in_ok-finish_stamp.ensures.seated))
+
+pub returns-clause-same : goal.returns-clause-same
+returns-clause-same g c =
+    at_ends GoesOnWith c.count_entries-from.new.self c.args.self.now (handed c.finish_stamp.new.self) c.hand_out-iterations.new.self c.count_entries-from.ensures.same c.hand_out-iterations.ensures.told
+    (goes_on_handed c.count_entries-from.new.self c.finish_stamp.new.self
+    (goes_on_twice c.count_entries-from.new.self c.go_on.new.self c.finish_stamp.new.self c.in_ok-go_on.ensures.same c.in_ok-finish_stamp.ensures.same))
+
+pub returns-clause-between : goal.returns-clause-between
+returns-clause-between g c =
+    let on = goes_on_twice c.count_entries-from.new.self c.go_on.new.self c.finish_stamp.new.self c.in_ok-go_on.ensures.same c.in_ok-finish_stamp.ensures.same in
+    let script = on.script ∙ ap (λ (play : Play). play.script.now) c.count_entries-from.ensures.same in
+    subst IsBetween (sym c.hand_out-iterations.ensures.told) (handed_between c.finish_stamp.new.self (subst IsValid (sym script) c.requires.between.valid) c.in_ok-finish_stamp.ensures.at_play)
+
+pub returns-clause-round : goal.returns-clause-round
+returns-clause-round g c =
+    let before = c.count_entries-from.new.self in
+    let after = c.finish_stamp.new.self in
+    let same = c.count_entries-from.ensures.same in
+    let told = c.hand_out-iterations.ensures.told in
+    record {
+      from = c.count_entries-from.ensures.count;
+      stamp = c.next_stamp-stamp.ensures;
+      finished = subst (λ (play : Play). IsStampOver play c.next_stamp-stamp.result) (sym told) (finished_handed after c.next_stamp-stamp.result c.in_ok-finish_stamp.ensures.all);
+      iterations =
+          ap iterations_made told
+          ∙ round_iterations before after (subst IsBetween (sym same) c.requires.between) c.in_ok-finish_stamp.ensures.at_play
+          (stays_twice before c.go_on.new.self after c.in_ok-go_on.ensures.seated c.in_ok-finish_stamp.ensures.seated)
+          (goes_on_twice before c.go_on.new.self after c.in_ok-go_on.ensures.same c.in_ok-finish_stamp.ensures.same)
+          (c.in_ok-finish_stamp.ensures.told ∙ c.in_ok-go_on.ensures.told)
+          ∙ ap (λ (play : Play). iterations_made play ++ untold_in after) same
+          ∙ ap (λ done. iterations_made c.args.self.now ++ done) (sym c.hand_out-iterations.ensures.untold);
+    }

@@ -1,0 +1,107 @@
+-- A script that is played round by round, as its player sees it.
+use Rattle.std.specs.Prelude.{◌≡◌, ◌≢◌, ◌⊎◌, ℕ, nat_lt, if◌then◌else◌, List, [], ◌++◌, length, Option, None, Some, IfSome, option_map, slice_get}
+use Rattle.helm_core.specs.declared.iteration.Iteration.{Iteration}
+use Rattle.helm_core.specs.Helms.{plan_of}
+use Rattle.moos_post.specs.History.{History}
+use Rattle.moos_play.specs.declared.playing.Play.{Play}
+use Rattle.moos_play.specs.declared.round_made.Round.{Round}
+use Rattle.moos_play.specs.declared.steersman.Steersman.{Steersman}
+use Rattle.moos_play.specs.Lawful.{heard_of, iterations_of, Steering}
+use Rattle.moos_play.specs.Rounds.{IsGathered, IsWhole}
+use Rattle.moos_play.specs.Steered.{helm_of, IsAtPlay, iterations_in, left_of, tick_due}
+use Rattle.script_reader.specs.declared.script.Order.{Order}
+use Rattle.script_reader.specs.declared.script.Order.TheVariants.{Stamp, Race}
+use Rattle.script_reader.specs.Validity.{IsValid}
+use Rattle.turn_lock.specs.Passes.{Begins, WasLent}
+
+-- the names of the clients
+abbrev pub clients_in : Play → List (List ℕ)
+clients_in play = play.lock.base
+
+-- the history so far
+abbrev pub history_in : Play → History
+history_in play = play.first.seat.seen
+
+-- how the helm is run, where there is one
+abbrev pub helm_in : Play → Option Steering
+helm_in play = helm_of play.steersman
+
+-- the helm's iterations so far over what it has heard in a history, none without a helm
+abbrev pub made_by : List (List ℕ) → History → Option Steersman → List Iteration
+made_by names history None = []
+made_by names history (Some helm) = iterations_of (plan_of helm.helm) (heard_of names helm.number history) helm.ticks
+
+-- the helm's iterations so far
+abbrev pub iterations_made : Play → List Iteration
+iterations_made play = made_by play.lock.base play.first.seat.seen play.steersman
+
+-- those of the helm's iterations that no round has handed out
+abbrev pub untold_in : Play → List Iteration
+untold_in play = iterations_in play.steersman
+
+-- how many lines and ticks are left
+abbrev pub left_in : Play → ℕ
+left_in play = left_of play.script.now play
+
+-- the earlier of two stamps, and another one where there is neither
+abbrev pub earliest : ℕ → Option ℕ → Option ℕ → ℕ
+earliest stop None None = stop
+earliest stop None (Some line) = line
+earliest stop (Some tick) None = tick
+earliest stop (Some tick) (Some line) = if nat_lt tick line then tick else line
+
+-- the stamp of the next round: the next one at which there is a line or a tick, or in a race the last one
+abbrev pub stamp_next : Order → ℕ → Option ℕ → Option ℕ → ℕ
+stamp_next Stamp stop tick line = earliest stop tick line
+stamp_next Race stop tick line = stop
+
+abbrev pub next_stamp : Play → ℕ
+next_stamp play =
+    stamp_next play.order play.script.now.stop (tick_due play.script.now.stop play.steersman) (option_map (λ line. line.stamp) (slice_get play.script.now.lines play.from))
+
+-- a helm whose iterations so far are handed out
+abbrev pub handed_of : Steersman → Steersman
+handed_of helm = record helm { told = helm.ticks; iterations = [] }
+
+-- the run once they are
+abbrev pub handed : Play → Play
+handed play = record play { steersman = option_map handed_of play.steersman }
+
+-- no call is under way, and the database isn't lent: it may be lent, or the run be ended
+pub record IsSeated (play : Play) : Type 0 where
+  pub gathered : IsGathered play.lock play.first.seat
+  pub whole : IsWhole play.first.seat
+
+-- the run stands between two rounds: what was played is lawful as far as it goes, and all iterations are handed out
+pub record IsBetween (play : Play) : Type 0 where
+  pub valid : IsValid play.script.now
+  pub at_play : IsAtPlay play.script.now play
+  pub told : IfSome play.steersman (λ helm. helm.told ≡ helm.ticks)
+
+-- whatever came of it, the history goes on, under the same names
+pub record StaysSeated (before after : Play) : Type 0 where
+  pub seated : IsSeated after
+  pub lock : after.lock ≡ before.lock
+  pub later : Begins after.first.seat.seen before.first.seat.seen
+
+-- nothing is left, or what is next has another stamp
+abbrev pub IsStampOver : Play → ℕ → Type 0
+IsStampOver play stamp = (left_in play ≡ 0) ⊎ (next_stamp play ≢ stamp)
+
+-- a round: where its entries begin, its stamp, nothing of which is left, and the helm's iterations in it, which follow those
+-- before
+pub record IsRound (before after : Play) (round : Round) : Type 0 where
+  pub from : round.from ≡ length (history_in before)
+  pub stamp : round.stamp ≡ next_stamp before
+  pub finished : IsStampOver after round.stamp
+  pub iterations : iterations_made after ≡ iterations_made before ++ round.iterations
+
+-- the run once the database is put back as it was
+abbrev pub returned : Play → Play
+returned play = record play { first = record play.first { seat = record play.first.seat { turn = None } } }
+
+-- the database, with this history, is lent under this number
+pub record IsLentAs (play : Play) (number : ℕ) (history : History) : Type 0 where
+  pub lent : WasLent play.first.seat number history
+  pub same : history ≡ play.first.seat.seen
+  pub seated : IsSeated (returned play)

@@ -1,0 +1,168 @@
+// A run in the open: from round to round, with the database lent in between.
+ghost use Rattle.std.specs.Prelude.{◌≡◌, ◌<◌, ◌≤◌, length, option_map, slice_get, IfOk, IfNone, IfSome, OnOk};
+ghost use Rattle.moos_play.specs.Plays.{earliest, handed, history_in, IsBetween, IsStampOver, IsLentAs, IsRound, IsSeated, left_in, clients_in, next_stamp, returned, StaysSeated, untold_in};
+ghost use Rattle.moos_play.specs.Steered.{GoesOnWith, IsAtPlay, told_in};
+ghost use Rattle.script_reader.specs.Validity.{IsValid};
+
+use crate::playing::Play;
+use crate::round_made::Round;
+use crate::stamps::tick_due;
+use crate::steersman::Iterations;
+use moos_db::Db;
+use moos_io::Gate;
+use moos_post::{Entry, List, NoMemory};
+use script_reader::Order;
+use std::alloc::Global;
+use std::mem;
+use std::sync::Wait;
+use std::thread::Threads;
+use turn_lock::Held;
+
+impl<'a> Play<'a> {
+    /// Plays the next round: in order Stamp the lines and the tick of the next stamp, and in order Race everything. None
+    /// where nothing is left. After want of memory only `hold`, `put_back` and `end` may be called.
+    pub fn round<R: Threads + Wait + Sync, G: Gate>(
+        &mut self,
+        rt: &R,
+        alloc: Global,
+        workers: u32,
+        gate: &G,
+    ) -> Result<Option<Round>, NoMemory>
+        requires between { IsBetween self.old }
+        requires workers { (1 ≤ workers) × (workers ≤ 16) }
+        ensures seated { StaysSeated self.old self.new }
+        ensures between { OnOk result (IsBetween self.new) }
+        ensures same { OnOk result (GoesOnWith self.old self.new) }
+        ensures round { IfOk result (λ round. IfSome round (IsRound self.old self.new)) }
+        ensures more { IfOk result (λ round. IfSome round (λ _. left_in self.new < left_in self.old)) }
+        ensures over { IfOk result (λ round. IfNone round ((left_in self.old ≡ 0) × (self.new ≡ self.old))) }
+    {
+        let script = self.script;
+        let stamp = self.next_stamp();
+        let from = self.count_entries(rt);
+        if !self.go_on(rt, alloc, script, workers, gate)? {
+            return Ok(None);
+        }
+        self.finish_stamp(rt, alloc, stamp, workers, gate)?;
+        let iterations = self.hand_out(alloc);
+        Ok(Some(Round {
+            stamp,
+            from,
+            iterations,
+        }))
+    }
+
+    /// Lends the database, until it is put back.
+    pub fn hold<R: Wait>(&mut self, rt: &R) -> Held<Db>
+        requires { IsSeated self.old }
+        ensures lent { IsLentAs self.new result.number result.start.value.history }
+        ensures start { result.start.value ≡ result.value }
+        ensures names { result.value.names ≡ clients_in self.old }
+        ensures history { result.value.history ≡ history_in self.old }
+        ensures back { returned self.new ≡ self.old }
+    {
+        self.lock.take(rt, &mut self.first.seat)
+    }
+
+    /// Takes the database back, with the clients and the entries that it had.
+    pub fn put_back(&mut self, held: Held<Db>)
+        requires lent { IsLentAs self.old held.number held.start.value.history }
+        requires names { held.value.names ≡ clients_in self.old }
+        requires history { held.value.history ≡ history_in self.old }
+        ensures { self.new ≡ returned self.old }
+    {
+        self.lock.give_back(&mut self.first.seat, held);
+    }
+
+    // Plays on while what is next has this stamp.
+    fn finish_stamp<R: Threads + Wait + Sync, G: Gate>(
+        &mut self,
+        rt: &R,
+        alloc: Global,
+        stamp: u64,
+        workers: u32,
+        gate: &G,
+    ) -> Result<(), NoMemory>
+        requires valid { IsValid self.old.script.now }
+        requires at_play { IsAtPlay self.old.script.now self.old }
+        requires workers { (1 ≤ workers) × (workers ≤ 16) }
+        ensures seated { StaysSeated self.old self.new }
+        ensures at_play { OnOk result (IsAtPlay self.new.script.now self.new) }
+        ensures same { OnOk result (GoesOnWith self.old self.new) }
+        ensures told { OnOk result (told_in self.new.steersman ≡ told_in self.old.steersman) }
+        ensures less { OnOk result (left_in self.new ≤ left_in self.old) }
+        ensures all { OnOk result (IsStampOver self.new stamp) }
+    {
+        let script = self.script;
+        while self.next_stamp() == stamp {
+            if !self.go_on(rt, alloc, script, workers, gate)? {
+                return Ok(());
+            }
+        }
+        Ok(())
+    }
+
+    // How many entries the history has.
+    fn count_entries<R: Wait>(&mut self, rt: &R) -> u64
+        requires { IsSeated self.old }
+        ensures count { result ≡ length (history_in self.old) }
+        ensures same { self.new ≡ self.old }
+    {
+        let held = self.hold(rt);
+        let count = held.value().entries();
+        self.put_back(held);
+        count
+    }
+
+    // The stamp of the next round.
+    fn next_stamp(&self) -> u64
+        requires { IfSome self.now.steersman (λ helm. 1 ≤ helm.period) }
+        ensures { result ≡ next_stamp self.now }
+    {
+        let stop = self.script.stop;
+        match self.order {
+            Order::Race => stop,
+            Order::Stamp => {
+                let tick = tick_due(&self.steersman, stop);
+                earliest(stop, tick, stamp_at(self.script.lines.all(), self.from))
+            }
+        }
+    }
+
+    // The helm's iterations since the last round.
+    fn hand_out(&mut self, alloc: Global) -> Iterations
+        ensures untold { result ≡ untold_in self.old }
+        ensures told { self.new ≡ handed self.old }
+    {
+        match &mut self.steersman {
+            None => List::new(alloc),
+            Some(steersman) => {
+                steersman.told = steersman.ticks;
+                mem::replace(&mut steersman.iterations, List::new(alloc))
+            }
+        }
+    }
+}
+
+// The stamp of the line at this place, where there is one.
+fn stamp_at(lines: &[Entry], place: usize) -> Option<u64>
+    ensures { result ≡ option_map (λ line. line.stamp) (slice_get lines.now place) }
+{
+    if place < lines.len() {
+        Some(lines[place].stamp)
+    } else {
+        None
+    }
+}
+
+// The earlier of two stamps, and `stop` where there is neither.
+fn earliest(stop: u64, tick: Option<u64>, line: Option<u64>) -> u64
+    ensures { result ≡ earliest stop tick line }
+{
+    match (tick, line) {
+        (None, None) => stop,
+        (None, Some(line)) => line,
+        (Some(tick), None) => tick,
+        (Some(tick), Some(line)) => { if tick < line { tick } else { line } }
+    }
+}
