@@ -14,7 +14,7 @@ use Rattle.clap.specs.Words.{Text, first_of, first_value, one_text, rows_of}
 use Rattle.clap.specs.declared.parser.matches.Found.{Found}
 use Rattle.clap.proofs.WalkLemmas.{both, first_value-rows, one_text-rows}
 use Rattle.moos_post.specs.Words.{control_place}
-use Rattle.moos_top.specs.Commands.{few, file_in, is_set, text_of, workers_in, workers_of}
+use Rattle.moos_top.specs.Commands.{bounded, bounded_in, bounded_of, file_in, is_set, text_of}
 use Rattle.moos_top.specs.Jobs.{mission_in}
 
 -- more bytes than a text can hold are no text, nor are bytes with one that it can't hold
@@ -59,9 +59,9 @@ mission_bad f (Some text) found some bad = found_bad (is_none (first_of (codes "
     found_bad true is = absurd cc
 
 -- a text that reads as a number
-workers_read : (text : Text) (number : ℕ) → IsNumeral 10 (without_leading_plus text) → digits_value 10 (without_leading_plus text) < 2 ^ 64
-    → number ≡ digits_value 10 (without_leading_plus text) → few number ≡ workers_of text
-workers_read text number numeral small is =
+bounded_read : (low high : ℕ) (text : Text) (number : ℕ) → IsNumeral 10 (without_leading_plus text) → digits_value 10 (without_leading_plus text) < 2 ^ 64
+    → number ≡ digits_value 10 (without_leading_plus text) → bounded low high number ≡ bounded_of low high text
+bounded_read low high text number numeral small is =
     let value = digits_value 10 (without_leading_plus text) in
     let accepted : is_unsigned_in 0 (2 ^ 64) text ≡ true = Accepts-accepts false (Unsigned 0 (2 ^ 64)) text (numeral, small, omega arith, omega arith) in
     let first = both (is_numeral (without_leading_plus text)) _ accepted in
@@ -69,38 +69,35 @@ workers_read text number numeral small is =
     rw (is, first.0, second.0) refl
 
 -- and one that doesn't
-workers_refused : (text : Text) → (IsNumeral 10 (without_leading_plus text) × (digits_value 10 (without_leading_plus text) < 2 ^ 64) → ⊥) → 1 ≡ workers_of text
-workers_refused text unread = go (is_unsigned_in 1 16 text) refl
+bounded_refused : (low high : ℕ) (text : Text) → (IsNumeral 10 (without_leading_plus text) × (digits_value 10 (without_leading_plus text) < 2 ^ 64) → ⊥) → low ≡ bounded_of low high text
+bounded_refused low high text unread = go (is_unsigned_in low high text) refl
   where
-    go : (passes : Bool) → is_unsigned_in 1 16 text ≡ passes → 1 ≡ workers_of text
+    go : (passes : Bool) → is_unsigned_in low high text ≡ passes → low ≡ bounded_of low high text
     go false is = rw is refl
-    go true is = let read = accepts-Accepts false (Unsigned 1 16) text is in absurd (unread (read.0, read.1))
+    go true is = let read = accepts-Accepts false (Unsigned low high) text is in absurd (unread (read.0, read.1))
 
--- the number that was found, whatever an error is
-module _ {E : Type 0} (G : List ℕ → Result ℕ E → Type 0) (only : (text : Text) (read : Result ℕ E) → G text read → ParsesUnsigned 64 10 text read) (f : Found) where
-  abbrev id : Text
-  id = codes "workers"
-
+-- the number within the bounds that was found, whatever an error is
+module _ {E : Type 0} (G : List ℕ → Result ℕ E → Type 0) (only : (text : Text) (read : Result ℕ E) → G text read → ParsesUnsigned 64 10 text read) (f : Found) (id : Text) (low high : ℕ) where
   abbrev IsRead : Option ℕ → Type 0
   IsRead got = (text : Text) → one_text f id ≡ Some text → ReadsOne G text got
 
   abbrev IsNot : Option ℕ → Type 0
   IsNot got = one_text f id ≡ None → got ≡ None
 
-  pub workers_is : {got : Option ℕ} {number : ℕ} → IsNot got → IsRead got → got ≡ Some number → few number ≡ workers_in (rows_of f)
-  workers_is {got = got} {number = number} not read is = go (one_text f id) refl
+  pub bounded_is : {got : Option ℕ} {number : ℕ} → IsNot got → IsRead got → got ≡ Some number → bounded low high number ≡ bounded_in low high id (rows_of f)
+  bounded_is {got = got} {number = number} not read is = go (one_text f id) refl
     where
-      go : (found : Option Text) → one_text f id ≡ found → few number ≡ workers_in (rows_of f)
+      go : (found : Option Text) → one_text f id ≡ found → bounded low high number ≡ bounded_in low high id (rows_of f)
       go None at = let both_ways : Some number ≡ None = sym is ∙ not at in cc
       go (Some text) at =
           let parsed = only text (Ok number) (subst (ReadsOne G text) is (read text at)) in
-          rw (← one_text-rows f id, at) (workers_read text number parsed.0.0 parsed.0.1 parsed.1)
+          rw (← one_text-rows f id, at) (bounded_read low high text number parsed.0.0 parsed.0.1 parsed.1)
 
-  pub workers_none : {got : Option ℕ} → IsNot got → IsRead got → got ≡ None → 1 ≡ workers_in (rows_of f)
-  workers_none {got = got} not read is = go (one_text f id) refl
+  pub bounded_none : {got : Option ℕ} → IsNot got → IsRead got → got ≡ None → low ≡ bounded_in low high id (rows_of f)
+  bounded_none {got = got} not read is = go (one_text f id) refl
     where
-      go : (found : Option Text) → one_text f id ≡ found → 1 ≡ workers_in (rows_of f)
+      go : (found : Option Text) → one_text f id ≡ found → low ≡ bounded_in low high id (rows_of f)
       go None at = rw (← one_text-rows f id, at) refl
       go (Some text) at =
           let failed = subst (ReadsOne G text) is (read text at) in
-          rw (← one_text-rows f id, at) (workers_refused text (only text (Err failed.0) failed.1))
+          rw (← one_text-rows f id, at) (bounded_refused low high text (only text (Err failed.0) failed.1))

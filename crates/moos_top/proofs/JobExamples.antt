@@ -25,7 +25,7 @@ use Rattle.moos_text.specs.declared.cause.ReadFault.TheVariants.{At, NoMemory as
 use Rattle.moos_top.specs.declared.job.Job.TheVariants.{Play, Solve, Check}
 use Rattle.moos_top.specs.declared.status.FileKind.TheVariants.{Script as ScriptFile, Mission as MissionFile, Behaviors as BehaviorsFile, Problem as ProblemFile, Decision as DecisionFile}
 use Rattle.moos_top.specs.declared.status.Status.TheVariants.{Done, CheckNo, Usage, LoadFault, WriteFault, Refused, NoMemory}
-use Rattle.moos_top.specs.Commands.{check_command, few, IsPlain, play_command, race_rule, solve_command, workers_rule}
+use Rattle.moos_top.specs.Commands.{bounded, check_command, IsPlain, play_command, race_rule, solve_command, workers_rule}
 use Rattle.moos_top.specs.Exit.{code_of}
 use Rattle.moos_top.specs.Jobs.Task.{Checking, Playing, Solving}
 use Rattle.moos_top.specs.Jobs.{decision_on, HasFewWorkers, IsAccepted, IsOutput, Ready, turn_of, Unfit, Wanted, with_few_ticks}
@@ -91,7 +91,7 @@ no_workers_of_a_helm : HasFewWorkers (Play (codes "s") (Some (codes "m")) Stamp 
 no_workers_of_a_helm has = omega (arith, has.0)
 
 -- a number past these counts as 1
-few_workers : (few 0 ≡ 1) × (few 16 ≡ 16) × (few 17 ≡ 1)
+few_workers : (bounded 1 16 0 ≡ 1) × (bounded 1 16 16 ≡ 16) × (bounded 1 16 17 ≡ 1)
 few_workers = (refl, refl, refl)
 
 -- each status has a number of its own

@@ -42,6 +42,14 @@ solve_command = with_rule (with_rule (new_app (codes "solve")) (file_rule (codes
 abbrev pub check_command : App
 check_command = with_rule (new_app (codes "check")) (file_rule (codes "decision"))
 
+-- the number of a mission, which must be there
+abbrev pub number_rule : Rule
+number_rule = record (new_rule (codes "number")) { required = true; parser = Some (Unsigned 0 999999999) }
+
+-- `generate NUMBER`
+abbrev pub generate_command : App
+generate_command = with_rule (new_app (codes "generate")) number_rule
+
 -- what a command finds in a line, where it takes it
 abbrev pub found_in : App → List Text → Option (List Row)
 found_in command line = if takes command line then Some (matches_of command line) else None
@@ -58,17 +66,25 @@ file_in id found = option_and_then text_of (first_of id found)
 abbrev pub is_set : Text → List Row → Bool
 is_set id found = option_map_or (λ value. bytes_eq value (codes "true")) (first_of id found) false
 
--- a number from 1 to 16, and else 1
-abbrev pub few : ℕ → ℕ
-few number = if nat_le 1 number && nat_le number 16 then number else 1
+-- a number within bounds, and else the lower one
+abbrev pub bounded : ℕ → ℕ → ℕ → ℕ
+bounded low high number = if nat_le low number && nat_le number high then number else low
 
--- the number that a value spells, where it passes `--workers`, as each value does that a command finds there
-abbrev pub workers_of : Text → ℕ
-workers_of value = if is_unsigned_in 1 16 value then digits_value 10 (without_leading_plus value) else 1
+-- the number that a value spells, where it is within the bounds, as each value is that a command finds for such an argument
+abbrev pub bounded_of : ℕ → ℕ → Text → ℕ
+bounded_of low high value = if is_unsigned_in low high value then digits_value 10 (without_leading_plus value) else low
+
+-- the number within the bounds that was found under this name of an argument
+abbrev pub bounded_in : ℕ → ℕ → Text → List Row → ℕ
+bounded_in low high id found = option_map_or (bounded_of low high) (one_of id found) low
 
 -- the number of workers that was found
 abbrev pub workers_in : List Row → ℕ
-workers_in found = option_map_or workers_of (one_of (codes "workers") found) 1
+workers_in found = bounded_in 1 16 (codes "workers") found
+
+-- the number of the mission that was found
+abbrev pub number_in : List Row → ℕ
+number_in found = bounded_in 0 999999999 (codes "number") found
 
 -- A command of which the command-line crate says exactly what it takes: it is simple, no argument has a rule on another,
 -- it has no subcommand, and its defaults pass their own parsers.

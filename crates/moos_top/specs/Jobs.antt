@@ -18,14 +18,18 @@ use Rattle.mission_reader.specs.Missions.{mission_of}
 use Rattle.moos_post.specs.History.{History}
 use Rattle.moos_report.specs.declared.setup.Setup.{Setup}
 use Rattle.moos_report.specs.Report.{report_text}
+use Rattle.mission_maker.specs.Generated.{generated_script}
+use Rattle.mission_maker.specs.Survey.{generated_behaviors, generated_mission}
+use Rattle.run_summary.specs.Summary.{summary_text}
+use Rattle.helm_core.specs.declared.iteration.Iteration.{Iteration}
 use Rattle.moos_text.specs.declared.cause.Cause.TheVariants.{M8}
 use Rattle.moos_text.specs.declared.cause.ReadFault.{ReadFault}
 use Rattle.moos_text.specs.declared.cause.ReadFault.TheVariants.{At}
 use Rattle.moos_text.specs.Refusals.{and_then}
-use Rattle.moos_top.specs.Commands.{check_command, file_in, found_in, is_set, play_command, solve_command, workers_in}
+use Rattle.moos_top.specs.Commands.{check_command, file_in, found_in, generate_command, is_set, number_in, play_command, solve_command, workers_in}
 use Rattle.moos_play.specs.Lawful.{IsLawful, Steering, helm_number, heard_of, iterations, names_with}
 use Rattle.moos_top.specs.declared.job.Job.{Job}
-use Rattle.moos_top.specs.declared.job.Job.TheVariants.{Play, Solve, Check}
+use Rattle.moos_top.specs.declared.job.Job.TheVariants.{Play, Solve, Check, Generate}
 use Rattle.script_reader.specs.declared.script.Order.{Order}
 use Rattle.script_reader.specs.declared.script.Order.TheVariants.{Stamp, Race}
 use Rattle.moos_top.specs.declared.status.FileKind.{FileKind}
@@ -57,12 +61,17 @@ solve_of found = option_map (λ problem. Solve problem (workers_in found)) (file
 abbrev pub check_of : List Row → Option Job
 check_of found = option_map Check (file_in (codes "decision") found)
 
+-- the job of what `generate` found
+abbrev pub generate_of : List Row → Job
+generate_of found = Generate (number_in found)
+
 -- the job of a line that begins with this word
 abbrev pub job_of : Text → List Text → Option Job
 job_of word line =
     if bytes_eq word (codes "play") then option_and_then play_of (found_in play_command line)
     else if bytes_eq word (codes "solve") then option_and_then solve_of (found_in solve_command line)
     else if bytes_eq word (codes "check") then option_and_then check_of (found_in check_command line)
+    else if bytes_eq word (codes "generate") then option_map generate_of (found_in generate_command line)
     else None
 
 -- the job that a command line asks for: its first word is that of a job, whose command takes the line, and the names of its
@@ -76,17 +85,20 @@ abbrev pub HasFewWorkers : Job → Type 0
 HasFewWorkers (Play script mission order workers) = (1 ≤ workers) × (workers ≤ 16)
 HasFewWorkers (Solve problem workers) = (1 ≤ workers) × (workers ≤ 16)
 HasFewWorkers (Check decision) = Unit {0}
+HasFewWorkers (Generate number) = Unit {0}
 
 -- what a helm is made of: a mission, and the behaviour file that it names
 pub record HelmFiles : Type 0 where
   pub mission : Mission
   pub file : BhvFile
 
--- what is to be done: a script is played in an order, with a helm or without; a problem is solved, a decision is checked
+-- what is to be done: a script is played in an order, with a helm or without; a problem is solved, a decision is checked; a
+-- mission is made from a number and summed up
 pub data Task : Type 0 where
   Playing : Order → Script → Option HelmFiles → Task
   Solving : WeightedSum → Task
   Checking : Decision → Task
+  Generating : ℕ → Task
 
 -- Where a job stands with its files: the next one is wanted, of this kind and name; or all were good, and this is to be done;
 -- or the last one, of this kind, is refused.
@@ -123,7 +135,7 @@ script_turn order script None files = Ready (Playing order script None)
 script_turn order script (Some name) files = mission_turn order script name files
 
 -- Where a job stands, by the bytes of the files that were loaded so far, in order: a script, its mission, and the behaviour file
--- that the mission names; or the one file of another job. The number of workers is no part of it.
+-- that the mission names; or the one file of another job, or none. The number of workers is no part of it.
 abbrev pub turn_of : Job → List (List ℕ) → FileTurn
 turn_of (Play name mission order workers) [] = Wanted ScriptFile name
 turn_of (Play name mission order workers) (bytes ∷ more) = turn_behind ScriptFile (λ script. script_turn order script mission more) (script_of bytes)
@@ -131,6 +143,7 @@ turn_of (Solve name workers) [] = Wanted ProblemFile name
 turn_of (Solve name workers) (bytes ∷ more) = turn_behind ProblemFile (λ problem. Ready (Solving problem)) (problem_of bytes)
 turn_of (Check name) [] = Wanted DecisionFile name
 turn_of (Check name) (bytes ∷ more) = turn_behind DecisionFile (λ decision. Ready (Checking decision)) (decision_of bytes)
+turn_of (Generate number) files = Ready (Generating number)
 
 -- how the helm of these files is run beside a script's clients
 abbrev pub steering_by : Script → HelmFiles → Steering
@@ -149,11 +162,14 @@ setup_of (Some files) = record {
   modes = are_declared_modes files.file.decls;
 }
 
--- the report of a history, with the iterations that the helm's own mails in it come to
+-- the iterations that the helm's own mails in a history come to
+abbrev pub iterations_on : Script → Option HelmFiles → History → List Iteration
+iterations_on script helm history =
+    iterations (option_map (steering_by script) helm) script.stop (heard_of (names_with script helm) (helm_number script) history)
+
+-- the report of a history and the helm's iterations in it
 abbrev pub report_on : Script → Option HelmFiles → History → List ℕ
-report_on script helm history =
-    let names = names_with script helm in
-    report_text (setup_of helm) names history (iterations (option_map (steering_by script) helm) script.stop (heard_of names (helm_number script) history))
+report_on script helm history = report_text (setup_of helm) (names_with script helm) history (iterations_on script helm history)
 
 -- a lawful history of a script in an order, with this helm or without one
 abbrev pub IsLawfulWith : Order → Script → Option HelmFiles → History → Type 0
@@ -165,6 +181,17 @@ pub record IsReport (order : Order) (script : Script) (helm : Option HelmFiles) 
   pub lawful : IsLawfulWith order script helm history
   pub printed : text ≡ report_on script helm history
   pub listed : (other : History) → IsLawfulWith order script helm other → text ≡ report_on script helm other → other ≡ history
+
+-- The text is the summary of the one history that the mission of this number leaves: counts and sums over it and the helm's
+-- iterations in it.
+pub record IsSummary (number : ℕ) (text : List ℕ) : Type 0 where
+  pub files : HelmFiles
+  pub mission : generated_mission ≡ Ok files.mission
+  pub behaviors : generated_behaviors ≡ Ok files.file
+  pub history : History
+  pub lawful : IsLawfulWith Stamp (generated_script number) (Some files) history
+  pub printed : text ≡ summary_text number (names_with (generated_script number) (Some files)) history (iterations_on (generated_script number) (Some files) history)
+  pub sole : (other : History) → IsLawfulWith Stamp (generated_script number) (Some files) other → other ≡ history
 
 -- the decision on a problem: its best point, the sum there, and its certificate
 abbrev pub decision_on : WeightedSum → Decision
@@ -180,10 +207,11 @@ abbrev pub IsAccepted : Decision → Type 0
 IsAccepted decision = Accepts decision.problem decision.claim decision.cert
 
 -- a job may end with this status and write this text: of a script the report of a lawful history, of a problem the decision
--- on it, of a decision whether it is accepted; and nothing with another status
+-- on it, of a decision whether it is accepted, of a number the summary of its mission; and nothing with another status
 abbrev pub IsOutput : Task → Status → List ℕ → Type 0
 IsOutput (Playing order script helm) Done text = IsReport order script helm text
 IsOutput (Solving problem) Done text = text ≡ decision_lines [] (decision_on problem)
 IsOutput (Checking decision) Done text = IsAccepted decision × (text ≡ codes "accepted\n")
 IsOutput (Checking decision) CheckNo text = (IsAccepted decision → ⊥) × (text ≡ codes "not accepted\n")
+IsOutput (Generating number) Done text = IsSummary number text
 IsOutput task status text = ⊥

@@ -1,7 +1,7 @@
 // The commands of the program's jobs, and what they find in the words of a command line.
 ghost use Rattle.std.specs.Prelude.{◌≡◌, ◌≤◌, IfOk, Some, option_map, false};
 ghost use Rattle.clap.specs.Words.{app_of, found_of, rows_of, rule_of};
-ghost use Rattle.moos_top.specs.Commands.{IsPlain, check_command, file_in, file_rule, found_in, few, is_set, other_file_rule, play_command, race_rule, solve_command, text_of, workers_in, workers_rule};
+ghost use Rattle.moos_top.specs.Commands.{IsPlain, bounded, bounded_in, check_command, file_in, file_rule, found_in, generate_command, is_set, number_in, number_rule, other_file_rule, play_command, race_rule, solve_command, text_of, workers_in, workers_rule};
 
 use crate::words::Word;
 use clap::error::ErrorKind;
@@ -34,6 +34,13 @@ pub fn check_command<'a>(alloc: Global) -> Result<Command<'a>, NoMemory>
     ensures { IfOk result (λ command. app_of command ≡ check_command) }
 {
     Command::new(alloc, "check").arg(file_arg(alloc, "decision"))
+}
+
+/// `generate NUMBER`
+pub fn generate_command<'a>(alloc: Global) -> Result<Command<'a>, NoMemory>
+    ensures { IfOk result (λ command. app_of command ≡ generate_command) }
+{
+    Command::new(alloc, "generate").arg(number_arg(alloc))
 }
 
 // The name of a file.
@@ -71,6 +78,16 @@ fn workers_arg<'a>(alloc: Global) -> Arg<'a>
         .long("workers")
         .value_parser(value_parser!(u64).range(1..=16))
         .default_value("1")
+}
+
+// The number of a mission.
+fn number_arg<'a>(alloc: Global) -> Arg<'a>
+    ensures rule { rule_of result ≡ number_rule }
+    ensures local { result.global ≡ false }
+{
+    Arg::new(alloc, "number")
+        .required(true)
+        .value_parser(value_parser!(u64).range(0..=999_999_999))
 }
 
 /// What a command finds in a line, or none where it doesn't take it.
@@ -113,21 +130,38 @@ pub fn workers_in(matches: &ArgMatches) -> u32
     ensures found { result ≡ workers_in (rows_of (found_of matches.now)) }
     ensures within { (1 ≤ result) × (result ≤ 16) }
 {
-    match matches.get_one::<u64>("workers") {
-        Some(number) => few(number),
-        None => 1,
+    bounded_in(matches, "workers", 1, 16) as u32
+}
+
+/// The number of the mission that was found.
+pub fn number_in(matches: &ArgMatches) -> u64
+    ensures { result ≡ number_in (rows_of (found_of matches.now)) }
+{
+    bounded_in(matches, "number", 0, 999_999_999)
+}
+
+// The number within the bounds that was found.
+fn bounded_in(matches: &ArgMatches, id: &str, low: u64, high: u64) -> u64
+    requires { low ≤ high }
+    ensures found { result ≡ bounded_in low high id.now (rows_of (found_of matches.now)) }
+    ensures within { (low ≤ result) × (result ≤ high) }
+{
+    match matches.get_one::<u64>(id) {
+        Some(number) => bounded(number, low, high),
+        None => low,
     }
 }
 
-// The number, where it is from 1 to 16, and else 1.
-fn few(number: u64) -> u32
-    ensures few { result ≡ few number }
-    ensures within { (1 ≤ result) × (result ≤ 16) }
+// The number, where it is within the bounds, and else the lower one.
+fn bounded(number: u64, low: u64, high: u64) -> u64
+    requires { low ≤ high }
+    ensures bounded { result ≡ bounded low high number }
+    ensures within { (low ≤ result) × (result ≤ high) }
 {
-    if 1 <= number && number <= 16 {
-        number as u32
+    if low <= number && number <= high {
+        number
     } else {
-        1
+        low
     }
 }
 

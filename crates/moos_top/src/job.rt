@@ -1,11 +1,12 @@
 // The job that a command line asks for.
-ghost use Rattle.std.specs.Prelude.{◌≡◌, IfOk, IfSome, option_and_then};
-ghost use Rattle.moos_top.specs.Commands.{check_command, found_in, play_command, solve_command};
-ghost use Rattle.moos_top.specs.Jobs.{HasFewWorkers, check_of, job_named, mission_in, order_in, play_of, solve_of};
+ghost use Rattle.std.specs.Prelude.{◌≡◌, IfOk, IfSome, option_and_then, option_map};
+ghost use Rattle.moos_top.specs.Commands.{check_command, found_in, generate_command, play_command, solve_command};
+ghost use Rattle.moos_top.specs.Jobs.{HasFewWorkers, check_of, generate_of, job_named, mission_in, order_in, play_of, solve_of};
 ghost use Rattle.clap.specs.Words.{found_of, rows_of};
 
 use crate::commands::{
-    check_command, file_in, found_in, is_set, play_command, solve_command, workers_in,
+    check_command, file_in, found_in, generate_command, is_set, number_in, play_command,
+    solve_command, workers_in,
 };
 use crate::words::{Word, Words};
 use clap::ArgMatches;
@@ -33,6 +34,10 @@ pub enum Job {
     Check {
         decision: Txt,
     },
+    /// Plays the mission that is made from this number, and sums it up.
+    Generate {
+        number: u64,
+    },
 }
 
 /// The job that the words name: the first is that of a job, whose command takes them.
@@ -45,6 +50,7 @@ pub fn job_named(alloc: Global, words: &Words) -> Result<Option<Job>, NoMemory>
         [word, ..] if word.bytes() == b"play".as_slice() => play_named(alloc, line),
         [word, ..] if word.bytes() == b"solve".as_slice() => solve_named(alloc, line),
         [word, ..] if word.bytes() == b"check".as_slice() => check_named(alloc, line),
+        [word, ..] if word.bytes() == b"generate".as_slice() => generate_named(alloc, line),
         _ => Ok(None),
     }
 }
@@ -145,5 +151,19 @@ fn check_of(alloc: Global, matches: &ArgMatches) -> Result<Option<Job>, NoMemory
         Ok(Some(decision)) => Ok(Some(Job::Check { decision })),
         Ok(None) => Ok(None),
         Err(no_memory) => Err(no_memory),
+    }
+}
+
+// The job of a line that begins with `generate`.
+fn generate_named(alloc: Global, line: &[Word]) -> Result<Option<Job>, NoMemory>
+    ensures named { IfOk result (λ job. job ≡ option_map generate_of (found_in generate_command line.now)) }
+    ensures few { IfOk result (λ job. IfSome job HasFewWorkers) }
+{
+    match found_in(generate_command(alloc)?, line)? {
+        Some(matches) => {
+            let number = number_in(&matches);
+            Ok(Some(Job::Generate { number }))
+        }
+        None => Ok(None),
     }
 }

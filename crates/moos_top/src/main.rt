@@ -10,6 +10,7 @@
 
 mod commands;
 mod decide;
+mod generate_job;
 mod job;
 mod play_job;
 mod run;

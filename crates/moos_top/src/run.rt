@@ -8,6 +8,7 @@ ghost use Rattle.moos_top.specs.Steps.{sinking, status_of};
 ghost use Rattle.moos_top.specs.declared.job.Job.TheVariants.{Check, Solve};
 
 use crate::decide::decide;
+use crate::generate_job::generate;
 use crate::job::{Job, job_named};
 use crate::play_job::play_files;
 use crate::status::{FileKind, Refusal, Status};
@@ -79,6 +80,7 @@ fn do_job<R: Threads + Wait + Sync, F: Folder, K: Sink, G: Gate>(
             solve_problem(rt, alloc, problem, *workers, folder, out, gate)
         }
         Job::Check { decision } => check_decision(alloc, decision, folder, out),
+        Job::Generate { number } => generate(rt, alloc, *number, out, gate),
     }
 }
 

@@ -357,5 +357,6 @@ fn a_failed_put_leaves_a_front(rt: HostRuntime) -> Result<(), Fail> {
 
 mod behaviors;
 mod beside;
+mod generated;
 mod missions;
 mod scripts;

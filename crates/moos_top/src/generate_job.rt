@@ -1,0 +1,61 @@
+// The job that makes a mission from a number, plays it, and sums it up.
+ghost use Rattle.std.specs.Prelude.{IfOk};
+ghost use Rattle.moos_top.specs.Generating.{WasGenerated};
+ghost use Rattle.moos_top.specs.Jobs.{Ready};
+ghost use Rattle.moos_top.specs.Jobs.Task.{Generating};
+ghost use Rattle.moos_top.specs.Steps.{Ended, sinking};
+
+use crate::run::written;
+use crate::status::Status;
+use helm_core::Helm;
+use mission_maker::{make_behaviors, make_mission, make_script};
+use moos_io::{Gate, Sink};
+use moos_play::{HelmRun, Order, Ran, play};
+use moos_post::NoMemory;
+use run_summary::{sole_history_law, summary};
+use std::alloc::Global;
+use std::sync::Wait;
+use std::thread::Threads;
+
+/// Plays the mission of this number by one worker, and writes its summary.
+pub fn generate<R: Threads + Wait + Sync, K: Sink, G: Gate>(
+    rt: &R,
+    alloc: Global,
+    number: u64,
+    out: &mut K,
+    gate: &G,
+) -> Status
+    ensures { Ended (Ready (Generating number)) (sinking (K.taken out.old) (K.taken out.new) (K.faults out.old) (K.faults out.new)) result }
+{
+    match play_generated(rt, alloc, number, gate) {
+        Ok(ran) => {
+            sole_history_law();
+            written(
+                Status::Done,
+                summary(number, &ran.db, ran.iterations.all(), out),
+            )
+        }
+        Err(_) => Status::NoMemory,
+    }
+}
+
+// Plays the mission of this number by one worker.
+fn play_generated<R: Threads + Wait + Sync, G: Gate>(
+    rt: &R,
+    alloc: Global,
+    number: u64,
+    gate: &G,
+) -> Result<Ran, NoMemory>
+    ensures { IfOk result (λ ran. WasGenerated number ran.db.names ran.db.history ran.iterations) }
+{
+    let script = make_script(alloc, number)?;
+    let mission = make_mission(alloc)?;
+    let file = make_behaviors(alloc, &mission)?;
+    let helm = Helm::make(alloc, &mission, file)?;
+    let run = HelmRun {
+        helm,
+        period: mission.period,
+    };
+    let ran = play(rt, alloc, &script, Some(run), Order::Stamp, 1, gate)?;
+    Ok(ran)
+}
