@@ -13,7 +13,7 @@ use Rattle.moos_post.specs.declared.entry.Entry.{Entry}
 use Rattle.moos_post.specs.declared.value.Post.{Post}
 use Rattle.moos_post.specs.Delivery.{Inbox, Mailing, with_entry, empty_inbox, inbox_of, mail_after, mail_at, mail_of_entry, is_fetch}
 use Rattle.moos_post.specs.History.{History, posts_of, posts_of_entry}
-use Rattle.moos_db.specs.Subscribers.{SubscriberState, kept_of, kept_own, kept_posts, kept_entry, empty_kept, is_posting, passes_by, IsSubscriber, IsFresh}
+use Rattle.moos_db.specs.Subscribers.{SubscriberState, kept_of, kept_own, kept_posts, kept_entry, empty_kept, makes_posts, passes_by, IsSubscriber, IsFresh}
 use Rattle.moos_db.proofs.Catching.{kept_posts-own, fresh-own}
 use Rattle.moos_db.proofs.Keeping.{kept-entry}
 use Rattle.moos_mail.proofs.Appending.{any_in_order}
@@ -137,7 +137,7 @@ IsSubscriber-entry names history client old called posted entry seen there call 
     (IsSubscriber-next names history client old entry there inbox)
 
 -- An entry that passes by changes nothing beside its posts.
-passing-own : (names : List (List ℕ)) (posts : List Post) (kept : SubscriberState) (own : Bool) (call : Call) → is_posting call || not own ≡ true →
+passing-own : (names : List (List ℕ)) (posts : List Post) (kept : SubscriberState) (own : Bool) (call : Call) → makes_posts call || not own ≡ true →
     kept ≡ (if own then kept_own names posts kept call else kept)
 passing-own names posts kept false call passes = refl
 passing-own names posts kept true (Register regs) passes = absurd (let e : false ≡ true = passes in cc)

@@ -166,15 +166,15 @@ kept_posts names stamp client kept (Posts batch) = kept_batch stamp (name_of nam
 kept_posts names stamp client kept Fetch = kept
 
 -- the call posts
-abbrev pub is_posting : Call → Bool
-is_posting (Register regs) = false
-is_posting (Unregister var source) = false
-is_posting (Posts batch) = true
-is_posting Fetch = false
+abbrev pub makes_posts : Call → Bool
+makes_posts (Register regs) = false
+makes_posts (Unregister var source) = false
+makes_posts (Posts batch) = true
+makes_posts Fetch = false
 
 -- of this entry the client needs to know no more than its posts: it is another one's, or a post
 abbrev pub passes_by : ℕ → Entry → Bool
-passes_by client entry = is_posting entry.call || not (entry.client == client)
+passes_by client entry = makes_posts entry.call || not (entry.client == client)
 
 -- after one entry more, where these are the posts before it
 abbrev pub kept_entry : List (List ℕ) → ℕ → List Post → SubscriberState → Entry → SubscriberState

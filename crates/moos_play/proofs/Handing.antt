@@ -13,9 +13,9 @@ use Rattle.moos_post.specs.History.{History}
 use Rattle.moos_play.specs.declared.playing.Play.{Play}
 use Rattle.moos_play.specs.declared.steersman.Steersman.{Steersman}
 use Rattle.moos_play.specs.Lawful.{heard_in, heard_of, helm_number, iterations_of, Steering, ticks_to}
-use Rattle.moos_play.specs.Plays.{handed, handed_of, IsBetween, IsStampOver, iterations_made, left_in, made_by, stamp_next, StaysSeated, untold_in}
+use Rattle.moos_play.specs.Plays.{handed, handed_of, IsBetween, IsStampOver, iterations_made, made_by, stamp_next, StaysSeated, untold_in}
 use Rattle.moos_play.specs.Rounds.{CommunityLock}
-use Rattle.moos_play.specs.Steered.{GoesOnWith, helm_of, IsAtPlay, IsUnderWay, iterations_in, KeepsTime, left_of, StandsAt, steering_of, Steers, tick_due, ticks_left, told_in}
+use Rattle.moos_play.specs.Steered.{GoesOnWith, helm_of, IsAtPlay, IsUnderWay, iterations_in, KeepsTime, StandsAt, steering_of, Steers, tick_due, ticks_left, told_in}
 use Rattle.moos_play.proofs.Hearing.{heard_append, iterations_many, iterations_stay}
 use Rattle.script_reader.specs.declared.script.Order.{Order}
 use Rattle.script_reader.specs.declared.script.Order.TheVariants.{Stamp, Race}
@@ -150,13 +150,6 @@ goes_on_twice before middle after one other = record {
   helm = other.helm ∙ one.helm;
 }
 
--- a run goes on with its own script
-pub at_own : (before after : Play) → GoesOnWith before after → IsAtPlay before.script.now after → IsAtPlay after.script.now after
-at_own before after on at = subst (λ (script : Script). IsAtPlay script after) (sym on.script) at
-
-pub left_own : (before after : Play) → GoesOnWith before after → left_in after ≡ left_of before.script.now after
-left_own before after on = ap (λ (script : Script). left_of script after) on.script
-
 -- what was handed out changes nothing of the rest
 pub stays_handed : (before after : Play) → StaysSeated before after → StaysSeated before (handed after)
 stays_handed before after stays = record {
@@ -180,9 +173,6 @@ pub finished_handed : (play : Play) (stamp : ℕ) → IsStampOver play stamp →
 finished_handed play stamp (inl none) = inl (left_handed play.script.now play.from play.steersman ∙ none)
 finished_handed play stamp (inr other) =
     inr (λ same. other (sym (next_handed play.order play.script.now.stop (option_map (λ (line : Entry). line.stamp) (slice_get play.script.now.lines play.from)) play.steersman) ∙ same))
-
-pub fewer_handed : (play : Play) → left_in (handed play) ≡ left_in play
-fewer_handed play = left_handed play.script.now play.from play.steersman
 
 -- the run between two rounds, once all iterations are handed out
 pub handed_between : (play : Play) → IsValid play.script.now → IsAtPlay play.script.now play → IsBetween (handed play)

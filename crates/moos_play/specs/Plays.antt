@@ -55,6 +55,7 @@ abbrev pub stamp_next : Order → ℕ → Option ℕ → Option ℕ → ℕ
 stamp_next Stamp stop tick line = earliest stop tick line
 stamp_next Race stop tick line = stop
 
+-- the stamp of the run's next round
 abbrev pub next_stamp : Play → ℕ
 next_stamp play =
     stamp_next play.order play.script.now.stop (tick_due play.script.now.stop play.steersman) (option_map (λ line. line.stamp) (slice_get play.script.now.lines play.from))
