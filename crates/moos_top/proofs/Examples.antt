@@ -6,7 +6,7 @@ use Rattle.clap.specs.Walk.{walked}
 use Rattle.moos_text.specs.declared.cause.Cause.TheVariants.{P9, S7}
 use Rattle.moos_text.specs.declared.cause.ReadFault.TheVariants.{At}
 use Rattle.script_reader.specs.declared.script.Order.TheVariants.{Stamp, Race}
-use Rattle.moos_top.specs.declared.job.Job.TheVariants.{Play, Solve, Check}
+use Rattle.moos_top.specs.declared.job.Job.TheVariants.{Play, Solve, Check, Generate}
 use Rattle.moos_top.specs.declared.status.FileKind.TheVariants.{Script as ScriptFile, Problem as ProblemFile}
 use Rattle.moos_top.specs.Jobs.{Unfit, job_named, turn_of}
 
@@ -85,3 +85,19 @@ bad_interval_with_a_mission = refl
 
 no_problem : turn_of (Solve (codes "p") 1) ([] ∷ []) ≡ Unfit ProblemFile (At 1 P9)
 no_problem = refl
+
+generates : job_named (codes "generate" ∷ codes "7" ∷ []) ≡ Some (Generate 7)
+unfolding walked walk_passes
+generates = refl
+
+generates_the_greatest : job_named (codes "generate" ∷ codes "+0999999999" ∷ []) ≡ Some (Generate 999999999)
+unfolding walked walk_passes
+generates_the_greatest = refl
+
+no_greater_number : job_named (codes "generate" ∷ codes "1000000000" ∷ []) ≡ None
+unfolding walked walk_passes
+no_greater_number = refl
+
+a_number_is_named : job_named (codes "generate" ∷ []) ≡ None
+unfolding walked walk_passes
+a_number_is_named = refl

@@ -357,6 +357,5 @@ fn a_failed_put_leaves_a_front(rt: HostRuntime) -> Result<(), Fail> {
 
 mod behaviors;
 mod beside;
-mod generated;
 mod missions;
 mod scripts;
