@@ -5,13 +5,15 @@
     bench/play.py --wide [PROGRAM..]   scripts of many clients, by this program and by turns by each other one named,
                                        which takes the same words
     bench/play.py --helm [PROGRAM..]   scripts with a helm of 20,000 ticks, likewise
+    bench/play.py --behaviors [PROGRAM..]   a script with a position each second, and 20,000 ticks of a helm with behaviours
 
 For each length: one client that only posts; one that registers first and posts; and one that registers, posts, and
 fetches at every tenth line. Of many clients, each of which fetches once at the end: 64 of 256 registrations each that hear
 none of 80,000 posts; 63 that hear each of 90,000; and 8 of 256 registrations each, of which one selects each of 90,000
 posts. Further 64 that post at stamps of their own, and 64 in a race. With a helm that ticks four times a second: one client
 that posts once, so that nothing comes to a tick but the first; and 64 clients of 100,000 lines that the helm hears none of,
-or each; and the last in a race. Reports go to a file. Nothing here is part of the gate, and no figure is promised.
+or each; and the last in a race. With behaviours over course, speed and depth: four that want a heading, a speed, a depth and no greater depth; and one
+that goes round points, one that keeps a station, and one that wants a depth. Reports go to a file. Nothing here is part of the gate, and no figure is promised.
 """
 import os
 import subprocess
@@ -96,6 +98,35 @@ MODES = """set MODE = ACTIVE {
 } INACTIVE
 """
 
+ALL_AXES = MISSION.replace("}}\n", "  domain    = speed:0:4:41\n  domain    = depth:0:100:101\n}}\n")
+
+
+def behavior(kind, *lines):
+    return "\n".join([f"Behavior = {kind}", "{", f"  name = {kind}", *lines, "}", ""])
+
+
+STEADY = (
+    behavior("BHV_ConstantHeading", "heading = 90")
+    + behavior("BHV_ConstantSpeed", "speed = 2")
+    + behavior("BHV_ConstantDepth", "depth = 10")
+    + behavior("BHV_MaxDepth", "max_depth = 40")
+)
+
+ROUND = " : ".join(f"{x},{y}" for x in range(-150, 151, 60) for y in (-150, 150))
+
+STEERING = (
+    behavior("BHV_Waypoint", "speed = 2", f"points = {ROUND}", "repeat = forever")
+    + behavior("BHV_ConstantDepth", "depth = 10")
+    + behavior("BHV_StationKeep", "station_pt = 0,0", "pwt = 30")
+)
+
+
+def sailed():
+    given = ["0 nav post MOOS_MANUAL_OVERRIDE=false # NAV_X=0 # NAV_Y=0 # NAV_DEPTH=3"]
+    told = [f"{k}.5 nav post NAV_X={k * 37 % 401 - 200} # NAV_Y={k * 53 % 401 - 200}" for k in range(4999)]
+    return given + told + ["4999.75 until"]
+
+
 # The scripts of many clients, and the words behind each.
 WIDE = [(unheard, []), (heard, []), (chosen, []), (apart, []), (race, ["--race"])]
 
@@ -146,6 +177,16 @@ def main():
                 with open(name, "w") as out:
                     out.write(text)
             return compare(HELM, [mission])
+        if sys.argv[1:2] == ["--behaviors"]:
+            write(sailed())
+            mission, behaviors = os.path.join(folder, "mission.moos"), os.path.join(folder, "behaviors.bhv")
+            for label, text in ("steady", STEADY), ("steering", STEERING):
+                for name, content in (behaviors, text), (mission, ALL_AXES.format(behaviors)):
+                    with open(name, "w") as out:
+                        out.write(content)
+                for program in [MOOS] + sys.argv[2:]:
+                    show(f"{label} {os.path.basename(program)}", program, script, [mission], report)
+            return None
         for lines in [int(word) for word in sys.argv[1:]] or [1_000, 10_000, 100_000]:
             for make in (posts, registered, fetched):
                 write(make(lines))
