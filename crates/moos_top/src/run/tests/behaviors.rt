@@ -2,6 +2,7 @@
 use super::ends_so;
 use super::missions::{MISSION, SCRIPT, run_beside};
 use crate::status::Status;
+use mission_maker::{SURVEY_BEHAVIORS, SURVEY_MISSION};
 use std::alloc::Global;
 use std::process::Abort;
 use std::str;
@@ -16,20 +17,8 @@ const COURSE_AND_SPEED: &str = "ProcessConfig = pHelmIvP\n{\nAppTick = 4\nbehavi
 pub(super) const ALPHA: [&str; 3] = [
     "0 uNav post NAV_X=0 # NAV_Y=0\n0.1 uTimer post DEPLOY=true # MOOS_MANUAL_OVERRIDE=false\n\
     10 uNav post NAV_X=60 # NAV_Y=-40\n60 until\n",
-    "ServerHost = localhost\nServerPort = 9000\nCommunity = alpha\nProcessConfig = pHelmIvP\n{\n\
-    \x20 AppTick = 4\n  CommsTick = 4\n  behaviors = alpha.bhv\n  domain = course:0:359:360\n\
-    \x20 domain = speed:0:4:41\n  domain = depth:0:100:101\n}\n",
-    "initialize DEPLOY = false\ninitialize RETURN = false\n\nBehavior = BHV_Waypoint\n{\n\
-    \x20 name = waypt_survey\n  pwt = 100\n  condition = RETURN = false\n  condition = DEPLOY = true\n\
-    \x20 endflag = RETURN = true\n  updates = WPT_UPDATE\n  perpetual = true\n  lead = 8\n\
-    \x20 speed = 2   // meters per second\n  capture_radius = 5.0\n  slip_radius = 15.0\n\
-    \x20 points = 60,-40 : 60,-160 : 150,-160 : 180,-100 : 150,-40\n  repeat = 1\n\
-    \x20 visual_hints = nextpt_color=red\n}\n\nBehavior = BHV_Waypoint\n{\n  name = waypt_return\n\
-    \x20 pwt = 100\n  condition = RETURN = true\n  condition = DEPLOY = true\n\
-    \x20 endflag = RETURN = false\n  endflag = DEPLOY = false\n  speed = 2.0\n\
-    \x20 capture_radius = 2.0\n  slip_radius = 8.0\n  points = 0,-20\n}\n\n\
-    Behavior = BHV_ConstantDepth\n{\n  name = const_depth\n  pwt = 100\n  condition = DEPLOY = true\n\
-    \x20 duration = no-time-limit\n  depth = 10\n}\n",
+    SURVEY_MISSION,
+    SURVEY_BEHAVIORS,
 ];
 
 // What stands before and behind the first of these words in a text.
