@@ -1,6 +1,6 @@
 // What no clause says: that clients are beside each other, and that the gate is called before each call.
-ghost use Rattle.std.specs.Prelude.{IfOk};
-ghost use Rattle.bhv_reader.specs.Validity.{IsValidFile};
+ghost use Rattle.std.specs.Prelude.{IfOk, IsTrue};
+ghost use Rattle.bhv_reader.specs.Validity.{IsValidFile, serves};
 ghost use Rattle.mission_reader.specs.Validity.{IsValidMission};
 ghost use Rattle.moos_play.specs.Lawful.{MayStart};
 ghost use Rattle.script_reader.specs.Validity.{IsValid};
@@ -110,7 +110,8 @@ fn mission_of(rt: &impl Abort, alloc: Global) -> Result<Mission, Fail>
 }
 
 fn file_of(rt: &impl Abort, alloc: Global, domain: &Domain) -> Result<BhvFile, Fail>
-    ensures { IfOk result IsValidFile }
+    ensures valid { IfOk result IsValidFile }
+    ensures served { IfOk result (λ file. IsTrue (serves domain.now file.blocks)) }
 {
     match read_behaviors(alloc, b"initialize DEPLOY = false\n", domain) {
         Ok(file) => Ok(file),
