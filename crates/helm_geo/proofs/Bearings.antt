@@ -5,8 +5,7 @@ use Rattle.std.proofs.lemmas.Bool.{and_parts, cases_eq, leb-true}
 use Rattle.std.proofs.lemmas.Int.{fits_signed_from_abs, ints, to_z-of_z, unsigned_abs-mul}
 use Rattle.std.specs.List.{list_all}
 use Rattle.std.specs.Prelude.{int_lt, min, nat_le, if◌then◌else◌, slice_index}
-use Rattle.helm_geo.specs.declared.angle.TheConstants.{SINES}
-use Rattle.helm_geo.specs.Angles.{along, farthest, half_sine}
+use Rattle.helm_geo.specs.Angles.{along, farthest, half_sine, sines}
 
 -- of so many places this one is the first at which a number is greatest
 pub record IsFirstMost (f : ℕ → ℤ) (count place : ℕ) : Type 0 where
@@ -79,8 +78,8 @@ all_most (sine ∷ sines) zero h = leb-true sine 10000 (and_parts _ (list_all (�
 all_most (sine ∷ sines) (suc place) h = all_most sines place (and_parts _ (list_all (λ sine. nat_le sine 10000) sines) h).1
 
 pub half_sine_most : (degree : ℕ) → half_sine degree ≤ 10000
-unfolding half_sine
-half_sine_most degree = all_most SINES (min degree (180 - degree)) refl
+unfolding half_sine sines
+half_sine_most degree = all_most sines (min degree (180 - degree)) refl
 
 -- a part of a step by a sine is no more than so much
 part_of_step : (step sine : ℤ) → nat_abs step ≤ 2 * 10 ^ 12 → nat_abs sine ≤ 10000 → nat_abs (step *ℤ sine) ≤ 2 * 10 ^ 16

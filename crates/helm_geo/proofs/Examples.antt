@@ -1,8 +1,7 @@
 -- The definitions on worked examples.
 use Rattle.std.proofs.Common.{◌≡◌, true, false, Some, None, ◌*◌, ◌^◌, ℤ, pos, neg_ℤ, List, [], ◌∷◌, length, map, refl}
-use Rattle.helm_geo.specs.declared.angle.TheConstants.{SINES}
 use Rattle.helm_geo.specs.declared.spot.Spot.{Spot}
-use Rattle.helm_geo.specs.Angles.{bearing, cos4, farthest, half_sine, sin4}
+use Rattle.helm_geo.specs.Angles.{bearing, cos4, farthest, half_sine, sin4, sines}
 use Rattle.helm_geo.specs.Plane.{is_spot, isqrt, within}
 use Rattle.helm_geo.specs.Polygons.{convex, inside}
 
@@ -46,29 +45,30 @@ outsides : (inside anticlockwise (spot (pos 5) (pos 4)) ≡ false) × (inside cl
 outsides = (refl, refl, refl)
 
 -- the table, and what is read from it at the quarters and between them
-table : length SINES ≡ 91
+table : length sines ≡ 91
+unfolding sines
 table = refl
 
 quarters : (map sin4 (0 ∷ 90 ∷ 180 ∷ 270 ∷ []) ≡ pos 0 ∷ pos 10000 ∷ pos 0 ∷ neg_ℤ (pos 10000) ∷ []) × (map cos4 (0 ∷ 90 ∷ 180 ∷ 270 ∷ []) ≡ pos 10000 ∷ pos 0 ∷ neg_ℤ (pos 10000) ∷ pos 0 ∷ [])
-unfolding half_sine
+unfolding half_sine sines
 quarters = (refl, refl)
 
 between : (sin4 91 ≡ pos 9998) × (sin4 359 ≡ neg_ℤ (pos 175)) × (cos4 359 ≡ pos 9998) × (sin4 150 ≡ pos 5000) × (cos4 150 ≡ neg_ℤ (pos 8660))
-unfolding half_sine
+unfolding half_sine sines
 between = (refl, refl, refl, refl, refl)
 
 -- the eight winds, and a step that leads nowhere
 right_winds : (bearing (pos 0) (pos 7) ≡ Some 0) × (bearing (pos 7) (pos 7) ≡ Some 45) × (bearing (pos 7) (pos 0) ≡ Some 90) × (bearing (pos 7) (neg_ℤ (pos 7)) ≡ Some 135)
-unfolding half_sine farthest
+unfolding half_sine sines farthest
 right_winds = (refl, refl, refl, refl)
 
 left_winds : (bearing (pos 0) (neg_ℤ (pos 7)) ≡ Some 180) × (bearing (neg_ℤ (pos 7)) (neg_ℤ (pos 7)) ≡ Some 225) × (bearing (neg_ℤ (pos 7)) (pos 0) ≡ Some 270) × (bearing (neg_ℤ (pos 7)) (pos 7) ≡ Some 315) × (bearing (pos 0) (pos 0) ≡ None)
-unfolding half_sine farthest
+unfolding half_sine sines farthest
 left_winds = (refl, refl, refl, refl, refl)
 
 -- of two degrees as good the least, also across north
 equally : (bearing (pos 122) (pos 124) ≡ Some 44) × (bearing (neg_ℤ (pos 2)) (pos 175) ≡ Some 0)
-unfolding half_sine farthest
+unfolding half_sine sines farthest
 equally = (refl, refl)
 
 -- at exactly the radius, and one thousandth beyond

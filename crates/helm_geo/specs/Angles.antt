@@ -1,11 +1,20 @@
 -- Angles in whole degrees, clockwise from north: sines and cosines from one table, and the bearing of a step.
-use Rattle.std.specs.Prelude.{ℕ, zero, suc, ◌+◌, ◌-◌, ◌%◌, ℤ, pos, neg_ℤ, ◌+ℤ◌, ◌*ℤ◌, int_lt, ◌&&◌, nat_le, min, if◌then◌else◌, Option, Some, None, slice_index}
+use Rattle.std.specs.Prelude.{ℕ, zero, suc, ◌+◌, ◌-◌, ◌%◌, ℤ, pos, neg_ℤ, ◌+ℤ◌, ◌*ℤ◌, int_lt, ◌&&◌, nat_le, min, if◌then◌else◌, List, [], ◌∷◌, Option, Some, None, slice_index}
 use Rattle.std.specs.Ordering.{int_eq}
-use Rattle.helm_geo.specs.declared.angle.TheConstants.{SINES}
+
+-- the sines of 0 to 90 degrees, in ten-thousandths, rounded to the nearest
+unfoldable pub sines : List ℕ
+sines =
+    0 ∷ 175 ∷ 349 ∷ 523 ∷ 698 ∷ 872 ∷ 1045 ∷ 1219 ∷ 1392 ∷ 1564 ∷ 1736 ∷ 1908 ∷ 2079 ∷ 2250 ∷ 2419 ∷ 2588 ∷ 2756 ∷ 2924 ∷ 3090 ∷
+    3256 ∷ 3420 ∷ 3584 ∷ 3746 ∷ 3907 ∷ 4067 ∷ 4226 ∷ 4384 ∷ 4540 ∷ 4695 ∷ 4848 ∷ 5000 ∷ 5150 ∷ 5299 ∷ 5446 ∷ 5592 ∷ 5736 ∷
+    5878 ∷ 6018 ∷ 6157 ∷ 6293 ∷ 6428 ∷ 6561 ∷ 6691 ∷ 6820 ∷ 6947 ∷ 7071 ∷ 7193 ∷ 7314 ∷ 7431 ∷ 7547 ∷ 7660 ∷ 7771 ∷ 7880 ∷
+    7986 ∷ 8090 ∷ 8192 ∷ 8290 ∷ 8387 ∷ 8480 ∷ 8572 ∷ 8660 ∷ 8746 ∷ 8829 ∷ 8910 ∷ 8988 ∷ 9063 ∷ 9135 ∷ 9205 ∷ 9272 ∷ 9336 ∷
+    9397 ∷ 9455 ∷ 9511 ∷ 9563 ∷ 9613 ∷ 9659 ∷ 9703 ∷ 9744 ∷ 9781 ∷ 9816 ∷ 9848 ∷ 9877 ∷ 9903 ∷ 9925 ∷ 9945 ∷ 9962 ∷ 9976 ∷
+    9986 ∷ 9994 ∷ 9998 ∷ 10000 ∷ []
 
 -- the sine of at most 180 degrees, in ten-thousandths: from 90 degrees on it is that of the rest to 180
 unfoldable pub half_sine : ℕ → ℕ
-half_sine degree = slice_index SINES (min degree (180 - degree))
+half_sine degree = slice_index sines (min degree (180 - degree))
 
 -- the sine of an angle below 360 degrees, in ten-thousandths
 abbrev pub sin4 : ℕ → ℤ

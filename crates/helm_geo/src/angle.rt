@@ -12,7 +12,7 @@ const SINES: [u16; 91] = [
 ];
 
 /// The sine of at most 180 degrees, in ten-thousandths.
-#[tactic(auto, using(crate::proofs::Bearings::half_sine_most), unfolding(crate::specs::Angles::half_sine))]
+#[tactic(auto, using(crate::proofs::Bearings::half_sine_most), unfolding(crate::specs::Angles::half_sine, crate::specs::Angles::sines))]
 fn half_sine(degree: u16) -> i32
     requires { degree ≤ 180 }
     ensures value { result ≡ pos (half_sine degree) }
