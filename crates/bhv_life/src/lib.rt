@@ -14,6 +14,3 @@ mod started;
 pub use life::Life;
 pub use outcome::{BhvState, Outcome, Phase};
 pub use started::Started;
-
-#[cfg(test)]
-mod tests;

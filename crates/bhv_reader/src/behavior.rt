@@ -380,6 +380,3 @@ fn add_unused(alloc: Global, file: &mut BhvFile, line: u32, name: &[u8]) -> Resu
         Err(_) => Err(LineFault::NoMemory),
     }
 }
-
-#[cfg(test)]
-mod tests;

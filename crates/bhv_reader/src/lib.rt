@@ -32,6 +32,3 @@ pub use file::{BhvFile, Block, Blocks, Unused, UnusedList};
 pub use put::set_param;
 pub use read::read_behaviors;
 pub use spec::{Shape, Spec, Spots};
-
-#[cfg(test)]
-mod tests;

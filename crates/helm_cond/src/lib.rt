@@ -30,6 +30,3 @@ pub use fault::CondFault;
 pub use info::Info;
 pub use operator::Operator;
 pub use symbol::Symbol;
-
-#[cfg(test)]
-mod tests;

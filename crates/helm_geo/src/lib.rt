@@ -16,6 +16,3 @@ pub use angle::{bearing, cos4, sin4};
 pub use plane::{distance_squared, isqrt, within};
 pub use polygon::{convex, inside};
 pub use spot::Spot;
-
-#[cfg(test)]
-mod tests;

@@ -33,8 +33,3 @@ pub use peaks::peak;
 pub use sampled::uniform;
 pub use shape::Peak;
 pub use sums::couple;
-
-#[cfg(test)]
-mod formulas;
-#[cfg(test)]
-mod tests;

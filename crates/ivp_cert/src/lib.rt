@@ -42,6 +42,3 @@ pub use law::{accepted_law, certificate_law, printed_law};
 pub use path::Path;
 pub use print::{print_decision, put_decision};
 pub use read::read_problem;
-
-#[cfg(test)]
-mod tests;

@@ -23,6 +23,3 @@ pub fn read_problem(alloc: Global, bytes: &[u8]) -> Result<Problem, ReadFault>
     }
     stage.whole_problem(lines.max(1))
 }
-
-#[cfg(test)]
-mod tests;

@@ -17,6 +17,3 @@ pub use axis::{Axis, AxisName};
 pub use boxes::{BoxN, Point, is_proper, meet, volume};
 pub use domain::{Domain, DomainFault, MOST_AXES};
 pub use steps::Steps;
-
-#[cfg(test)]
-mod tests;

@@ -21,6 +21,3 @@ pub use law::{best_law, bound_law, children_law, keys_law};
 pub use node::{Node, NumberedChild};
 pub use problem::{MOST_FUNCTIONS, MOST_WEIGHT, Problem, problem_law};
 pub use term::{ProblemFault, Term};
-
-#[cfg(test)]
-mod tests;

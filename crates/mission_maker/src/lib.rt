@@ -14,6 +14,3 @@ mod survey;
 
 pub use script::make_script;
 pub use survey::{SURVEY_BEHAVIORS, SURVEY_MISSION, make_behaviors, make_mission};
-
-#[cfg(test)]
-mod tests;

@@ -13,6 +13,3 @@ mod settings;
 
 pub use mission::Mission;
 pub use read::read_mission;
-
-#[cfg(test)]
-mod tests;

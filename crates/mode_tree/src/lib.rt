@@ -14,6 +14,3 @@ mod walk;
 
 pub use path::Path;
 pub use tree::ModeTree;
-
-#[cfg(test)]
-mod tests;

@@ -10,6 +10,3 @@
 mod calls;
 
 pub use calls::{Lock, Seat, fetch, post, register, unregister};
-
-#[cfg(test)]
-mod tests;

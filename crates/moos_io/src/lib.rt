@@ -29,6 +29,3 @@ pub use sink::{Failed, Sink, put_all};
 
 /// Want of memory.
 pub type NoMemory = std::alloc::AllocError;
-
-#[cfg(test)]
-mod tests;

@@ -20,6 +20,3 @@ use moos_post::List;
 
 /// The numbers of posts, in order.
 pub type Numbers = List<u64>;
-
-#[cfg(test)]
-mod tests;

@@ -36,6 +36,3 @@ pub type Names = List<Name>;
 pub type Batch = List<Pair>;
 /// The registrations that one call makes together, in order.
 pub type Regs = List<Reg>;
-
-#[cfg(test)]
-mod tests;

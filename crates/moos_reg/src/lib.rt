@@ -12,6 +12,3 @@ mod registration;
 
 pub use matching::matches;
 pub use registration::{due, selects};
-
-#[cfg(test)]
-mod tests;

@@ -27,6 +27,3 @@ pub use pair::{PairFault, cut_at_equals, read_pair, read_plain, read_text};
 pub use part::{Part, next_part};
 pub use trim::{trimmed, without_front_blanks};
 pub use word::{is_named, next_word};
-
-#[cfg(test)]
-mod tests;

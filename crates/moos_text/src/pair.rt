@@ -148,6 +148,3 @@ pub fn read_text(alloc: Global, bytes: &[u8]) -> Result<Value, PairFault>
         Err(_) => Err(PairFault::NoMemory),
     }
 }
-
-#[cfg(test)]
-mod tests;

@@ -47,6 +47,3 @@ pub fn is_named(word: &[u8], name: &[u8]) -> bool
 {
     word.eq_ignore_ascii_case(name)
 }
-
-#[cfg(test)]
-mod tests;

@@ -16,6 +16,3 @@ mod word;
 
 pub use read::read_script;
 pub use script::{Lines, Order, Script};
-
-#[cfg(test)]
-mod tests;

@@ -21,6 +21,3 @@ pub use held::Held;
 pub use journal::Journaled;
 pub use lock::TurnLock;
 pub use pass::Pass;
-
-#[cfg(test)]
-mod tests;

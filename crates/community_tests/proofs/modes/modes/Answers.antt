@@ -1,0 +1,16 @@
+use Rattle.std.proofs.Common.{◌≡◌, ◌∙◌, true, ◌&&◌, [], ◌∷◌, None, Some, ap}
+use Rattle.bhv_reader.specs.declared.decl.Decl.{Decl}
+use Rattle.mode_tree.specs.Scans.{stands_before, are_rooted}
+use Rattle.community_tests.proofs.modes.modes.Goals as goal
+
+-- a root and two declarations under it
+rooted : (a b d : Decl) → a.parent ≡ None → b.parent ≡ Some 0 → d.parent ≡ Some 0 → are_rooted 0 (a ∷ b ∷ d ∷ []) ≡ true
+rooted a b d first second third =
+    ap (λ parent. stands_before parent 0 && (stands_before b.parent 1 && (stands_before d.parent 2 && true))) first
+    ∙ ap (λ parent. stands_before parent 1 && (stands_before d.parent 2 && true)) second
+    ∙ ap (λ parent. stands_before parent 2 && true) third
+
+pub make-tree-requires-clause-rooted : goal.make-tree-requires-clause-rooted
+make-tree-requires-clause-rooted g c =
+    ap (are_rooted 0) (c.of.ensures ∙ c.in_ok-vec.ensures.items)
+    ∙ rooted c.in_ok-first.first c.in_ok-second.second c.in_ok-third.third c.in_ok-first.ensures c.in_ok-second.ensures c.in_ok-third.ensures

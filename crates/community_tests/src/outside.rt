@@ -1,0 +1,147 @@
+use moos_io::*;
+use std::alloc::Global;
+use std::fs;
+use std::fs::{File, OpenFile};
+use std::test::Fail;
+
+fn load<F: Folder>(folder: &mut F, name: &[u8], into: &mut Vec<u8>) -> Result<(), LoadFault> {
+    folder.load(name, into)
+}
+
+#[test]
+fn first_file_of_a_name_is_loaded(rt: HostRuntime) -> Result<(), Fail> {
+    let mut folder = MemFolder::make(rt.alloc());
+    let files: [(&[u8], &[u8]); 3] = [(b"a", b"one"), (b"b", b""), (b"a", b"two")];
+    for (name, bytes) in files {
+        folder.add(rt.alloc(), name, bytes)?;
+    }
+    let loads: [(&[u8], Result<(), LoadFault>, &[u8]); 4] = [
+        (b"a", Ok(()), b">one"),
+        (b"b", Ok(()), b">"),
+        (b"ab", Err(LoadFault::Failed), b">"),
+        (b"", Err(LoadFault::Failed), b">"),
+    ];
+    for (name, answer, after) in loads {
+        let mut into = b">".to_vec(rt.alloc())?;
+        assert_eq!(rt; load(&mut folder, name, &mut into), answer);
+        assert_eq!(rt; into.as_slice(), after);
+    }
+    Ok(())
+}
+
+fn sink(alloc: Global, room: usize, mark: Option<u64>) -> Result<MemSink, NoMemory> {
+    let mut sink = MemSink::make(alloc, room, 2)?;
+    if let Some(nth) = mark {
+        sink.fail_at(nth)?;
+    }
+    Ok(sink)
+}
+
+#[test]
+fn sink_takes_what_room_and_marks_allow(rt: HostRuntime) -> Result<(), Fail> {
+    let puts: [(usize, Option<u64>, &[u8], Result<(), Failed>, &[u8]); 6] = [
+        (5, None, b"abcde", Ok(()), b"abcde"),
+        (5, None, b"abcdef", Err(Failed), b"abcde"),
+        (5, Some(0), b"abcde", Err(Failed), b""),
+        (5, Some(1), b"abcde", Err(Failed), b"ab"),
+        (5, Some(3), b"abcde", Ok(()), b"abcde"),
+        (0, None, b"", Ok(()), b""),
+    ];
+    for (room, mark, piece, answer, after) in puts {
+        let mut out = sink(rt.alloc(), room, mark)?;
+        assert_eq!(rt; put_all(&mut out, piece), answer);
+        assert_eq!(rt; out.bytes(), after);
+    }
+    Ok(())
+}
+
+#[test]
+fn marked_put_fails_once(rt: HostRuntime) -> Result<(), Fail> {
+    let mut out = sink(rt.alloc(), 5, Some(1))?;
+    assert_eq!(rt; put_all(&mut out, b"abc"), Err(Failed));
+    assert_eq!(rt; put_all(&mut out, b"cde"), Ok(()));
+    assert_eq!(rt; out.bytes(), b"abcde".as_slice());
+    Ok(())
+}
+
+#[test]
+fn real_files_are_loaded_up_to_the_limit(rt: HostRuntime) -> Result<(), Fail> {
+    let path = "moos_io_loaded";
+    fs::write(&rt, path, "content\n")?;
+    let mut folder = DirFolder::make(&rt);
+    let loads: [(&[u8], Result<(), LoadFault>, &[u8]); 4] = [
+        (b"moos_io_loaded", Ok(()), b">content\n"),
+        (b"moos_io_absent", Err(LoadFault::Failed), b">"),
+        (b".", Err(LoadFault::Failed), b">"),
+        (b"\xff", Err(LoadFault::Failed), b">"),
+    ];
+    for (name, answer, after) in loads {
+        let mut into = b">".to_vec(rt.alloc())?;
+        assert_eq!(rt; load(&mut folder, name, &mut into), answer);
+        assert_eq!(rt; into.as_slice(), after);
+    }
+    let file = File::create(&rt, path)?;
+    for (len, answer, after) in [
+        (16_777_216, Ok(()), 16_777_216),
+        (16_777_217, Err(LoadFault::Failed), 0),
+    ] {
+        file.set_len(len)?;
+        let mut into = Vec::new(rt.alloc());
+        assert_eq!(rt; load(&mut folder, path.as_bytes(), &mut into), answer);
+        assert_eq!(rt; into.len(), after);
+    }
+    fs::remove_file(&rt, path)?;
+    Ok(())
+}
+
+#[test]
+fn standard_output_takes_all(rt: HostRuntime) {
+    let mut out = OutSink::make(&rt);
+    assert_eq!(rt; put_all(&mut out, b"written by a test\n"), Ok(()));
+}
+
+fn pass<G: Gate>(gate: &G) {
+    gate.at_node(0, 0);
+    gate.at_call(0, 0);
+}
+
+#[test]
+fn open_gate_is_passed() {
+    pass(&NoGate);
+}
+
+// 1,000 times `word `, and then a piece that is longer than the buffer.
+fn write_words(sink: &mut MemSink, long: &[u8]) -> Result<(), Failed> {
+    let mut buffer = Buffer::new();
+    for _ in 0..1000 {
+        buffer.write(sink, &[b"word".as_slice(), b" "])?;
+    }
+    buffer.write(sink, &[b"long ".as_slice(), long, b"\n"])?;
+    buffer.flush(sink)
+}
+
+#[test]
+fn buffer_passes_words_on_in_few_puts(rt: HostRuntime) -> Result<(), Fail> {
+    let long = vec![in rt.alloc(); b'x'; 5000]?;
+    let mut whole = Vec::new(rt.alloc());
+    for _ in 0..1000 {
+        whole.extend_from_slice(b"word ")?;
+    }
+    for piece in [b"long ".as_slice(), long.as_slice(), b"\n"] {
+        whole.extend_from_slice(piece)?;
+    }
+    let runs: [(u64, Result<(), Failed>, usize); 5] = [
+        (4, Ok(()), 10006),
+        (3, Err(Failed), 10005),
+        (2, Err(Failed), 5005),
+        (1, Err(Failed), 4095),
+        (0, Err(Failed), 0),
+    ];
+    for (mark, answer, len) in runs {
+        let mut sink = MemSink::make(rt.alloc(), 20000, 8192)?;
+        sink.fail_at(mark)?;
+        assert_eq!(rt; write_words(&mut sink, long.as_slice()), answer);
+        assert!(rt; sink.bytes().len() == len && whole.as_slice().starts_with(sink.bytes()));
+    }
+    Ok(())
+}

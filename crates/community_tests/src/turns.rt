@@ -1,0 +1,172 @@
+// A journal of marks under a lock: each call once, and four threads beside each other.
+ghost use Rattle.std.specs.Prelude.{◌≡◌, []};
+ghost use Rattle.turn_lock.specs.Passes.{IsFree, IsOf};
+
+use std::alloc::Global;
+use std::sync::Wait;
+use std::test::Fail;
+use std::thread::{Threads, join};
+use turn_lock::{Journaled, Pass, TurnLock};
+
+/// One event: who made it, and how many the same one had made before.
+#[derive(Drop)]
+struct Mark {
+    by: u32,
+    count: u64,
+}
+
+/// All events so far.
+#[derive(Drop)]
+struct Journal {
+    marks: Vec<Mark>,
+}
+
+impl Journaled for Journal {
+    type Event = Mark;
+
+    type Base = ();
+
+    ghost base = { λ _. tt };
+
+    ghost history = { λ journal. journal.marks.items };
+
+    ghost number = { λ mark. mark.by };
+}
+
+// Adds a mark in the pass's turn, and says whether it did: where no memory is left it gives the journal back as it was.
+fn add<R: Wait>(rt: &R, lock: &TurnLock<Journal>, pass: &mut Pass<Journal>, count: u64) -> bool
+    requires { IsOf lock.now pass.old × IsFree pass.old }
+    ensures { pass.new ≡ record pass.old { seen = pass.new.seen; mine = pass.new.mine } }
+{
+    let by = pass.number();
+    let mut held = lock.take(rt, pass);
+    match held.value_mut().marks.push(Mark { by, count }) {
+        Ok(()) => {
+            lock.give(pass, held);
+            true
+        }
+        Err(_) => {
+            lock.give_back(pass, held);
+            false
+        }
+    }
+}
+
+fn empty_journal(alloc: Global) -> Journal
+    ensures { result.marks.items ≡ [] }
+{
+    Journal {
+        marks: Vec::new(alloc),
+    }
+}
+
+#[test]
+fn each_call_once(rt: HostRuntime) -> Result<(), Fail> {
+    let Ok((lock, mut zero)) = TurnLock::make(rt.alloc(), empty_journal(rt.alloc()), 2) else {
+        return Err(Fail::from("no memory"));
+    };
+    let mut one = lock.split(&mut zero);
+    assert!(rt; (zero.number(), one.number()) == (0, 1));
+    assert!(rt; add(&rt, &lock, &mut one, 0) && add(&rt, &lock, &mut zero, 0));
+    lock.meet(&mut zero, one);
+    let mut one = lock.part(&mut zero, 1);
+    assert!(rt; add(&rt, &lock, &mut one, 1));
+    let held = lock.take(&rt, &mut one);
+    assert!(rt; held.number == 1 && held.value().marks.len() == 3);
+    lock.give_back(&mut one, held);
+    lock.meet(&mut zero, one);
+    let (journal, left) = lock.close(zero);
+    let marks = journal.marks.as_slice();
+    assert!(rt; left.number() == 0 && marks.len() == 3);
+    assert!(rt;
+        marks
+            .iter()
+            .map(|mark| (mark.by, mark.count))
+            .eq([(1, 0), (0, 0), (1, 1)])
+    );
+    Ok(())
+}
+
+// Adds so many marks in turn.
+fn add_all<R: Wait>(
+    rt: &R,
+    lock: &TurnLock<Journal>,
+    mut pass: Pass<Journal>,
+    marks: u64,
+) -> Pass<Journal>
+    requires { IsOf lock.now pass × IsFree pass }
+    ensures { result ≡ record pass { seen = result.seen; mine = result.mine } }
+{
+    for count in 0..marks {
+        add(rt, lock, &mut pass, count);
+    }
+    pass
+}
+
+// Two passes, each on a thread of its own.
+fn add_beside<R: Threads + Wait + Sync>(
+    rt: &R,
+    lock: &TurnLock<Journal>,
+    one: Pass<Journal>,
+    other: Pass<Journal>,
+    marks: u64,
+) -> (Pass<Journal>, Pass<Journal>)
+    requires one { IsOf lock.now one × IsFree one }
+    requires other { IsOf lock.now other × IsFree other }
+    ensures one { result.0 ≡ record one { seen = result.0.seen; mine = result.0.mine } }
+    ensures other { result.1 ≡ record other { seen = result.1.seen; mine = result.1.mine } }
+{
+    join(
+        rt,
+        || -> Pass<Journal>
+            requires { IsOf lock.now one × IsFree one }
+            ensures { result ≡ record one { seen = result.seen; mine = result.mine } }
+        { add_all(rt, lock, one, marks) },
+        || -> Pass<Journal>
+            requires { IsOf lock.now other × IsFree other }
+            ensures { result ≡ record other { seen = result.seen; mine = result.mine } }
+        { add_all(rt, lock, other, marks) },
+    )
+}
+
+#[test]
+fn four_threads(rt: HostRuntime) -> Result<(), Fail> {
+    const MARKS: u64 = 1_000;
+    let Ok((lock, mut zero)) = TurnLock::make(rt.alloc(), empty_journal(rt.alloc()), 5) else {
+        return Err(Fail::from("no memory"));
+    };
+    let one = lock.split(&mut zero);
+    let two = lock.split(&mut zero);
+    let three = lock.split(&mut zero);
+    let four = lock.split(&mut zero);
+    let ((one, two), (three, four)) = join(
+        &rt,
+        || -> (Pass<Journal>, Pass<Journal>)
+            requires one { IsOf lock one × IsFree one }
+            requires other { IsOf lock two × IsFree two }
+            ensures one { result.0 ≡ record one { seen = result.0.seen; mine = result.0.mine } }
+            ensures other { result.1 ≡ record two { seen = result.1.seen; mine = result.1.mine } }
+        { add_beside(&rt, &lock, one, two, MARKS) },
+        || -> (Pass<Journal>, Pass<Journal>)
+            requires one { IsOf lock three × IsFree three }
+            requires other { IsOf lock four × IsFree four }
+            ensures one { result.0 ≡ record three { seen = result.0.seen; mine = result.0.mine } }
+            ensures other { result.1 ≡ record four { seen = result.1.seen; mine = result.1.mine } }
+        { add_beside(&rt, &lock, three, four, MARKS) },
+    );
+    lock.meet(&mut zero, one);
+    lock.meet(&mut zero, two);
+    lock.meet(&mut zero, three);
+    lock.meet(&mut zero, four);
+    let (journal, _) = lock.close(zero);
+    let marks = journal.marks.as_slice();
+    assert!(rt; marks.len() == 4_000);
+    for by in 1..5 {
+        let counts = marks
+            .iter()
+            .filter(|mark| mark.by == by)
+            .map(|mark| mark.count);
+        assert!(rt; counts.eq(0..MARKS));
+    }
+    Ok(())
+}

@@ -1,4 +1,0 @@
-use Rattle.ivp_cert.proofs.tests.greatest_key.Given as goal
-
-abbrev pub ghosts-greatest_by : goal.ghosts-greatest_by
-ghosts-greatest_by a = record { name = a.blank.name; parts = a.blank.parts }

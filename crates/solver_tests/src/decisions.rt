@@ -1,0 +1,391 @@
+ghost use Rattle.std.specs.Prelude.{◌≡◌, ◌<◌};
+ghost use Rattle.ivp_problem.specs.Sums.{best_of, key_at};
+
+use ivp_cert::{
+    Cert, Claim, Decision, Line, Path, accepted_law, accepts, certificate_law, cut, print_decision,
+    printed_law, read_decision, read_problem,
+};
+use ivp_domain::{Point, Steps};
+use ivp_problem::{Key, Problem, sum_of};
+use ivp_search::best_in_one;
+use moos_io::MemSink;
+use moos_text::{Cause, ReadFault};
+use std::alloc::{AllocError, Global};
+use std::marker::Brand;
+use std::process::Abort;
+use std::sync::ledger::{Blank, Ledger};
+use std::test::Fail;
+
+/// One function of one piece.
+const LEVEL: &[u8] = b"ivp 1\ndomain course:0:359:360\nfunction 100\npiece 0 359 7 0\nend\n";
+
+/// Three axes and two functions.
+const TWO: &[u8] =
+    b"ivp 1\ndomain a:0:2:3\ndomain b:0:1:2\ndomain d:0:1:2\nfunction 2\npiece 0 2 0 1 0 1 0 10 0 0\nfunction 3\npiece 0 0 0 1 0 1 20 0 5 0\npiece 1 2 0 1 0 1 0 0 5 0\nend\n";
+
+/// Three functions over four points, whose sums are 15, 15, 0 and 0.
+const THREE: &[u8] =
+    b"ivp 1\ndomain x:0:3:4\nfunction 1\npiece 0 1 10 0\npiece 2 3 0 0\nfunction 1\npiece 0 0 5 0\npiece 1 3 0 0\nfunction 1\npiece 0 1 0 5\npiece 2 3 0 0\nend\n";
+
+/// Ends and numbers below zero.
+const HALVES: &[u8] =
+    b"ivp 1\ndomain x:-0.5:2.25:2\nfunction 1\npiece 0 0 7 -7\npiece 1 1 -7 10\nend\n";
+
+fn greatest_by<L: Ledger>(problem: &Problem, blank: Blank) -> Key
+    requires name { blank.name ≡ L.name }
+    requires parts { blank.parts ≡ L.parts }
+    requires some { 0 < blank.parts }
+    ensures { result ≡ key_at problem.now (best_of problem.now) }
+{
+    let mut steps = Steps::<L>::new(blank);
+    best_in_one(problem, &mut steps)
+}
+
+fn greatest_key(problem: &Problem) -> Key
+    ensures { result ≡ key_at problem.now (best_of problem.now) }
+{
+    greatest_by::<Brand>(problem, Blank::new(1))
+}
+
+fn joined(alloc: Global, front: &[u8], rest: &[u8]) -> Result<Vec<u8>, AllocError> {
+    let mut text = Vec::from_slice(alloc, front)?;
+    text.extend_from_slice(rest)?;
+    Ok(text)
+}
+
+fn read(rt: &impl Abort, alloc: Global, text: &[u8]) -> Result<Decision, ReadFault> {
+    assert!(rt; text.len() < 4_000_000_000);
+    read_decision(alloc, text)
+}
+
+/// The text of the decision of a problem, whose best point has these places.
+fn solved(
+    rt: &impl Abort,
+    alloc: Global,
+    text: &[u8],
+    at: [u32; 4],
+    prefix: &[u8],
+) -> Result<MemSink, Fail> {
+    assert!(rt; text.len() < 4_000_000_000);
+    let problem = read_problem(alloc, text).map_err(|_| "a problem")?;
+    certificate_law(&problem);
+    let key = greatest_key(&problem);
+    let cert = cut(alloc, &problem, key)?;
+    let claim = Claim {
+        point: Point { at },
+        sum: sum_of(key),
+    };
+    let decision = Decision {
+        problem,
+        claim,
+        cert,
+    };
+    let mut sink = MemSink::make(alloc, 100_000, 100_000)?;
+    print_decision(&decision, prefix, &mut sink).map_err(|_| "room")?;
+    Ok(sink)
+}
+
+/// Whether a decision is accepted, where the text is one. What the decision prints stands for it.
+fn is_accepted(rt: &impl Abort, alloc: Global, text: &[u8]) -> Option<bool> {
+    assert!(rt; text.len() < 4_000_000_000);
+    match read_decision(alloc, text) {
+        Ok(decision) => {
+            accepted_law(&decision.problem, &decision.claim, &decision.cert);
+            printed_law(&decision, b"");
+            printed_law(&decision, b"%% ");
+            Some(accepts(&decision.problem, &decision.claim, &decision.cert))
+        }
+        Err(_) => None,
+    }
+}
+
+#[test]
+fn decisions_with_certificates(rt: HostRuntime) -> Result<(), Fail> {
+    let alloc = rt.alloc();
+    for (problem, at, lines) in [
+        (
+            LEVEL,
+            [0; 4],
+            b"decision 0 700\ncut : 700 0\ndone\n".as_slice(),
+        ),
+        (
+            TWO,
+            [0, 1, 0, 0],
+            b"decision 0 1 0 75\ncut 0 0 : 75 2\ncut 0 1 : 55 10\ndone\n",
+        ),
+        (
+            THREE,
+            [0; 4],
+            b"decision 0 15\ncut 0 0 0 : 15 0\ncut 0 1 : 15 1\ncut 1 : 10 2\ndone\n",
+        ),
+        (HALVES, [0; 4], b"decision 0 7\ncut : 7 0\ndone\n"),
+    ] {
+        let expected = joined(alloc, problem, lines)?;
+        let sink = solved(&rt, alloc, problem, at, b"")?;
+        assert!(rt; sink.bytes() == expected.as_slice());
+        assert_eq!(rt; is_accepted(&rt, alloc, &expected), Some(true));
+    }
+    Ok(())
+}
+
+#[test]
+fn prefix_stands_before_each_line(rt: HostRuntime) -> Result<(), Fail> {
+    let sink = solved(&rt, rt.alloc(), LEVEL, [0; 4], b"%% ")?;
+    let expected =
+        b"%% ivp 1\n%% domain course:0:359:360\n%% function 100\n%% piece 0 359 7 0\n%% end\n%% decision 0 700\n%% cut : 700 0\n%% done\n".as_slice();
+    assert!(rt; sink.bytes() == expected);
+    assert_eq!(rt; is_accepted(&rt, rt.alloc(), expected), Some(true));
+    Ok(())
+}
+
+#[test]
+fn greatest_sum(rt: HostRuntime) -> Result<(), Fail> {
+    let alloc = rt.alloc();
+    let mut text = Vec::from_slice(alloc, b"ivp 1\ndomain course:0:359:360\n")?;
+    for _ in 0..64 {
+        text.extend_from_slice(b"function 10000\npiece 0 359 100000 0\n")?;
+    }
+    text.extend_from_slice(b"end\n")?;
+    let expected = joined(
+        alloc,
+        &text,
+        b"decision 0 64000000000\ncut : 64000000000 0\ndone\n",
+    )?;
+    let sink = solved(&rt, alloc, &text, [0; 4], b"")?;
+    assert!(rt; sink.bytes() == expected.as_slice());
+    assert_eq!(rt; is_accepted(&rt, alloc, &expected), Some(true));
+    Ok(())
+}
+
+#[test]
+fn changed_decisions(rt: HostRuntime) -> Result<(), Fail> {
+    let alloc = rt.alloc();
+    for (lines, accepted) in [
+        (
+            b"decision 0 1 0 75\ncut 0 0 : 75 2\ncut 0 1 : 55 10\ndone\n".as_slice(),
+            Some(true),
+        ),
+        (
+            b"decision 0 1 0 75\ncut 0 0 : 74 2\ncut 0 1 : 55 10\ndone\n",
+            Some(false),
+        ),
+        (b"decision 0 1 0 75\ncut 0 0 : 75 2\ndone\n", Some(false)),
+        (
+            b"decision 0 1 0 75\ncut 0 0 : 75 2\ncut 0 0 : 75 2\ncut 0 1 : 55 10\ndone\n",
+            Some(false),
+        ),
+        (
+            b"decision 2 1 0 55\ncut 0 0 : 75 2\ncut 0 1 : 55 10\ndone\n",
+            Some(false),
+        ),
+        (
+            b"decision 0 1 0 75\ncut 0 0 : 75 2\ncut 0 1 : 55 10\n",
+            None,
+        ),
+    ] {
+        let text = joined(alloc, TWO, lines)?;
+        assert_eq!(rt; is_accepted(&rt, alloc, &text), accepted, "{lines:?}");
+    }
+    Ok(())
+}
+
+#[test]
+fn changed_certificates(rt: HostRuntime) -> Result<(), Fail> {
+    let alloc = rt.alloc();
+    for (lines, accepted) in [
+        (
+            b"decision 0 15\ncut 0 0 0 : 15 0\ncut 0 1 : 15 1\ncut 1 : 10 2\ndone\n".as_slice(),
+            true,
+        ),
+        // Nodes below the topmost ones cover as much.
+        (
+            b"decision 0 15\ncut 0 0 0 : 15 0\ncut 0 1 0 : 15 1\ncut 1 1 : 5 2\ndone\n",
+            true,
+        ),
+        // A line moved, doubled and left out.
+        (
+            b"decision 0 15\ncut 0 1 : 15 1\ncut 0 0 0 : 15 0\ncut 1 : 10 2\ndone\n",
+            false,
+        ),
+        (
+            b"decision 0 15\ncut 0 0 0 : 15 0\ncut 1 : 10 2\ncut 0 1 : 15 1\ndone\n",
+            false,
+        ),
+        (
+            b"decision 0 15\ncut 0 0 0 : 15 0\ncut 0 1 : 15 1\ncut 1 : 10 2\ncut 1 : 10 2\ndone\n",
+            false,
+        ),
+        (
+            b"decision 0 15\ncut 0 0 0 : 15 0\ncut 0 1 : 15 1\ncut 1 : 10 2\ncut 1 1 : 5 2\ndone\n",
+            false,
+        ),
+        (
+            b"decision 0 15\ncut 0 1 : 15 1\ncut 1 : 10 2\ndone\n",
+            false,
+        ),
+        (
+            b"decision 0 15\ncut 0 0 0 : 15 0\ncut 1 : 10 2\ndone\n",
+            false,
+        ),
+        (
+            b"decision 0 15\ncut 0 0 0 : 15 0\ncut 0 1 : 15 1\ndone\n",
+            false,
+        ),
+        (b"decision 0 15\ndone\n", false),
+        // A path cut, lengthened and led to no node.
+        (
+            b"decision 0 15\ncut 0 0 : 15 0\ncut 0 1 : 15 1\ncut 1 : 10 2\ndone\n",
+            false,
+        ),
+        (
+            b"decision 0 15\ncut 0 0 : 20 0\ncut 0 1 : 15 1\ncut 1 : 10 2\ndone\n",
+            false,
+        ),
+        (b"decision 0 15\ncut : 20 0\ndone\n", false),
+        (
+            b"decision 0 15\ncut 0 0 0 : 15 0\ncut 0 1 : 15 1\ncut 1 1 : 10 2\ndone\n",
+            false,
+        ),
+        (
+            b"decision 0 15\ncut 0 0 0 0 : 15 0\ncut 0 1 : 15 1\ncut 1 : 10 2\ndone\n",
+            false,
+        ),
+        (
+            b"decision 0 15\ncut 0 0 1 : 15 0\ncut 0 1 : 15 1\ncut 1 : 10 2\ndone\n",
+            false,
+        ),
+        // A bound's sum and index changed.
+        (
+            b"decision 0 15\ncut 0 0 0 : 15 0\ncut 0 1 : 14 1\ncut 1 : 10 2\ndone\n",
+            false,
+        ),
+        (
+            b"decision 0 15\ncut 0 0 0 : 15 0\ncut 0 1 : 16 1\ncut 1 : 10 2\ndone\n",
+            false,
+        ),
+        (
+            b"decision 0 15\ncut 0 0 0 : 15 0\ncut 0 1 : 15 0\ncut 1 : 10 2\ndone\n",
+            false,
+        ),
+        (
+            b"decision 0 15\ncut 0 0 0 : 15 0\ncut 0 1 : 15 1\ncut 1 : 10 3\ndone\n",
+            false,
+        ),
+        // Another sum, a point of equal sum but greater index, and a worse point.
+        (
+            b"decision 0 16\ncut 0 0 0 : 15 0\ncut 0 1 : 15 1\ncut 1 : 10 2\ndone\n",
+            false,
+        ),
+        (
+            b"decision 1 15\ncut 0 0 0 : 15 0\ncut 0 1 : 15 1\ncut 1 : 10 2\ndone\n",
+            false,
+        ),
+        (
+            b"decision 2 0\ncut 0 0 0 : 15 0\ncut 0 1 : 15 1\ncut 1 : 10 2\ndone\n",
+            false,
+        ),
+    ] {
+        let text = joined(alloc, THREE, lines)?;
+        assert_eq!(rt; is_accepted(&rt, alloc, &text), Some(accepted), "{lines:?}");
+    }
+    Ok(())
+}
+
+#[test]
+fn refusals(rt: HostRuntime) -> Result<(), Fail> {
+    let alloc = rt.alloc();
+    for (lines, line, cause) in [
+        // A decision outside its form, before a point outside the domain.
+        (b"decision\n".as_slice(), 6, Cause::P1),
+        (b"decision x 700\n", 6, Cause::P1),
+        (b"decision 0 +700\n", 6, Cause::P1),
+        (b"decision 360 x\n", 6, Cause::P1),
+        (b"decision 4294967296 700\n", 6, Cause::P1),
+        (b"decision 0 64000000001\n", 6, Cause::P1),
+        (b"cut : 700 0\n", 6, Cause::P1),
+        (b"done\n", 6, Cause::P1),
+        (b"end\n", 6, Cause::P1),
+        // A point that isn't one of the domain.
+        (b"decision 360 700\n", 6, Cause::P10),
+        (b"decision 4294967295 64000000000\n", 6, Cause::P10),
+        (b"decision 700\n", 6, Cause::P10),
+        (b"decision 0 0 700\n", 6, Cause::P10),
+        // A line of the certificate outside its form.
+        (b"decision 0 700\ndecision 0 700\n", 7, Cause::P1),
+        (b"decision 0 700\n\ncut 700 0\n", 8, Cause::P1),
+        (b"decision 0 700\ncut\n", 7, Cause::P1),
+        (b"decision 0 700\ncut :\n", 7, Cause::P1),
+        (b"decision 0 700\ncut : 700\n", 7, Cause::P1),
+        (b"decision 0 700\ncut : 700 0 0\n", 7, Cause::P1),
+        (b"decision 0 700\ncut : : 700 0\n", 7, Cause::P1),
+        (b"decision 0 700\ncut -1 : 700 0\n", 7, Cause::P1),
+        (b"decision 0 700\ncut 4294967296 : 700 0\n", 7, Cause::P1),
+        (b"decision 0 700\ncut : 64000000001 0\n", 7, Cause::P1),
+        (b"decision 0 700\ncut : 700 4294967296\n", 7, Cause::P1),
+        (b"decision 0 700\ndone now\n", 7, Cause::P1),
+        (b"decision 0 700\ndone\n\ndone\n", 9, Cause::P1),
+        // The bytes end too early.
+        (b"", 5, Cause::P9),
+        (b"decision 0 700\n", 6, Cause::P9),
+        (b"decision 0 700\ncut : 700 0\n\n", 8, Cause::P9),
+    ] {
+        let text = joined(alloc, LEVEL, lines)?;
+        let fault = read(&rt, alloc, &text).err();
+        assert_eq!(rt; fault, Some(ReadFault::At { line, cause }), "{lines:?}");
+    }
+    let empty = read(&rt, alloc, b"").err();
+    let at_1 = ReadFault::At {
+        line: 1,
+        cause: Cause::P9,
+    };
+    assert_eq!(rt; empty, Some(at_1));
+    Ok(())
+}
+
+/// A decision with one line of so many numbers.
+fn long_path(alloc: Global, numbers: u32) -> Result<Vec<u8>, AllocError> {
+    let mut text = joined(alloc, LEVEL, b"decision 0 700\ncut")?;
+    for _ in 0..numbers {
+        text.extend_from_slice(b" 4294967295")?;
+    }
+    text.extend_from_slice(b" : 0 0\ndone\n")?;
+    Ok(text)
+}
+
+#[test]
+fn longest_path(rt: HostRuntime) -> Result<(), Fail> {
+    let alloc = rt.alloc();
+    let decision = read(&rt, alloc, &long_path(alloc, 64)?).map_err(|_| "a decision")?;
+    assert_eq!(rt; decision.cert.len(), 1);
+    assert!(rt; 0 < decision.cert.len());
+    let path = &decision.cert.get(0).path;
+    assert_eq!(rt; path.len(), 64);
+    assert!(rt; 63 < path.len());
+    assert_eq!(rt; path.get(63), 4_294_967_295);
+    let refused = ReadFault::At {
+        line: 7,
+        cause: Cause::P1,
+    };
+    assert_eq!(rt;
+        read(&rt, alloc, &long_path(alloc, 65)?).err(),
+        Some(refused)
+    );
+    Ok(())
+}
+
+#[test]
+fn lists(rt: HostRuntime) -> Result<(), Fail> {
+    let alloc = rt.alloc();
+    let mut path = Path::new(alloc);
+    path.push(3).map_err(|_| "memory")?;
+    assert!(rt; path.all() == [3].as_slice());
+    let mut cert = Cert::new(alloc);
+    let line = Line {
+        path,
+        sum: 7,
+        index: 1,
+    };
+    cert.push(line).map_err(|_| "memory")?;
+    assert_eq!(rt; cert.all().len(), 1);
+    Ok(())
+}

@@ -1,0 +1,332 @@
+// Each builder at every place of small axes, against its formula.
+ghost use Rattle.std.specs.Prelude.{◌≤ℤ◌, pos, ◌≤◌, ◌<◌};
+
+use crate::shapes::{Limit, limited, line, lower, peaked, plane, steered, upper, value};
+use ivp_build::{BuildFault, Peak, flat, uniform};
+use ivp_domain::Point;
+use std::alloc::Global;
+use std::process::Abort;
+use std::test::Fail;
+
+/// An axis.
+#[derive(Clone, Copy)]
+struct Scale {
+    name: &'static [u8],
+    low: i64,
+    high: i64,
+    points: u32,
+}
+
+const fn axis(name: &'static [u8], low: i64, high: i64, points: u32) -> Scale {
+    Scale {
+        name,
+        low,
+        high,
+        points,
+    }
+}
+
+// The quotient of two numbers that aren't below 0, rounded down.
+fn part(number: i64, of: i64) -> i64 {
+    number.checked_div(of).unwrap_or(0)
+}
+
+fn span(axis: &Scale) -> i64 {
+    axis.high.saturating_sub(axis.low)
+}
+
+fn last(axis: &Scale) -> i64 {
+    axis.points as i64 - 1
+}
+
+fn number(axis: &Scale, place: u32) -> i64 {
+    let way = part((place as i64).saturating_mul(span(axis)), last(axis));
+    axis.low.saturating_add(way)
+}
+
+fn wraps(axis: &Scale) -> bool {
+    axis.name == b"course".as_slice()
+        && axis.low == 0
+        && axis.high.saturating_mul(axis.points as i64) == last(axis).saturating_mul(360_000)
+}
+
+fn apart(a: i64, b: i64) -> i64 {
+    a.max(b).saturating_sub(a.min(b))
+}
+
+fn shorter(way: i64, circle: i64) -> i64 {
+    let way = way.checked_rem(circle).unwrap_or(0);
+    way.min(circle.saturating_sub(way))
+}
+
+fn miss(axis: &Scale, sought: i64, place: u32) -> i64 {
+    let gap = apart(number(axis, place), sought);
+    if wraps(axis) {
+        shorter(gap, 360_000)
+    } else {
+        gap
+    }
+}
+
+fn near(axis: &Scale, sought: i64) -> u32 {
+    let mut best = 0;
+    for place in 0..axis.points {
+        if miss(axis, sought, place) < miss(axis, sought, best) {
+            best = place;
+        }
+    }
+    best
+}
+
+fn steps(axis: &Scale, width: i64) -> i64 {
+    part(width.saturating_mul(last(axis)), span(axis)).max(1)
+}
+
+fn distance(axis: &Scale, place: u32, summit: u32) -> i64 {
+    let way = apart(place as i64, summit as i64);
+    if wraps(axis) {
+        way.min((axis.points as i64).saturating_sub(way))
+    } else {
+        way
+    }
+}
+
+fn peak_value(axis: &Scale, shape: &Peak, place: u32) -> i64 {
+    let d = distance(axis, place, near(axis, shape.summit));
+    let p = steps(axis, shape.peakwidth);
+    let b = steps(axis, shape.basewidth);
+    let a = part(shape.summitdelta, p);
+    let v = shape.max.saturating_sub(a.saturating_mul(p));
+    let c = part(v, b);
+    if d <= p {
+        shape.max.saturating_sub(a.saturating_mul(d))
+    } else if d <= p.saturating_add(b) {
+        v.saturating_sub(c.saturating_mul(d.saturating_sub(p)))
+    } else {
+        0
+    }
+}
+
+fn last_up_to(axis: &Scale, limit: i64) -> u32 {
+    let mut last = 0;
+    for place in 0..axis.points {
+        if number(axis, place) <= limit {
+            last = place;
+        }
+    }
+    last
+}
+
+fn first_from(axis: &Scale, limit: i64) -> u32 {
+    for place in 0..axis.points {
+        if number(axis, place) >= limit {
+            return place;
+        }
+    }
+    axis.points.saturating_sub(1)
+}
+
+fn limit_value(axis: &Scale, shape: &Limit, place: u32) -> i64 {
+    let beyond = if shape.upper {
+        place.saturating_sub(last_up_to(axis, shape.limit))
+    } else {
+        first_from(axis, shape.limit).saturating_sub(place)
+    };
+    let b = steps(axis, shape.basewidth);
+    let c = part(shape.max, b);
+    if beyond as i64 <= b {
+        shape.max.saturating_sub(c.saturating_mul(beyond as i64))
+    } else {
+        0
+    }
+}
+
+// Circles of four, five and two courses, a line of courses, and lines of odd and even numbers of depths, two of them, and
+// uneven ones.
+fn axes() -> [Scale; 8] {
+    [
+        axis(b"course", 0, 270_000, 4),
+        axis(b"course", 0, 288_000, 5),
+        axis(b"course", 0, 180_000, 2),
+        axis(b"course", 0, 350_000, 6),
+        axis(b"depth", 0, 6_000, 7),
+        axis(b"depth", -3_000, 4_000, 8),
+        axis(b"depth", 0, 90_000, 2),
+        axis(b"depth", 0, 100_001, 4),
+    ]
+}
+
+const fn shape(summit: i64, peakwidth: i64, basewidth: i64, summitdelta: i64, max: i64) -> Peak {
+    Peak {
+        summit,
+        peakwidth,
+        basewidth,
+        summitdelta,
+        max,
+    }
+}
+
+fn shapes() -> [Peak; 14] {
+    [
+        shape(0, 10_000, 170_000, 25_000, 100_000),
+        shape(90_000, 90_000, 90_000, 30_000, 100_000),
+        shape(180_000, 0, 0, 0, 100_000),
+        shape(180_000, 0, 0, 100_000, 100_000),
+        shape(200_000, 72_000, 72_000, 100_000, 100_000),
+        shape(288_000, 1_000_000_000, 20_000, 50_000, 50_000),
+        shape(359_000, 20_000, 1_000_000_000, 12_500, 50_000),
+        shape(360_000, 144_000, 1, 7, 50_001),
+        shape(-36_000, 90_000, 45_000, 0, 0),
+        shape(400_000, 5_000, 5_000, 25_000, 99_999),
+        shape(3_000, 1_000, 2_000, 33_333, 100_000),
+        shape(-500, 2_000, 3_000, 10, 20),
+        shape(45_000, 90_000, 180_000, 1, 100_000),
+        shape(50_000, 100_000, 66_667, 99_998, 99_999),
+    ]
+}
+
+fn limits() -> [Limit; 12] {
+    [
+        upper(-1, 2_000, 100_000),
+        upper(0, 0, 100_000),
+        upper(2_999, 1_000_000_000, 100_000),
+        upper(3_000, 3_000, 100_000),
+        upper(180_000, 120_000, 99_999),
+        upper(1_000_000, 10_000, 7),
+        upper(33_333, 50_000, 0),
+        lower(-4_000, 2_000, 100_000),
+        lower(1, 0, 100_000),
+        lower(3_000, 3_000, 100_000),
+        lower(180_000, 120_000, 99_999),
+        lower(1_000_000, 1_000_000_000, 50_000),
+    ]
+}
+
+// A peak has its formula's value at each place.
+fn peak_agrees(rt: &impl Abort, alloc: Global, axis: &Scale, shape: &Peak) -> Result<(), Fail> {
+    let domain = line(axis.name, axis.low, axis.high, axis.points)?;
+    let func = peaked(alloc, &domain, shape)?;
+    for place in 0..axis.points {
+        assert_eq!(rt; value(&func, place), Some(peak_value(axis, shape, place)));
+    }
+    Ok(())
+}
+
+// And so has a limit.
+fn limit_agrees(rt: &impl Abort, alloc: Global, axis: &Scale, shape: &Limit) -> Result<(), Fail> {
+    let domain = line(axis.name, axis.low, axis.high, axis.points)?;
+    let func = limited(alloc, &domain, shape)?;
+    for place in 0..axis.points {
+        assert_eq!(rt; value(&func, place), Some(limit_value(axis, shape, place)));
+    }
+    Ok(())
+}
+
+// One value is the same at each place.
+fn flat_agrees(rt: &impl Abort, alloc: Global, axis: &Scale) -> Result<(), Fail> {
+    let domain = line(axis.name, axis.low, axis.high, axis.points)?;
+    let func = flat(alloc, &domain, 100_000)?;
+    for place in 0..axis.points {
+        assert_eq!(rt; value(&func, place), Some(100_000));
+    }
+    Ok(())
+}
+
+// The sum of two peaks, at each of four courses and four speeds.
+fn sum_agrees(rt: &impl Abort, alloc: Global, course: &Peak, speed: &Peak) -> Result<(), Fail> {
+    let func = steered(alloc, &plane()?, course, speed)?;
+    let round = axis(b"course", 0, 270_000, 4);
+    let along = axis(b"speed", 0, 3_000, 4);
+    for index in 0..16 {
+        let one = peak_value(&round, course, index / 4);
+        let other = peak_value(&along, speed, index % 4);
+        assert_eq!(rt; value(&func, index), Some(one.saturating_add(other)));
+    }
+    Ok(())
+}
+
+#[test]
+fn formulas(rt: HostRuntime) -> Result<(), Fail> {
+    for axis in &axes() {
+        for shape in &shapes() {
+            peak_agrees(&rt, rt.alloc(), axis, shape)?;
+        }
+        for shape in &limits() {
+            limit_agrees(&rt, rt.alloc(), axis, shape)?;
+        }
+        flat_agrees(&rt, rt.alloc(), axis)?;
+    }
+    for course in &shapes()[5..7] {
+        for speed in &shapes()[11..12] {
+            sum_agrees(&rt, rt.alloc(), course, speed)?;
+        }
+    }
+    Ok(())
+}
+
+// A utility of no simple form, from 0 to 99,000.
+fn bumpy(point: &Point) -> i64
+    ensures low { pos 0 ≤ℤ result }
+    ensures high { result ≤ℤ pos 100000 }
+{
+    let one = point.at[0].wrapping_mul(point.at[0]).wrapping_mul(5);
+    let sum = one.wrapping_add(point.at[1].wrapping_mul(7));
+    (sum % 12) as i64 * 9_000
+}
+
+// The utility at the place of these two axes.
+fn bump(first: u32, second: u32) -> i64 {
+    bumpy(&Point {
+        at: [first, second, 0, 0],
+    })
+}
+
+// The first and last place of a place's box on an axis of four.
+fn run(place: u32, size: u32) -> (u32, u32) {
+    let low = place.saturating_sub(place.checked_rem(size).unwrap_or(0));
+    (low, low.saturating_add(size).saturating_sub(1).min(3))
+}
+
+fn uniform_value(size: u32, first: u32, second: u32) -> i64 {
+    let (west, east) = run(first, size);
+    let (south, north) = run(second, size);
+    let low = bump(west, south);
+    let up = part(
+        bump(east, south).saturating_sub(low),
+        apart(east as i64, west as i64),
+    );
+    let side = part(
+        bump(west, north).saturating_sub(low),
+        apart(north as i64, south as i64),
+    );
+    let grown = |x: u32, y: u32| {
+        let rise = up.saturating_mul(apart(x as i64, west as i64));
+        low.saturating_add(rise)
+            .saturating_add(side.saturating_mul(apart(y as i64, south as i64)))
+    };
+    for x in west..east.saturating_add(1) {
+        for y in south..north.saturating_add(1) {
+            if grown(x, y) < 0 || grown(x, y) > 100_000 {
+                return low;
+            }
+        }
+    }
+    grown(first, second)
+}
+
+#[test]
+fn samples(rt: HostRuntime) -> Result<(), Fail> {
+    let domain = plane()?;
+    for size in 1..6 {
+        let func = uniform(rt.alloc(), &domain, size, &|point: &Point| bumpy(point)).map_err(
+            |_| "a sample",
+        )?;
+        for index in 0..16 {
+            assert_eq!(rt;
+                value(&func, index),
+                Some(uniform_value(size, index / 4, index % 4))
+            );
+        }
+    }
+    Ok(())
+}

@@ -1,0 +1,147 @@
+ghost use Rattle.std.specs.Prelude.{◌≡◌, ◌<◌, IsTrue};
+ghost use Rattle.ivp_domain.specs.Domains.{is_point};
+
+use crate::made::{course, slab, sum, term, twelve};
+use ivp_domain::{BoxN, Domain, Steps};
+use ivp_func::Piece;
+use ivp_problem::{Key, Problem, Term, index_of_key, key_of, sum_of};
+use ivp_search::best_in_one;
+use std::alloc::Global;
+use std::marker::Brand;
+use std::process::Abort;
+use std::sync::ledger::{Blank, Ledger};
+use std::test::Fail;
+
+/// A piece over the whole course, with one value.
+fn level(value: i64) -> Piece {
+    Piece {
+        area: BoxN {
+            low: [0; 4],
+            high: [359, 0, 0, 0],
+        },
+        base: value,
+        slope: [0; 4],
+    }
+}
+
+/// The problem of these terms.
+fn problem(domain: Domain, terms: Vec<Term>) -> Result<Problem, Fail> {
+    Ok(Problem::make(domain, terms).map_err(|_| "a problem")?)
+}
+
+/// Some functions of one weight and one value over the course.
+fn levels(alloc: Global, count: u32, weight: u32, value: i64) -> Result<Problem, Fail> {
+    let mut terms = Vec::new(alloc);
+    for _ in 0..count {
+        terms.push(term(alloc, &course()?, weight, &[level(value)])?)?;
+    }
+    problem(course()?, terms)
+}
+
+/// Functions over the twelve points, each by its weight and its two pieces: that on the low places of
+/// the first axis, and that on the others.
+fn halves(alloc: Global, all: &[(u32, [Piece; 2])]) -> Result<Problem, Fail> {
+    let mut terms = Vec::new(alloc);
+    for (weight, pieces) in all {
+        terms.push(term(alloc, &twelve()?, *weight, pieces)?)?;
+    }
+    problem(twelve()?, terms)
+}
+
+/// The best key, counted by a ledger of its own.
+fn best_by<L: Ledger>(problem: &Problem, blank: Blank) -> Key
+    requires name { blank.name ≡ L.name }
+    requires parts { blank.parts ≡ L.parts }
+    requires some { 0 < blank.parts }
+{
+    let mut steps = Steps::<L>::new(blank);
+    best_in_one(problem, &mut steps)
+}
+
+fn best(problem: &Problem) -> Key {
+    best_by::<Brand>(problem, Blank::new(1))
+}
+
+/// The greatest key, by a look at every point.
+fn listed(problem: &Problem) -> Key {
+    let mut most = 0;
+    for index in 0..problem.domain().points() {
+        if let Some(sum) = sum(problem, index)
+            && sum <= 64_000_000_000
+            && index < 4_194_304
+        {
+            most = most.max(key_of(sum, index));
+        }
+    }
+    most
+}
+
+/// The sum and the index of the best point are these, and no point has a greater key.
+fn is_best(rt: &impl Abort, problem: &Problem, sum: u64, index: u32) {
+    let key = best(problem);
+    assert_eq!(rt; sum_of(key), sum);
+    assert_eq!(rt; index_of_key(key), index);
+    assert_eq!(rt; listed(problem), key);
+}
+
+#[test]
+fn levels_of_the_course(rt: HostRuntime) -> Result<(), Fail> {
+    is_best(&rt, &levels(rt.alloc(), 1, 100, 7)?, 700, 0);
+    is_best(
+        &rt,
+        &levels(rt.alloc(), 64, 10_000, 100_000)?,
+        64_000_000_000,
+        0,
+    );
+    is_best(&rt, &levels(rt.alloc(), 3, 1, 0)?, 0, 0);
+    Ok(())
+}
+
+#[test]
+fn rising_and_split(rt: HostRuntime) -> Result<(), Fail> {
+    let alloc = rt.alloc();
+    let rising = term(alloc, &twelve()?, 2, &[slab(0, 2, 0, [10, 0, 0, 0])])?;
+    let pieces = [slab(0, 0, 20, [0, 5, 0, 0]), slab(1, 2, 0, [0, 5, 0, 0])];
+    let split = term(alloc, &twelve()?, 3, &pieces)?;
+    let mut terms = Vec::new(alloc);
+    terms.push(rising)?;
+    terms.push(split)?;
+    is_best(&rt, &problem(twelve()?, terms)?, 75, 2);
+    Ok(())
+}
+
+/// The first child has the greater indices, and a later one the best point of the same sum.
+#[test]
+fn equal_sums(rt: HostRuntime) -> Result<(), Fail> {
+    let high = slab(1, 2, 5, [0; 4]);
+    let low = slab(0, 0, 5, [0; 4]);
+    let problem = halves(rt.alloc(), &[(4, [high, low])])?;
+    is_best(&rt, &problem, 20, 0);
+    Ok(())
+}
+
+/// What the first function likes least is the best of all: the last child of the last child.
+#[test]
+fn last_of_all(rt: HostRuntime) -> Result<(), Fail> {
+    let one = (1, [slab(0, 0, 9, [0; 4]), slab(1, 2, 2, [0; 4])]);
+    let two = (
+        3,
+        [slab(0, 1, 0, [0, 0, 1, 0]), slab(2, 2, 4, [0, 0, 1, 0])],
+    );
+    let problem = halves(rt.alloc(), &[one, two])?;
+    is_best(&rt, &problem, 17, 9);
+    Ok(())
+}
+
+/// The first child is the best, and the others are pruned.
+#[test]
+fn first_of_all(rt: HostRuntime) -> Result<(), Fail> {
+    let one = (
+        2,
+        [slab(0, 0, 50, [0, -9, 0, 0]), slab(1, 2, 20, [-4, 0, 3, 0])],
+    );
+    let two = (1, [slab(0, 1, 30, [0, -7, 0, 0]), slab(2, 2, 1, [0; 4])]);
+    let problem = halves(rt.alloc(), &[one, two])?;
+    is_best(&rt, &problem, 130, 0);
+    Ok(())
+}

@@ -1,0 +1,80 @@
+// One word and two scouts, on one thread.
+ghost use Rattle.std.specs.Prelude.{◌≡◌, ◌<◌, IfSome, IsTrue};
+ghost use Rattle.ivp_domain.specs.Domains.{is_point};
+ghost use Rattle.ivp_problem.specs.Sums.{key_at};
+
+use crate::made::{course, sum_by, term};
+use best_word::Best;
+use ivp_domain::{BoxN, Point};
+use ivp_func::Piece;
+use ivp_problem::{Key, Problem, index_of_key, key_of, sum_of};
+use std::alloc::Global;
+use std::marker::Brand;
+use std::sync::ledger::Blank;
+use std::test::Fail;
+
+/// One function of weight 100 over course:0:359:360, which rises by one at each place.
+fn rising(alloc: Global) -> Result<Problem, Fail> {
+    let domain = course()?;
+    let area = BoxN {
+        low: [0; 4],
+        high: [359, 0, 0, 0],
+    };
+    let piece = Piece {
+        area,
+        base: 7,
+        slope: [1, 0, 0, 0],
+    };
+    let mut terms = Vec::new(alloc);
+    terms.push(term(alloc, &domain, 100, &[piece])?)?;
+    Ok(Problem::make(domain, terms).map_err(|_| "a problem")?)
+}
+
+/// A point and its key.
+#[derive(Clone, Copy)]
+struct Keyed {
+    point: Point,
+    key: Key,
+}
+
+/// The point at an index of the domain, with its key.
+fn point_with_key(problem: &Problem, index: u32) -> Option<Keyed>
+    ensures point { IfSome result (λ one. IsTrue (is_point problem.now.axes one.point)) }
+    ensures key { IfSome result (λ one. key_at problem.now one.point ≡ one.key) }
+{
+    let domain = problem.domain();
+    if index >= domain.points() || index >= 4_194_304 {
+        return None;
+    }
+    let point = domain.point_at(index);
+    let sum = sum_by::<Brand>(problem, &point, Blank::new(1));
+    if sum > 64_000_000_000 {
+        return None;
+    }
+    let key = key_of(sum, index);
+    Some(Keyed { point, key })
+}
+
+#[test]
+fn one_word(rt: HostRuntime) -> Result<(), Fail> {
+    let problem = rising(rt.alloc())?;
+    let (best, mut one) = Best::make(rt.alloc(), &problem)?;
+    let mut two = best.split(&mut one);
+    assert_eq!(rt; best.known(&mut two), 0);
+    let low = point_with_key(&problem, 3).ok_or("a point")?;
+    let high = point_with_key(&problem, 5).ok_or("a point")?;
+    assert!(rt; (sum_of(high.key), index_of_key(high.key)) == (1_200, 5));
+    assert_eq!(rt;
+        best.offer(&mut one, &problem, &high.point, high.key),
+        high.key
+    );
+    // The other scout learns of it by the word alone, and a lesser key changes nothing.
+    assert_eq!(rt; best.known(&mut two), high.key);
+    assert_eq!(rt;
+        best.offer(&mut two, &problem, &low.point, low.key),
+        high.key
+    );
+    best.join(&mut one, two);
+    assert_eq!(rt; best.known(&mut one), high.key);
+    Ok(())
+}

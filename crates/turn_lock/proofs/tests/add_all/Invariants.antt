@@ -1,5 +1,0 @@
-use Rattle.std.proofs.Common.{◌≡◌}
-use Rattle.turn_lock.proofs.tests.add_all.Given as goal
-
-abbrev pub invariant-loop-count : goal.invariant-loop-count
-invariant-loop-count g l = l.pass ≡ record l.initial.pass { seen = l.pass.seen; mine = l.pass.mine }
