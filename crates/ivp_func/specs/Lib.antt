@@ -5,3 +5,4 @@ pub mod Making
 pub mod Grids
 pub mod Cuts
 pub mod Cells
+pub mod Bodies

@@ -1,5 +1,6 @@
-ghost use Rattle.std.specs.Prelude.{◌≡◌, ℕ, ◌+◌, ◌<◌, ◌≤◌, length, Some, IsTrue, IfSome, IfNone, false, slice_get};
+ghost use Rattle.std.specs.Prelude.{◌≡◌, ℕ, ◌+◌, ◌<◌, ◌≤◌, length, Some, IsTrue, IfSome, IfNone, false, slice_get, IfOk};
 ghost use Rattle.ivp_domain.specs.Domains.{is_point};
+ghost use Rattle.ivp_func.specs.Bodies.{function_in, IsBody};
 ghost use Rattle.ivp_func.specs.Functions.{IsFunction, IsTop};
 ghost use Rattle.ivp_func.specs.Grids.{cell_box, cells_of, meeting, meets};
 ghost use Rattle.ivp_func.specs.Making.{MadeFunction};
@@ -10,8 +11,9 @@ use crate::partition::{count, misfit};
 use crate::piece::Piece;
 use crate::values::{point_out, top, value_at};
 use ivp_domain::{BoxN, Domain, Point, Steps};
-use std::alloc::Global;
+use std::alloc::{AllocError, Global};
 use std::marker::Model;
+use std::sync::Arc;
 use std::sync::ledger::Ledger;
 
 /// The most pieces that a function may have.
@@ -27,9 +29,9 @@ pub enum FuncFault {
     NoMemory,
 }
 
-/// An objective function: pieces that partition a domain, with every value within 0 to 100,000.
+/// What a function has, and keeps as long as it lives.
 #[derive(Debug, Drop)]
-pub struct Func {
+pub(crate) struct Body {
     domain: Domain,
     pieces: Vec<Piece>,
     top: i64,
@@ -37,23 +39,30 @@ pub struct Func {
     grid: Grid,
 }
 
+/// An objective function: pieces that partition a domain, with every value within 0 to 100,000. Nothing changes it, so
+/// equal ones may share what they have.
+#[derive(Debug, Drop)]
+pub struct Func {
+    body: Arc<Body>,
+}
+
 impl Model for Func {
-    ghost use Rattle.std.specs.Prelude.{◌≡◌};
-    ghost use Rattle.ivp_func.specs.Functions.{Function, IsFunction, IsTop};
-    ghost use Rattle.ivp_func.specs.Cells.{IsGrid};
+    ghost use Rattle.std.specs.Arc.{arc_value};
+    ghost use Rattle.ivp_func.specs.Bodies.{function_in, IsBody};
+    ghost use Rattle.ivp_func.specs.Functions.{Function};
 
     ghost Value = { Function };
 
-    ghost view = { λ f. record { axes = f.domain; pieces = f.pieces.items } };
+    ghost view = { λ f. function_in (arc_value f.body) };
 
-    ghost invariant = { λ f. IsFunction (record { axes = f.domain; pieces = f.pieces.items }) × IsTop f.domain f.pieces.items f.top × IsGrid f.pieces.items f.grid × (f.grid.cuts ≡ f.domain) };
+    ghost invariant = { λ f. IsBody (arc_value f.body) };
 }
 
 /// What holds of every function. It does nothing.
 pub fn func_law(func: &Func)
     ensures { IsFunction func.now }
 {
-    let _ = func.pieces.len();
+    let _ = func.body();
 }
 
 impl Func {
@@ -82,12 +91,42 @@ impl Func {
             return Err(FuncFault::NoMemory);
         };
         let top = top(domain, &pieces);
-        Ok(Func {
+        let body = Body {
             domain: *domain,
             pieces,
             top,
             grid,
-        })
+        };
+        match Func::of(alloc, body) {
+            Ok(func) => Ok(func),
+            Err(_) => Err(FuncFault::NoMemory),
+        }
+    }
+
+    // The function of a body.
+    fn of(alloc: Global, body: Body) -> Result<Func, AllocError>
+        requires { IsBody body }
+        ensures { IfOk result (λ func. func ≡ function_in body) }
+    {
+        let body = Arc::new(alloc, body)?;
+        Ok(Func { body })
+    }
+
+    /// An equal one, which has the same pieces and the same grid and not others like them. It takes no memory, and fails only
+    /// where some 2^63 share them already.
+    pub fn share(&self) -> Result<Func, AllocError>
+        ensures { IfOk result (λ func. func ≡ self.now) }
+    {
+        let body = Arc::try_clone(&self.body)?;
+        Ok(Func { body })
+    }
+
+    // What it has.
+    fn body(&self) -> &Body
+        ensures function { function_in result.now ≡ self.now }
+        ensures kept { IsBody result.now }
+    {
+        &self.body
     }
 
     /// The value at a point of the domain. It counts one step.
@@ -98,7 +137,8 @@ impl Func {
         ensures counted { steps.new ≡ steps.old + 1 }
     {
         steps.tick();
-        value_at(&self.domain, &self.pieces, p)
+        let body = self.body();
+        value_at(&body.domain, &body.pieces, p)
     }
 
     /// How many pieces there are.
@@ -106,7 +146,7 @@ impl Func {
         ensures len { result ≡ length self.now.pieces }
         ensures function { IsFunction self.now }
     {
-        self.pieces.len() as u32
+        self.body().pieces.len() as u32
     }
 
     /// A piece by its number, from 0.
@@ -115,7 +155,7 @@ impl Func {
         ensures piece { slice_get self.now.pieces i ≡ Some result }
         ensures fits { IsTrue (is_piece_of self.now.axes result) }
     {
-        self.pieces[i as usize]
+        self.body().pieces[i as usize]
     }
 
     /// The greatest value over all points.
@@ -123,7 +163,7 @@ impl Func {
         ensures top { IsTop self.now.axes self.now.pieces result }
         ensures range { IsTrue (is_value result) }
     {
-        self.top
+        self.body().top
     }
 
     /// How many cells the grid has. Each axis is cut from place 0 on into runs of `ceil(points / c)`
@@ -132,7 +172,7 @@ impl Func {
     pub fn cells(&self) -> u32
         ensures { result ≡ cells_of self.now.axes }
     {
-        self.grid.cells.len() as u32
+        self.body().grid.cells.len() as u32
     }
 
     /// The box of a cell by its number, from 0: the first axis counts most.
@@ -140,7 +180,7 @@ impl Func {
         requires { k < cells_of self.now.axes }
         ensures { result ≡ cell_box self.now.axes k }
     {
-        self.grid.cells[k as usize].area
+        self.body().grid.cells[k as usize].area
     }
 
     /// The numbers of the pieces whose boxes share a point with a cell, rising.
@@ -148,7 +188,8 @@ impl Func {
         requires { k < cells_of self.now.axes }
         ensures { result.now ≡ meeting self.now.pieces (cell_box self.now.axes k) }
     {
-        self.grid.numbers_of(&self.grid.cells[k as usize])
+        let grid = &self.body().grid;
+        grid.numbers_of(&grid.cells[k as usize])
     }
 
     /// The least number from `from` on of a piece whose box shares a point with the area. `None`
@@ -159,13 +200,14 @@ impl Func {
         ensures least { IfSome result (λ number. (other : ℕ) → from ≤ other → other < number → meets self.now.pieces area.now other ≡ false) }
         ensures none { IfNone result ((other : ℕ) → from ≤ other → meets self.now.pieces area.now other ≡ false) }
     {
-        next_meet(Some(&self.grid), &self.pieces, area, from)
+        let body = self.body();
+        next_meet(Some(&body.grid), &body.pieces, area, from)
     }
 
     /// The domain that the function was made with.
     pub fn domain(&self) -> Domain
         ensures { result ≡ self.now.axes }
     {
-        self.domain
+        self.body().domain
     }
 }

@@ -196,6 +196,9 @@ fn peak_of_a_heading(rt: HostRuntime) -> Result<(), Fail> {
         assert_eq!(rt; value(&func, index), Some(expected));
     }
     assert_eq!(rt; value(&func, 360), None);
+    let other = func.share()?;
+    drop(func);
+    assert_eq!(rt; value(&other, 359), Some(100_000));
     Ok(())
 }
 

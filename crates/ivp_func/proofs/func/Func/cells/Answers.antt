@@ -5,5 +5,5 @@ use Rattle.ivp_func.proofs.func.Func.cells.Goals as goal
 
 pub overflow_cast-result : goal.overflow_cast-result
 overflow_cast-result c =
-    let few = cells_few c.self.inside.domain c.self.invariant.0.domain in
-    omega (arith, c.len.ensures, c.self.invariant.2.count, ap cells_of c.self.invariant.3, few.2)
+    let few = cells_few c.body.result.now.domain c.body.ensures.kept.function.domain in
+    omega (arith, c.len.ensures, c.body.ensures.kept.grid.count, ap cells_of c.body.ensures.kept.cuts, few.2)

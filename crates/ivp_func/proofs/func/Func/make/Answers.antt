@@ -1,4 +1,4 @@
-use Rattle.std.proofs.Common.{◌≡◌, List, false, ap, refl, ◌∙◌, sym, subst, to_z, of_z, w64, arith, rules}
+use Rattle.std.proofs.Common.{◌≡◌, List, false, ap, ◌∙◌, sym, subst, to_z, of_z, w64, arith, rules}
 use Rattle.std.proofs.lemmas.Int.{ints}
 use Rattle.ivp_func.specs.declared.grid.Grid.{Grid}
 use Rattle.ivp_func.specs.declared.piece.Piece.{Piece}
@@ -8,21 +8,23 @@ use Rattle.ivp_func.specs.Pieces.{is_value, value_at}
 use Rattle.ivp_func.proofs.Seeking.{ok_some}
 use Rattle.ivp_func.proofs.func.Func.make.Goals as goal
 
-pub invariant_of-result : goal.invariant_of-result
-invariant_of-result c =
+pub of-requires : goal.of-requires
+of-requires c =
     let axes = c.args.domain.now in
-    let kept : to_z w64 (of_z w64 c.top-top.result) ≡ c.top-top.result = omega (arith, ints) in (
-      record {
-        domain = c.in_default.ensures.domain;
-        few = search rules;
-        pieces = c.requires;
-        partition = subst (λ xs. IsPartition axes xs) c.deref-2.ensures.value c.in_default.ensures.none;
-        values = subst (λ xs. HasValues axes xs) c.deref-3.ensures.value c.in_default-point_out.ensures.none;
-      },
-      subst (λ v. IsTop axes c.args.pieces.items v) (sym kept) (subst (λ xs. IsTop axes xs c.top-top.result) c.deref-4.ensures.value c.top-top.ensures),
-      subst (λ (xs : List Piece). IsGrid xs c.in-Some-grid.grid) c.deref.ensures.value (ok_some (IsGrid c.deref.result.now) c.make.result c.in-Some-grid.grid (sym c.ok-grid.ensures.value ∙ c.in-Some-grid.is) c.make.ensures.grid),
-      ok_some (λ (g : Grid). g.cuts ≡ axes) c.make.result c.in-Some-grid.grid (sym c.ok-grid.ensures.value ∙ c.in-Some-grid.is) c.make.ensures.domain,
-    )
+    let kept : to_z w64 (of_z w64 c.top-top.result) ≡ c.top-top.result = omega (arith, ints) in
+    record {
+      function =
+          record {
+            domain = c.in_default.ensures.domain;
+            few = search rules;
+            pieces = c.requires;
+            partition = subst (λ xs. IsPartition axes xs) c.deref-2.ensures.value c.in_default.ensures.none;
+            values = subst (λ xs. HasValues axes xs) c.deref-3.ensures.value c.in_default-point_out.ensures.none;
+          };
+      top = subst (λ v. IsTop axes c.args.pieces.items v) (sym kept) (subst (λ xs. IsTop axes xs c.top-top.result) c.deref-4.ensures.value c.top-top.ensures);
+      grid = subst (λ (xs : List Piece). IsGrid xs c.in-Some-grid.grid) c.deref.ensures.value (ok_some (IsGrid c.deref.result.now) c.make.result c.in-Some-grid.grid (sym c.ok-grid.ensures.value ∙ c.in-Some-grid.is) c.make.ensures.grid);
+      cuts = ok_some (λ (g : Grid). g.cuts ≡ axes) c.make.result c.in-Some-grid.grid (sym c.ok-grid.ensures.value ∙ c.in-Some-grid.is) c.make.ensures.domain;
+    }
 
 pub returns-in-Some-point_out : goal.returns-in-Some-point_out
 returns-in-Some-point_out c =
@@ -36,13 +38,4 @@ returns-in-Some-point_out c =
       c.in-Some-point_out.ensures.some.0,
       value,
       ap is_value value ∙ out,
-    )
-
-pub returns : goal.returns
-returns c =
-    let axes = c.args.domain.now in (
-      search rules,
-      subst (λ xs. IsPartition axes xs) c.deref-2.ensures.value c.in_default.ensures.none,
-      subst (λ xs. HasValues axes xs) c.deref-3.ensures.value c.in_default-point_out.ensures.none,
-      refl,
     )
