@@ -20,6 +20,3 @@ pub use fit::{MOST_BASE, MOST_SLOPE, are_pieces_of, is_box_of, is_piece_of};
 pub use func::{Func, FuncFault, MOST_PIECES, func_law};
 pub use law::tests_law;
 pub use piece::Piece;
-
-#[cfg(test)]
-mod tests;

@@ -1,7 +1,7 @@
 //! What tests alone show of the solver: that its calls succeed with ample memory, and give what was worked by hand.
 //!
 //! The tests of all crates of the solver stand here, since a crate with tests of its own is proved once more with them.
-//! One module for each subject, by the layers from the lowest, and `made`, which makes problems for them: `domains`, `problems`, `shared_word`, `search`, `shapes` and
+//! One module for each subject, by the layers from the lowest, and `made`, which makes problems for them: `domains`, `functions`, `problems`, `shared_word`, `search`, `shapes` and
 //! `formulas` of the builders, `problem_files` and `decisions` of the texts.
 #![tactic(auto)]
 
@@ -11,6 +11,8 @@ mod decisions;
 mod domains;
 #[cfg(test)]
 mod formulas;
+#[cfg(test)]
+mod functions;
 #[cfg(test)]
 mod made;
 #[cfg(test)]

@@ -1,8 +1,8 @@
 ghost use Rattle.std.specs.Prelude.{◌≡◌, ◌<◌, IsTrue};
 ghost use Rattle.ivp_domain.specs.Domains.{is_point};
 
-use crate::{Func, FuncFault, Piece, are_pieces_of, is_box_of, is_piece_of, tests_law};
 use ivp_domain::{Axis, AxisName, BoxN, Domain, Point, Steps};
+use ivp_func::{Func, FuncFault, Piece, are_pieces_of, is_box_of, is_piece_of, tests_law};
 use std::alloc::Global;
 use std::marker::Brand;
 use std::sync::ledger::{Blank, Ledger};
