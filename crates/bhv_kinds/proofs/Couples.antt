@@ -1,7 +1,7 @@
 -- Steering and cruising at once: the sum of a peak on the course and one on the speed.
-use Rattle.std.proofs.Common.{◌≡◌, ◌≤◌, ◌*◌, ℕ, suc, pos, nat_abs, Bool, true, false, ◌&&◌, List, [], ◌∷◌, length, length-append, codes, Option, Some, None, refl, ap, sym, ◌∙◌, subst, arith}
+use Rattle.std.proofs.Common.{◌≡◌, ◌≤◌, ◌*◌, ℕ, suc, pos, nat_abs, Bool, true, false, List, [], ◌∷◌, length, length-append, codes, Option, Some, None, refl, ap, sym, ◌∙◌, subst, arith}
 use Rattle.std.proofs.lemmas.Slice.Eq.{bytes_eq-Decides}
-use Rattle.std.specs.Prelude.{bytes_eq, is_some, option_map}
+use Rattle.std.specs.Prelude.{bytes_eq}
 use Rattle.std.specs.List.{cons_option, list_any, position_or_len}
 use Rattle.ivp_domain.specs.declared.axis.Axis.{Axis}
 use Rattle.ivp_domain.specs.declared.boxes.Point.{Point}
@@ -18,8 +18,6 @@ use Rattle.ivp_build.specs.Places.{axis_on}
 use Rattle.ivp_build.specs.Sums.{HaveRoom, couple_pieces, met_sum, met_sums, slope_apart}
 use Rattle.ivp_build.proofs.Sides.{peak_most, room_below, shapes_apart}
 use Rattle.bhv_reader.specs.Params.{has_axis}
-use Rattle.bhv_kinds.specs.declared.out.Out.{Out}
-use Rattle.bhv_kinds.specs.Giving.{gives, out_of}
 use Rattle.bhv_kinds.specs.Utilities.{PeakOn, Sum, Utility, axis_number, cruise, function_of, named_axis, place_on, steer, utility_pieces, worth_at}
 
 -- a sum has at most as many pieces as there are pairs
@@ -91,14 +89,6 @@ pub sum_function : (axes : List Axis) (u v : Utility) (one other func : Function
 sum_function axes u v one other func is is' made =
     made ∙ ap (λ (f : Function). record { axes = f.axes; pieces = couple_pieces f.pieces other.pieces }) is ∙ ap (λ (g : Function). record { axes = axes; pieces = couple_pieces (utility_pieces axes u) g.pieces }) is'
 
--- where there is a function it mentions the course and the speed
-abbrev pub travelling : Option Function → Out
-travelling func = record { func = func; course = is_some func && true; speed = is_some func && true; depth = is_some func && false; done = false; fault = None }
-
-pub travels : (axes : List Axis) (utility : Option Utility) (func : Option Function) → func ≡ option_map (function_of axes) utility → travelling func ≡ out_of axes (codes "course" ∷ codes "speed" ∷ []) (gives utility)
-travels axes None func is = ap travelling is
-travels axes (Some u) func is = ap travelling is
-
 -- nothing of the course leaves room for a cruise
 pub hold_room : (axes : List Axis) (speed : Peak) (one other : Function) → one.axes ≡ axes → nat_abs speed.max ≤ 50000 → ((p : Point) → is_point axes p ≡ true → value_at one.pieces p ≡ pos 0)
     → ((p : Point) → is_point axes p ≡ true → value_at other.pieces p ≡ pos (worth_at axes (PeakOn (codes "speed") speed) p)) → HaveRoom one.axes one.pieces other.pieces
@@ -110,10 +100,9 @@ hold_room axes speed one other same low value value' =
     none : 0 ≤ 0
     none = omega arith
 
--- to steer for a bearing, where there is one
-pub steered : (axes : List Axis) (speed degree : ℕ) (found : Option ℕ) (course cruising : Peak) (func : Function) → Some degree ≡ found
+-- to steer a course and to cruise
+pub steered : (axes : List Axis) (speed degree : ℕ) (course cruising : Peak) (func : Function)
     → course ≡ record { summit = pos (degree * 1000); peakwidth = pos 20000; basewidth = pos 160000; summitdelta = pos 12500; max = pos 50000 } → cruising ≡ record { summit = pos speed; peakwidth = pos 500; basewidth = pos 2000; summitdelta = pos 12500; max = pos 50000 }
-    → func ≡ function_of axes (Sum (PeakOn (codes "course") course) (PeakOn (codes "speed") cruising)) → Some func ≡ option_map (function_of axes) (option_map (λ d. Sum (steer d) (cruise speed)) found)
-steered axes speed degree found course cruising func same is is' made =
-    subst (λ (o : Option ℕ). Some func ≡ option_map (function_of axes) (option_map (λ d. Sum (steer d) (cruise speed)) o)) same
-    (ap Some (made ∙ ap (λ (p : Peak). function_of axes (Sum (PeakOn (codes "course") p) (PeakOn (codes "speed") cruising))) is ∙ ap (λ (p : Peak). function_of axes (Sum (steer degree) (PeakOn (codes "speed") p))) is'))
+    → func ≡ function_of axes (Sum (PeakOn (codes "course") course) (PeakOn (codes "speed") cruising)) → func ≡ function_of axes (Sum (steer degree) (cruise speed))
+steered axes speed degree course cruising func is is' made =
+    made ∙ ap (λ (p : Peak). function_of axes (Sum (PeakOn (codes "course") p) (PeakOn (codes "speed") cruising))) is ∙ ap (λ (p : Peak). function_of axes (Sum (steer degree) (PeakOn (codes "speed") p))) is'

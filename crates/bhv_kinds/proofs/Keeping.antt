@@ -15,7 +15,7 @@ use Rattle.bhv_kinds.proofs.Pairwise.{updated_axes}
 
 -- the kind before any update and step
 pub made : (spec : Spec) (reversed : Bool) → IsValidSpec spec → reversed ≡ is_reversed spec.shape
-    → IsKindOf spec [] (record { params = spec; captured = 0; again = 0; reversed = reversed; vertex = None; centre = None; last = None; first = None })
+    → IsKindOf spec [] (record { params = spec; captured = 0; again = 0; reversed = reversed; vertex = None; centre = None; last = None; first = None; kept = tt })
 made spec reversed valid same = record {
   sound = record { valid = valid; captured = omega arith; again = omega arith; vertex = tt; centre = tt; last = tt };
   axes = refl;
@@ -59,6 +59,7 @@ with_update kind params named = record {
   centre = kind.centre;
   last = if named then None else kind.last;
   first = kind.first;
+  kept = tt;
 }
 
 -- it is sound where it was

@@ -1,9 +1,8 @@
 -- What the ranges of parameters say of peaks.
-use Rattle.std.proofs.Common.{◌≡◌, ◌≤◌, ◌≤ℤ◌, ◌^◌, ℤ, ℕ, pos, true, to_z, of_z, w64, refl, arith}
+use Rattle.std.proofs.Common.{◌≡◌, ◌≤ℤ◌, ◌^◌, ℤ, ℕ, pos, true, arith}
 use Rattle.std.proofs.lemmas.Int.{ints}
 use Rattle.std.proofs.lemmas.Bool.Decides.{nat_tests}
 use Rattle.ivp_domain.specs.Axes.{is_end}
-use Rattle.ivp_build.specs.declared.shape.Peak.{Peak}
 use Rattle.ivp_build.specs.Places.{IsWidth}
 use Rattle.ivp_build.specs.Shapes.{IsPeak}
 use Rattle.bhv_reader.specs.Values.{lies_between}
@@ -31,17 +30,3 @@ peak_between summit peakwidth basewidth summitdelta at top foot delta = record {
   within = (between 100000 summitdelta delta).1;
   most = omega (arith, ints);
 }
-
--- a number of a range is what its 64 bits say
-pub same_bits : (high : ℕ) (n : ℤ) → high ≤ 10 ^ 9 → lies_between (pos 0) (pos high) n ≡ true → to_z w64 (of_z w64 n) ≡ n
-same_bits high n below in' = let parts = between high n in' in omega (arith, ints, parts.0, parts.1)
-
--- a peak of 100, its numbers by their bits
-abbrev pub passed : ℤ → ℤ → ℤ → ℤ → Peak
-passed summit peakwidth basewidth summitdelta = record { summit = to_z w64 (of_z w64 summit); peakwidth = to_z w64 (of_z w64 peakwidth); basewidth = to_z w64 (of_z w64 basewidth); summitdelta = to_z w64 (of_z w64 summitdelta); max = pos 100000 }
-
--- so a peak passed on is the same
-pub peak_bits : (high : ℕ) (summit peakwidth basewidth summitdelta : ℤ) → high ≤ 10 ^ 9 → lies_between (pos 0) (pos high) summit ≡ true → lies_between (pos 0) (pos (10 ^ 9)) peakwidth ≡ true → lies_between (pos 0) (pos (10 ^ 9)) basewidth ≡ true
-    → lies_between (pos 0) (pos 100000) summitdelta ≡ true → passed summit peakwidth basewidth summitdelta ≡ record { summit = summit; peakwidth = peakwidth; basewidth = basewidth; summitdelta = summitdelta; max = pos 100000 }
-peak_bits high summit peakwidth basewidth summitdelta below at top foot delta =
-    rw (same_bits high summit below at, same_bits (10 ^ 9) peakwidth (omega arith) top, same_bits (10 ^ 9) basewidth (omega arith) foot, same_bits 100000 summitdelta (omega arith) delta) refl

@@ -55,6 +55,7 @@ with_step kind step = record {
   centre = centre_after step.fresh kind.centre (position_of step.known);
   last = position_of step.known;
   first = option_or kind.first (Some step.stamp);
+  kept = tt;
 }
 
 -- a situation and a kind by their fields
@@ -62,7 +63,7 @@ abbrev pub situation : Option Spot → Bool → ℕ → Option ℕ → Option Sp
 situation here finished captured vertex centre time = record { here = here; finished = finished; captured = captured; vertex = vertex; centre = centre; time = time }
 
 abbrev pub kept : Spec → ℕ → ℕ → Bool → Option ℕ → Option Spot → Option Spot → Option ℕ → Kind
-kept params captured again reversed vertex centre last first = record { params = params; captured = captured; again = again; reversed = reversed; vertex = vertex; centre = centre; last = last; first = first }
+kept params captured again reversed vertex centre last first = record { params = params; captured = captured; again = again; reversed = reversed; vertex = vertex; centre = centre; last = last; first = first; kept = tt }
 
 -- a limit of repeats is seen by the repeats that are counted
 may_same : (repeat : Option ℕ) (again : ℕ) → IfSome repeat (λ times. times ≤ 10 ^ 6) → may_repeat repeat (min again (10 ^ 6)) ≡ may_repeat repeat again

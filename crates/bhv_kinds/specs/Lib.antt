@@ -5,4 +5,5 @@ pub mod Targets
 pub mod Stations
 pub mod Regions
 pub mod Giving
+pub mod Wants
 pub mod Standing

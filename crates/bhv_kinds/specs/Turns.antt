@@ -1,5 +1,5 @@
 -- What happens to a behaviour, the latest first: its steps, and the updates between them.
-use Rattle.std.specs.Prelude.{ℕ, ℤ, Bool, List, [], ◌∷◌, codes, Option, Some, None, unwrap_or, option_map, option_and_then}
+use Rattle.std.specs.Prelude.{ℕ, ℤ, Bool, List, [], ◌∷◌, codes, Option, Some, None, unwrap_or, option_and_then}
 use Rattle.std.specs.Option.{option_or}
 use Rattle.moos_post.specs.declared.value.Value.{Value}
 use Rattle.moos_post.specs.declared.value.Value.TheVariants.{Num, Text}
@@ -7,6 +7,7 @@ use Rattle.ivp_domain.specs.declared.axis.Axis.{Axis}
 use Rattle.helm_cond.specs.Learnt.{Knowledge}
 use Rattle.helm_geo.specs.declared.spot.Spot.{Spot}
 use Rattle.bhv_reader.specs.declared.spec.Spec.{Spec}
+use Rattle.bhv_reader.specs.Values.{spot_of_numbers}
 use Rattle.bhv_kinds.specs.Updates.{updated}
 
 -- a step: the domain, what is known, the stamp, and whether the behaviour wasn't stepped in the iteration before
@@ -34,13 +35,9 @@ as_number (Text text) = None
 abbrev pub latest_number : Knowledge → List ℕ → Option ℤ
 latest_number known var = option_and_then as_number (known var)
 
--- the place of two numbers, where both are known
-abbrev pub spot_of_coordinates : Option ℤ → Option ℤ → Option Spot
-spot_of_coordinates x y = option_and_then (λ east. option_map (λ north. record { x = east; y = north }) y) x
-
 -- the own position, where both its numbers are known
 abbrev pub position_of : Knowledge → Option Spot
-position_of known = spot_of_coordinates (latest_number known (codes "NAV_X")) (latest_number known (codes "NAV_Y"))
+position_of known = spot_of_numbers (latest_number known (codes "NAV_X")) (latest_number known (codes "NAV_Y"))
 
 -- The parameters after these turns: those of the file, with each update that is good as a whole.
 abbrev pub params_at : Spec → List KindTurn → Spec

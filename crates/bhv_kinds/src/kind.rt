@@ -11,7 +11,8 @@ ghost use Rattle.bhv_kinds.specs.Updates.{updated};
 use crate::given::given;
 use crate::known::position;
 use crate::loiter::vertex_after;
-use crate::out::Out;
+use crate::making::Kept;
+use crate::out::{Out, out_of};
 use crate::situation::Situation;
 use crate::station::centre_after;
 use crate::updating::{names_places, updated};
@@ -41,6 +42,8 @@ pub struct Kind {
     pub(crate) last: Option<Spot>,
     /// The stamp of the first step of all.
     pub(crate) first: Option<u64>,
+    /// The function of the last step that gave one.
+    pub(crate) kept: Kept,
 }
 
 // Whether a list of points is taken from the last to the first.
@@ -67,6 +70,7 @@ impl Kind {
             centre: None,
             last: None,
             first: None,
+            kept: Kept::nothing(),
         }
     }
 
@@ -91,6 +95,7 @@ impl Kind {
             centre: self.centre,
             last: self.last,
             first: self.first,
+            kept: self.kept.copy(),
         })
     }
 
@@ -156,7 +161,8 @@ impl Kind {
             centre,
             time,
         };
-        let out = given(alloc, domain, info, shape, &found)?;
+        let aim = given(info, shape, &found);
+        let out = out_of(alloc, domain, shape, &aim, &mut self.kept)?;
         self.reversed = is_reversed(&self.params.shape);
         self.captured = after.captured;
         self.again = after.again;

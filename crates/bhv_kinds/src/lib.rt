@@ -4,14 +4,15 @@
 //! specs/Standing, `update` takes an update exactly where all its pairs are good and the relations between parameters hold, and
 //! `step` gives what specs/Giving says of that list.
 //!
-//! Reading order: `out`, `updating`, `situation`; `steady`, `region`, `steering` and `station`; `waypoint` and `loiter`; `given` and
-//! `kind`, with `known` on the way.
+//! Reading order: `updating`, `situation` and `want`; `region`, `station`, `waypoint` and `loiter`; `given`, with `known` and `ways` on
+//! the way; `steady`, `steering` and `making`; `out` and `kind`.
 #![tactic(auto)]
 
 mod given;
 mod kind;
 mod known;
 mod loiter;
+mod making;
 mod out;
 mod region;
 mod situation;
@@ -19,6 +20,7 @@ mod station;
 mod steady;
 mod steering;
 mod updating;
+mod want;
 mod waypoint;
 mod ways;
 

@@ -1,4 +1,15 @@
+ghost use Rattle.std.specs.Prelude.{◌≡◌, codes, IfOk, IfSome};
+ghost use Rattle.bhv_reader.specs.Params.{axes_of};
+ghost use Rattle.bhv_kinds.specs.Giving.{is_named, out_of};
+ghost use Rattle.bhv_kinds.specs.Wants.{CanMake, given_of};
+
+use crate::making::Kept;
+use crate::want::Aim;
+use bhv_reader::Shape;
+use ivp_domain::Domain;
 use ivp_func::Func;
+use moos_post::NoMemory;
+use std::alloc::Global;
 
 /// Why a behaviour wants all to stop.
 #[derive(Clone, Copy, Debug, PartialEq, Eq)]
@@ -23,4 +34,71 @@ pub struct Out {
     pub depth: bool,
     pub done: bool,
     pub fault: Option<BhvFault>,
+}
+
+// Which axes the functions of a type mention.
+struct Mentioned {
+    course: bool,
+    speed: bool,
+    depth: bool,
+}
+
+fn mentions(shape: &Shape) -> Mentioned
+    ensures course { result.course ≡ is_named (axes_of shape.now) (codes "course") }
+    ensures speed { result.speed ≡ is_named (axes_of shape.now) (codes "speed") }
+    ensures depth { result.depth ≡ is_named (axes_of shape.now) (codes "depth") }
+{
+    let (course, speed, depth) = match shape {
+        Shape::Heading { .. } => (true, false, false),
+        Shape::Speed { .. } => (false, true, false),
+        Shape::Depth { .. } | Shape::MaxDepth { .. } => (false, false, true),
+        Shape::Waypoint { .. } | Shape::Loiter { .. } | Shape::StationKeep { .. } => {
+            (true, true, false)
+        },
+        Shape::Timer | Shape::OpRegion { .. } => (false, false, false),
+    };
+    Mentioned {
+        course,
+        speed,
+        depth,
+    }
+}
+
+/// What a step of a type gives over a domain by what it aims at, with the function that is kept where that is the one.
+pub fn out_of(
+    alloc: Global,
+    domain: &Domain,
+    shape: &Shape,
+    aim: &Aim,
+    kept: &mut Kept,
+) -> Result<Out, NoMemory>
+    requires { IfSome aim.now.want (CanMake domain.now) }
+    ensures { IfOk result (λ out. out ≡ out_of domain.now (axes_of shape.now) (given_of aim.now)) }
+{
+    let Mentioned {
+        course,
+        speed,
+        depth,
+    } = mentions(shape);
+    match &aim.want {
+        Some(want) => {
+            let func = kept.function(alloc, domain, want)?;
+            Ok(Out {
+                func: Some(func),
+                course,
+                speed,
+                depth,
+                done: aim.done,
+                fault: aim.fault,
+            })
+        },
+        None => Ok(Out {
+            func: None,
+            course: false,
+            speed: false,
+            depth: false,
+            done: aim.done,
+            fault: aim.fault,
+        }),
+    }
 }

@@ -1,17 +1,15 @@
 // Keeping a station: where it is, and how fast the ship goes back to it.
-ghost use Rattle.std.specs.Prelude.{◌≡◌, ◌≤◌, ◌<◌, ◌*◌, ◌-◌, ◌/◌, ◌^◌, codes, option_map, IfOk, IfSome, IsTrue};
+ghost use Rattle.std.specs.Prelude.{◌≡◌, ◌≤◌, ◌<◌, ◌*◌, ◌-◌, ◌/◌, ◌^◌, List, codes, option_map, IfSome, IsTrue};
+ghost use Rattle.ivp_domain.specs.declared.axis.Axis.{Axis};
 ghost use Rattle.helm_geo.specs.Plane.{is_spot};
 ghost use Rattle.bhv_reader.specs.Params.{has_axis};
 ghost use Rattle.bhv_kinds.specs.Giving.{keeping};
 ghost use Rattle.bhv_kinds.specs.Stations.{centre_after, distance_of, return_speed};
-ghost use Rattle.bhv_kinds.specs.Utilities.{function_of};
+ghost use Rattle.bhv_kinds.specs.Wants.{CanMake, utility_of};
 
-use crate::steering::{hold, towards};
+use crate::want::Want;
+use crate::ways::towards;
 use helm_geo::{Spot, distance_squared, isqrt};
-use ivp_domain::Domain;
-use ivp_func::Func;
-use moos_post::NoMemory;
-use std::alloc::Global;
 
 /// The centre after a step: where it stands, unless it is taken anew or wasn't known before.
 #[tactic(auto, using(crate::proofs::Stepping::centre_within))]
@@ -71,28 +69,19 @@ fn return_speed(ring: &Ring, distance: u64) -> u64
 }
 
 /// To stay within the inner radius of a station, or to go back to it.
-pub fn keep(
-    alloc: Global,
-    domain: &Domain,
-    ring: &Ring,
-    station: &Spot,
-    here: &Spot,
-) -> Result<Option<Func>, NoMemory>
-    requires course_axis { IsTrue (has_axis domain.now (codes "course")) }
-    requires speed_axis { IsTrue (has_axis domain.now (codes "speed")) }
+pub fn keep(ring: &Ring, station: &Spot, here: &Spot) -> Option<Want>
     requires radii { ring.now.inner < ring.now.outer }
     requires outer { ring.now.outer ≤ 10 ^ 9 }
     requires speed { ring.now.speed ≤ 10 ^ 6 }
     requires station { IsTrue (is_spot station.now) }
     requires here { IsTrue (is_spot here.now) }
-    ensures { IfOk result (λ func. func ≡ option_map (function_of domain.now) (keeping ring.now.inner ring.now.outer ring.now.speed station.now here.now)) }
+    ensures want { option_map utility_of result ≡ keeping ring.now.inner ring.now.outer ring.now.speed station.now here.now }
+    ensures can { (axes : List Axis) → IsTrue (has_axis axes (codes "course")) → IsTrue (has_axis axes (codes "speed")) → IfSome result (CanMake axes) }
 {
     let distance = distance_of(here, station);
     if distance <= ring.inner {
-        let func = hold(alloc, domain)?;
-        Ok(Some(func))
+        Some(Want::Stay)
     } else {
-        let func = towards(alloc, domain, return_speed(ring, distance), station, here)?;
-        Ok(func)
+        towards(return_speed(ring, distance), station, here)
     }
 }

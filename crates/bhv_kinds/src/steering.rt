@@ -1,17 +1,12 @@
-// Behaviours that go to a place: a course to steer and a speed to cruise at.
-ghost use Rattle.std.specs.Prelude.{◌≡◌, ◌≤◌, ◌<◌, ◌*◌, ◌^◌, ◌-ℤ◌, nat_abs, pos, codes, length, option_map, IfOk, IfSome, IsTrue};
+// The functions of behaviours that go to a place: a course to steer and a speed to cruise at.
+ghost use Rattle.std.specs.Prelude.{◌≡◌, ◌≤◌, ◌<◌, ◌*◌, ◌^◌, nat_abs, pos, codes, length, IfOk, IsTrue};
 ghost use Rattle.ivp_build.specs.Faults.{IsTooMany};
 ghost use Rattle.ivp_build.specs.Shapes.{IsPeak};
 ghost use Rattle.ivp_build.specs.Sums.{HaveRoom, couple_pieces, slope_apart};
-ghost use Rattle.helm_geo.specs.Angles.{bearing};
-ghost use Rattle.helm_geo.specs.Plane.{is_spot};
 ghost use Rattle.bhv_reader.specs.Params.{has_axis};
-ghost use Rattle.bhv_kinds.specs.Giving.{towards};
-ghost use Rattle.bhv_kinds.specs.Utilities.{Flat, PeakOn, Sum, cruise, function_of};
+ghost use Rattle.bhv_kinds.specs.Utilities.{Flat, PeakOn, Sum, cruise, function_of, steer};
 
 use crate::steady::peak_on;
-use crate::ways::{east_of, north_of};
-use helm_geo::{Spot, bearing};
 use ivp_build::{BuildFault, Peak, couple, flat};
 use ivp_domain::Domain;
 use ivp_func::Func;
@@ -101,36 +96,14 @@ pub fn hold(alloc: Global, domain: &Domain) -> Result<Func, NoMemory>
     Ok(func)
 }
 
-// The bearing of a place, and none at the very place.
-fn bearing_of(place: &Spot, here: &Spot) -> Option<u16>
-    requires place { IsTrue (is_spot place.now) }
-    requires here { IsTrue (is_spot here.now) }
-    ensures bearing { result ≡ bearing (place.now.x -ℤ here.now.x) (place.now.y -ℤ here.now.y) }
-    ensures within { IfSome result (λ degree. degree < 360) }
-{
-    bearing(east_of(here, place), north_of(here, place))
-}
-
-/// To go to a place at a speed from here; none at the very place.
-pub fn towards(
-    alloc: Global,
-    domain: &Domain,
-    speed: u64,
-    place: &Spot,
-    here: &Spot,
-) -> Result<Option<Func>, NoMemory>
+/// To go on a course, in whole degrees, at a speed.
+pub fn travel(alloc: Global, domain: &Domain, degree: u16, speed: u64) -> Result<Func, NoMemory>
     requires course_axis { IsTrue (has_axis domain.now (codes "course")) }
     requires speed_axis { IsTrue (has_axis domain.now (codes "speed")) }
+    requires degree { degree < 360 }
     requires speed { speed ≤ 10 ^ 6 }
-    requires place { IsTrue (is_spot place.now) }
-    requires here { IsTrue (is_spot here.now) }
-    ensures { IfOk result (λ func. func ≡ option_map (function_of domain.now) (towards speed place.now here.now)) }
+    ensures { IfOk result (λ func. func ≡ function_of domain.now (Sum (steer degree) (cruise speed))) }
 {
-    match bearing_of(place, here) {
-        Some(degree) => {
-            let func = both(alloc, domain, &steering(degree), &cruising(speed))?;
-            Ok(Some(func))
-        },
-        None => Ok(None),
-    }
+    let func = both(alloc, domain, &steering(degree), &cruising(speed))?;
+    Ok(func)
 }

@@ -21,7 +21,7 @@ returns-clause-out c spec turns is =
     found_is kind step c.position-here.result c.captures-captured.result c.finishes-finished.result c.headway_after-after.result.captured c.vertex_after-vertex.result c.centre_after-centre.result c.time_since-time.result c.position-here.ensures.spot c.captures-captured.ensures
     c.headway_after-after.ensures.captured c.finishes-finished.ensures c.vertex_after-vertex.ensures.vertex c.centre_after-centre.ensures.centre c.time_since-time.ensures
     ∙ situation_same spec turns kind step is in
-    c.in_ok-out.ensures ∙ ap (λ (p : Spec). out_of axes (axes_of p.shape) (gives_by_type p.shape known found)) is.params
+    c.in_ok-out.ensures ∙ ap (out_of axes (axes_of kind.params.shape)) c.given-aim.ensures.given ∙ ap (λ (p : Spec). out_of axes (axes_of p.shape) (gives_by_type p.shape known found)) is.params
     ∙ ap (λ (f : Situation). out_of axes (axes_of (params_at spec turns).shape) (gives_by_type (params_at spec turns).shape known f)) same
 
 pub returns-clause-sound : goal.returns-clause-sound
