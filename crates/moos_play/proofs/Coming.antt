@@ -12,7 +12,7 @@ use Rattle.moos_client.specs.Calls.{SeatState, entries_of}
 use Rattle.moos_post.specs.declared.entry.Entry.{Entry}
 use Rattle.moos_post.specs.History.{History}
 use Rattle.moos_play.specs.declared.steersman.Steersman.{Steersman}
-use Rattle.moos_play.specs.Lawful.{heard_in, heard_of, helm_number, iterations, moment_of, never_falls, opening, opening_of, Steering, tick_entries, ticks, ticks_of, ticks_to}
+use Rattle.moos_play.specs.Lawful.{heard_in, heard_of, helm_number, moment_of, never_falls, opening, opening_of, Steering, tick_entries, ticks_of, ticks_to}
 use Rattle.moos_play.specs.Rounds.{CommunityLock, GoesOn, IsAlone, IsGathered, IsPlayed, IsPlayedBeside, IsWhole, KnowsNothing}
 use Rattle.moos_play.specs.Steered.{HasOpened, helm_of, IsBehind, IsEarly, comes_before, IsDue, IsUnopened, IsTimed, IsUnderWay, KeepsTime, StandsAt, steering_of, Steers, tick_due}
 use Rattle.moos_play.proofs.Hearing.{heard_append, ticks_stay}
@@ -177,26 +177,29 @@ behind_rise helm stamp rest (line ∷ lines) clients rises behind =
     and_from (nat_le (suc (2 * stamp)) (moment_of helm line)) (never_falls (moment_of helm) (moment_of helm line) lines)
     (subst (λ key. nat_le (suc (2 * stamp)) key ≡ true) (sym (line_moment helm line other)) (grind (arith, nat_tests, behind))) (rise_end (moment_of helm) 0 rest line lines rises)
 
+-- a tick's entries between earlier ones and the lines behind it
+pub rise_tick : (helm stamp : ℕ) (rest added left : History) → never_falls (moment_of helm) 0 (rest ++ left) ≡ true → list_all (λ entry. nat_le (moment_of helm entry) (suc (2 * stamp))) rest ≡ true → list_all (λ entry. moment_of helm entry == suc (2 * stamp)) added ≡ true
+    → list_all (λ line. nat_lt line.client helm) left ≡ true → IsBehind (Some stamp) left → never_falls (moment_of helm) 0 (rest ++ (added ++ left)) ≡ true
+rise_tick helm stamp rest added left rises early one clients behind =
+    more_rise (moment_of helm) 0 (suc (2 * stamp)) rest added left rises (grind (arith, nat_tests)) early one (behind_rise helm stamp rest left clients rises behind)
+
+-- and none is of a later moment than the tick after it
+pub early_tick : (helm stamp next : ℕ) (rest added : History) → stamp ≤ next → list_all (λ entry. nat_le (moment_of helm entry) (suc (2 * stamp))) rest ≡ true → list_all (λ entry. moment_of helm entry == suc (2 * stamp)) added ≡ true
+    → list_all (λ entry. nat_le (moment_of helm entry) (suc (2 * next))) (rest ++ added) ≡ true
+early_tick helm stamp next rest added later early one =
+    list_all-append (λ entry. nat_le (moment_of helm entry) (suc (2 * next))) rest added
+    ∙ and_from (list_all (λ entry. nat_le (moment_of helm entry) (suc (2 * next))) rest) (list_all (λ entry. nat_le (moment_of helm entry) (suc (2 * next))) added)
+    (all_higher (moment_of helm) (suc (2 * stamp)) (suc (2 * next)) rest (omega (arith, later)) early) (all_below (moment_of helm) (suc (2 * stamp)) (suc (2 * next)) added (omega (arith, later)) one)
+
 -- a tick in order
 pub timed_tick : (script : Script) (old new : Steersman) (from : ℕ) (rest added : History) → IsTimed script (Some old) from rest → old.ticks < ticks_to script.stop (steering_of old)
     → list_all (λ entry. moment_of (helm_number script) entry == suc (2 * (old.ticks * old.period))) added ≡ true → new.ticks * new.period ≡ old.period + old.ticks * old.period
     → list_all (λ line. nat_lt line.client (helm_number script)) (drop from script.lines) ≡ true → IsBehind (Some (old.ticks * old.period)) (drop from script.lines) → IsTimed script (Some new) from (rest ++ added)
 timed_tick script old new from rest added so left one next clients behind = record {
-  left = subst (λ history. never_falls key 0 history ≡ true) (sym (append_assoc rest added (drop from script.lines)))
-      (more_rise key 0 m rest added (drop from script.lines) so.left (grind (arith, nat_tests)) (so.early left) one (behind_rise (helm_number script) (old.ticks * old.period) rest (drop from script.lines) clients so.left behind));
-  early = λ _. list_all-append (λ entry. nat_le (key entry) bound) rest added
-      ∙ and_from (list_all (λ entry. nat_le (key entry) bound) rest) (list_all (λ entry. nat_le (key entry) bound) added)
-      (all_higher key m bound rest (omega (arith, next)) (so.early left)) (all_below key m bound added (omega (arith, next)) one);
+  left = subst (λ history. never_falls (moment_of (helm_number script)) 0 history ≡ true) (sym (append_assoc rest added (drop from script.lines)))
+      (rise_tick (helm_number script) (old.ticks * old.period) rest added (drop from script.lines) so.left (so.early left) one clients behind);
+  early = λ _. early_tick (helm_number script) (old.ticks * old.period) (new.ticks * new.period) rest added (omega (arith, next)) (so.early left) one;
 }
-  where
-    key : Entry → ℕ
-    key = moment_of (helm_number script)
-
-    m : ℕ
-    m = suc (2 * (old.ticks * old.period))
-
-    bound : ℕ
-    bound = suc (2 * (new.ticks * new.period))
 
 -- a script's lines are of clients below the helm
 pub lines_clients : (clients last stop : ℕ) (lines : List Entry) → are_lines clients last stop lines ≡ true → list_all (λ line. nat_lt line.client clients) lines ≡ true

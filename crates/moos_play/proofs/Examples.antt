@@ -1,5 +1,5 @@
 -- A script with a helm worked by hand: what they may leave together, and what they may not.
-use Rattle.std.proofs.Common.{◌≡◌, ◌≢◌, ℕ, ◌==◌, Bool, true, false, cond, List, [], ◌∷◌, ◌++◌, length, None, Some, refl, sym, ap, arith, ne_eqb}
+use Rattle.std.proofs.Common.{◌≡◌, ℕ, ◌==◌, Bool, cond, List, [], ◌∷◌, ◌++◌, length, None, Some, refl, sym, ap, arith, ne_eqb}
 use Rattle.std.specs.Prelude.{codes, IsTrue}
 use Rattle.std.proofs.lemmas.Bool.{false≢true}
 use Rattle.helm_core.specs.Iterations.{iteration_at}

@@ -3,6 +3,7 @@ use Rattle.std.proofs.Common.{◌≡◌, ℕ, zero, suc, ◌+◌, ◌-◌, inl, 
 use Rattle.std.specs.Prelude.{option_map, option_to_list, slice_get, IfSome}
 use Rattle.std.proofs.lemmas.Bool.Decides.{nat_tests}
 use Rattle.std.proofs.lemmas.List.{drop_all, take-append-drop, take-append-le, take_all}
+use Rattle.helm_core.specs.declared.iteration.Iteration.{Iteration}
 use Rattle.helm_core.specs.Helms.{plan_of}
 use Rattle.helm_core.specs.Iterations.{iteration_at}
 use Rattle.helm_core.specs.Plans.{Plan}
@@ -12,10 +13,12 @@ use Rattle.moos_post.specs.declared.entry.Entry.{Entry}
 use Rattle.moos_post.specs.History.{History}
 use Rattle.moos_play.specs.declared.playing.Play.{Play}
 use Rattle.moos_play.specs.declared.steersman.Steersman.{Steersman}
-use Rattle.moos_play.specs.Lawful.{heard_in, heard_of, helm_number, iterations_of, Steering, ticks_to}
-use Rattle.moos_play.specs.Plays.{handed, handed_of, IsBetween, IsStampOver, iterations_made, made_by, stamp_next, StaysSeated, untold_in}
+use Rattle.moos_play.specs.Lawful.{heard_in, heard_of, helm_number, iterations, iterations_of, Steering, ticks_to}
+use Rattle.moos_play.specs.Plays.{handed, handed_of, HasCompletion, IsBetween, IsOver, IsStampOver, iterations_made, left_in, made_by, stamp_next, StaysSeated, untold_in}
 use Rattle.moos_play.specs.Rounds.{CommunityLock}
 use Rattle.moos_play.specs.Steered.{GoesOnWith, helm_of, IsAtPlay, IsUnderWay, iterations_in, KeepsTime, StandsAt, steering_of, Steers, tick_due, ticks_left, told_in}
+use Rattle.moos_play.proofs.Completing.{completion}
+use Rattle.moos_play.proofs.Ending.{lawful_end, left_same, made_over, over_ticks, ticks_made, under_way}
 use Rattle.moos_play.proofs.Hearing.{heard_append, iterations_many, iterations_stay}
 use Rattle.script_reader.specs.declared.script.Order.{Order}
 use Rattle.script_reader.specs.declared.script.Order.TheVariants.{Stamp, Race}
@@ -37,21 +40,24 @@ iterations_front plan heard n (suc m) below = by (nat_le n m) refl (iterations_f
     by true e before = let less : n ≤ m = grind (arith, nat_tests) in front less ∙ before less
     by false e before = all (grind (arith, nat_tests))
 
+-- and of those over a history that goes on
+iterations_before : (names : List (List ℕ)) (plan : Plan) (client n m : ℕ) (history rest : History) → n ≤ m → length (heard_of names client history) ≡ n
+    → take n (iterations_of plan (heard_of names client (history ++ rest)) m) ≡ iterations_of plan (heard_of names client history) n
+iterations_before names plan client n m history rest below many =
+    iterations_front plan (heard_of names client (history ++ rest)) n m below ∙ ap (λ heard. iterations_of plan heard n) (heard_append names client [] history rest)
+    ∙ iterations_stay plan (heard_of names client history) (heard_in names client history rest) n (omega (arith, many))
+
 -- the iterations over a history that goes on: those before, and those behind them
 told_on : (names : List (List ℕ)) (s t : Steersman) (history rest : History) → steering_of t ≡ steering_of s → s.told ≡ s.ticks → t.told ≡ s.told → Steers names s history → Steers names t (history ++ rest)
     → made_by names (history ++ rest) (Some t) ≡ made_by names history (Some s) ++ t.iterations
 told_on names s t history rest same told kept before after =
-    let heard = heard_of names s.number history in
-    let more = heard_in names s.number history rest in
-    let is : iterations_of (plan_of t.helm) (heard_of names t.number (history ++ rest)) t.ticks ≡ iterations_of (plan_of s.helm) (heard ++ more) t.ticks =
-    ap (λ (helm : Steering). iterations_of helm.plan (heard_of names helm.client (history ++ rest)) t.ticks) same ∙ ap (λ heard. iterations_of (plan_of s.helm) heard t.ticks) (heard_append names s.number [] history rest) in
+    let done = iterations_of (plan_of s.helm) (heard_of names s.number (history ++ rest)) t.ticks in
+    let is : iterations_of (plan_of t.helm) (heard_of names t.number (history ++ rest)) t.ticks ≡ done = ap (λ (helm : Steering). iterations_of helm.plan (heard_of names helm.client (history ++ rest)) t.ticks) same in
     let count : t.told ≡ s.ticks = kept ∙ told in
-    let front : take t.told (iterations_of (plan_of s.helm) (heard ++ more) t.ticks) ≡ iterations_of (plan_of s.helm) heard s.ticks =
-    iterations_front (plan_of s.helm) (heard ++ more) t.told t.ticks after.few ∙ ap (iterations_of (plan_of s.helm) (heard ++ more)) count
-    ∙ iterations_stay (plan_of s.helm) heard more s.ticks (omega (arith, before.many)) in
-    is ∙ sym (take-append-drop t.told (iterations_of (plan_of s.helm) (heard ++ more) t.ticks))
-    ∙ ap (λ first. first ++ drop t.told (iterations_of (plan_of s.helm) (heard ++ more) t.ticks)) front
-    ∙ ap (λ last. iterations_of (plan_of s.helm) heard s.ticks ++ last) (ap (drop t.told) (sym is) ∙ sym after.same)
+    let front : take t.told done ≡ iterations_of (plan_of s.helm) (heard_of names s.number history) s.ticks =
+    ap (λ n. take n done) count ∙ iterations_before names (plan_of s.helm) s.number s.ticks t.ticks history rest (omega (arith, count, after.few)) before.many in
+    is ∙ sym (take-append-drop t.told done) ∙ ap (λ first. first ++ drop t.told done) front
+    ∙ ap (λ last. iterations_of (plan_of s.helm) (heard_of names s.number history) s.ticks ++ last) (ap (drop t.told) (sym is) ∙ sym after.same)
 
 -- the same of a run with a helm or without
 pub made_on : (names : List (List ℕ)) (number : ℕ) (before after : Option Steersman) (history later rest : History) → later ≡ history ++ rest → helm_of after ≡ helm_of before → IfSome before (λ s. s.told ≡ s.ticks) → told_in after ≡ told_in before
@@ -188,3 +194,33 @@ round_iterations before after between at stays on told =
     between.at_play.under.steered
     (subst (λ (script : Script). StandsAt before.lock.base (helm_number script) after.steersman after.first.seat.seen) on.script
     (subst (λ (lock : CommunityLock). StandsAt lock.base (helm_number after.script.now) after.steersman after.first.seat.seen) on.lock at.under.steered))
+
+-- the end of a run that is played round by round
+pub over_now : (play last : Play) → IsBetween play → left_in play ≡ 0 → last ≡ play → IsOver last
+over_now play last between none is = subst IsOver (sym is) (record {
+  lawful = lawful_end play.order play.script.now play (helm_of play.steersman) play.lock.base play.first.seat.seen between.valid.lines between.at_play none refl refl refl refl;
+  iterations =
+      made_over play.lock.base (helm_number play.script.now) play.script.now.stop play.first.seat.seen play.steersman between.at_play.under.steered
+      (over_ticks play.script.now play play.steersman between.at_play.period (omega (arith, none)));
+})
+
+-- the iterations of a history that goes on begin with those so far
+iterations_more : (names : List (List ℕ)) (number stop : ℕ) (steersman : Option Steersman) (history rest : History) → StandsAt names number steersman history → IfSome steersman (λ helm. (1 ≤ helm.period) × (helm.ticks ≤ ticks_to stop (steering_of helm)))
+    → (more : List Iteration) × (iterations (helm_of steersman) stop (heard_of names number (history ++ rest)) ≡ made_by names history steersman ++ more)
+iterations_more names number stop None history rest so period = ([], refl)
+iterations_more names number stop (Some s) history rest so period =
+    let all = iterations_of (plan_of s.helm) (heard_of names s.number (history ++ rest)) (ticks_to stop (steering_of s)) in (
+      drop s.ticks all,
+      ap (λ n. iterations_of (plan_of s.helm) (heard_of names n (history ++ rest)) (ticks_to stop (steering_of s))) (sym so.0) ∙ sym (take-append-drop s.ticks all)
+          ∙ ap (λ front. front ++ drop s.ticks all) (iterations_before names (plan_of s.helm) s.number s.ticks (ticks_to stop (steering_of s)) history rest period.1 so.2.many),
+    )
+
+-- the history between two rounds is the front of a lawful one
+pub has_completion : (play : Play) → IsBetween play → HasCompletion play
+has_completion play between =
+    let script = play.script.now in
+    let whole =
+    completion (left_in play) play.order script (helm_of play.steersman) play.lock.base (ticks_made play.steersman) (drop play.from script.lines) play.first.seat.seen
+    (under_way play.order script play.lock play.steersman play.from play.first.seat between.valid.lines between.at_play.under between.at_play.period) (left_same script play) in
+    let made = iterations_more play.lock.base (helm_number script) script.stop play.steersman play.first.seat.seen whole.0 between.at_play.under.steered between.at_play.period in
+    record { rest = whole.0; lawful = whole.1; more = made.0; iterations = made.1 }

@@ -12,6 +12,7 @@ pub mod Lending
 pub mod Racing
 pub mod Histories
 pub mod Coming
+pub mod Completing
 pub mod Ending
 pub mod Beginning
 pub mod Rounding

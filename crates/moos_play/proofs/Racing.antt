@@ -2,7 +2,6 @@
 use Rattle.std.proofs.Common.{◌≡◌, ℕ, ◌<◌, ◌≤◌, ◌*◌, ◌+◌, ◌^◌, true, false, cond, ne_eqb, List, [], ◌∷◌, ◌++◌, length, map, Ok, OnOk, Result, refl, sym, ap, ◌∙◌, subst, arith, nat_lt}
 use Rattle.std.specs.List.{All, AllZip, list_all}
 use Rattle.std.specs.declared.alloc.AllocError.{AllocError}
-use native.Mathlib.Decide.{ℕ_discrete}
 use Rattle.moos_client.specs.Calls.{SeatState, entries_of}
 use Rattle.moos_post.specs.declared.entry.Entry.{Entry}
 use Rattle.moos_play.specs.Steered.{MaySteer, Steers}

@@ -6,7 +6,7 @@ use Rattle.moos_post.specs.History.{History}
 use Rattle.moos_play.specs.declared.playing.Play.{Play}
 use Rattle.moos_play.specs.declared.round_made.Round.{Round}
 use Rattle.moos_play.specs.declared.steersman.Steersman.{Steersman}
-use Rattle.moos_play.specs.Lawful.{heard_of, iterations_of, Steering}
+use Rattle.moos_play.specs.Lawful.{heard_of, helm_number, IsLawful, iterations, iterations_of, Steering}
 use Rattle.moos_play.specs.Rounds.{IsGathered, IsWhole}
 use Rattle.moos_play.specs.Steered.{helm_of, IsAtPlay, iterations_in, left_of, tick_due}
 use Rattle.script_reader.specs.declared.script.Order.{Order}
@@ -96,6 +96,19 @@ pub record IsRound (before after : Play) (round : Round) : Type 0 where
   pub stamp : round.stamp ≡ next_stamp before
   pub finished : IsStampOver after round.stamp
   pub iterations : iterations_made after ≡ iterations_made before ++ round.iterations
+
+-- a run in which nothing is left: its history is lawful, and its iterations are those of this history
+pub record IsOver (play : Play) : Type 0 where
+  pub lawful : IsLawful play.order play.script.now (helm_in play) (clients_in play) (history_in play)
+  pub iterations : iterations_made play ≡ iterations (helm_in play) play.script.now.stop (heard_of (clients_in play) (helm_number play.script.now) (history_in play))
+
+-- A run between two rounds: with some entries more its history is lawful, and the iterations of that history are those so
+-- far and some more.
+pub record HasCompletion (play : Play) : Type 0 where
+  pub rest : History
+  pub lawful : IsLawful play.order play.script.now (helm_in play) (clients_in play) (history_in play ++ rest)
+  pub more : List Iteration
+  pub iterations : iterations (helm_in play) play.script.now.stop (heard_of (clients_in play) (helm_number play.script.now) (history_in play ++ rest)) ≡ iterations_made play ++ more
 
 -- the run once the database is put back as it was
 abbrev pub returned : Play → Play

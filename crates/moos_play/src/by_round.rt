@@ -1,6 +1,6 @@
 // A run in the open: from round to round, with the database lent in between.
 ghost use Rattle.std.specs.Prelude.{◌≡◌, ◌<◌, ◌≤◌, length, option_map, slice_get, IfOk, IfNone, IfSome, OnOk};
-ghost use Rattle.moos_play.specs.Plays.{earliest, handed, history_in, IsBetween, IsStampOver, IsLentAs, IsRound, IsSeated, left_in, clients_in, next_stamp, returned, StaysSeated, untold_in};
+ghost use Rattle.moos_play.specs.Plays.{earliest, handed, HasCompletion, history_in, IsBetween, IsStampOver, IsLentAs, IsOver, IsRound, IsSeated, left_in, clients_in, next_stamp, returned, StaysSeated, untold_in};
 ghost use Rattle.moos_play.specs.Steered.{GoesOnWith, IsAtPlay, told_in};
 ghost use Rattle.script_reader.specs.Validity.{IsValid};
 
@@ -35,7 +35,8 @@ impl<'a> Play<'a> {
         ensures same { OnOk result (GoesOnWith self.old self.new) }
         ensures round { IfOk result (λ round. IfSome round (IsRound self.old self.new)) }
         ensures more { IfOk result (λ round. IfSome round (λ _. left_in self.new < left_in self.old)) }
-        ensures over { IfOk result (λ round. IfNone round ((left_in self.old ≡ 0) × (self.new ≡ self.old))) }
+        ensures none { IfOk result (λ round. IfNone round ((left_in self.old ≡ 0) × (self.new ≡ self.old))) }
+        ensures over { IfOk result (λ round. IfNone round (IsOver self.new)) }
     {
         let script = self.script;
         let stamp = self.next_stamp();
@@ -73,6 +74,13 @@ impl<'a> Play<'a> {
     {
         self.lock.give_back(&mut self.first.seat, held);
     }
+
+    /// The law of a run between two rounds: with some entries more its history is lawful, and the helm's iterations so far are
+    /// the first of those of that history. It does nothing.
+    pub fn front_law(&self)
+        requires { IsBetween self.now }
+        ensures { HasCompletion self.now }
+    {}
 
     // Plays on while what is next has this stamp.
     fn finish_stamp<R: Threads + Wait + Sync, G: Gate>(

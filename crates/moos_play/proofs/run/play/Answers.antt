@@ -10,7 +10,7 @@ returns-then-is_none-clause-lawful g c =
 pub returns-clause-lawful : goal.returns-clause-lawful
 returns-clause-lawful g c =
     let over = c.in_ok-go_on.ensures.over (ap Ok c.if-branch.false) in
-    lawful_end c.args.order c.args.script.now c.go_on.new.self _ c.end.result.db.names c.end.result.db.history c.in_ok-go_on.ensures.at_play (ap (left_of c.args.script.now) over.1 ∙ over.0)
+    lawful_end c.args.order c.args.script.now c.go_on.new.self _ c.end.result.db.names c.end.result.db.history c.requires.valid.lines c.in_ok-go_on.ensures.at_play (ap (left_of c.args.script.now) over.1 ∙ over.0)
     (c.in_ok-go_on.ensures.same.order ∙ c.loop-play.invariant.order) (c.in_ok-go_on.ensures.same.helm ∙ c.loop-play.invariant.helm) c.end.ensures.names c.end.ensures.history
 
 pub returns-clause-iterations : goal.returns-clause-iterations

@@ -1,8 +1,8 @@
-use Rattle.std.proofs.Common.{◌∙◌, ◌++◌, ap, subst, sym}
+use Rattle.std.proofs.Common.{◌∙◌, ◌++◌, ap, rules, subst, sym}
 use Rattle.moos_play.specs.declared.playing.Play.{Play}
 use Rattle.moos_play.specs.Plays.{IsBetween, IsStampOver, handed, iterations_made, StaysSeated, untold_in}
-use Rattle.moos_play.specs.Steered.{GoesOnWith}
-use Rattle.moos_play.proofs.Handing.{at_ends, finished_handed, goes_on_handed, goes_on_twice, handed_between, round_iterations, stays_handed, stays_twice}
+use Rattle.moos_play.specs.Steered.{GoesOnWith, left_of}
+use Rattle.moos_play.proofs.Handing.{at_ends, finished_handed, goes_on_handed, goes_on_twice, handed_between, over_now, round_iterations, stays_handed, stays_twice}
 use Rattle.script_reader.specs.Validity.{IsValid}
 use Rattle.moos_play.proofs.playing.Play.round.Goals as goal
 
@@ -43,3 +43,9 @@ returns-clause-round g c =
           ∙ ap (λ (play : Play). iterations_made play ++ untold_in after) same
           ∙ ap (λ done. iterations_made c.args.self.now ++ done) (sym c.hand_out-iterations.ensures.untold);
     }
+
+pub returns-then-not-branch-clause-over : goal.returns-then-not-branch-clause-over
+returns-then-not-branch-clause-over g c =
+    let ended = c.in_ok-go_on.ensures.over (search rules) in
+    let same = c.count_entries-from.ensures.same in
+    over_now c.args.self.now c.go_on.new.self c.requires.between (ap (left_of c.args.self.now.script.now) (sym same) ∙ ended.0) (ended.1 ∙ same)
