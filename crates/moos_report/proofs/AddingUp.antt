@@ -1,12 +1,12 @@
--- The parts of a report together are the report.
-use Rattle.std.proofs.Common.{◌≡◌, ℕ, zero, suc, ◌+◌, ◌<◌, ◌≤◌, Bool, true, false, List, [], ◌∷◌, ◌++◌, length, refl, ap, sym, ◌∙◌, arith, append_assoc, append-nil, length-append}
+-- What is printed of a history so far, and of a part behind it.
+use Rattle.std.proofs.Common.{◌≡◌, ℕ, zero, suc, ◌+◌, ◌<◌, ◌≤◌, Bool, true, false, List, [], ◌∷◌, ◌++◌, length, refl, ap, sym, ◌∙◌, subst, arith, append_assoc, append-nil, zero-add}
 use Rattle.std.specs.Prelude.{IsTrue, if◌then◌else◌, slice_get}
 use Rattle.moos_post.specs.declared.entry.Entry.{Entry}
 use Rattle.moos_post.specs.History.{History}
 use Rattle.helm_core.specs.declared.iteration.Iteration.{Iteration}
 use Rattle.moos_report.specs.declared.setup.Setup.{Setup}
 use Rattle.moos_report.specs.IterationLines.{current_text, helm_fetches, is_helm_post, iteration_from, listed_text, outcome_text}
-use Rattle.moos_report.specs.Parts.{EndsWithin, HaveTheirs, joined_history, joined_iterations, parts_text, PartsAddUp, ToldPart}
+use Rattle.moos_report.specs.Parts.{EndsWithin, FrontsStay, PartsAddUp}
 use Rattle.moos_report.specs.Report.{end_text, entries_text, entry_text, head_text}
 
 -- some entries, and others behind them
@@ -58,18 +58,26 @@ entries_own setup before iterations after names past (entry ∷ entries) theirs 
     let later = entries_own setup before iterations after names (past ++ entry ∷ []) entries theirs.1 in
     λ i. entry_text names past entry ++ (outcome i ++ later i)
 
--- parts behind others
-parts_on : (setup : Setup) (names : List (List ℕ)) (past : History) (before : List Iteration) (parts : List ToldPart) → HaveTheirs names past (length before) parts
-    → parts_text setup names past (length before) parts ≡ entries_text setup 0 (before ++ joined_iterations parts) names past (joined_history parts)
-parts_on setup names past before [] theirs = refl
-parts_on setup names past before (part ∷ parts) theirs =
-    let all = before ++ (part.iterations ++ joined_iterations parts) in
-    let so_far = length-append before part.iterations in
-    let first = entries_own setup before part.iterations (joined_iterations parts) names past part.entries theirs.0 in
-    let later : parts_text setup names (past ++ part.entries) (length before + length part.iterations) parts ≡ entries_text setup 0 all names (past ++ part.entries) (joined_history parts) =
-    rw (← so_far, ← append_assoc before part.iterations (joined_iterations parts))
-    (parts_on setup names (past ++ part.entries) (before ++ part.iterations) parts (rw so_far theirs.1)) in
-    (λ i. sym first i ++ later i) ∙ sym (entries_on setup 0 all names past part.entries (joined_history parts))
+-- what is printed so far is the same with more iterations
+so_far : (setup : Setup) (names : List (List ℕ)) (history : History) (before more : List Iteration) → EndsWithin names [] 0 (length before) history
+    → entries_text setup 0 (before ++ more) names [] history ≡ entries_text setup 0 before names [] history
+so_far setup names history before more own =
+    entries_own setup [] before more names [] history (subst (λ limit. EndsWithin names [] 0 limit history) (sym (zero-add (length before))) own)
 
 pub parts_same : PartsAddUp
-parts_same setup names parts theirs = ap (λ entries. head_text setup names ++ (entries ++ end_text (joined_history parts))) (parts_on setup names [] [] parts theirs)
+parts_same setup names history part before iterations own theirs =
+    let head = head_text setup names in
+    let here = entries_text setup (length before) iterations names history part in
+    let behind : entries_text setup 0 (before ++ iterations) names history part ≡ here =
+    ap (λ iterations. entries_text setup 0 (before ++ iterations) names history part) (sym (append-nil iterations)) ∙ entries_own setup before iterations [] names history part theirs in
+    append_assoc head (entries_text setup 0 before names [] history) here ∙ (λ i. head ++ (sym (so_far setup names history before iterations own) i ++ sym behind i))
+    ∙ ap (λ entries. head ++ entries) (sym (entries_on setup 0 (before ++ iterations) names [] history part))
+
+pub fronts_same : FrontsStay
+fronts_same setup names history rest before more own =
+    let head = head_text setup names in
+    let here = entries_text setup 0 before names [] history in
+    let behind = entries_text setup 0 (before ++ more) names history rest in
+    let end = end_text (history ++ rest) in
+    ap (λ entries. head ++ (entries ++ end)) (entries_on setup 0 (before ++ more) names [] history rest ∙ ap (λ entries. entries ++ behind) (so_far setup names history before more own))
+    ∙ ap (λ text. head ++ text) (append_assoc here behind end) ∙ sym (append_assoc head here (behind ++ end))

@@ -22,7 +22,7 @@ use Rattle.helm_core.specs.declared.iteration.Iteration.{Iteration}
 use Rattle.moos_report.specs.declared.setup.Setup.{Setup}
 use Rattle.moos_report.specs.Community.{HaveOwnNames, IsCommunity, is_one_line, StandOnLines}
 use Rattle.moos_report.specs.IterationLines.{error_text, iteration_text, outcome_text, states_text}
-use Rattle.moos_report.specs.Parts.{HaveTheirs, ToldPart}
+use Rattle.moos_report.specs.Parts.{EndsWithin}
 use Rattle.moos_report.specs.Report.{report_text, unused_text}
 
 -- modes are declared, or not
@@ -91,22 +91,15 @@ helm_report : report_text with_modes vehicle ticks (in_mode 0 false (codes "ACTI
 unfolding digits
 helm_report = refl
 
--- a history that is cut within a tick: the iteration is told where its Post entry stands, and not where its Fetch entry does
-abbrev part_of : List Entry → List Iteration → ToldPart
-part_of entries iterations = record { entries = entries; iterations = iterations }
-
-abbrev active : ℕ → Iteration
-active stamp = in_mode stamp false (codes "ACTIVE")
-
-cut_in_tick : HaveTheirs vehicle [] 0 (part_of (take 3 ticks) [] ∷ part_of (drop 3 ticks) (active 0 ∷ active 250 ∷ []) ∷ [])
-cut_in_tick =
-    ((no, (no, (no, tt))), (((λ post some. (omega arith, omega arith)), (no, ((λ post some. (omega arith, omega arith)), tt))), tt))
+-- a history that is cut within a tick: the iteration ends where its Post entry stands, and not where its Fetch entry does
+cut_in_tick : EndsWithin vehicle [] 0 0 (take 3 ticks) × EndsWithin vehicle (take 3 ticks) 0 2 (drop 3 ticks)
+cut_in_tick = ((no, (no, (no, tt))), ((λ post some. (omega arith, omega arith)), (no, ((λ post some. (omega arith, omega arith)), tt))))
   where
     no : {P : Type 0} → false ≡ true → P
     no e = absurd (false≢true e)
 
-told_too_early : HaveTheirs vehicle [] 0 (part_of (take 3 ticks) (active 0 ∷ []) ∷ part_of (drop 3 ticks) (active 250 ∷ []) ∷ []) → ⊥
-told_too_early theirs = omega (arith, (theirs.1.0.0 refl (omega arith)).0)
+told_too_early : EndsWithin vehicle (take 3 ticks) 1 2 (drop 3 ticks) → ⊥
+told_too_early ends = omega (arith, (ends.0 refl (omega arith)).0)
 
 -- what follows an entry: what the helm posts before its first fetch is part of no iteration, and each fetch begins the next
 abbrev helm_posts_now : Entry

@@ -1,4 +1,4 @@
-ghost use Rattle.moos_report.specs.Parts.{PartsAddUp};
+ghost use Rattle.moos_report.specs.Parts.{FrontsStay, PartsAddUp};
 ghost use Rattle.moos_report.specs.Report.{ReportsTell};
 
 /// What holds of reports: communities of which one report is printed have the same clients and the same history, whatever
@@ -7,8 +7,9 @@ pub fn report_law()
     ensures { ReportsTell }
 {}
 
-/// What holds of the parts of a report: wherever a history is cut, how its report begins, its parts in order and how it ends
-/// are its report. It does nothing.
+/// What holds of a report that is written while its history grows: what is written up to a place and the part behind it are
+/// what is written of both; and the report of each history that goes on from there begins with it. It does nothing.
 pub fn parts_law()
-    ensures { PartsAddUp }
+    ensures parts { PartsAddUp }
+    ensures fronts { FrontsStay }
 {}

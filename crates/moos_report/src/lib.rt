@@ -8,7 +8,7 @@
 // Reading order: `specs/Report` and `specs/IterationLines` say what each line is; here are the entries and their parts, in
 // `iterations` what follows an entry of the helm, in `behaviors` what an iteration tells of its behaviours, in `lines` the
 // lines; `parts` has the report at once, and piece by piece while its history grows. `law` says that a report tells its
-// history, and that the parts of one together are the report.
+// history, and that what is written so far is how the report of each longer history begins.
 #![tactic(auto)]
 
 ghost use Rattle.std.specs.Prelude.{◌≡◌, ◌≤◌, ◌++◌, [], ◌∷◌, Some, length, take, drop, flat_map, codes, decimal, slice_get};
