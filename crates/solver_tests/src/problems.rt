@@ -1,5 +1,4 @@
-ghost use Rattle.std.specs.Prelude.{◌≡◌, ◌<◌, IsTrue, IfSome};
-ghost use Rattle.ivp_domain.specs.Domains.{is_point};
+ghost use Rattle.std.specs.Prelude.{◌≡◌, ◌<◌, IfSome};
 ghost use Rattle.ivp_problem.specs.Trees.{IsNode};
 
 use crate::made::{axis, course, slab, sum, term, twelve};

@@ -1,5 +1,4 @@
-ghost use Rattle.std.specs.Prelude.{◌≡◌, ◌<◌, IsTrue};
-ghost use Rattle.ivp_domain.specs.Domains.{is_point};
+ghost use Rattle.std.specs.Prelude.{◌≡◌, ◌<◌};
 
 use crate::made::{course, slab, sum, term, twelve};
 use ivp_domain::{BoxN, Domain, Steps};
