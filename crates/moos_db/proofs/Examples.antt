@@ -1,7 +1,8 @@
 -- Worked by hand: the tables tried on posts of the variables C, B, A and C again, the letters of these posts, and what is
 -- kept of a client.
 use Rattle.std.specs.Prelude.{◌≡◌, ℕ, zero, suc, ◌<◌, List, [], ◌∷◌, length, Option, None, Some, unwrap_or, codes, false, true, fold, pos, slice_get, take, slice_index_or}
-use Rattle.std.proofs.Common.{refl, ap, subst, arith}
+use Rattle.std.proofs.Common.{refl, ap, sym, ◌∙◌, ◌≤◌, subst, arith}
+use Rattle.std.proofs.lemmas.Option.{slice_get_within}
 use Rattle.moos_post.specs.declared.entry.Call.{Call}
 use Rattle.moos_post.specs.declared.entry.Call.TheVariants.{Register, Unregister, Post as Posts, Fetch}
 use Rattle.moos_post.specs.declared.entry.Entry.{Entry}
@@ -12,8 +13,11 @@ use Rattle.moos_post.specs.Delivery.{inbox_of, mail_at}
 use Rattle.moos_post.specs.History.{History, posts_of}
 use Rattle.moos_db.specs.Database.{after_entry, AreLetters, AreMails, Database, letter_at, letter_of, origin_of, pair_posted}
 use Rattle.moos_db.specs.declared.mail.Letter.{Letter}
-use Rattle.moos_db.specs.Subscribers.{catch_found, catch_number, catch_post, empty_kept, held_of_reg, IsFresh, IsSubscriber, SubscriberState, kept_entry, kept_of}
-use Rattle.moos_db.specs.Places.{AreSubscribers, IsDb, IsLog, Journal, place_at, post_in}
+use Rattle.moos_db.specs.Subscribers.{catch_found, catch_number, catch_post, empty_kept, held_of_reg, IsFresh, IsSubscriber, passes_by, SubscriberState, kept_entry, kept_of}
+use Rattle.moos_mail.specs.Mailboxes.{is_one_of}
+use Rattle.moos_db.specs.Hearing.{AreHeard, AreListeners, hears, IsListener, ListenerState, VariableState}
+use Rattle.moos_db.specs.Places.{IsDb, IsLog, Journal, place_at, post_in}
+use Rattle.moos_db.proofs.Heard.{IsListener-brought}
 use Rattle.moos_db.specs.Tables.{IsLatest, LatestState, Row, rows_of, number_of, latest_from, lasts_of}
 
 abbrev post : List ℕ → ℕ → Post
@@ -198,17 +202,62 @@ other_order mails = omega (arith, ap first_number (mails.mail 4 (letter_of 2 (a_
 one_mail_less : AreMails names fetched ([] ∷ [] ∷ [] ∷ [] ∷ []) → ⊥
 one_mail_less mails = omega (arith, mails.each)
 
--- What is kept of both clients after the first four entries, each in its place.
-abbrev kept_of_other : SubscriberState
-kept_of_other = record { seen = 4; posts = 3; lives = []; mailed = []; waits = [] }
+-- What is kept of both clients: the first has seen all five entries, the second the first four. The first alone hears A.
+abbrev listener_of : SubscriberState → ListenerState
+listener_of kept = record { kept = kept; heard = []; lost = false }
 
-are_subscribers : AreSubscribers names fetched (kept ∷ kept_of_other ∷ [])
-are_subscribers = each_of (IsSubscriber names fetched) kept (kept_of_other ∷ []) (record { within = omega arith; same = refl })
-    (each_of (λ k. IsSubscriber names fetched (suc k)) kept_of_other [] (record { within = omega arith; same = refl })
-    (each_of_none (λ k. IsSubscriber names fetched (suc (suc k)))))
+abbrev listeners : List ListenerState
+listeners = listener_of (record kept { seen = 5; waits = [] }) ∷ listener_of (record { seen = 4; posts = 3; lives = []; mailed = []; waits = [] }) ∷ []
 
-swapped : AreSubscribers names fetched (kept_of_other ∷ kept ∷ []) → ⊥
-swapped subscribers = omega (arith, ap (λ (one : SubscriberState). length one.mailed) ((subscribers 0 kept_of_other refl).same))
+abbrev variable : List ℕ → VariableState
+variable clients = record { name = codes "A"; listeners = clients }
+
+listed : (k : ℕ) (one : VariableState) → slice_get (variable (0 ∷ []) ∷ []) k ≡ Some one → hears (codes "*" ∷ []) one.name ≡ true → is_one_of 0 one.listeners ≡ true
+listed = each_of (λ k one. hears (codes "*" ∷ []) one.name ≡ true → is_one_of 0 one.listeners ≡ true) (variable (0 ∷ [])) [] (λ heard. refl)
+    (each_of_none (λ k one. hears (codes "*" ∷ []) one.name ≡ true → is_one_of 0 one.listeners ≡ true))
+
+passed_by : (number : ℕ) (entry : Entry) → 4 ≤ number → slice_get fetched number ≡ Some entry → passes_by 1 entry ≡ true
+passed_by number entry from there =
+    let within : number < 5 = slice_get_within fetched number entry there in
+    let last : number ≡ 4 = omega arith in
+    let is : Some (at 200 0 Fetch) ≡ Some entry = sym (ap (slice_get fetched) last) ∙ there in
+    let same : at 200 0 Fetch ≡ entry = cc in ap (passes_by 1) (sym same)
+
+are_listeners : AreListeners names fetched (variable (0 ∷ []) ∷ []) listeners
+are_listeners = each_of (λ k one. one.lost ≡ false → IsListener names fetched (variable (0 ∷ []) ∷ []) k 3 one) (listener_of (record kept { seen = 5; waits = [] })) (listener_of (record { seen = 4; posts = 3; lives = []; mailed = []; waits = [] }) ∷ [])
+    (λ there. IsListener-brought names fetched (variable (0 ∷ []) ∷ []) 0 (listener_of (record kept { seen = 5; waits = [] })) (record { within = omega arith; same = refl }) refl refl listed)
+    (each_of (λ k one. one.lost ≡ false → IsListener names fetched (variable (0 ∷ []) ∷ []) (suc k) 3 one) (listener_of (record { seen = 4; posts = 3; lives = []; mailed = []; waits = [] })) []
+    (λ there. record {
+      inbox = record { within = omega arith; same = refl };
+      passing = passed_by;
+      heard = λ number post low high at. absurd (omega (arith, low, high));
+      listed = λ number one at heard. absurd (let e : false ≡ true = heard in cc);
+    })
+    (each_of_none (λ k one. one.lost ≡ false → IsListener names fetched (variable (0 ∷ []) ∷ []) (suc (suc k)) 3 one)))
+
+-- They are none where the first isn't listed for A.
+unlisted : AreListeners names fetched (variable (1 ∷ []) ∷ []) listeners → ⊥
+unlisted all = let e : false ≡ true = (all 0 (listener_of (record kept { seen = 5; waits = [] })) refl refl).listed 0 (variable (1 ∷ [])) refl refl in cc
+
+-- Of three posts, of A, B and A, the first and the last are heard.
+abbrev three : List Post
+three = post (codes "A") 10 ∷ post (codes "B") 20 ∷ post (codes "A") 30 ∷ []
+
+are_heard : AreHeard (codes "A" ∷ []) three 0 (0 ∷ 2 ∷ []) 3
+are_heard = (
+  omega arith,
+  (λ number one low high at. absurd (omega (arith, low, high))),
+  (omega arith, quiet, (λ number one low high at. absurd (omega (arith, low, high)))),
+)
+  where
+    quiet : (number : ℕ) (one : Post) → 1 ≤ number → number < 2 → slice_get three number ≡ Some one → hears (codes "A" ∷ []) one.var ≡ false
+    quiet number one low high at =
+        let middle : number ≡ 1 = omega arith in
+        let is : Some (post (codes "B") 20) ≡ Some one = sym (ap (slice_get three) middle) ∙ at in
+        let same : post (codes "B") 20 ≡ one = cc in ap (λ (p : Post). hears (codes "A" ∷ []) p.var) (sym same)
+
+last_unheard : AreHeard (codes "A" ∷ []) three 0 (0 ∷ []) 3 → ⊥
+last_unheard heard = let e : true ≡ false = heard.2 2 (post (codes "A") 30) (omega arith) (omega arith) refl in cc
 
 -- Where its posts stand, and what each entry gave.
 abbrev letters : List (List ℕ)
@@ -234,21 +283,12 @@ given (suc (suc (suc zero))) below = refl
 given (suc (suc (suc (suc zero)))) below = refl
 given (suc (suc (suc (suc (suc k))))) below = absurd (omega (arith, below))
 
-is_db : IsDb names journal (record { posts = 3; rows = row (codes "A") 2 ∷ [] }) (kept ∷ kept_of_other ∷ [])
-is_db = record { few = omega arith; each = refl; lettered = refl; latest = record { within = omega arith; same = refl }; kept = are_subscribers; given = given }
+is_db : IsDb names journal (record { posts = 3; rows = row (codes "A") 2 ∷ [] }) (variable (0 ∷ []) ∷ []) listeners
+is_db = record { few = omega arith; each = refl; lettered = refl; latest = record { within = omega arith; same = refl }; kept = are_listeners; given = given }
 
--- The table and the subscribers may stand behind the history: here they have seen nothing of it yet.
-behind : IsDb names journal (record { posts = 0; rows = [] }) (empty_kept ∷ empty_kept ∷ [])
-behind = record { few = omega arith; each = refl; lettered = refl; latest = record { within = omega arith; same = refl }; kept = nothing_seen; given = given }
-  where
-    nothing_seen : AreSubscribers names fetched (empty_kept ∷ empty_kept ∷ [])
-    nothing_seen = each_of (IsSubscriber names fetched) empty_kept (empty_kept ∷ []) (record { within = omega arith; same = refl })
-        (each_of (λ k. IsSubscriber names fetched (suc k)) empty_kept [] (record { within = omega arith; same = refl })
-        (each_of_none (λ k. IsSubscriber names fetched (suc (suc k)))))
-
--- It is no such database where the fetch's letters lack one, or a client has no inbox.
-letter_lost : IsDb names (record journal { letters = [] ∷ [] ∷ [] ∷ [] ∷ (2 ∷ []) ∷ [] }) (record { posts = 3; rows = row (codes "A") 2 ∷ [] }) (kept ∷ kept_of_other ∷ []) → ⊥
+-- It is no such database where the fetch's letters lack one, or a client has no listener.
+letter_lost : IsDb names (record journal { letters = [] ∷ [] ∷ [] ∷ [] ∷ (2 ∷ []) ∷ [] }) (record { posts = 3; rows = row (codes "A") 2 ∷ [] }) (variable (0 ∷ []) ∷ []) listeners → ⊥
 letter_lost db = omega (arith, ap length (db.given 4 (omega arith)))
 
-inbox_lost : IsDb names journal (record { posts = 3; rows = row (codes "A") 2 ∷ [] }) (kept ∷ []) → ⊥
-inbox_lost db = omega (arith, db.each)
+listener_lost : IsDb names journal (record { posts = 3; rows = row (codes "A") 2 ∷ [] }) (variable (0 ∷ []) ∷ []) (listener_of empty_kept ∷ []) → ⊥
+listener_lost db = omega (arith, db.each)

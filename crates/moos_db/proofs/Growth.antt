@@ -66,7 +66,7 @@ posts-take history n = omega (arith, ap length (posts-split history n), length-a
 pub posts-more : (history : History) (k : ℕ) {entry : Entry} → slice_get history k ≡ Some entry → length (posts_of (take (k + 1) history)) ≡ length (posts_of (take k history)) + length (posts_of_entry entry)
 posts-more history k {entry = entry} there = rw add-one (before-next history k entry there)
 
-kept-posts : (names : List (List ℕ)) (history : History) (client : ℕ) (kept : SubscriberState) → IsSubscriber names history client kept → kept.posts ≡ length (posts_of (take kept.seen history))
+pub kept-posts : (names : List (List ℕ)) (history : History) (client : ℕ) (kept : SubscriberState) → IsSubscriber names history client kept → kept.posts ≡ length (posts_of (take kept.seen history))
 kept-posts names history client kept inbox = ap (λ (k : SubscriberState). k.posts) inbox.same ∙ ap length (posts-inbox_of names client (take kept.seen history))
 
 -- The posts that an inbox has seen are among those of the history, and so are those of the next entry.

@@ -1,13 +1,16 @@
 pub mod Catching
 pub mod Examples
 pub mod Growth
+pub mod Heard
 pub mod Keeping
 pub mod Lasts
 pub mod Latests
 pub mod Letters
+pub mod Listed
 pub mod Listing
 pub mod Rows
 pub mod Runs
 pub mod Sorting
 pub mod Standing
+pub mod Told
 pub mod Whole

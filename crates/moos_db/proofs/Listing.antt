@@ -70,7 +70,7 @@ matching-within place end var (held ∷ helds) same =
     front-all (λ n. n < end) (matches held.reg.var var) place (matching_from (suc place) var helds) (omega (arith, same)) (matching-within (suc place) end var helds (omega (arith, same)))
 
 -- a post changes no pattern
-reg-passed : (stamp : ℕ) (var source : List ℕ) (held : SubscriptionState) → (passed stamp var source held).reg ≡ held.reg
+pub reg-passed : (stamp : ℕ) (var source : List ℕ) (held : SubscriptionState) → (passed stamp var source held).reg ≡ held.reg
 reg-passed stamp var source held = by (is_due_held stamp var source held)
   where
     by : (b : Bool) → (cond b (with_stamp stamp var held) held).reg ≡ held.reg

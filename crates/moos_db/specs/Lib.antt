@@ -1,5 +1,6 @@
 pub mod Database
 pub mod Index
+pub mod Hearing
 pub mod Subscribers
 pub mod Places
 pub mod Tables

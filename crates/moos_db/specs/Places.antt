@@ -4,7 +4,7 @@ use Rattle.moos_post.specs.declared.value.Post.{Post}
 use Rattle.moos_post.specs.History.{History, posts_of, posts_of_entry}
 use Rattle.moos_post.specs.Delivery.{mail_at}
 use Rattle.moos_db.specs.declared.log.Place.{Place}
-use Rattle.moos_db.specs.Subscribers.{SubscriberState, IsSubscriber}
+use Rattle.moos_db.specs.Hearing.{AreListeners, ListenerState, VariableState}
 use Rattle.moos_db.specs.Tables.{LatestState, IsLatest}
 
 -- the entries, and what each of them gave
@@ -26,17 +26,12 @@ pub record IsLog (entries : History) (letters : List (List ℕ)) (places : List 
   pub each : length letters ≡ length entries
   pub placed : map (post_in entries) places ≡ map (λ post. Some post) (posts_of entries)
 
--- each of these stands where the history's first entries have brought the inbox of the client with its number
-abbrev pub AreSubscribers : List (List ℕ) → History → List SubscriberState → Type 0
-AreSubscribers names history subscribers = (client : ℕ) (kept : SubscriberState) → slice_get subscribers client ≡ Some kept →
-    IsSubscriber names history client kept
-
--- each client has an inbox, the table has latest posts, and each entry's letters are its mail
-pub record IsDb (names : List (List ℕ)) (journal : Journal) (table : LatestState) (subscribers : List SubscriberState) : Type 0 where
+-- each client is followed as a listener, the table has latest posts, and each entry's letters are its mail
+pub record IsDb (names : List (List ℕ)) (journal : Journal) (table : LatestState) (variables : List VariableState) (listeners : List ListenerState) : Type 0 where
   pub few : length names < 2 ^ 32
-  pub each : length subscribers ≡ length names
+  pub each : length listeners ≡ length names
   pub lettered : length journal.letters ≡ length journal.entries
   pub latest : IsLatest (posts_of journal.entries) table
-  pub kept : AreSubscribers names journal.entries subscribers
+  pub kept : AreListeners names journal.entries variables listeners
   pub given : (k : ℕ) → k < length journal.entries →
       slice_index_or journal.letters k [] ≡ mail_at names journal.entries k

@@ -106,6 +106,10 @@ kept_post stamp source kept var = record (with_due stamp source kept var) { post
 abbrev pub kept_batch : ℕ → List ℕ → SubscriberState → List Pair → SubscriberState
 kept_batch stamp source kept pairs = fold (λ now pair. kept_post stamp source now pair.var) kept pairs
 
+-- after these posts, one after the other
+abbrev pub kept_after_posts : List (List ℕ) → SubscriberState → List Post → SubscriberState
+kept_after_posts names kept posts = fold (λ now post. kept_post post.stamp (name_of names post.source) now post.var) kept posts
+
 -- an earlier post catches up: it is the latest of its variable, a new registration selects it, and it wasn't mailed
 abbrev pub catches_kept : List (List ℕ) → SubscriberState → ℕ → Post → List Post → Bool
 catches_kept names kept number post later =

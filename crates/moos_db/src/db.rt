@@ -1,22 +1,18 @@
-ghost use Rattle.std.specs.Prelude.{◌≡◌, ◌^◌, ◌<◌, [], ◌∷◌, ◌++◌, length, take, replicate, All, false, IfOk, OnOk, OnErr, Some, option_map, slice_get};
+ghost use Rattle.std.specs.Prelude.{◌≡◌, ◌^◌, ◌<◌, [], length, take, All, false, IfOk, OnOk, OnErr, Some, option_map, slice_get};
 ghost use Rattle.moos_post.specs.Delivery.{mail_after, mail_at, is_fetch};
 ghost use Rattle.moos_post.specs.History.{posts_of};
-ghost use Rattle.moos_db.specs.Subscribers.{empty_kept};
-ghost use Rattle.moos_db.specs.Database.{letter_at, AreLetters};
-ghost use Rattle.moos_db.specs.Places.{AreSubscribers};
-ghost use Rattle.moos_db.specs.Tables.{IsLatest};
+ghost use Rattle.moos_db.specs.Subscribers.{makes_posts};
 
+use crate::calls::{add_own, fetch};
+use crate::hearing::{follow_block, hear_posts, new_listeners};
 use crate::latest::Latest;
+use crate::listener::Listener;
 use crate::log::Log;
-use crate::mail::{Letter, Mail, Origin};
-use crate::subscriber::Subscriber;
+use crate::mail::{Mail, Origin};
 use crate::variables::Variables;
-use moos_post::{Batch, Call, Copied, Entry, Name, Names, NoMemory, Pair, Pattern, Post, Regs};
+use moos_post::{Batch, Call, Entry, Name, Names, NoMemory, Pair, Pattern, Regs};
 use std::alloc::Global;
 use std::marker::Model;
-
-// So many entries are at hand in a processor's cache while one client after another sees them.
-const BLOCK: usize = 256;
 
 /// The database of a community's messages.
 ///
@@ -27,7 +23,7 @@ pub struct Db {
     log: Log,
     latest: Latest,
     variables: Variables,
-    subscribers: Vec<Subscriber>,
+    listeners: Vec<Listener>,
 }
 
 impl Model for Db {
@@ -38,141 +34,7 @@ impl Model for Db {
 
     ghost view = { λ db. record { names = db.names; history = db.log.entries } };
 
-    ghost invariant = { λ db. IsDb db.names db.log db.latest db.subscribers.items };
-}
-
-// As many clients for which no entry was seen.
-fn empty_subscribers(alloc: Global, clients: usize) -> Result<Vec<Subscriber>, NoMemory>
-    ensures { IfOk result (λ subscribers. subscribers.items ≡ replicate clients empty_kept) }
-{
-    let mut subscribers = Vec::with_capacity(alloc, clients)?;
-    for client in 0..clients {
-        subscribers.push(Subscriber::new(alloc))?;
-    }
-    Ok(subscribers)
-}
-
-// Brings what is kept of each client that has a registration up to date, whenever so many entries more were made.
-fn follow_block(
-    alloc: Global,
-    names: &Names,
-    log: &Log,
-    variables: &mut Variables,
-    subscribers: &mut Vec<Subscriber>,
-)
-    requires few { length subscribers.old.items < 2 ^ 32 }
-    requires subscribers { AreSubscribers names.now log.now.entries subscribers.old.items }
-    ensures each { length subscribers.new.items ≡ length subscribers.old.items }
-    ensures subscribers { AreSubscribers names.now log.now.entries subscribers.new.items }
-{
-    if log.len() % BLOCK != 0 {
-        return;
-    }
-    variables.see_posts(alloc, log);
-    for client in 0..subscribers.len() {
-        if subscribers[client].listens() {
-            // Without memory what is kept of the client has begun anew.
-            let _ = subscribers[client].follow_all(alloc, names, log, variables, client as u32);
-        }
-    }
-}
-
-// The letter with the post that has this number.
-fn letter_at(alloc: Global, log: &Log, number: u64) -> Result<Letter, NoMemory>
-    requires { number < length (posts_of log.now.entries) }
-    ensures { IfOk result (λ letter. letter_at (posts_of log.now.entries) number ≡ Some letter) }
-{
-    let pair = log.pair(number as usize);
-    let origin = log.origin(number as usize);
-    let var = pair.var.copy(alloc)?;
-    let value = pair.value.copy(alloc)?;
-    let post = Post {
-        stamp: origin.stamp,
-        source: origin.client,
-        var,
-        value,
-    };
-    Ok(Letter { number, post })
-}
-
-// The letters with the posts that have these numbers.
-fn letters_of(alloc: Global, log: &Log, numbers: &[u64]) -> Result<Mail, NoMemory>
-    requires { All (λ number. number < length (posts_of log.now.entries)) numbers.now }
-    ensures { IfOk result (AreLetters (posts_of log.now.entries) numbers.now) }
-{
-    let mut letters = Vec::with_capacity(alloc, numbers.len())?;
-    for &number in numbers {
-        letters.push(letter_at(alloc, log, number)?)?;
-    }
-    Ok(Mail::of(letters))
-}
-
-// The client fetches, which is the next entry.
-fn fetch(
-    alloc: Global,
-    names: &Names,
-    log: &mut Log,
-    variables: &Variables,
-    subscribers: &mut Vec<Subscriber>,
-    client: u32,
-    stamp: u64,
-) -> Result<Mail, NoMemory>
-    requires within { client < length subscribers.old.items }
-    requires subscribers { AreSubscribers names.now log.old.entries subscribers.old.items }
-    ensures mail { let numbers = mail_after names.now client log.old.entries
-        in IfOk result (AreLetters (posts_of log.old.entries) numbers) }
-    ensures given { OnOk result (log.new ≡ record {
-      entries = log.old.entries ++ record { stamp = stamp; client = client; call = Call.Fetch } ∷ [];
-      letters = log.old.letters ++ mail_after names.now client log.old.entries ∷ [];
-    }) }
-    ensures same { OnErr result (log.new ≡ log.old) }
-    ensures each { length subscribers.new.items ≡ length subscribers.old.items }
-    ensures subscribers { AreSubscribers names.now log.new.entries subscribers.new.items }
-{
-    let subscriber = &mut subscribers[client as usize];
-    subscriber.follow_all(alloc, names, log, variables, client)?;
-    let mail = letters_of(alloc, log, subscriber.waits())?;
-    let call = Call::Fetch;
-    subscriber.fetch(
-        alloc,
-        log,
-        Entry {
-            stamp,
-            client,
-            call,
-        },
-    )?;
-    Ok(mail)
-}
-
-// Adds a call of the client that registers or withdraws. What is kept of the client sees all entries before it first, so
-// that it can see this one as soon as it is made.
-fn add_own(
-    alloc: Global,
-    names: &Names,
-    log: &mut Log,
-    latest: &Latest,
-    variables: &Variables,
-    subscribers: &mut Vec<Subscriber>,
-    entry: Entry,
-) -> Result<(), NoMemory>
-    requires within { entry.client < length subscribers.old.items }
-    requires latest { IsLatest (posts_of log.old.entries) latest.now }
-    requires subscribers { AreSubscribers names.now log.old.entries subscribers.old.items }
-    ensures ok { OnOk result (log.new ≡ record {
-      entries = log.old.entries ++ entry ∷ [];
-      letters = log.old.letters ++ [] ∷ [];
-    }) }
-    ensures same { OnErr result (log.new ≡ log.old) }
-    ensures each { length subscribers.new.items ≡ length subscribers.old.items }
-    ensures subscribers { AreSubscribers names.now log.new.entries subscribers.new.items }
-{
-    let client = entry.client;
-    let subscriber = &mut subscribers[client as usize];
-    subscriber.follow_all(alloc, names, log, variables, client)?;
-    log.append(alloc, entry)?;
-    subscriber.follow(alloc, names, log, latest, variables, client);
-    Ok(())
+    ghost invariant = { λ db. IsDb db.names db.log db.latest db.variables db.listeners.items };
 }
 
 impl Db {
@@ -184,32 +46,32 @@ impl Db {
         requires { length names < 2 ^ 32 }
         ensures { IfOk result (λ db. db ≡ record { names = names; history = [] }) }
     {
-        let subscribers = empty_subscribers(alloc, names.len())?;
+        let listeners = new_listeners(alloc, names.len())?;
         Ok(Db {
             names,
             log: Log::new(alloc),
             latest: Latest::new(alloc),
             variables: Variables::new(alloc),
-            subscribers,
+            listeners,
         })
     }
 
     // Adds a call of the client that registers or withdraws.
     fn add(&mut self, alloc: Global, entry: Entry) -> Result<(), NoMemory>
         requires within { entry.client < length self.old.names }
+        requires own { makes_posts entry.call ≡ false }
         requires other { is_fetch entry.call ≡ false }
         ensures ok { OnOk result (self.new ≡ after_entry self.old entry) }
         ensures same { OnErr result (self.new ≡ self.old) }
     {
         self.latest.see_posts(alloc, &self.log, self.log.posts())?;
-        self.variables.see_posts(alloc, &self.log);
         add_own(
             alloc,
             &self.names,
             &mut self.log,
             &self.latest,
-            &self.variables,
-            &mut self.subscribers,
+            &mut self.variables,
+            &mut self.listeners,
             entry,
         )?;
         Ok(())
@@ -287,6 +149,7 @@ impl Db {
         ensures same { OnErr result (self.new ≡ self.old) }
     {
         let call = Call::Post(batch);
+        let from = self.log.posts();
         self.log.append(
             alloc,
             Entry {
@@ -295,12 +158,19 @@ impl Db {
                 call,
             },
         )?;
+        hear_posts(
+            alloc,
+            &self.log,
+            &mut self.variables,
+            &mut self.listeners,
+            from,
+        );
         follow_block(
             alloc,
             &self.names,
             &self.log,
-            &mut self.variables,
-            &mut self.subscribers,
+            &self.variables,
+            &mut self.listeners,
         );
         Ok(())
     }
@@ -317,13 +187,12 @@ impl Db {
         })) }
         ensures same { OnErr result (self.new ≡ self.old) }
     {
-        self.variables.see_posts(alloc, &self.log);
         let mail = fetch(
             alloc,
             &self.names,
             &mut self.log,
-            &self.variables,
-            &mut self.subscribers,
+            &mut self.variables,
+            &mut self.listeners,
             client,
             stamp,
         )?;

@@ -10,10 +10,13 @@
 // `run`, which makes a list of calls.
 #![tactic(auto)]
 
+mod calls;
 mod db;
+mod hearing;
 mod index;
 mod journal;
 mod latest;
+mod listener;
 mod log;
 mod mail;
 mod run;

@@ -1,7 +1,8 @@
-ghost use Rattle.std.specs.Prelude.{◌≡◌, suc, ◌+◌, ◌-◌, ◌^◌, ◌<◌, ◌≤◌, ◌==◌, [], true, false, length, take, not, ◌&&◌, ◌++◌, ◌∷◌, IfOk, OnOk, OnErr, Some, slice_get, if◌then◌else◌};
+ghost use Rattle.std.specs.Prelude.{◌≡◌, suc, ◌+◌, ◌-◌, ◌^◌, ◌<◌, ◌≤◌, ◌==◌, [], true, false, length, take, drop, not, ℕ, List, ◌&&◌, ◌++◌, ◌∷◌, IfOk, OnOk, OnErr, Some, slice_get, if◌then◌else◌};
 ghost use Rattle.std.specs.List.{list_any};
 ghost use Rattle.moos_post.specs.History.{name_of, posts_of, posts_of_entry};
-ghost use Rattle.moos_db.specs.Subscribers.{IsSubscriber, is_new_held, passes_by};
+ghost use Rattle.moos_db.specs.Hearing.{AreHeard, IsListed, hears, patterns_of};
+ghost use Rattle.moos_db.specs.Subscribers.{IsSubscriber, is_new_held};
 ghost use Rattle.moos_db.specs.Tables.{IsLatest, rows_of};
 
 use crate::latest::Latest;
@@ -52,16 +53,9 @@ fn source_of(names: &Names, client: u32) -> &[u8]
     }
 }
 
-// Whether the client needs to know no more of the entry than its posts: it is another one's, or a post.
-fn passes_by(entry: &Entry, client: u32) -> bool
-    ensures { result ≡ passes_by client entry.now }
-{
-    matches!(&entry.call, Call::Post(_)) || entry.client != client
-}
-
 impl Subscriber {
     ghost use Rattle.moos_post.specs.declared.value.Post.{Post};
-    ghost use Rattle.moos_db.specs.Subscribers.{SubscriberState, empty_kept, with_mailed, with_due, with_missed, kept_post, kept_batch, catch_post, kept_catching, kept_own, kept_posts, IsSubscriber, IsFresh};
+    ghost use Rattle.moos_db.specs.Subscribers.{SubscriberState, empty_kept, with_mailed, with_due, with_missed, kept_post, kept_batch, catch_post, kept_catching, kept_own, kept_posts, kept_after_posts, IsSubscriber, IsFresh};
 
     // The client for which no entry was seen.
     pub fn new(alloc: Global) -> Subscriber
@@ -75,9 +69,19 @@ impl Subscriber {
         }
     }
 
-    // Whether the client has a live registration, as far as was seen.
-    pub fn listens(&self) -> bool {
-        self.lives.any()
+    // Whether one of its registrations hears posts of the variable.
+    pub fn hears(&self, var: &Name) -> bool
+        ensures { result ≡ hears (patterns_of self.now.lives) var.now }
+    {
+        self.lives.hears(var)
+    }
+
+    // The client may hear each variable that one of its registrations hears.
+    pub fn be_listed(&self, variables: &mut Variables, client: u32) -> Result<(), NoMemory>
+        ensures kept { (other : ℕ) (patterns : List (List ℕ)) → IsListed variables.old other patterns → IsListed variables.new other patterns }
+        ensures listed { OnOk result (IsListed variables.new client (patterns_of self.now.lives)) }
+    {
+        self.lives.be_listed(variables, client)
     }
 
     // How many entries were seen.
@@ -329,8 +333,8 @@ impl Subscriber {
         Ok(())
     }
 
-    // The next entry.
-    fn see_entry(
+    // The next entry, where the table of latest posts has seen the same posts.
+    pub fn see_entry(
         &mut self,
         alloc: Global,
         names: &Names,
@@ -354,103 +358,78 @@ impl Subscriber {
         Ok(())
     }
 
-    // The next entry, where there is one and the table of latest posts has seen the same posts. Without memory the
-    // all begins anew.
-    pub fn follow(
-        &mut self,
-        alloc: Global,
-        names: &Names,
-        log: &Log,
-        latest: &Latest,
-        variables: &Variables,
-        client: u32,
-    )
-        requires subscriber { IsSubscriber names.now log.now.entries client self.old }
-        requires latest { IsLatest (posts_of log.now.entries) latest.now }
-        ensures { IsSubscriber names.now log.now.entries client self.new }
-    {
-        if self.seen < log.len() as u64 && self.posts == latest.posts() as u64 {
-            let seen = self.see_entry(alloc, names, log, latest, variables, client);
-            if seen.is_err() {
-                *self = Subscriber::new(alloc);
-            }
-        }
-    }
-
-    // The next entry, this one, of which the client needs to know no more than its posts.
-    fn see_passing(
+    // The post with this number, where none between the last one that was seen and this one is heard.
+    fn see_numbered(
         &mut self,
         alloc: Global,
         names: &Names,
         log: &Log,
         variables: &Variables,
-        client: u32,
-        entry: &Entry,
+        number: u64,
     ) -> Result<(), NoMemory>
-        requires subscriber { IsSubscriber names.now log.now.entries client self.old }
-        requires next { slice_get log.now.entries self.old.seen ≡ Some entry.now }
-        requires passing { passes_by client entry.now ≡ true }
+        requires within { number < length (posts_of log.now.entries) }
+        requires later { self.old.posts ≤ number }
         requires fits { length (posts_of log.now.entries) < 2 ^ 64 }
-        requires few { length log.now.entries < 2 ^ 64 - 1 }
-        ensures subscriber { IfOk result (λ _. IsSubscriber names.now log.now.entries client self.new) }
-        ensures next { IfOk result (λ _. self.new.seen ≡ suc self.old.seen) }
+        requires fresh { IsFresh self.old }
+        ensures now { IfOk result (λ _. (post : Post) → slice_get (posts_of log.now.entries) number ≡ Some post →
+            self.new ≡ kept_post post.stamp (name_of names.now post.source) (record self.old { posts = number }) post.var) }
+        ensures fresh { IfOk result (λ _. IsFresh self.new) }
     {
-        let seen = self.seen;
-        self.see_posts(alloc, names, variables, entry)?;
-        self.seen = seen + 1;
-        Ok(())
+        let var = &log.pair(number as usize).var;
+        let origin = log.origin(number as usize);
+        let source = source_of(names, origin.client);
+        self.posts = number;
+        self.see_post(alloc, variables.of_post(number), origin.stamp, source, var)
     }
 
-    // The entries up to the next that is a call of the client's own other than a post.
-    fn follow_passing(
+    // The posts that it hasn't seen, of which it needs to look at those with these numbers alone.
+    fn see_numbers(
         &mut self,
         alloc: Global,
         names: &Names,
         log: &Log,
         variables: &Variables,
-        client: u32,
+        heard: &[u64],
     ) -> Result<(), NoMemory>
-        requires { IsSubscriber names.now log.now.entries client self.old }
-        ensures { IfOk result (λ _. IsSubscriber names.now log.now.entries client self.new) }
+        requires fresh { IsFresh self.old }
+        requires within { self.old.posts ≤ length (posts_of log.now.entries) }
+        requires heard { AreHeard (patterns_of self.old.lives) (posts_of log.now.entries) self.old.posts heard.now (length (posts_of log.now.entries)) }
+        ensures { IfOk result (λ _. self.new ≡ kept_after_posts names.now self.old (drop self.old.posts (posts_of log.now.entries))) }
     {
-        'entries: while self.seen < log.len() as u64 {
-            let entry = log.entry(self.seen as usize);
-            if !passes_by(entry, client) {
-                return Ok(());
+        let posts = log.posts() as u64;
+        for &number in heard {
+            if self.posts <= number {
+                self.see_numbered(alloc, names, log, variables, number)?;
             }
-            self.see_passing(alloc, names, log, variables, client, entry)?;
         }
+        self.posts = posts;
         Ok(())
     }
 
-    // All entries. Without memory what is kept begins anew.
-    pub fn follow_all(
+    // All entries, of which it needs to know no more than the posts with these numbers.
+    pub fn see_heard(
         &mut self,
         alloc: Global,
         names: &Names,
         log: &Log,
         variables: &Variables,
-        client: u32,
+        heard: &[u64],
     ) -> Result<(), NoMemory>
-        requires { IsSubscriber names.now log.now.entries client self.old }
-        ensures subscriber { IsSubscriber names.now log.now.entries client self.new }
-        ensures all { OnOk result (self.new.seen ≡ length log.now.entries) }
-        ensures few { OnOk result (self.new.seen < 2 ^ 64 - 1) }
+        requires fresh { IsFresh self.old }
+        requires within { self.old.posts ≤ length (posts_of log.now.entries) }
+        requires heard { AreHeard (patterns_of self.old.lives) (posts_of log.now.entries) self.old.posts heard.now (length (posts_of log.now.entries)) }
+        ensures now { IfOk result (λ _. self.new ≡ record (kept_after_posts names.now self.old (drop self.old.posts (posts_of log.now.entries))) { seen = length log.now.entries }) }
+        ensures few { length log.now.entries < 2 ^ 64 - 1 }
     {
-        let passed = self.follow_passing(alloc, names, log, variables, client);
-        if let Err(no_memory) = passed {
-            *self = Subscriber::new(alloc);
-            return Err(no_memory);
-        }
-        if self.seen < log.len() as u64 {
-            *self = made_anew(alloc, names, log, variables, client)?;
-        }
+        let seen = log.len() as u64;
+        self.see_numbers(alloc, names, log, variables, heard)?;
+        self.seen = seen;
         Ok(())
     }
 }
 
 // The client after the whole history, made from the history alone.
-fn made_anew(
+pub(crate) fn made_anew(
     alloc: Global,
     names: &Names,
     log: &Log,

@@ -81,6 +81,13 @@ impl Subscription {
         self.lasts.set(alloc, var, stamp)
     }
 
+    // Its pattern for the variable.
+    pub fn pattern(&self) -> &Pattern
+        ensures { result.now ≡ self.now.reg.var }
+    {
+        &self.reg.var
+    }
+
     // Whether its pattern matches the variable.
     pub fn matches_var(&self, var: &Name) -> bool
         ensures { result ≡ matches self.now.reg.var var.now }

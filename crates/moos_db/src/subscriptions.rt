@@ -1,9 +1,12 @@
-ghost use Rattle.std.specs.Prelude.{◌≡◌, [], map, fold, IfOk};
+ghost use Rattle.std.specs.Prelude.{◌≡◌, ℕ, List, [], map, fold, IfOk, OnOk};
 ghost use Rattle.std.specs.List.{list_any};
+ghost use Rattle.moos_post.specs.Patterns.{matches};
+ghost use Rattle.moos_db.specs.Hearing.{IsListed, hears, patterns_of};
 ghost use Rattle.moos_db.specs.Subscribers.{has_patterns, is_due_held, passed, is_new_held, caught, without_held, with_held};
 
 use crate::index::{Listed, list_var, pass_places, places_at};
 use crate::subscription::Subscription;
+use crate::variables::Variables;
 use moos_post::{Name, NoMemory, Pattern, Reg};
 use std::alloc::Global;
 use std::marker::Model;
@@ -42,9 +45,19 @@ impl Subscriptions {
         }
     }
 
-    // Whether there is one.
-    pub fn any(&self) -> bool {
-        !self.lives.is_empty()
+    // Whether one of them hears posts of the variable.
+    pub fn hears(&self, var: &Name) -> bool
+        ensures { result ≡ hears (patterns_of self.now) var.now }
+    {
+        hears(self.lives.as_slice(), var)
+    }
+
+    // The client whose they are may hear each variable that one of them hears.
+    pub fn be_listed(&self, variables: &mut Variables, client: u32) -> Result<(), NoMemory>
+        ensures kept { (other : ℕ) (patterns : List (List ℕ)) → IsListed variables.old other patterns → IsListed variables.new other patterns }
+        ensures listed { OnOk result (IsListed variables.new client (patterns_of self.now)) }
+    {
+        list_each(self.lives.as_slice(), variables, client)
     }
 
     // A post of this stamp and variable, from the client with this name, comes through each registration at which it is
@@ -118,6 +131,24 @@ impl Subscriptions {
         self.lives = without(alloc, before, var, source)?;
         Ok(())
     }
+}
+
+// Whether one of the registrations hears posts of the variable.
+fn hears(lives: &[Subscription], var: &Name) -> bool
+    ensures { result ≡ list_any (λ held. matches held.reg.var var.now) lives.now }
+{
+    lives.iter().any(|live| live.matches_var(var))
+}
+
+// The client may hear each variable that one of the registrations hears.
+fn list_each(lives: &[Subscription], variables: &mut Variables, client: u32) -> Result<(), NoMemory>
+    ensures kept { (other : ℕ) (patterns : List (List ℕ)) → IsListed variables.old other patterns → IsListed variables.new other patterns }
+    ensures listed { OnOk result (IsListed variables.new client (patterns_of lives.now)) }
+{
+    for live in lives {
+        variables.hear(client, live.pattern())?;
+    }
+    Ok(())
 }
 
 // Whether some registration that was made at this entry selects the post.
