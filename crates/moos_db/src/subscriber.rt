@@ -5,6 +5,8 @@ ghost use Rattle.moos_db.specs.Hearing.{AreHeard, IsListed, hears, patterns_of};
 ghost use Rattle.moos_db.specs.Subscribers.{IsSubscriber, is_new_held};
 ghost use Rattle.moos_db.specs.Tables.{IsLatest, rows_of};
 
+mod own;
+
 use crate::latest::Latest;
 use crate::log::Log;
 use crate::subscriptions::Subscriptions;
@@ -18,9 +20,8 @@ use std::marker::Model;
 // registrations in the order in which they were made, and its mailbox.
 //
 // A registration is seen as soon as it is made, and is tried on the latest post of each variable. The posts are seen when
-// the client itself next registers, withdraws or fetches: all that came since, one after another, so that what is kept of
-// one client is at hand for them all. Where memory ends on the way all this begins anew, and is made from the history when
-// the client fetches next.
+// the client itself next registers, withdraws or fetches, or a block of posts at a time, so that what is kept of one client is
+// at hand for them all.
 #[derive(Drop)]
 pub(crate) struct Subscriber {
     seen: u64,
@@ -55,7 +56,7 @@ fn source_of(names: &Names, client: u32) -> &[u8]
 
 impl Subscriber {
     ghost use Rattle.moos_post.specs.declared.value.Post.{Post};
-    ghost use Rattle.moos_db.specs.Subscribers.{SubscriberState, empty_kept, with_mailed, with_due, with_missed, kept_post, kept_batch, catch_post, kept_catching, kept_own, kept_posts, kept_after_posts, IsSubscriber, IsFresh};
+    ghost use Rattle.moos_db.specs.Subscribers.{SubscriberState, empty_kept, with_mailed, with_due, kept_post, kept_batch, kept_posts, kept_after_posts, IsSubscriber, IsFresh};
 
     // The client for which no entry was seen.
     pub fn new(alloc: Global) -> Subscriber
@@ -184,125 +185,6 @@ impl Subscriber {
         for pair in pairs {
             let number = variables.of_post(self.posts);
             self.see_post(alloc, number, stamp, source, &pair.var)?;
-        }
-        Ok(())
-    }
-
-    // Whether the post with this number, of this variable and from the client with this name, catches up, if it is the
-    // latest of its variable.
-    fn is_missed(&self, var: &Name, source: &[u8], number: u64) -> bool
-        ensures { result ≡ (list_any (is_new_held self.now.seen var.now source.now) self.now.lives
-            && not (list_any (λ one. one == number) self.now.mailed)) }
-    {
-        self.lives.any_new(self.seen, var, source) && !self.mailbox.mailed(number)
-    }
-
-    // The post with this number, of this stamp and variable and from the client with this name, catches up.
-    fn mail_missed(
-        &mut self,
-        alloc: Global,
-        number: u64,
-        stamp: u64,
-        source: &[u8],
-        var: &Name,
-    ) -> Result<(), NoMemory>
-        requires { list_any (λ one. one == number) self.old.mailed ≡ false }
-        ensures { IfOk result (λ _. self.new ≡ with_missed number stamp source.now self.old var.now) }
-    {
-        self.mail(number)?;
-        self.lives.pass_new(alloc, self.seen, stamp, var, source)
-    }
-
-    // The post with this number, the latest of its variable, catches up where it may.
-    fn catch_post(
-        &mut self,
-        alloc: Global,
-        names: &Names,
-        log: &Log,
-        number: u64,
-    ) -> Result<(), NoMemory>
-        requires { number < length (posts_of log.now.entries) }
-        ensures { IfOk result (λ _. (post : Post) → slice_get (posts_of log.now.entries) number ≡ Some post →
-            self.new ≡ catch_post names.now number self.old post) }
-    {
-        let var = &log.pair(number as usize).var;
-        let origin = log.origin(number as usize);
-        let source = source_of(names, origin.client);
-        if self.is_missed(var, source, number) {
-            self.mail_missed(alloc, number, origin.stamp, source, var)?;
-        }
-        Ok(())
-    }
-
-    // The latest posts so far catch up where they may.
-    fn catch_up(
-        &mut self,
-        alloc: Global,
-        names: &Names,
-        log: &Log,
-        latest: &Latest,
-    ) -> Result<(), NoMemory>
-        requires within { self.old.posts ≤ length (posts_of log.now.entries) }
-        requires latest { latest.now.rows ≡ rows_of (take self.old.posts (posts_of log.now.entries)) }
-        ensures { let posts = take self.old.posts (posts_of log.now.entries)
-            in IfOk result (λ _. self.new ≡ kept_catching names.now 0 self.old posts) }
-    {
-        let numbers = latest.numbers(alloc)?;
-        for &number in numbers.as_slice() {
-            self.catch_post(alloc, names, log, number)?;
-        }
-        Ok(())
-    }
-
-    // What a call of the client itself changes beside the posts.
-    fn see_own(
-        &mut self,
-        alloc: Global,
-        names: &Names,
-        log: &Log,
-        latest: &Latest,
-        call: &Call,
-    ) -> Result<(), NoMemory>
-        requires within { self.old.posts ≤ length (posts_of log.now.entries) }
-        requires latest { latest.now.rows ≡ rows_of (take self.old.posts (posts_of log.now.entries)) }
-        ensures { let posts = take self.old.posts (posts_of log.now.entries)
-            in IfOk result (λ _. self.new ≡ kept_own names.now posts self.old call.now) }
-    {
-        match call {
-            Call::Register(regs) => {
-                self.lives.register(alloc, self.seen, regs.all())?;
-                self.catch_up(alloc, names, log, latest)?;
-            }
-            Call::Unregister(var, source) => {
-                self.lives.withdraw(alloc, var, source)?;
-            }
-            Call::Post(_) => {}
-            Call::Fetch => {
-                let _ = self.mailbox.take_all(alloc);
-            }
-        }
-        Ok(())
-    }
-
-    // What an entry changes beside the posts: only one of the client itself does.
-    fn see_call(
-        &mut self,
-        alloc: Global,
-        names: &Names,
-        log: &Log,
-        latest: &Latest,
-        client: u32,
-        entry: &Entry,
-    ) -> Result<(), NoMemory>
-        requires within { self.old.posts ≤ length (posts_of log.now.entries) }
-        requires latest { latest.now.rows ≡ rows_of (take self.old.posts (posts_of log.now.entries)) }
-        ensures { let posts = take self.old.posts (posts_of log.now.entries)
-            in IfOk result (λ _. self.new ≡ (if entry.now.client == client
-            then kept_own names.now posts self.old entry.now.call
-            else self.old)) }
-    {
-        if entry.client == client {
-            self.see_own(alloc, names, log, latest, &entry.call)?;
         }
         Ok(())
     }
