@@ -26,8 +26,5 @@ mod ways;
 
 pub use kind::Kind;
 pub use out::{BhvFault, Out};
-
-#[cfg(test)]
-mod tests;
 #[cfg(test)]
 mod travels;

@@ -3,8 +3,8 @@
 //!
 //! The tests of these crates stand here, since a crate with tests of its own is proved once more with them. One module for
 //! each subject: `posts`, `outside`, `texts`, `words` and `pairs`, `scripts`, `registrations`, `mailboxes`, `turns` of the lock,
-//! `clients`, and of the helm `missions`, `conditions`, `geometry`, `mode_files` and `behavior_files`, `modes`, `lives`, and
-//! `generated` missions.
+//! `database` and `database_parts`, `clients`, and of the helm `missions`, `conditions`, `geometry`, `mode_files` and
+//! `behavior_files`, `modes`, `lives`, and `generated` missions.
 #![tactic(auto)]
 
 #[cfg(test)]
@@ -13,6 +13,10 @@ mod behavior_files;
 mod clients;
 #[cfg(test)]
 mod conditions;
+#[cfg(test)]
+mod database;
+#[cfg(test)]
+mod database_parts;
 #[cfg(test)]
 mod generated;
 #[cfg(test)]

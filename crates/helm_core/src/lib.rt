@@ -33,6 +33,3 @@ mod wanted;
 pub use helm::Helm;
 pub use iteration::{BhvError, Faults, Iteration, States, Update, Updates};
 pub use law::{iterations_law, plan_law};
-
-#[cfg(test)]
-mod tests;

@@ -29,6 +29,3 @@ mod variables;
 pub use db::Db;
 pub use mail::{Letter, Mail, Origin};
 pub use run::mails_of;
-
-#[cfg(test)]
-mod tests;

@@ -4,9 +4,9 @@ ghost use Rattle.bhv_reader.specs.Validity.{IsValidFile, serves};
 ghost use Rattle.mission_reader.specs.Validity.{IsValidMission};
 ghost use Rattle.helm_core.specs.Helms.{clock_of};
 
-use crate::{Helm, Iteration};
 use bhv_life::BhvState;
 use bhv_reader::{BhvFile, read_behaviors};
+use helm_core::{Helm, Iteration};
 use ivp_domain::Domain;
 use mission_reader::{Mission, read_mission};
 use moos_db::{Letter, Mail};

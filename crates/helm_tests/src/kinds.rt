@@ -5,7 +5,7 @@ ghost use Rattle.bhv_reader.specs.declared.spec.Shape.{Shape};
 ghost use Rattle.bhv_reader.specs.Params.{has_axes, has_axis};
 ghost use Rattle.bhv_kinds.specs.Standing.{IsSoundKind};
 
-use crate::{BhvFault, Kind, Out};
+use bhv_kinds::{BhvFault, Kind, Out};
 use bhv_reader::{Shape, Spec};
 use helm_cond::Info;
 use ivp_domain::{Axis, AxisName, Domain, Point, Steps};
@@ -18,7 +18,7 @@ use std::sync::ledger::{Blank, Ledger};
 use std::test::Fail;
 
 // A behaviour that keeps the station where it is first stepped.
-#[tactic(auto, using(crate::proofs::KindExamples::station_valid))]
+#[tactic(auto, using(bhv_kinds::proofs::KindExamples::station_valid))]
 pub(crate) fn station() -> Kind
     ensures { IsSoundKind result }
 {
@@ -100,7 +100,7 @@ fn has_axis(domain: &Domain, name: &[u8]) -> bool
 }
 
 // Four courses round a circle, three speeds and three depths.
-#[tactic(auto, using(crate::proofs::KindExamples::three_axes))]
+#[tactic(auto, using(bhv_kinds::proofs::KindExamples::three_axes))]
 pub(crate) fn waters() -> Result<Domain, Fail>
     ensures { IfOk result (λ domain. (shape : Shape) → IsTrue (has_axes domain shape)) }
 {
@@ -140,7 +140,7 @@ pub(crate) fn value(func: &Func, index: u32) -> Option<i64> {
 }
 
 // A behaviour of each type, with the parameters that it has by itself where only one is given.
-#[tactic(auto, using(crate::proofs::KindExamples::course_valid))]
+#[tactic(auto, using(bhv_kinds::proofs::KindExamples::course_valid))]
 fn course() -> Kind
     ensures { IsSoundKind result }
 {
@@ -155,7 +155,7 @@ fn course() -> Kind
     })
 }
 
-#[tactic(auto, using(crate::proofs::KindExamples::speed_valid))]
+#[tactic(auto, using(bhv_kinds::proofs::KindExamples::speed_valid))]
 fn speed() -> Kind
     ensures { IsSoundKind result }
 {
@@ -170,7 +170,7 @@ fn speed() -> Kind
     })
 }
 
-#[tactic(auto, using(crate::proofs::KindExamples::depth_valid))]
+#[tactic(auto, using(bhv_kinds::proofs::KindExamples::depth_valid))]
 fn depth() -> Kind
     ensures { IsSoundKind result }
 {
@@ -185,7 +185,7 @@ fn depth() -> Kind
     })
 }
 
-#[tactic(auto, using(crate::proofs::KindExamples::limit_valid))]
+#[tactic(auto, using(bhv_kinds::proofs::KindExamples::limit_valid))]
 fn limit() -> Kind
     ensures { IsSoundKind result }
 {
@@ -198,7 +198,7 @@ fn limit() -> Kind
     })
 }
 
-#[tactic(auto, using(crate::proofs::KindExamples::timer_valid))]
+#[tactic(auto, using(bhv_kinds::proofs::KindExamples::timer_valid))]
 fn timer() -> Kind
     ensures { IsSoundKind result }
 {
@@ -208,7 +208,7 @@ fn timer() -> Kind
     })
 }
 
-#[tactic(auto, using(crate::proofs::KindExamples::region_valid))]
+#[tactic(auto, using(bhv_kinds::proofs::KindExamples::region_valid))]
 fn region() -> Kind
     ensures { IsSoundKind result }
 {

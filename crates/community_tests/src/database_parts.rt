@@ -1,6 +1,6 @@
 // What a database tells of its parts, and the mail of a list of calls.
-use super::{batch_of, database, regs_of};
-use crate::{Db, mails_of};
+use crate::database::{batch_of, database, regs_of};
+use moos_db::{Db, mails_of};
 use moos_post::{Batch, Call, Entry, Name, Names, Regs, Value};
 use std::alloc::Global;
 use std::process::Abort;

@@ -1,6 +1,6 @@
 ghost use Rattle.std.specs.Prelude.{◌<◌, length};
 
-use super::*;
+use moos_db::{Db, Mail};
 use moos_post::{Batch, Milli, Name, Names, Pair, Pattern, Reg, Regs, Value};
 use std::alloc::Global;
 use std::process::Abort;
@@ -25,7 +25,7 @@ fn reg_of(alloc: Global, var: &str, interval: u64, source: &str) -> Result<Reg, 
     })
 }
 
-fn regs_of(alloc: Global, asked: &[(&str, u64, &str)]) -> Result<Regs, Fail> {
+pub(crate) fn regs_of(alloc: Global, asked: &[(&str, u64, &str)]) -> Result<Regs, Fail> {
     let mut regs = Regs::new(alloc);
     for (var, interval, source) in asked {
         regs.push(reg_of(alloc, var, *interval, source)?)?;
@@ -39,7 +39,7 @@ fn pair_of(alloc: Global, var: &str, value: i64) -> Result<Pair, Fail> {
     Ok(Pair { var, value })
 }
 
-fn batch_of(alloc: Global, pairs: &[(&str, i64)]) -> Result<Batch, Fail> {
+pub(crate) fn batch_of(alloc: Global, pairs: &[(&str, i64)]) -> Result<Batch, Fail> {
     let mut batch = Batch::new(alloc);
     for (var, value) in pairs {
         batch.push(pair_of(alloc, var, *value)?)?;
@@ -47,7 +47,7 @@ fn batch_of(alloc: Global, pairs: &[(&str, i64)]) -> Result<Batch, Fail> {
     Ok(batch)
 }
 
-fn database(rt: &impl Abort, alloc: Global, names: &[&str]) -> Result<Db, Fail> {
+pub(crate) fn database(rt: &impl Abort, alloc: Global, names: &[&str]) -> Result<Db, Fail> {
     let mut list = Names::new(alloc);
     for name in names {
         list.push(Name::new(alloc, name.as_bytes())?)?;
@@ -280,5 +280,3 @@ fn further_cases(rt: HostRuntime) -> Result<(), Fail> {
     }
     Ok(())
 }
-
-mod parts;
