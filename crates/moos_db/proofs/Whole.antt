@@ -1,5 +1,5 @@
 -- The database as a whole: what is kept of all clients and entries, when an inbox is put and when an entry is added.
-use Rattle.std.proofs.Common.{◌≡◌, ℕ, zero, suc, ◌<◌, ◌≢◌, ◌⊎◌, Bool, true, false, ◌||◌, ◌==◌, not, List, [], ◌∷◌, ◌++◌, length, set, get_or, take, slice_get, Some, None, inl, inr, ap, sym, ◌∙◌, arith, subst, length-append, append-nil, replicate, refl, ◌^◌}
+use Rattle.std.proofs.Common.{◌≡◌, ℕ, zero, suc, ◌<◌, ◌≢◌, Bool, true, false, ◌||◌, ◌==◌, not, List, [], ◌∷◌, ◌++◌, length, set, get_or, take, slice_get, Some, None, inl, inr, ap, sym, ◌∙◌, arith, subst, length-append, append-nil, replicate, refl, ◌^◌}
 use Rattle.std.proofs.lemmas.Bool.{cases_lt, cond-false, ne_eqb}
 use Rattle.std.proofs.lemmas.List.{take-append-le, get_or_append_left, length-replicate}
 use Rattle.std.proofs.lemmas.Option.{slice_get-get_or}
@@ -90,12 +90,7 @@ IsLatest-stays history table entry latest =
       same = latest.same ∙ ap rows_of (sym (ap (take table.posts) more ∙ take-append-le table.posts (posts_of history) (posts_of (entry ∷ [])) latest.within));
     }
 
--- the database with other listeners and variables, or with another table
-pub IsDb-listeners : (names : List (List ℕ)) (journal : Journal) (table : LatestState) (variables more : List VariableState) (listeners others : List ListenerState) → length others ≡ length listeners → AreListeners names journal.entries more others →
-    IsDb names journal table variables listeners → IsDb names journal table more others
-IsDb-listeners names journal table variables more listeners others each all db =
-    record { few = db.few; each = each ∙ db.each; lettered = db.lettered; latest = db.latest; kept = all; given = db.given }
-
+-- the database with another table
 pub IsDb-table : (names : List (List ℕ)) (journal : Journal) (table other : LatestState) (variables : List VariableState) (listeners : List ListenerState) → IsLatest (posts_of journal.entries) other →
     IsDb names journal table variables listeners → IsDb names journal other variables listeners
 IsDb-table names journal table other variables listeners latest db =

@@ -1,9 +1,9 @@
-ghost use Rattle.std.specs.Prelude.{◌≡◌, suc, ◌+◌, ◌-◌, ◌^◌, ◌<◌, ◌≤◌, ◌==◌, [], true, false, length, take, drop, not, ℕ, List, ◌&&◌, ◌++◌, ◌∷◌, IfOk, OnOk, OnErr, Some, slice_get, if◌then◌else◌};
+ghost use Rattle.std.specs.Prelude.{◌≡◌, suc, ◌+◌, ◌-◌, ◌^◌, ◌<◌, ◌≤◌, ◌==◌, [], false, length, take, drop, ℕ, List, ◌++◌, ◌∷◌, IfOk, OnOk, OnErr, Some, slice_get};
 ghost use Rattle.std.specs.List.{list_any};
 ghost use Rattle.moos_post.specs.History.{name_of, posts_of, posts_of_entry};
 ghost use Rattle.moos_db.specs.Hearing.{AreHeard, IsListed, hears, patterns_of};
-ghost use Rattle.moos_db.specs.Subscribers.{IsSubscriber, is_new_held};
-ghost use Rattle.moos_db.specs.Tables.{IsLatest, rows_of};
+ghost use Rattle.moos_db.specs.Subscribers.{IsSubscriber};
+ghost use Rattle.moos_db.specs.Tables.{rows_of};
 
 mod own;
 

@@ -1,5 +1,4 @@
 ghost use Rattle.std.specs.Prelude.{◌≡◌, [], ◌∷◌, ℕ, List, true, IfOk, OnOk, IfSome, Some, slice_get};
-ghost use Rattle.std.specs.List.{list_any};
 ghost use Rattle.moos_mail.specs.Mailboxes.{is_one_of};
 ghost use Rattle.moos_db.specs.Hearing.{IsListed, VariableState, hears, patterns_asked};
 

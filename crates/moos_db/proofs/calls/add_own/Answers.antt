@@ -1,6 +1,6 @@
-use Rattle.std.proofs.Common.{◌≡◌, ◌∙◌, ◌++◌, ◌∷◌, [], ℕ, List, false, length, sym, subst}
-use Rattle.moos_post.specs.History.{History, posts_of}
-use Rattle.moos_db.specs.Hearing.{AreListeners, IsListed, IsListener, ListenerState, patterns_of}
+use Rattle.std.proofs.Common.{◌≡◌, ◌∙◌, false, length, sym, subst}
+use Rattle.moos_post.specs.History.{posts_of}
+use Rattle.moos_db.specs.Hearing.{IsListener, ListenerState, patterns_of}
 use Rattle.moos_db.specs.Places.{Journal}
 use Rattle.moos_db.specs.Subscribers.{IsSubscriber}
 use Rattle.moos_db.proofs.Heard.{IsListener-own, posts-brought}

@@ -1,9 +1,9 @@
-use Rattle.std.proofs.Common.{◌≡◌, ◌∙◌, ◌++◌, ◌∷◌, [], ℕ, List, ap, false, true, length, refl, suc, sym, subst}
+use Rattle.std.proofs.Common.{◌≡◌, ◌∙◌, [], ap, false, true, length, refl, suc, sym, subst}
 use Rattle.moos_post.specs.declared.entry.Call.TheVariants.{Fetch}
 use Rattle.moos_post.specs.declared.entry.Entry.{Entry}
-use Rattle.moos_post.specs.History.{History, posts_of}
+use Rattle.moos_post.specs.History.{posts_of}
 use Rattle.moos_mail.proofs.Lists.{length-push}
-use Rattle.moos_db.specs.Hearing.{AreListeners, IsListener, ListenerState}
+use Rattle.moos_db.specs.Hearing.{IsListener, ListenerState}
 use Rattle.moos_db.proofs.Growth.{IsSubscriber-below, IsSubscriber-fetch}
 use Rattle.moos_db.proofs.Heard.{IsListener-own}
 use Rattle.moos_db.proofs.Whole.{AreListeners-at, AreListeners-own, AreListeners-set}

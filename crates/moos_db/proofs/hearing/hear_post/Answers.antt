@@ -1,7 +1,5 @@
-use Rattle.std.proofs.Common.{◌≡◌, ◌∙◌, List, ℕ, Some, ap, option_map, slice_get, sym, subst}
+use Rattle.std.proofs.Common.{◌≡◌, ◌∙◌, Some, ap, option_map, slice_get, sym, subst}
 use Rattle.moos_post.specs.declared.value.Pair.{Pair}
-use Rattle.moos_post.specs.declared.value.Post.{Post}
-use Rattle.moos_post.specs.History.{posts_of}
 use Rattle.moos_db.specs.Database.{pair_posted}
 use Rattle.moos_db.specs.Hearing.{AreListenersTo, told_to, VariableState}
 use Rattle.moos_db.proofs.Told.{told-all}

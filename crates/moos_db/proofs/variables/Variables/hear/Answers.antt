@@ -1,4 +1,4 @@
-use Rattle.std.proofs.Common.{◌≡◌, ◌<◌, ◌||◌, ◌∙◌, Some, ap, arith, cond, false, inl, inr, length, length-set, rules, slice_get, subst, sym, true, vec_len}
+use Rattle.std.proofs.Common.{◌≡◌, ◌<◌, ◌||◌, ◌∙◌, Some, ap, arith, false, inl, inr, length, length-set, rules, slice_get, subst, sym, true, vec_len}
 use Rattle.std.proofs.lemmas.Bool.{cases_lt}
 use Rattle.std.proofs.lemmas.Option.{slice_get-get_or, slice_get_within}
 use Rattle.moos_post.specs.Patterns.{matches}

@@ -1,4 +1,4 @@
-use Rattle.std.proofs.Common.{◌≡◌, ◌<◌, ◌∙◌, Some, ap, arith, length, slice_get, sym, vec_len, rules}
+use Rattle.std.proofs.Common.{◌<◌, ◌∙◌, Some, ap, length, slice_get, sym, rules}
 use Rattle.std.proofs.lemmas.Option.{slice_get-get_or}
 use Rattle.std.proofs.lemmas.Slice.Eq.{bytes_eq-Decides}
 use Rattle.moos_db.specs.Hearing.{VariableState}
