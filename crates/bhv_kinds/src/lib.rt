@@ -26,5 +26,6 @@ mod ways;
 
 pub use kind::Kind;
 pub use out::{BhvFault, Out};
+
 #[cfg(test)]
 mod travels;

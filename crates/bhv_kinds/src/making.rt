@@ -1,5 +1,5 @@
 // The function of a want: made anew, or kept from the step before.
-ghost use Rattle.std.specs.Prelude.{◌≡◌, IfOk, IfSome, IsTrue, length};
+ghost use Rattle.std.specs.Prelude.{◌≡◌, IfOk, IfSome, IsTrue};
 ghost use Rattle.bhv_kinds.specs.Utilities.{function_of};
 ghost use Rattle.bhv_kinds.specs.Wants.{CanMake, IsMade, utility_of};
 

@@ -14,7 +14,7 @@ use Rattle.moos_post.specs.History.{History}
 use Rattle.moos_play.specs.declared.playing.Play.{Play}
 use Rattle.moos_play.specs.declared.steersman.Steersman.{Steersman}
 use Rattle.moos_play.specs.Lawful.{heard_in, heard_of, helm_number, iterations, iterations_of, Steering, ticks_to}
-use Rattle.moos_play.specs.Plays.{handed, handed_of, HasCompletion, IsBetween, IsOver, IsStampOver, iterations_made, left_in, made_by, stamp_next, StaysSeated, untold_in}
+use Rattle.moos_play.specs.Plays.{handed, handed_of, HasCompletion, IsBetween, IsPlayedOut, IsStampOver, iterations_made, left_in, made_by, stamp_next, StaysSeated, untold_in}
 use Rattle.moos_play.specs.Rounds.{CommunityLock}
 use Rattle.moos_play.specs.Steered.{GoesOnWith, helm_of, IsAtPlay, IsUnderWay, iterations_in, KeepsTime, StandsAt, steering_of, Steers, tick_due, ticks_left, told_in}
 use Rattle.moos_play.proofs.Completing.{completion}
@@ -196,8 +196,8 @@ round_iterations before after between at stays on told =
     (subst (λ (lock : CommunityLock). StandsAt lock.base (helm_number after.script.now) after.steersman after.first.seat.seen) on.lock at.under.steered))
 
 -- the end of a run that is played round by round
-pub over_now : (play last : Play) → IsBetween play → left_in play ≡ 0 → last ≡ play → IsOver last
-over_now play last between none is = subst IsOver (sym is) (record {
+pub over_now : (play last : Play) → IsBetween play → left_in play ≡ 0 → last ≡ play → IsPlayedOut last
+over_now play last between none is = subst IsPlayedOut (sym is) (record {
   lawful = lawful_end play.order play.script.now play (helm_of play.steersman) play.lock.base play.first.seat.seen between.valid.lines between.at_play none refl refl refl refl;
   iterations =
       made_over play.lock.base (helm_number play.script.now) play.script.now.stop play.first.seat.seen play.steersman between.at_play.under.steered

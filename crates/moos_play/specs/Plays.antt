@@ -98,7 +98,7 @@ pub record IsRound (before after : Play) (round : Round) : Type 0 where
   pub iterations : iterations_made after ≡ iterations_made before ++ round.iterations
 
 -- a run in which nothing is left: its history is lawful, and its iterations are those of this history
-pub record IsOver (play : Play) : Type 0 where
+pub record IsPlayedOut (play : Play) : Type 0 where
   pub lawful : IsLawful play.order play.script.now (helm_in play) (clients_in play) (history_in play)
   pub iterations : iterations_made play ≡ iterations (helm_in play) play.script.now.stop (heard_of (clients_in play) (helm_number play.script.now) (history_in play))
 

@@ -1,6 +1,6 @@
 // A run in the open: from round to round, with the database lent in between.
 ghost use Rattle.std.specs.Prelude.{◌≡◌, ◌<◌, ◌≤◌, length, option_map, slice_get, IfOk, IfNone, IfSome, OnOk};
-ghost use Rattle.moos_play.specs.Plays.{earliest, handed, HasCompletion, history_in, IsBetween, IsStampOver, IsLentAs, IsOver, IsRound, IsSeated, left_in, clients_in, next_stamp, returned, StaysSeated, untold_in};
+ghost use Rattle.moos_play.specs.Plays.{earliest, handed, HasCompletion, history_in, IsBetween, IsStampOver, IsLentAs, IsPlayedOut, IsRound, IsSeated, left_in, clients_in, next_stamp, returned, StaysSeated, untold_in};
 ghost use Rattle.moos_play.specs.Steered.{GoesOnWith, IsAtPlay, told_in};
 ghost use Rattle.script_reader.specs.Validity.{IsValid};
 
@@ -36,7 +36,7 @@ impl<'a> Play<'a> {
         ensures round { IfOk result (λ round. IfSome round (IsRound self.old self.new)) }
         ensures more { IfOk result (λ round. IfSome round (λ _. left_in self.new < left_in self.old)) }
         ensures none { IfOk result (λ round. IfNone round ((left_in self.old ≡ 0) × (self.new ≡ self.old))) }
-        ensures over { IfOk result (λ round. IfNone round (IsOver self.new)) }
+        ensures over { IfOk result (λ round. IfNone round (IsPlayedOut self.new)) }
     {
         let script = self.script;
         let stamp = self.next_stamp();
