@@ -2,10 +2,14 @@
 //! what was worked by hand; and that the clients of a run act beside each other.
 //!
 //! The tests of these crates stand here, since a crate with tests of its own is proved once more with them. One module for each
-//! subject: `kinds` of behaviours, the `helm`.
+//! subject: `kinds` of behaviours, the `helm`, `plays` and `reports`.
 #![tactic(auto)]
 
 #[cfg(test)]
 mod helm;
 #[cfg(test)]
 mod kinds;
+#[cfg(test)]
+mod plays;
+#[cfg(test)]
+mod reports;

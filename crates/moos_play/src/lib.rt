@@ -25,6 +25,3 @@ pub use round_made::Round;
 pub use run::{HelmRun, Ran, play};
 pub use script_reader::Order;
 pub use steersman::Iterations;
-
-#[cfg(test)]
-mod tests;

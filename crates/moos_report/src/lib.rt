@@ -25,8 +25,6 @@ mod law;
 mod lines;
 mod parts;
 mod setup;
-#[cfg(test)]
-mod tests;
 
 use self::iterations::{fetches_after, put_outcome};
 pub use self::law::{parts_law, report_law};

@@ -5,13 +5,13 @@ ghost use Rattle.mission_reader.specs.Validity.{IsValidMission};
 ghost use Rattle.moos_play.specs.Lawful.{MayStart};
 ghost use Rattle.script_reader.specs.Validity.{IsValid};
 
-use crate::{HelmRun, Order, Play, play};
 use bhv_reader::{BhvFile, read_behaviors};
 use helm_core::Helm;
 use ivp_domain::Domain;
 use mission_reader::{Mission, read_mission};
 use moos_db::Db;
 use moos_io::{Gate, NoGate};
+use moos_play::{HelmRun, Order, Play, play};
 use script_reader::{Script, read_script};
 use std::alloc::Global;
 use std::hint::spin_loop;

@@ -1,8 +1,9 @@
-use super::*;
 use bhv_reader::UnusedList;
-use helm_core::{Faults, States, Updates};
+use helm_core::{Faults, Iteration, States, Updates};
+use moos_db::Db;
 use moos_io::MemSink;
-use moos_post::{Batch, Milli, Name, Names, Regs, Txt, Value};
+use moos_post::{Batch, Milli, Name, Names, Pair, Pattern, Reg, Regs, Txt, Value};
+use moos_report::{Setup, parts_law, report, report_law};
 use std::alloc::Global;
 use std::process::Abort;
 use std::test::Fail;
