@@ -41,7 +41,8 @@ pub(crate) fn decision_made<R: Threads + Wait + Sync, G: Gate>(
         return Ok(None);
     }
     let terms = active_terms(alloc, showings)?;
-    let decision = decide(rt, alloc, domain, terms, workers, gate)?;
+    let problem = problem_of(domain, terms);
+    let decision = decide(rt, alloc, problem, workers, gate)?;
     Ok(Some(decision))
 }
 
@@ -72,24 +73,20 @@ fn add_term(terms: &mut Vec<Term>, showing: Showing) -> Result<(), NoMemory>
     Ok(())
 }
 
-// The best point of the problem that these terms make, its sum and its certificate.
-fn decide<R: Threads + Wait + Sync, G: Gate>(
+/// The decision on a problem: its best point and the sum there, with the certificate that shows it. It is the same for each
+/// number of workers.
+pub fn decide<R: Threads + Wait + Sync, G: Gate>(
     rt: &R,
     alloc: Global,
-    domain: Domain,
-    terms: Vec<Term>,
+    problem: Problem,
     workers: u32,
     gate: &G,
 ) -> Result<Decision, NoMemory>
     requires some_worker { 1 ≤ workers }
     requires few_workers { workers ≤ 16 }
-    requires some { 0 < length terms.items }
-    requires few { length terms.items ≤ 64 }
-    requires fit { All (IsFitTerm domain) terms.items }
-    ensures best { IfOk result (λ decision. decision ≡ best_decision (record { axes = domain; terms = terms.items })) }
+    ensures best { IfOk result (λ decision. decision ≡ best_decision problem) }
     ensures point { IfOk result (λ decision. IsTrue (is_point decision.problem.axes decision.claim.point)) }
 {
-    let problem = problem_of(domain, terms);
     best_law(&problem);
     keys_law(&problem);
     let solved = solve(rt, alloc, &problem, workers, gate)?;

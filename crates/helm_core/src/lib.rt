@@ -30,6 +30,7 @@ mod telling;
 mod turned;
 mod wanted;
 
+pub use decision::decide;
 pub use helm::Helm;
 pub use iteration::{BhvError, Faults, Iteration, States, Update, Updates};
 pub use law::{iterations_law, plan_law};
