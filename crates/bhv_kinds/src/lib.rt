@@ -26,6 +26,3 @@ mod ways;
 
 pub use kind::Kind;
 pub use out::{BhvFault, Out};
-
-#[cfg(test)]
-mod travels;

@@ -2,7 +2,7 @@
 //! what was worked by hand; and that the clients of a run act beside each other.
 //!
 //! The tests of these crates stand here, since a crate with tests of its own is proved once more with them. One module for each
-//! subject: `kinds` of behaviours, the `helm`, `plays` and `reports`.
+//! subject: `kinds` of behaviours and their `travels`, the `helm`, `plays` and `reports`.
 #![tactic(auto)]
 
 #[cfg(test)]
@@ -13,3 +13,5 @@ mod kinds;
 mod plays;
 #[cfg(test)]
 mod reports;
+#[cfg(test)]
+mod travels;

@@ -2,8 +2,8 @@
 ghost use Rattle.std.specs.Prelude.{IfOk};
 ghost use Rattle.bhv_kinds.specs.Standing.{IsSoundKind};
 
-use crate::tests::{known, station, value, waters};
-use crate::{BhvFault, Kind, Out};
+use crate::kinds::{known, station, value, waters};
+use bhv_kinds::{BhvFault, Kind, Out};
 use bhv_reader::{Shape, Spec, Spots};
 use helm_geo::Spot;
 use moos_post::Txt;
