@@ -119,7 +119,7 @@ fn travels(
 }
 
 // A list of one point.
-#[tactic(auto, using(crate::proofs::KindExamples::waypoint_valid))]
+#[tactic(auto, using(bhv_kinds::proofs::KindExamples::waypoint_valid))]
 fn waypoint(alloc: Global) -> Result<Kind, Fail>
     ensures { IfOk result IsSoundKind }
 {
@@ -138,7 +138,7 @@ fn waypoint(alloc: Global) -> Result<Kind, Fail>
 }
 
 // A square of a hundred, listed counterclockwise.
-#[tactic(auto, using(crate::proofs::KindExamples::loiter_valid))]
+#[tactic(auto, using(bhv_kinds::proofs::KindExamples::loiter_valid))]
 fn loiter(alloc: Global) -> Result<Kind, Fail>
     ensures { IfOk result IsSoundKind }
 {
