@@ -305,6 +305,13 @@ race_under script lock old new from result first after under gathered on ok stee
     (λ n other. grown_beside old.number (drop from script.lines) result first after under.whole on ok n (λ e. other (e ∙ under.steered.0)))
     (omega arith) (take_all (length script.lines) script.lines (omega arith) ∙ sym (take-append-drop from script.lines)) steering opened steers tt
 
+-- where the helm is alone it adds its tick
+pub tick_alone : (order : Order) (script : Script) (lock : CommunityLock) (old new : Steersman) (from : ℕ) (first after : SeatState) → IsUnderWay order script lock (Some old) from first → (on : GoesOn (IsAlone old.number) first after)
+    → steering_of new ≡ steering_of old → new.opened ≡ true → new.ticks ≡ old.ticks + 1 → Steers lock.base new after.seen → on.later.0 ≡ tick_entries (steering_of old) (heard_of lock.base old.number (first.seen ++ on.later.0)) old.ticks
+tick_alone order script lock old new from first after under on steering opened count steers =
+    only_own old.number on.later.0 (λ n other. grown (IsAlone old.number) first after under.whole on n other)
+    ∙ tick_added lock.base old new first.seen on.later.0 under.steered.2 (subst (Steers lock.base new) on.later.1 steers) steering under.steered.1 opened (count ∙ omega arith)
+
 -- a tick where no line is left of its stamp or before
 pub tick_under : (order : Order) (script : Script) (lock : CommunityLock) (old new : Steersman) (from : ℕ) (first after : SeatState) → are_lines (length script.names) 0 script.stop script.lines ≡ true → IsUnderWay order script lock (Some old) from first
     → IsGathered lock after → GoesOn (IsAlone old.number) first after → steering_of new ≡ steering_of old → new.opened ≡ true → new.ticks ≡ old.ticks + 1 → Steers lock.base new after.seen → old.ticks < ticks_to script.stop (steering_of old)
@@ -316,8 +323,7 @@ tick_under order script lock old new from first after valid under gathered on st
     alone n other = grown (IsAlone old.number) first after under.whole on n (λ e. other (e ∙ under.steered.0))
 
     added : on.later.0 ≡ tick_entries (steering_of old) (heard_of lock.base old.number (first.seen ++ on.later.0)) old.ticks
-    added = only_own old.number on.later.0 (λ n other. grown (IsAlone old.number) first after under.whole on n other)
-        ∙ tick_added lock.base old new first.seen on.later.0 under.steered.2 (subst (Steers lock.base new) on.later.1 steers) steering under.steered.1 opened (count ∙ omega arith)
+    added = tick_alone order script lock old new from first after under on steering opened count steers
 
     next : new.ticks * new.period ≡ old.period + old.ticks * old.period
     next = ap (λ n. n * new.period) (count ∙ omega arith) ∙ ap (λ (helm : Steering). suc old.ticks * helm.period) steering ∙ omega arith

@@ -16,4 +16,5 @@ pub mod Completing
 pub mod Ending
 pub mod Beginning
 pub mod Rounding
+pub mod Stamping
 pub mod Examples

@@ -1,6 +1,7 @@
 -- Which histories the clients of a script and its helm may leave, whatever the threads did, and what the helm's iterations
 -- are then.
 use Rattle.std.specs.Prelude.{◌≡◌, ◌≢◌, ℕ, zero, suc, ◌*◌, ◌/◌, ◌==◌, ◌&&◌, ◌≤◌, Bool, true, nat_le, nat_lt, if◌then◌else◌, List, [], ◌∷◌, ◌++◌, length, Option, None, Some, codes, IsTrue}
+use Rattle.std.specs.List.{list_all}
 use Rattle.moos_post.specs.declared.entry.Call.TheVariants.{Register, Post as Posts, Fetch}
 use Rattle.moos_post.specs.declared.entry.Entry.{Entry}
 use Rattle.moos_post.specs.Delivery.{is_fetch}
@@ -90,6 +91,11 @@ never_falls key last (entry ∷ later) = nat_le last (key entry) && never_falls 
 abbrev pub KeepsOrder : Order → ℕ → History → Type 0
 KeepsOrder Stamp helm history = IsTrue (never_falls (moment_of helm) 0 history)
 KeepsOrder Race helm history = Unit {0}
+
+-- What an order asks of the entries of a round: by their stamps they have that of the round, and in a race they may have any.
+abbrev pub KeepsStamp : Order → ℕ → History → Type 0
+KeepsStamp Stamp stamp entries = IsTrue (list_all (λ entry. entry.stamp == stamp) entries)
+KeepsStamp Race stamp entries = Unit {0}
 
 -- the helm has the number behind the script's clients
 abbrev pub helm_number : Script → ℕ

@@ -1,16 +1,17 @@
 -- A script that is played round by round, as its player sees it.
-use Rattle.std.specs.Prelude.{◌≡◌, ◌≢◌, ◌⊎◌, ℕ, nat_lt, if◌then◌else◌, List, [], ◌++◌, length, Option, None, Some, IfSome, option_map, slice_get}
+use Rattle.std.specs.Prelude.{◌≡◌, ◌≢◌, ◌⊎◌, ℕ, nat_lt, if◌then◌else◌, List, [], ◌++◌, drop, length, Option, None, Some, IfSome, option_map, slice_get}
 use Rattle.helm_core.specs.declared.iteration.Iteration.{Iteration}
 use Rattle.helm_core.specs.Helms.{plan_of}
 use Rattle.moos_post.specs.History.{History}
 use Rattle.moos_play.specs.declared.playing.Play.{Play}
 use Rattle.moos_play.specs.declared.round_made.Round.{Round}
 use Rattle.moos_play.specs.declared.steersman.Steersman.{Steersman}
-use Rattle.moos_play.specs.Lawful.{heard_of, helm_number, IsLawful, iterations, iterations_of, Steering}
+use Rattle.moos_play.specs.Lawful.{heard_of, helm_number, IsLawful, iterations, iterations_of, KeepsStamp, Steering}
 use Rattle.moos_play.specs.Rounds.{IsGathered, IsWhole}
 use Rattle.moos_play.specs.Steered.{helm_of, IsAtPlay, iterations_in, left_of, tick_due}
 use Rattle.script_reader.specs.declared.script.Order.{Order}
 use Rattle.script_reader.specs.declared.script.Order.TheVariants.{Stamp, Race}
+use Rattle.script_reader.specs.declared.script.Script.{Script}
 use Rattle.script_reader.specs.Validity.{IsValid}
 use Rattle.turn_lock.specs.Passes.{Begins, WasLent}
 
@@ -55,10 +56,13 @@ abbrev pub stamp_next : Order → ℕ → Option ℕ → Option ℕ → ℕ
 stamp_next Stamp stop tick line = earliest stop tick line
 stamp_next Race stop tick line = stop
 
+-- the stamp of a run's next round, where this is its script
+abbrev pub stamp_due : Script → Play → ℕ
+stamp_due script play = stamp_next play.order script.stop (tick_due script.stop play.steersman) (option_map (λ line. line.stamp) (slice_get script.lines play.from))
+
 -- the stamp of the run's next round
 abbrev pub next_stamp : Play → ℕ
-next_stamp play =
-    stamp_next play.order play.script.now.stop (tick_due play.script.now.stop play.steersman) (option_map (λ line. line.stamp) (slice_get play.script.now.lines play.from))
+next_stamp play = stamp_due play.script.now play
 
 -- a helm whose iterations so far are handed out
 abbrev pub handed_of : Steersman → Steersman
@@ -89,11 +93,17 @@ pub record StaysSeated (before after : Play) : Type 0 where
 abbrev pub IsStampOver : Play → ℕ → Type 0
 IsStampOver play stamp = (left_in play ≡ 0) ⊎ (next_stamp play ≢ stamp)
 
--- a round: where its entries begin, its stamp, nothing of which is left, and the helm's iterations in it, which follow those
--- before
+-- what a part of a round with this stamp adds to the history
+pub record AddsAt (order : Order) (stamp : ℕ) (before after : History) : Type 0 where
+  pub later : Begins after before
+  pub stamped : KeepsStamp order stamp later.0
+
+-- A round: where its entries begin, its stamp, which they have in order Stamp and nothing of which is left, and the helm's
+-- iterations in it, which follow those before.
 pub record IsRound (before after : Play) (round : Round) : Type 0 where
   pub from : round.from ≡ length (history_in before)
   pub stamp : round.stamp ≡ next_stamp before
+  pub stamped : KeepsStamp before.order round.stamp (drop round.from (history_in after))
   pub finished : IsStampOver after round.stamp
   pub iterations : iterations_made after ≡ iterations_made before ++ round.iterations
 

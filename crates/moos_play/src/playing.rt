@@ -1,7 +1,7 @@
 // A run from one step to the next: the clients' lines and the helm's ticks, in the order that was asked for.
 ghost use Rattle.std.specs.Prelude.{◌≡◌, ◌≢◌, ◌<◌, ◌≤◌, None, Ok, true, false, drop, length, option_map, IfOk, OnOk, IfSome};
 ghost use Rattle.moos_play.specs.Lawful.{names_with, opening, steering_with, MayStart};
-ghost use Rattle.moos_play.specs.Plays.{helm_in, history_in, IsBetween, IsSeated, clients_in, StaysSeated, untold_in};
+ghost use Rattle.moos_play.specs.Plays.{AddsAt, helm_in, history_in, IsBetween, IsSeated, clients_in, stamp_due, StaysSeated, untold_in};
 ghost use Rattle.moos_play.specs.Steered.{GoesOnWith, IsAtPlay, IsBehind, IsDue, left_of, tick_due, told_in};
 ghost use Rattle.script_reader.specs.Validity.{IsValid};
 
@@ -98,6 +98,7 @@ impl<'a> Play<'a> {
         ensures same { OnOk result (GoesOnWith self.old self.new) }
         ensures told { OnOk result (told_in self.new.steersman ≡ told_in self.old.steersman) }
         ensures seated { StaysSeated self.old self.new }
+        ensures stamped { result ≡ Ok true → AddsAt self.old.order (stamp_due script.now self.old) (history_in self.old) (history_in self.new) }
         ensures more { result ≡ Ok true → left_of script.now self.new < left_of script.now self.old }
         ensures over { result ≡ Ok false → (left_of script.now self.old ≡ 0) × (self.new ≡ self.old) }
     {
@@ -132,6 +133,7 @@ impl<'a> Play<'a> {
         ensures same { OnOk result (GoesOnWith self.old self.new) }
         ensures told { OnOk result (told_in self.new.steersman ≡ told_in self.old.steersman) }
         ensures seated { StaysSeated self.old self.new }
+        ensures stamped { OnOk result (AddsAt self.old.order (stamp_due script.now self.old) (history_in self.old) (history_in self.new)) }
         ensures more { OnOk result (left_of script.now self.new < left_of script.now self.old) }
     {
         if self.from < to {
@@ -158,6 +160,7 @@ impl<'a> Play<'a> {
         ensures same { OnOk result (GoesOnWith self.old self.new) }
         ensures told { OnOk result (told_in self.new.steersman ≡ told_in self.old.steersman) }
         ensures seated { StaysSeated self.old self.new }
+        ensures stamped { OnOk result (AddsAt self.old.order (stamp_due script.now self.old) (history_in self.old) (history_in self.new)) }
         ensures more { OnOk result (left_of script.now self.new < left_of script.now self.old) }
     {
         let lines = &script.lines.all()[self.from..to];
@@ -185,6 +188,7 @@ impl<'a> Play<'a> {
         ensures same { OnOk result (GoesOnWith self.old self.new) }
         ensures told { OnOk result (told_in self.new.steersman ≡ told_in self.old.steersman) }
         ensures seated { StaysSeated self.old self.new }
+        ensures stamped { OnOk result (AddsAt self.old.order (stamp_due script.now self.old) (history_in self.old) (history_in self.new)) }
         ensures more { OnOk result (left_of script.now self.new < left_of script.now self.old) }
     {
         let Some(steersman) = &mut self.steersman else {

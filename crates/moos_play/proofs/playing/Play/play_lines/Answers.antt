@@ -3,7 +3,9 @@ use Rattle.std.specs.List.{list_all}
 use Rattle.moos_post.specs.declared.entry.Entry.{Entry}
 use Rattle.moos_play.specs.Rounds.{GoesOn, IsPlayed}
 use Rattle.moos_play.proofs.Coming.{all_part, lines_clients, lines_next}
+use Rattle.moos_play.specs.Steered.{tick_due}
 use Rattle.moos_play.proofs.Rounding.{as_many, some_client}
+use Rattle.moos_play.proofs.Stamping.{lines_add}
 use Rattle.moos_play.proofs.playing.Play.play_lines.Goals as goal
 
 pub play_round-requires-clause-clients : goal.play_round-requires-clause-clients
@@ -30,3 +32,9 @@ returns-clause-at_play g c = record {
   seats = c.requires.at_play.seats;
   period = c.requires.at_play.period;
 }
+
+pub returns-clause-stamped : goal.returns-clause-stamped
+returns-clause-stamped g c =
+    lines_add c.args.self.now.order c.args.script.now (tick_due c.args.script.now.stop c.args.self.now.steersman) c.args.self.now.from c.args.to (Ok c.in_ok-play_round.field-0) c.args.self.now.first.seat c.play_round.new.first.seat c.requires.at_play.under.whole
+    (subst (λ lines. GoesOn (IsPlayed (take (c.args.to - c.args.self.now.from) (drop c.args.self.now.from lines)) (Ok c.in_ok-play_round.field-0)) c.args.self.now.first.seat c.play_round.new.first.seat) c.all.ensures c.in_ok-play_round.ensures.goes_on)
+    refl c.requires.due c.requires.some

@@ -3,6 +3,7 @@ use Rattle.moos_play.specs.declared.playing.Play.{Play}
 use Rattle.moos_play.specs.Plays.{IsBetween, IsStampOver, handed, iterations_made, StaysSeated, untold_in}
 use Rattle.moos_play.specs.Steered.{GoesOnWith, left_of}
 use Rattle.moos_play.proofs.Handing.{at_ends, finished_handed, goes_on_handed, goes_on_twice, handed_between, over_now, round_iterations, stays_handed, stays_twice}
+use Rattle.moos_play.proofs.Stamping.{round_stamped}
 use Rattle.script_reader.specs.Validity.{IsValid}
 use Rattle.moos_play.proofs.playing.Play.round.Goals as goal
 
@@ -33,6 +34,9 @@ returns-clause-round g c =
     record {
       from = c.count_entries-from.ensures.count;
       stamp = c.next_stamp-stamp.ensures;
+      stamped =
+          round_stamped c.args.self.now before c.go_on.new.self after c.hand_out-iterations.new.self c.next_stamp-stamp.result c.count_entries-from.result same c.next_stamp-stamp.ensures c.count_entries-from.ensures.count
+          (c.in_ok-go_on.ensures.stamped (search rules)) c.in_ok-go_on.ensures.same.order c.in_ok-finish_stamp.ensures.stamped (ap (λ (play : Play). play.first.seat.seen) told);
       finished = subst (λ (play : Play). IsStampOver play c.next_stamp-stamp.result) (sym told) (finished_handed after c.next_stamp-stamp.result c.in_ok-finish_stamp.ensures.all);
       iterations =
           ap iterations_made told

@@ -1,0 +1,134 @@
+-- What each part of a round adds to the history has the stamp of the round.
+use Rattle.std.proofs.Common.{◌≡◌, ◌≢◌, ℕ, suc, ◌-◌, ◌+◌, ◌*◌, ◌<◌, ◌==◌, ◌&&◌, true, false, cond, List, [], ◌∷◌, ◌++◌, drop, get_or, length, take, Option, None, Some, Ok, Err, OnOk, Result, sym, ap, ◌∙◌, refl, subst, arith, append-nil, append_assoc, eq-eqb}
+use Rattle.std.specs.Prelude.{option_map, slice_get}
+use Rattle.std.specs.List.{list_all}
+use Rattle.std.specs.declared.alloc.AllocError.{AllocError}
+use Rattle.std.proofs.lemmas.Bool.{and_from, and_parts}
+use Rattle.std.proofs.lemmas.Bool.Decides.{nat_tests}
+use Rattle.std.proofs.Math.Seq.{drop-append_seam}
+use Rattle.std.proofs.lemmas.List.{get_or-drop, length-drop}
+use Rattle.std.proofs.lemmas.List.Folds.{list_all-append}
+use Rattle.std.proofs.lemmas.Option.{slice_get-get_or, slice_get_past}
+use Rattle.moos_client.specs.Calls.{SeatState}
+use Rattle.moos_post.specs.declared.entry.Entry.{Entry}
+use Rattle.moos_post.specs.History.{History}
+use Rattle.moos_play.specs.declared.playing.Play.{Play}
+use Rattle.moos_play.specs.declared.steersman.Steersman.{Steersman}
+use Rattle.moos_play.specs.Lawful.{heard_of, KeepsStamp, tick_entries}
+use Rattle.moos_play.specs.Plays.{AddsAt, earliest, history_in, next_stamp, stamp_due, stamp_next}
+use Rattle.moos_play.specs.Rounds.{GoesOn, IsAlone, IsPlayed, IsWhole}
+use Rattle.moos_play.specs.Steered.{comes_before, IsBehind, IsDue, IsUnderWay, steering_of, Steers, tick_due}
+use Rattle.moos_play.proofs.Coming.{grown_lines, tick_alone}
+use Rattle.moos_play.proofs.Histories.{all_same}
+use Rattle.moos_play.proofs.Rounding.{due_is}
+use Rattle.script_reader.specs.declared.script.Order.{Order}
+use Rattle.script_reader.specs.declared.script.Order.TheVariants.{Stamp, Race}
+use Rattle.script_reader.specs.declared.script.Script.{Script}
+use Rattle.turn_lock.specs.Passes.{Begins}
+
+-- nothing is added
+pub adds_none : (order : Order) (stamp : ℕ) (history : History) → AddsAt order stamp history history
+adds_none order stamp history = record { later = ([], sym (append-nil history)); stamped = by order }
+  where
+    by : (order : Order) → KeepsStamp order stamp []
+    by Stamp = refl
+    by Race = tt
+
+-- two parts of a round
+pub adds_twice : (order : Order) (stamp : ℕ) (before middle after : History) → AddsAt order stamp before middle → AddsAt order stamp middle after → AddsAt order stamp before after
+adds_twice order stamp before middle after one other = record {
+  later = (one.later.0 ++ other.later.0, other.later.1 ∙ ap (λ front. front ++ other.later.0) one.later.1 ∙ append_assoc before one.later.0 other.later.0);
+  stamped = both order one.stamped other.stamped;
+}
+  where
+    both : (order : Order) → KeepsStamp order stamp one.later.0 → KeepsStamp order stamp other.later.0 → KeepsStamp order stamp (one.later.0 ++ other.later.0)
+    both Stamp a b = list_all-append (λ entry. entry.stamp == stamp) one.later.0 other.later.0 ∙ and_from (list_all (λ entry. entry.stamp == stamp) one.later.0) (list_all (λ entry. entry.stamp == stamp) other.later.0) a b
+    both Race a b = tt
+
+-- what stands behind the entries that were there before
+all_stamped : (order : Order) (stamp from : ℕ) (before after : History) → from ≡ length before → AddsAt order stamp before after → KeepsStamp order stamp (drop from after)
+all_stamped order stamp from before after all adds =
+    subst (KeepsStamp order stamp) (sym (ap (λ n. drop n after) all ∙ ap (drop (length before)) adds.later.1 ∙ drop-append_seam before adds.later.0)) adds.stamped
+
+-- the entries of a round: those of its first step, and those of the others
+pub round_stamped : (play before middle after last : Play) (stamp from : ℕ) → before ≡ play → stamp ≡ next_stamp play → from ≡ length (history_in play) → AddsAt before.order (stamp_due play.script.now before) (history_in before) (history_in middle)
+    → middle.order ≡ before.order → AddsAt middle.order stamp (history_in middle) (history_in after) → history_in last ≡ history_in after → KeepsStamp play.order stamp (drop from (history_in last))
+round_stamped play before middle after last stamp from same stamp_is from_is first order others last_is =
+    all_stamped play.order stamp from (history_in play) (history_in last) from_is
+    (subst (AddsAt play.order stamp (history_in play)) (sym last_is)
+    (adds_twice play.order stamp (history_in play) (history_in middle) (history_in after)
+    (subst (λ stamp. AddsAt play.order stamp (history_in play) (history_in middle)) (sym stamp_is)
+    (subst (λ (before : Play). AddsAt before.order (stamp_due play.script.now before) (history_in before) (history_in middle)) same first))
+    (subst (λ order. AddsAt order stamp (history_in middle) (history_in after)) (order ∙ ap (λ (play : Play). play.order) same) others)))
+
+-- in a race whatever is added will do
+pub race_adds : (order : Order) (stamp : ℕ) (before after : History) → order ≡ Race → Begins after before → AddsAt order stamp before after
+race_adds order stamp before after race later = subst (λ order. AddsAt order stamp before after) (sym race) (record { later = later; stamped = tt })
+
+-- the first of the lines that are left is the next one
+next_line : (lines : List Entry) (from : ℕ) (line : Entry) (left : List Entry) → drop from lines ≡ line ∷ left → slice_get lines from ≡ Some line
+next_line lines from line left is =
+    slice_get-get_or lines from line (omega (arith, ap length is, length-drop from lines))
+    ∙ ap Some (ap (λ n. get_or lines n line) (omega arith) ∙ sym (get_or-drop from lines 0 line) ∙ ap (λ left. get_or left 0 line) is)
+
+no_line : (lines : List Entry) (from : ℕ) → drop from lines ≡ [] → slice_get lines from ≡ None
+no_line lines from is = slice_get_past lines from (omega (arith, ap length is, length-drop from lines))
+
+-- lines that are due have the stamp of the next round
+due_stamp : (lines : List Entry) (tick : Option ℕ) (stop from to : ℕ) → (due : IsDue lines tick from to) → from < to → earliest stop tick (option_map (λ line. line.stamp) (slice_get lines from)) ≡ due.stamp
+due_stamp lines tick stop from to due some = by (drop from lines) refl
+  where
+    line_next : (tick : Option ℕ) (stamp : ℕ) → comes_before tick stamp ≡ false → earliest stop tick (Some stamp) ≡ stamp
+    line_next None stamp late = refl
+    line_next (Some t) stamp late = ap (λ b. cond b t stamp) late
+
+    by : (left : List Entry) → drop from lines ≡ left → earliest stop tick (option_map (λ line. line.stamp) (slice_get lines from)) ≡ due.stamp
+    by [] is = absurd (omega (arith, ap length is, length-drop from lines, due.within, some))
+    by (line ∷ left) is =
+        let count : to - from ≡ suc (to - suc from) = omega (arith, some) in
+        let one : list_all (λ line. line.stamp == due.stamp) (take (suc (to - suc from)) (line ∷ left)) ≡ true =
+        subst (λ n. list_all (λ line. line.stamp == due.stamp) (take n (line ∷ left)) ≡ true) count (subst (λ left. list_all (λ line. line.stamp == due.stamp) (take (to - from) left) ≡ true) is due.one) in
+        let here = (and_parts (line.stamp == due.stamp) (list_all (λ line. line.stamp == due.stamp) (take (to - suc from) left)) one).0 in
+        let same : line.stamp ≡ due.stamp = grind (arith, nat_tests, here) in
+        ap (λ next. earliest stop tick (option_map (λ (line : Entry). line.stamp) next)) (next_line lines from line left is)
+        ∙ ap (λ stamp. earliest stop tick (Some stamp)) same ∙ line_next tick due.stamp (due.early some)
+
+-- so has a tick that is
+tick_stamp : (lines : List Entry) (tick stop from : ℕ) → IsBehind (Some tick) (drop from lines) → earliest stop (Some tick) (option_map (λ line. line.stamp) (slice_get lines from)) ≡ tick
+tick_stamp lines tick stop from behind = by (drop from lines) refl behind
+  where
+    by : (left : List Entry) → drop from lines ≡ left → IsBehind (Some tick) left → earliest stop (Some tick) (option_map (λ line. line.stamp) (slice_get lines from)) ≡ tick
+    by [] is behind = ap (λ next. earliest stop (Some tick) (option_map (λ (line : Entry). line.stamp) next)) (no_line lines from is)
+    by (line ∷ left) is behind = ap (λ next. earliest stop (Some tick) (option_map (λ (line : Entry). line.stamp) next)) (next_line lines from line left is) ∙ ap (λ b. cond b tick line.stamp) behind
+
+-- the lines that are due are played
+pub lines_add : (order : Order) (script : Script) (tick : Option ℕ) (from to : ℕ) (result : Result (Unit {0}) AllocError) (first after : SeatState) → IsWhole first → GoesOn (IsPlayed (take (to - from) (drop from script.lines)) result) first after → result ≡ Ok tt
+    → IsDue script.lines tick from to → from < to → AddsAt order (stamp_next order script.stop tick (option_map (λ line. line.stamp) (slice_get script.lines from))) first.seen after.seen
+lines_add Race script tick from to result first after whole on ok due some = record { later = on.later; stamped = tt }
+lines_add Stamp script tick from to result first after whole on ok due some =
+    subst (λ stamp. AddsAt Stamp stamp first.seen after.seen) (sym (due_stamp script.lines tick script.stop from to due some)) (record {
+      later = on.later;
+      stamped = all_same (λ entry. entry.stamp == due.stamp) on.later.0 (take (to - from) (drop from script.lines)) (grown_lines (take (to - from) (drop from script.lines)) result first after whole on ok) due.one;
+    })
+
+-- the tick that is due is made
+pub tick_adds : (script : Script) (play : Play) (old new : Steersman) (after : SeatState) (result : Result (Unit {0}) AllocError) → IsUnderWay play.order script play.lock play.steersman play.from play.first.seat → play.steersman ≡ Some old
+    → tick_due script.stop play.steersman ≢ None → IsBehind (tick_due script.stop play.steersman) (drop play.from script.lines) → GoesOn (IsAlone old.number) play.first.seat after → steering_of new ≡ steering_of old
+    → OnOk result (Steers play.lock.base new after.seen) → OnOk result ((new.opened ≡ true) × (new.ticks ≡ old.ticks + 1)) → OnOk result (AddsAt play.order (stamp_due script play) play.first.seat.seen after.seen)
+tick_adds script play old new after (Err _) under is due behind on steering steers reached = tt
+tick_adds script play old new after (Ok _) under is due behind on steering steers reached =
+    subst (λ tick. AddsAt play.order (stamp_next play.order script.stop tick (option_map (λ line. line.stamp) (slice_get script.lines play.from))) play.first.seat.seen after.seen) (sym tick)
+    (record { later = on.later; stamped = stamped play.order })
+  where
+    tick : tick_due script.stop play.steersman ≡ Some (old.ticks * old.period)
+    tick = ap (tick_due script.stop) is ∙ due_is script.stop old (subst (λ (s : Option Steersman). tick_due script.stop s ≢ None) is due)
+
+    added : on.later.0 ≡ tick_entries (steering_of old) (heard_of play.lock.base old.number (play.first.seat.seen ++ on.later.0)) old.ticks
+    added = tick_alone play.order script play.lock old new play.from play.first.seat after (subst (λ s. IsUnderWay play.order script play.lock s play.from play.first.seat) is under) on steering reached.0 reached.1 steers
+
+    stamped : (order : Order) → KeepsStamp order (stamp_next order script.stop (Some (old.ticks * old.period)) (option_map (λ line. line.stamp) (slice_get script.lines play.from))) on.later.0
+    stamped Race = tt
+    stamped Stamp =
+        let stamp : ℕ = earliest script.stop (Some (old.ticks * old.period)) (option_map (λ line. line.stamp) (slice_get script.lines play.from)) in
+        let same = eq-eqb (old.ticks * old.period) stamp (sym (tick_stamp script.lines (old.ticks * old.period) script.stop play.from (subst (λ tick. IsBehind tick (drop play.from script.lines)) tick behind))) in
+        ap (list_all (λ entry. entry.stamp == stamp)) added ∙ and_from (old.ticks * old.period == stamp) ((old.ticks * old.period == stamp) && true) same (and_from (old.ticks * old.period == stamp) true same refl)
