@@ -13,7 +13,7 @@ use Rattle.ivp_problem.specs.Problems.{IsProblem, WeightedSum}
 use Rattle.ivp_problem.specs.Trees.{IsNode, root_of}
 use Rattle.ivp_pool.specs.declared.team.Member.{Member}
 use Rattle.ivp_pool.specs.declared.team.Worker.{Worker}
-use Rattle.ivp_pool.specs.Hands.{EndState, hand}
+use Rattle.ivp_pool.specs.Hands.{EndState}
 use Rattle.ivp_pool.specs.Members.{deques_of, doors_of, first_parts, IsNewMember, new_door, put_by, put_in, tag_of, taken_by, taken_in, workers_of}
 use Rattle.ivp_pool.specs.Solving.{IsNew, IsWorker, low_of, WentOn}
 use Rattle.ivp_pool.specs.Teams.{AllDid, AreBelow, AreWorkers, closed_in, shape_of, shapes_of}
