@@ -1,8 +1,8 @@
 -- What members of a team did together: one step of one of them, all of them beside each other, and one after the other.
-use Rattle.std.proofs.Common.{◌≡◌, ℕ, zero, suc, ◌+◌, ◌<◌, ◌≤◌, List, [], ◌∷◌, ◌++◌, length, set, refl, sym, ap, ◌∙◌, subst, arith, add-zero}
+use Rattle.std.proofs.Common.{◌≡◌, ℕ, zero, suc, ◌+◌, ◌-◌, ◌<◌, ◌≤◌, List, [], ◌∷◌, ◌++◌, length, set, take, refl, sym, ap, ◌∙◌, subst, arith, add-zero}
 use Rattle.std.specs.Prelude.{get_or}
 use Rattle.std.specs.List.{sum_by}
-use Rattle.std.proofs.lemmas.List.{append-nil, length-set}
+use Rattle.std.proofs.lemmas.List.{append-nil, length-set, take_more}
 use Rattle.std.proofs.lemmas.List.Elements.{All-from_recursion, All-set, All-tail, recursion_from_All}
 use Rattle.std.proofs.lemmas.List.Sums.{sum_by-append, sum_by-cons, sum_by-set}
 use Rattle.atomic_table.specs.Seated.{TableId}
@@ -57,6 +57,16 @@ module _ {K : Type 0} (problem : WeightedSum) (word : TableId) where
         workers = two.workers;
         len = two.len ∙ one.len;
       }
+
+  -- of the nodes at hand the last one was done with
+  pub last_done : (nodes : List Node) (count : ℕ) (d : Node) (old now new : List (Member K)) → 0 < count → count ≤ length nodes → AllDid problem word nodes (take count nodes) old now → AllDid problem word (get_or nodes (count - 1) d ∷ take (count - 1) nodes) (take (count - 1) nodes) now new → AllDid problem word nodes (take (count - 1) nodes) old new
+  last_done nodes count d old now new some within one two =
+      let node = get_or nodes (count - 1) d in
+      let rest = take (count - 1) nodes in
+      let parts : take count nodes ≡ rest ++ node ∷ [] = subst (λ n. take n nodes ≡ rest ++ node ∷ []) (omega (arith, some)) (take_more nodes (count - 1) d (omega (arith, some, within))) in
+      let first = all_moved (take count nodes) (node ∷ rest) now now refl one.workers refl (λ key below. below)
+      (λ weigh. omega (arith, ap (sum_by weigh) parts, sum_by-append weigh rest (node ∷ []), sum_by-cons weigh node rest)) in
+      all_more nodes (node ∷ rest) rest old now new (all_more nodes (take count nodes) (node ∷ rest) old now now one first) two
 
   -- one member changed
   below_set : (key : ℕ) (members : List (Member K)) (place : ℕ) (d new : Member K) → place < length members → low_of (get_or members place d).worker ≤ low_of new.worker → AreBelow key (set members place new) → AreBelow key members

@@ -21,7 +21,8 @@ use std::sync::Wait;
 use std::thread::{Threads, for_each_mut};
 
 /// Deals the root's children: the one at place `k` goes to the deque of member `k` modulo their number. One that finds no
-/// memory there is closed at once.
+/// memory there is closed at once. The last is dealt first: a member takes first what was put into its deque last, so each
+/// begins with the first of its children, and one that is alone takes them all in the order of the pieces.
 fn deal<K: About, G: Gate>(
     problem: &Problem,
     best: &Best,
@@ -38,8 +39,8 @@ fn deal<K: About, G: Gate>(
 {
     let workers = members.len();
     let mut none = NoTray { problem };
-    for (place, node) in nodes.iter().enumerate() {
-        if let Some(node) = members[place % workers].deque.put(*node) {
+    for place in (0..nodes.len()).rev() {
+        if let Some(node) = members[place % workers].deque.put(nodes[place]) {
             close_next(
                 problem,
                 best,
