@@ -22,8 +22,6 @@ const ENOUGH: usize = 16;
 #[derive(Drop)]
 pub(crate) struct Deque<K: About> {
     ends: Worker<Node, Global, Hand, Balanced<K>>,
-    // How many nodes are enough for those who may come: none where nobody may.
-    enough: usize,
 }
 
 impl<K: About> Model for Deque<K> {
@@ -58,13 +56,13 @@ impl<K: About> Model for Door<K> {
 }
 
 impl<K: About> Deque<K> {
-    /// An empty deque of one among so many workers.
-    pub(crate) fn make(alloc: Global, workers: u32) -> Result<Deque<K>, NoMemory>
+    /// An empty deque.
+    pub(crate) fn make(alloc: Global) -> Result<Deque<K>, NoMemory>
         ensures { IfOk result (λ own. own.hand ≡ hand 1024 [] []) }
     {
-        let ends = Worker::lifo_as(alloc, ROOM)?;
-        let enough = if workers > 1 { ENOUGH } else { 0 };
-        Ok(Deque { ends, enough })
+        Ok(Deque {
+            ends: Worker::lifo_as(alloc, ROOM)?,
+        })
     }
 
     /// A door to the deque, which takes one of its parts.
@@ -110,9 +108,9 @@ impl<K: About> Tray for Deque<K> {
     ghost kept = { λ own. Some (record { deque = own.deque; hand = hand own.hand.parts [] own.hand.taken }) };
 
     /// Where enough nodes wait it gives the node back, so that the worker closes it at once: a deque's push and pop take longer
-    /// than to close a small node. So a worker that is alone puts none.
+    /// than to close a small node.
     fn push(&mut self, node: Node) -> Option<Node> {
-        if self.enough == 0 || self.ends.len_as::<Glance>() >= self.enough {
+        if self.ends.len_as::<Glance>() >= ENOUGH {
             return Some(node);
         }
         self.put(node)

@@ -54,7 +54,8 @@ fn deal<K: About, G: Gate>(
     }
 }
 
-/// Lets all members work, on a thread of its own each where one can be started.
+/// Lets all members work, on a thread of its own each where one can be started. From one that is alone nobody would steal,
+/// so its nodes need no way through a deque: what it was dealt is left for the end, where each child is closed at once.
 fn work_all<K: About + Send + Sync, R: Threads + Wait + Sync, G: Gate>(
     rt: &R,
     problem: &Problem,
@@ -71,6 +72,9 @@ fn work_all<K: About + Send + Sync, R: Threads + Wait + Sync, G: Gate>(
     ensures same { shapes_of members.new ≡ shapes_of members.old }
 {
     let workers = members.len();
+    if workers == 1 {
+        return;
+    }
     let run = |number: usize, member: &mut Member<K>|
         requires { (problem.now ≡ K.problem) × IsWorker problem.now best.now member.now.worker × (number < length member.now.doors.items) × (length member.now.doors.items ≤ 16) }
         ensures { Did problem.entry.now member.entry.now member.exit.now }

@@ -49,7 +49,7 @@ pub(crate) fn team_of<K: About>(
                 calls: 0,
                 work: Work { closed: 0 },
             },
-            deque: Deque::make(alloc, workers)?,
+            deque: Deque::make(alloc)?,
             doors: Vec::new(alloc),
         })?;
     }
