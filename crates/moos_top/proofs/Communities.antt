@@ -37,7 +37,7 @@ use Rattle.script_reader.specs.declared.script.Order.{Order}
 use Rattle.script_reader.specs.declared.script.Script.{Script}
 use Rattle.script_reader.specs.Validity.{are_clients, are_lines, keeps_limits, IsValid}
 
-abbrev helm_name : List ℕ
+abbrev pub helm_name : List ℕ
 helm_name = codes "pHelmIvP"
 
 -- no name is that of a later one
@@ -58,7 +58,7 @@ own_names (name ∷ names) apart zero (suc other) first second same = absurd (fi
 own_names (name ∷ names) apart (suc one) zero first second same = absurd (first_is_own name names one apart.0 (omega (arith, first)) same)
 own_names (name ∷ names) apart (suc one) (suc other) first second same = ap suc (own_names names apart.1 one other (omega (arith, first)) (omega (arith, second)) same)
 
-not_true : (b : Bool) → not b ≡ true → b ≡ false
+pub not_true : (b : Bool) → not b ≡ true → b ≡ false
 not_true true e = absurd cc
 not_true false e = refl
 

@@ -255,11 +255,11 @@ all_written = record { task = Solving problem; good = refl; text = decision_byte
 
 front_written : Ended (Ready (Solving problem)) (sinking (Some []) (Some (take 20 decision_bytes)) 0 1) WriteFault
 unfolding digits
-front_written = record { task = Solving problem; good = refl; status = Done; text = decision_bytes; output = refl; took = (20, omega arith, refl); rose = inl (omega arith) }
+front_written = (record { task = Solving problem; good = refl; status = Done; text = decision_bytes; output = refl; took = (20, omega arith, refl) }, inl (omega arith))
 
 failed_without_a_fault : Ended (Ready (Solving problem)) (sinking (Some []) (Some decision_bytes) 0 0) WriteFault → ⊥
 failed_without_a_fault is =
-    elim is.rose [
+    elim is.1 [
       | inl rose ↦ omega arith
       | inr most ↦ omega arith
     ]

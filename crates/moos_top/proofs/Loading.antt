@@ -12,7 +12,7 @@ use Rattle.moos_text.specs.declared.cause.ReadFault.TheVariants.{At, NoMemory as
 use Rattle.moos_top.specs.declared.job.Job.{Job}
 use Rattle.moos_top.specs.declared.status.FileKind.{FileKind}
 use Rattle.moos_top.specs.declared.status.Status.{Status}
-use Rattle.moos_top.specs.declared.status.Status.TheVariants.{Done, CheckNo, Usage, LoadFault as Unloaded, WriteFault, Refused, NoMemory}
+use Rattle.moos_top.specs.declared.status.Status.TheVariants.{LoadFault as Unloaded, WriteFault, NoMemory}
 use Rattle.moos_top.specs.Jobs.{FileTurn, IsOutput, Ready, Task, Wanted, turn_behind, turn_of}
 use Rattle.moos_top.specs.Run.{AreLoaded, DidFrom, FailsFrom, EndsFrom, HasBytes, Surroundings, WasWanted, surroundings}
 use Rattle.moos_top.specs.Steps.{Ended, IsUntouched, Sinking, WroteAll, sinking, status_of}
@@ -27,9 +27,13 @@ whole (Some files) name before now none loaded = of (files name) (subst (λ (byt
     of (Some bytes) came = ap (λ (one : List ℕ). Some one) (sym came)
 
 -- faults that rose later rose from the beginning on
-rose_on : (before between after : ℕ) → before ≤ between → Rose between after → Rose before after
+pub rose_on : (before between after : ℕ) → before ≤ between → Rose between after → Rose before after
 rose_on before between after later (inl more) = inl (omega (arith, later, more))
 rose_on before between after later (inr most) = inr most
+
+-- nothing was put when no memory was left
+pub nothing_put : (turn : FileTurn) (taken : Option (List ℕ)) (faults : ℕ) → Ended turn (sinking taken taken faults faults) NoMemory
+nothing_put turn taken faults = inl (record { taken = refl; faults = refl })
 
 -- a job that needs no more files has ended with those that it has
 ended_here : (run : Surroundings) (job : Job) (front : List (List ℕ)) (status : Status) → Ended (turn_of job front) run.sink status → DidFrom run job front status
@@ -37,13 +41,8 @@ ended_here run job front status ended =
     record { files = []; loaded = tt; ended = subst (λ files. Ended (turn_of job files) run.sink status) (sym (append-nil front)) ended }
 
 pub ends_here : (run : Surroundings) (job : Job) (front : List (List ℕ)) (status : Status) → Ended (turn_of job front) run.sink status → EndsFrom run job front status
-ends_here run job front Done ended = ended_here run job front Done ended
-ends_here run job front CheckNo ended = ended_here run job front CheckNo ended
-ends_here run job front Usage ended = absurd ended
 ends_here run job front Unloaded ended = absurd ended
-ends_here run job front WriteFault ended = ended_here run job front WriteFault ended
-ends_here run job front (Refused refusal) ended = ended_here run job front (Refused refusal) ended
-ends_here run job front NoMemory ended = ended
+ends_here run job front status ended = ended_here run job front status ended
 
 -- a file that is wanted was loaded; the folder may have failed before the rest of the run, and tells the same there
 pub record IsBehind (run later : Surroundings) : Type 0 where
@@ -83,13 +82,8 @@ module _ (run later : Surroundings) (is : IsBehind run later) (job : Job) (front
 
   -- so the job goes on as it does with this file behind the others
   pub went_on : (status : Status) → EndsFrom later job (front ++ bytes ∷ []) status → EndsFrom run job front status
-  went_on Done goes = did_more Done goes
-  went_on CheckNo goes = did_more CheckNo goes
-  went_on Usage goes = absurd goes
   went_on Unloaded goes = fails_more goes
-  went_on WriteFault goes = did_more WriteFault goes
-  went_on (Refused refusal) goes = did_more (Refused refusal) goes
-  went_on NoMemory goes = subst IsUntouched is.sink goes
+  went_on status goes = did_more status goes
 
 -- so a job whose last file is this one ends as it stands then
 pub last_ends : (told : Option (List ℕ → Option (List ℕ))) (sure : List (List ℕ)) (before after : ℕ) (sink : Sinking) (job : Job) (front : List (List ℕ)) (kind : FileKind) (name loaded bytes : List ℕ)
@@ -118,13 +112,13 @@ load_ends told sure before after taken faults job front kind name loaded Failed 
       silent = record { taken = refl; faults = refl };
     })
 load_ends told sure before after taken faults job front kind name loaded NoMemoryToLoad status wanted named rose unsure failed memory =
-    rw (memory refl) (record { taken = refl; faults = refl })
+    rw (memory refl) (record { files = []; loaded = tt; ended = nothing_put (turn_of job (front ++ [])) taken faults })
 
 -- a job whose last file is refused ends with the first refusal, and nothing is written
 pub refusal_ends : {A : Type 0} (next : A → FileTurn) (kind : FileKind) (read : Result A ReadFault) (fault : ReadFault) (status : Status) (taken : Option (List ℕ)) (faults : ℕ)
     → IsFirst fault read → status ≡ status_of kind fault → Ended (turn_behind kind next read) (sinking taken taken faults faults) status
 refusal_ends next kind read (At line cause) status taken faults first is = rw is (ap (turn_behind kind next) first, record { taken = refl; faults = refl })
-refusal_ends next kind read Unread status taken faults first is = rw is (record { taken = refl; faults = refl })
+refusal_ends next kind read Unread status taken faults first is = rw is (nothing_put (turn_behind kind next read) taken faults)
 
 -- a job that puts a text which it may write to end with this status, or fails at that
 pub put_ends : {E : Type 0} (turn : FileTurn) (task : Task) (text : List ℕ) (meant status : Status) (sink : Sinking) (put : Result (Unit {0}) E)
@@ -134,4 +128,4 @@ pub put_ends : {E : Type 0} (turn : FileTurn) (task : Task) (text : List ℕ) (m
 put_ends turn task text meant status sink (Ok put) ends good output took front rose all fault =
     rw all (ends (record { task = task; good = good; text = text; output = output; took = took }))
 put_ends turn task text meant status sink (Err failed) ends good output took front rose all fault =
-    rw fault (record { task = task; good = good; status = meant; text = text; output = output; took = front; rose = rose })
+    rw fault (record { task = task; good = good; status = meant; text = text; output = output; took = front }, rose)

@@ -1,19 +1,23 @@
 -- From a lawful history to its report.
-use Rattle.std.proofs.Common.{◌≡◌, nat_lt, List, [], ◌∷◌, length, refl, ap, sym, ◌∙◌, subst, arith, Option, None, Some, ℕ}
-use Rattle.std.specs.Prelude.{IfSome}
+use Rattle.std.proofs.Common.{◌≡◌, nat_lt, List, [], ◌∷◌, length, refl, ap, sym, ◌∙◌, subst, arith, Option, None, Some, ℕ, inl, inr}
+use Rattle.std.specs.Prelude.{IfSome, option_map}
 use Rattle.std.proofs.lemmas.Bool.{lt-ltb}
 use Rattle.moos_post.specs.History.{History}
-use Rattle.helm_core.specs.declared.iteration.Iteration.{Iteration}
 use Rattle.bhv_reader.specs.declared.decl.Decl.{Decl}
 use Rattle.helm_core.specs.Helms.{plan_of}
 use Rattle.helm_core.specs.Posts.{are_declared_modes}
 use Rattle.helm_core.specs.Plans.{plan_made}
 use Rattle.helm_core.specs.Ticks.{Tick}
 use Rattle.moos_play.specs.declared.run.HelmRun.{HelmRun}
-use Rattle.moos_play.specs.Lawful.{IsLawful, heard_of, helm_number, iterations, names_with, steering_with}
+use Rattle.moos_play.specs.Lawful.{IsLawful, heard_of, helm_number, iterations, names_with, Steering, steering_with}
 use Rattle.moos_report.specs.declared.setup.Setup.{Setup}
 use Rattle.moos_report.specs.Report.{report_text, ReportsTell}
-use Rattle.moos_top.specs.Jobs.{HelmFiles, IsLawfulWith, IsReport, no_modes, report_on, setup_of, steering_by}
+use Rattle.moos_top.specs.Jobs.{HelmFiles, IsLawfulWith, IsReport, no_modes, Ready, report_on, setup_of, steering_by}
+use Rattle.moos_top.specs.Jobs.Task.{Playing}
+use Rattle.moos_top.specs.declared.status.Status.{Status}
+use Rattle.moos_top.specs.declared.status.Status.TheVariants.{Done, CheckNo, Usage, LoadFault, WriteFault, Refused, NoMemory}
+use Rattle.moos_top.specs.Steps.{Ended, IsToPlay, Sinking, WroteAll, WroteFront}
+use Rattle.moos_top.specs.Telling.{IsOfLawful, Tells, ToldAll, ToldFront}
 use Rattle.moos_top.proofs.Communities.{AreGoodFiles, lawful_community, stand_on_lines}
 use Rattle.script_reader.specs.declared.script.Order.{Order}
 use Rattle.script_reader.specs.declared.script.Script.{Script}
@@ -45,22 +49,40 @@ reported order script setup names history tell valid plain same lawful =
     reported_as order script None (report_text setup names history []) history tell valid tt (subst (λ names. IsLawful order script None names history) same lawful)
     (ap (λ setup. report_text setup names history []) plain ∙ ap (λ names. report_text no_modes names history []) same)
 
--- the report of a lawful history of the script and a helm of these files
-pub reported_with : (order : Order) (script : Script) (files : HelmFiles) (setup : Setup) (run : HelmRun) (names : List (List ℕ)) (history : History) (iterations_made : List Iteration)
-    → ReportsTell → IsValid script → AreGoodFiles files
-    → setup ≡ setup_of (Some files) → plan_of run.helm ≡ plan_made files.mission files.file → run.period ≡ files.mission.period → names ≡ names_with script (Some run)
-    → IsLawful order script (Some (steering_with script run)) names history
-    → iterations_made ≡ iterations (Some (steering_with script run)) script.stop (heard_of names (helm_number script) history)
-    → IsReport order script (Some files) (report_text setup names history iterations_made)
-reported_with order script files setup run names history iterations_made tell valid read told plan period named lawful made =
-    reported_as order script (Some files) (report_text setup names history iterations_made) history tell valid read
-    (subst (λ names. IsLawful order script (Some (steering_by script files)) names history) named (subst (λ helm. IsLawful order script (Some helm) names history) same lawful))
-    (ap (λ setup. report_text setup names history iterations_made) told
-    ∙ ap (λ made. report_text (setup_of (Some files)) names history made) (made ∙ ap (λ helm. iterations (Some helm) script.stop (heard_of names (helm_number script) history)) same)
-    ∙ ap (λ names. report_text (setup_of (Some files)) names history (iterations (Some (steering_by script files)) script.stop (heard_of names (helm_number script) history))) named)
-  where
-    same : steering_with script run ≡ steering_by script files
-    same = λ i. record { client = helm_number script; plan = plan i; period = period i }
+-- a helm that was made of these files is run as they say
+pub steered_by : (script : Script) (files : HelmFiles) (run : HelmRun) → plan_of run.helm ≡ plan_made files.mission files.file → run.period ≡ files.mission.period → steering_with script run ≡ steering_by script files
+steered_by script files run plan period = λ i. record { client = helm_number script; plan = plan i; period = period i }
+
+-- what was told of a run, with a helm of these files or without one, is what its job may write
+module _ (order : Order) (script : Script) (files : Option HelmFiles) (helm : Option Steering) (setup : Setup) (tell : ReportsTell) (valid : IsValid script) (good : IfSome files AreGoodFiles)
+    (steered : helm ≡ option_map (steering_by script) files) (told : setup ≡ setup_of files) where
+  output_as : (text : List ℕ) → IsOfLawful order script helm setup text → IsReport order script files text
+  output_as text is = of (subst (λ helm. IsOfLawful order script helm setup text) steered is)
+    where
+      names : (files : Option HelmFiles) → names_with script (option_map (steering_by script) files) ≡ names_with script files
+      names None = refl
+      names (Some files) = refl
+
+      of : IsOfLawful order script (option_map (steering_by script) files) setup text → IsReport order script files text
+      of is = reported_as order script files text is.history tell valid good
+          (subst (λ names. IsLawful order script (option_map (steering_by script) files) names is.history) (names files) is.lawful)
+          (is.printed ∙ (λ i. report_text (told i) (names files i) is.history (iterations (option_map (steering_by script) files) script.stop (heard_of (names files i) (helm_number script) is.history))))
+
+  all_told : (sink : Sinking) → ToldAll order script helm setup sink → WroteAll (Ready (Playing order script files)) Done sink
+  all_told sink all = record { task = Playing order script files; good = refl; text = all.text; output = output_as all.text all.lawful; took = all.took }
+
+  front_told : (sink : Sinking) → ToldFront order script helm setup sink → (wrote : WroteFront (Ready (Playing order script files)) sink) × IsToPlay wrote.task
+  front_told sink front = (record { task = Playing order script files; good = refl; status = Done; text = front.text; output = output_as front.text front.lawful; took = front.took }, tt)
+
+  pub told_ended : (sink : Sinking) (status : Status) → Tells order script helm setup sink status → Ended (Ready (Playing order script files)) sink status
+  told_ended sink Done tells = all_told sink tells
+  told_ended sink CheckNo tells = absurd tells
+  told_ended sink Usage tells = absurd tells
+  told_ended sink LoadFault tells = absurd tells
+  told_ended sink WriteFault tells = ((front_told sink tells.0).0, tells.1)
+  told_ended sink (Refused refusal) tells = absurd tells
+  told_ended sink NoMemory (inl untouched) = inl untouched
+  told_ended sink NoMemory (inr front) = inr (front_told sink front)
 
 -- modes are declared where there is a declaration
 pub declared : (decls : List Decl) → nat_lt 0 (length decls) ≡ are_declared_modes decls

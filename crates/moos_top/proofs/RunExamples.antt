@@ -1,5 +1,5 @@
 -- Runs worked by hand: what each status says, and what it doesn't say of a run that did something else.
-use Rattle.std.proofs.Common.{◌≡◌, ℕ, inl, inr, true, false, List, [], ◌∷◌, ◌++◌, length, take, refl, ap, sym, ◌∙◌, arith}
+use Rattle.std.proofs.Common.{◌≡◌, ℕ, inl, inr, true, false, List, [], ◌∷◌, ◌++◌, length, take, refl, ap, sym, ◌∙◌, subst, arith}
 use Rattle.std.specs.Prelude.{codes, Option, Some, None, Result, Ok, Err}
 use Rattle.std.specs.Fmt.{digits}
 use Rattle.ivp_cert.specs.Texts.{decision_lines}
@@ -18,7 +18,7 @@ use Rattle.moos_top.specs.declared.status.Status.TheVariants.{Done, CheckNo, Usa
 use Rattle.moos_top.specs.Jobs.Task.{Checking, Playing, Solving}
 use Rattle.moos_top.specs.Jobs.{decision_on, Ready, turn_behind, turn_of, Unfit, Wanted}
 use Rattle.moos_top.specs.Run.{Completes, DidFrom, DidJob, HasBytes, IsServed, EndsWith, Refuses, Surroundings, surroundings}
-use Rattle.moos_top.specs.Steps.{Ended, sinking, WroteAll}
+use Rattle.moos_top.specs.Steps.{Ended, IsToPlay, sinking, WroteAll}
 use Rattle.moos_top.proofs.Endings.{completes, ended_with, Good, IsOver, output_of, refuses}
 use Rattle.moos_top.proofs.Examples.{checks, plays, solves_by_one}
 use Rattle.moos_top.proofs.JobExamples.{accepted, decision, decision_bytes, fetches_lawful, no_other, not_accepted, poor, poor_bytes, printed, problem, problem_bytes, script}
@@ -102,19 +102,30 @@ write_failed =
           record {
             files = problem_bytes ∷ [];
             loaded = (refl, tt);
-            ended = record { task = Solving problem; good = refl; status = Done; text = decision_bytes; output = refl; took = (20, omega arith, refl); rose = inl (omega arith) };
+            ended = (record { task = Solving problem; good = refl; status = Done; text = decision_bytes; output = refl; took = (20, omega arith, refl) }, inl (omega arith));
           };
     }
 
 told_no_fault : EndsWith solve (solving problem_bytes (take 20 decision_bytes) 0) WriteFault → ⊥
-told_no_fault is = none_rose is.ended.ended.rose
+told_no_fault is = none_rose is.ended.ended.1
 
--- NoMemory: nothing was written, and no sink failed
+-- NoMemory: nothing was written, and no front of a decision
 no_memory : EndsWith solve (solving problem_bytes [] 0) NoMemory
-no_memory = record { taken = refl; faults = refl }
+no_memory = inl (record { taken = refl; faults = refl })
 
 wrote_without_memory : EndsWith solve (solving problem_bytes (take 20 decision_bytes) 0) NoMemory → ⊥
-wrote_without_memory is = let taken : Some (take 20 decision_bytes) ≡ Some [] = is.taken in cc
+wrote_without_memory (inl untouched) = let taken : Some (take 20 decision_bytes) ≡ Some [] = untouched.taken in cc
+wrote_without_memory (inr is) = elim is.ended.ended [
+  | inl untouched ↦ let taken : Some (take 20 decision_bytes) ≡ Some [] = untouched.taken in cc
+  | inr wrote ↦
+      elim (solving_ended (take 20 decision_bytes) NoMemory is is.ended (Good wrote.0.task wrote.0.good)) [
+        | inl untouched ↦ let taken : Some (take 20 decision_bytes) ≡ Some [] = untouched.taken in cc
+        | inr front ↦
+            let both : Ready (Solving problem) ≡ Ready front.0.task = front.0.good in
+            let same : Solving problem ≡ front.0.task = cc in
+            subst IsToPlay (sym same) front.1
+      ]
+]
 
 -- Usage: the words name no job, nothing was loaded, and nothing was written
 sails : (faults : ℕ) (taken : List ℕ) → Surroundings
@@ -289,6 +300,31 @@ played =
                 };
           };
     }
+
+-- without memory a front of it may be out
+front_played : EndsWith play (playing (codes "%% moosdb play 1\n%% client 0 a\n")) NoMemory
+unfolding digits
+front_played =
+    inr (record {
+      job = Play (codes "survey.txt") None Stamp 1;
+      named = plays;
+      ended =
+          record {
+            files = codes "0 a fetch\n" ∷ [];
+            loaded = (refl, tt);
+            ended = inr (
+              record {
+                task = Playing Stamp script None;
+                good = refl;
+                status = Done;
+                text = codes "%% moosdb play 1\n%% client 0 a\n%% entry 0 0 a fetch\n%% end 1 0\n";
+                output = record { history = script.lines; lawful = fetches_lawful; printed = refl; listed = λ other is text. no_other other is };
+                took = (31, omega arith, refl);
+              },
+              tt,
+            );
+          };
+    })
 
 played_silently : EndsWith play (playing []) Done → ⊥
 played_silently is =

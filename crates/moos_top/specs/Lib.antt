@@ -4,3 +4,4 @@ pub mod Generating
 pub mod Jobs
 pub mod Run
 pub mod Steps
+pub mod Telling

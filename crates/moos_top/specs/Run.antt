@@ -7,7 +7,7 @@ use Rattle.moos_text.specs.declared.cause.ReadFault.TheVariants.{At}
 use Rattle.moos_top.specs.declared.job.Job.{Job}
 use Rattle.moos_top.specs.declared.status.FileKind.{FileKind}
 use Rattle.moos_top.specs.declared.status.Status.{Status}
-use Rattle.moos_top.specs.declared.status.Status.TheVariants.{Done, CheckNo, Usage, LoadFault, WriteFault, Refused, NoMemory}
+use Rattle.moos_top.specs.declared.status.Status.TheVariants.{Usage, LoadFault, Refused, NoMemory}
 use Rattle.moos_top.specs.Jobs.{FileTurn, Ready, Task, Unfit, Wanted, job_named, turn_of}
 use Rattle.moos_top.specs.Steps.{Ended, IsUntouched, Sinking, WroteAll}
 
@@ -58,15 +58,10 @@ pub record FailsFrom (run : Surroundings) (job : Job) (front : List (List ℕ)) 
   pub unsure : is_among run.sure name ≡ false
   pub silent : IsUntouched run.sink
 
--- how a job that has loaded the first files goes on and ends; without memory nothing is written
+-- how a job that has loaded the first files goes on and ends: it fails at loading a file, or ends with those that it has
 abbrev pub EndsFrom : Surroundings → Job → List (List ℕ) → Status → Type 0
-EndsFrom run job front Done = DidFrom run job front Done
-EndsFrom run job front CheckNo = DidFrom run job front CheckNo
-EndsFrom run job front Usage = ⊥
 EndsFrom run job front LoadFault = FailsFrom run job front
-EndsFrom run job front WriteFault = DidFrom run job front WriteFault
-EndsFrom run job front (Refused refusal) = DidFrom run job front (Refused refusal)
-EndsFrom run job front NoMemory = IsUntouched run.sink
+EndsFrom run job front status = DidFrom run job front status
 
 -- the words name a job, which begins without a file and ends so
 pub record DidJob (words : List (List ℕ)) (run : Surroundings) (status : Status) : Type 0 where
@@ -80,15 +75,11 @@ pub record HasNoJob (words : List (List ℕ)) (run : Surroundings) : Type 0 wher
   pub load_faults : run.load_faults_after ≡ run.load_faults_before
   pub silent : IsUntouched run.sink
 
--- What a run with these words did that ended with this status. No memory: nothing is written.
+-- What a run with these words did that ended with this status. Where no memory was left to find the job, nothing was written.
 abbrev pub EndsWith : List (List ℕ) → Surroundings → Status → Type 0
-EndsWith words run Done = DidJob words run Done
-EndsWith words run CheckNo = DidJob words run CheckNo
 EndsWith words run Usage = HasNoJob words run
-EndsWith words run LoadFault = DidJob words run LoadFault
-EndsWith words run WriteFault = DidJob words run WriteFault
-EndsWith words run (Refused refusal) = DidJob words run (Refused refusal)
-EndsWith words run NoMemory = IsUntouched run.sink
+EndsWith words run NoMemory = IsUntouched run.sink ⊎ DidJob words run NoMemory
+EndsWith words run status = DidJob words run status
 
 -- the words name this job, which loads these files where the folder tells its own, and neither loading nor writing fails
 pub record IsServed (words : List (List ℕ)) (run : Surroundings) (job : Job) (files : List (List ℕ)) : Type 0 where

@@ -1,5 +1,5 @@
 -- How a job ends that needs no more files: what it wrote, and with which status.
-use Rattle.std.specs.Prelude.{◌≡◌, ℕ, List, Option}
+use Rattle.std.specs.Prelude.{◌≡◌, ℕ, ◌⊎◌, List, Option}
 use Rattle.moos_io.specs.Faults.{Rose}
 use Rattle.moos_io.specs.Pieces.{Took, TookFront}
 use Rattle.moos_text.specs.declared.cause.ReadFault.{ReadFault}
@@ -8,6 +8,7 @@ use Rattle.moos_top.specs.declared.status.FileKind.{FileKind}
 use Rattle.moos_top.specs.declared.status.Status.{Status}
 use Rattle.moos_top.specs.declared.status.Status.TheVariants.{Done, CheckNo, Usage, LoadFault, WriteFault, Refused, NoMemory}
 use Rattle.moos_top.specs.Jobs.{FileTurn, IsOutput, Ready, Task, Unfit}
+use Rattle.moos_top.specs.Jobs.Task.{Playing}
 
 -- the status for what a reader of such files answers in place of what a file holds
 abbrev pub status_of : FileKind → ReadFault → Status
@@ -39,7 +40,7 @@ pub record WroteAll (turn : FileTurn) (status : Status) (sink : Sinking) : Type 
   pub output : IsOutput task status text
   pub took : Took sink.taken_before sink.taken_after text
 
--- the sink failed, and took a front of what the job else writes, not the whole
+-- the sink took a front of what the job else writes, not the whole
 pub record WroteFront (turn : FileTurn) (sink : Sinking) : Type 0 where
   pub task : Task
   pub good : turn ≡ Ready task
@@ -47,15 +48,19 @@ pub record WroteFront (turn : FileTurn) (sink : Sinking) : Type 0 where
   pub text : List ℕ
   pub output : IsOutput task status text
   pub took : TookFront sink.taken_before sink.taken_after text
-  pub rose : Rose sink.faults_before sink.faults_after
 
--- how a job ends that stands so with its files; a refusal is the first one, and then nothing is written, nor where no memory is
--- left
+-- the task is to play a script, whose report is written as it comes; every other output is written when all of it is there
+abbrev pub IsToPlay : Task → Type 0
+IsToPlay (Playing order script helm) = Unit {0}
+IsToPlay task = ⊥
+
+-- How a job ends that stands so with its files: it wrote all; or the sink failed behind a front; or it is refused by the first
+-- refusal, and wrote nothing; or it wrote nothing when no memory was left, or a front of a report.
 abbrev pub Ended : FileTurn → Sinking → Status → Type 0
 Ended turn sink Done = WroteAll turn Done sink
 Ended turn sink CheckNo = WroteAll turn CheckNo sink
 Ended turn sink Usage = ⊥
 Ended turn sink LoadFault = ⊥
-Ended turn sink WriteFault = WroteFront turn sink
+Ended turn sink WriteFault = WroteFront turn sink × Rose sink.faults_before sink.faults_after
 Ended turn sink (Refused refusal) = (turn ≡ Unfit refusal.file (At refusal.line refusal.cause)) × IsUntouched sink
-Ended turn sink NoMemory = IsUntouched sink
+Ended turn sink NoMemory = IsUntouched sink ⊎ ((wrote : WroteFront turn sink) × IsToPlay wrote.task)

@@ -4,7 +4,7 @@
 //! what was written. With `Done` that is the report of a lawful history of the script that the words name, or the
 //! decision on the problem with its certificate, or that the decision is accepted, or the counts of a generated mission.
 //!
-//! Reading order: `words`, `commands`, `job` and `status`, `decide`, `play_job`, `generate_job`, and `run` last. `main` is the
+//! Reading order: `words`, `commands`, `job` and `status`, `decide`, `telling`, `play_job`, `generate_job`, and `run` last. `main` is the
 //! trusted edge, which hands the real command line, files and standard output to `run`.
 #![tactic(auto)]
 
@@ -15,6 +15,7 @@ mod job;
 mod play_job;
 mod run;
 mod status;
+mod telling;
 mod words;
 
 use crate::run::{run, run_law};

@@ -15,6 +15,7 @@ ghost use Rattle.script_reader.specs.Validity.{IsValid};
 
 use crate::run::{load, refused, unloaded, written};
 use crate::status::{FileKind, Status};
+use crate::telling::play_rounds;
 use bhv_reader::{BhvFile, Block, read_behaviors};
 use helm_core::{Helm, plan_law};
 use mission_reader::{Mission, read_mission};
@@ -147,7 +148,7 @@ fn play_behaviors<R: Threads + Wait + Sync, F: Folder, K: Sink, G: Gate>(
     }
 }
 
-// Plays the script with a helm of this mission and behaviour file, and writes its report.
+// Plays the script with a helm of this mission and behaviour file, and writes its report as it comes.
 fn play_helm<R: Threads + Wait + Sync, K: Sink, G: Gate>(
     rt: &R,
     alloc: Global,
@@ -184,20 +185,22 @@ fn play_helm<R: Threads + Wait + Sync, K: Sink, G: Gate>(
         helm,
         period: mission.period,
     };
-    match play(rt, alloc, script, Some(run), order, workers, gate) {
-        Ok(ran) => {
-            plan_law();
-            report_law();
-            written(
-                Status::Done,
-                report(&setup, &ran.db, ran.iterations.all(), out),
-            )
-        },
-        Err(_) => Status::NoMemory,
-    }
+    plan_law();
+    report_law();
+    play_rounds(
+        rt,
+        alloc,
+        script,
+        Some(run),
+        &setup,
+        order,
+        workers,
+        out,
+        gate,
+    )
 }
 
-// Plays the script without a helm, and writes its report.
+// Plays the script without a helm, and writes its report as it comes.
 fn play_alone<R: Threads + Wait + Sync, K: Sink, G: Gate>(
     rt: &R,
     alloc: Global,
@@ -209,11 +212,32 @@ fn play_alone<R: Threads + Wait + Sync, K: Sink, G: Gate>(
     requires valid { IsValid script.now }
     ensures { Ended (Ready (Playing order script.now None)) (sinking (K.taken out.old) (K.taken out.new) (K.faults out.old) (K.faults out.new)) result }
 {
+    report_law();
+    let setup = no_modes(alloc);
+    if script.names.len() == 0 {
+        return play_nothing(rt, alloc, script, &setup, order, out, gate);
+    }
+    play_rounds(rt, alloc, script, None, &setup, order, 1, out, gate)
+}
+
+// Plays a script without clients, which makes no entry, and writes its report.
+fn play_nothing<R: Threads + Wait + Sync, K: Sink, G: Gate>(
+    rt: &R,
+    alloc: Global,
+    script: &Script,
+    setup: &Setup,
+    order: Order,
+    out: &mut K,
+    gate: &G,
+) -> Status
+    requires valid { IsValid script.now }
+    requires setup { setup.now ≡ no_modes }
+    ensures { Ended (Ready (Playing order script.now None)) (sinking (K.taken out.old) (K.taken out.new) (K.faults out.old) (K.faults out.new)) result }
+{
     match play(rt, alloc, script, None, order, 1, gate) {
         Ok(ran) => {
             report_law();
-            let setup = no_modes(alloc);
-            written(Status::Done, report(&setup, &ran.db, &[], out))
+            written(Status::Done, report(setup, &ran.db, &[], out))
         }
         Err(_) => Status::NoMemory,
     }

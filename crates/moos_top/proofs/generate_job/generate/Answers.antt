@@ -3,7 +3,7 @@ use Rattle.std.proofs.Common.{refl, subst, sym}
 use Rattle.moos_top.specs.Generating.{WasGenerated}
 use Rattle.moos_top.specs.Jobs.Task.{Generating}
 use Rattle.moos_top.specs.declared.status.Status.TheVariants.{Done}
-use Rattle.moos_top.proofs.Loading.{put_ends}
+use Rattle.moos_top.proofs.Loading.{nothing_put, put_ends}
 use Rattle.moos_top.proofs.Summing.{summarized}
 use Rattle.moos_top.proofs.generate_job.generate.Goals as goal
 
@@ -13,3 +13,6 @@ returns-in-Ok g c =
     (summarized c.args.number c.in-Ok.ran.db.names c.in-Ok.ran.db.history c.all.result.now c.sole_history_law.ensures
     (subst (WasGenerated c.args.number c.in-Ok.ran.db.names c.in-Ok.ran.db.history) (sym c.all.ensures) c.in-Ok.ensures))
     c.summary.ensures.ok c.summary.ensures.front c.summary.ensures.rose c.written.ensures.all c.written.ensures.fault
+
+pub returns-in-Err : goal.returns-in-Err
+returns-in-Err g c = nothing_put _ _ _

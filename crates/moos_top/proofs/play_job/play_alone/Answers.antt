@@ -1,14 +1,9 @@
--- The report of what was played is put.
+-- What was told of the run is what its job may write.
 use Rattle.std.proofs.Common.{refl}
 use Rattle.std.specs.Prelude.{None}
-use Rattle.moos_top.specs.Jobs.Task.{Playing}
-use Rattle.moos_top.specs.declared.status.Status.TheVariants.{Done}
-use Rattle.moos_top.proofs.Loading.{put_ends}
-use Rattle.moos_top.proofs.Playing.{reported}
+use Rattle.moos_top.proofs.Playing.{told_ended}
 use Rattle.moos_top.proofs.play_job.play_alone.Goals as goal
 
-pub returns-in-Ok : goal.returns-in-Ok
-returns-in-Ok g c =
-    put_ends _ (Playing c.args.order c.args.script.now None) _ Done c.written.result _ c.report.result (λ all. all) refl
-    (reported c.args.order c.args.script.now c.no_modes-setup.result c.in-Ok.ran.db.names c.in-Ok.ran.db.history c.report_law.ensures c.requires.valid c.no_modes-setup.ensures c.in-Ok.ensures.names c.in-Ok.ensures.lawful)
-    c.report.ensures.ok c.report.ensures.front c.report.ensures.rose c.written.ensures.all c.written.ensures.fault
+pub returns : goal.returns
+returns g c =
+    told_ended c.args.order c.args.script.now None None c.no_modes-setup.result c.report_law.ensures c.requires.valid tt refl c.no_modes-setup.ensures _ c.play_rounds.result c.play_rounds.ensures

@@ -10,7 +10,7 @@ use Rattle.moos_top.specs.Jobs.Task.{Solving}
 use Rattle.moos_top.specs.declared.job.Job.TheVariants.{Solve}
 use Rattle.moos_top.specs.declared.status.FileKind.TheVariants.{Problem as ProblemFile}
 use Rattle.moos_top.specs.declared.status.Status.TheVariants.{Done}
-use Rattle.moos_top.proofs.Loading.{last_ends, load_ends, put_ends, refusal_ends}
+use Rattle.moos_top.proofs.Loading.{last_ends, load_ends, nothing_put, put_ends, refusal_ends}
 use Rattle.moos_top.proofs.run.solve_problem.Goals as goal
 
 pub returns-in-Err-clause-ends : goal.returns-in-Err-clause-ends
@@ -35,3 +35,6 @@ returns-in-Ok-decide-clause-ends g c =
     (ap (turn_behind ProblemFile next) read)
     (put_ends _ (Solving c.in-Ok-read_problem.problem) _ Done c.written.result _ c.print_decision.result (λ all. all) refl
     (ap (decision_lines []) c.in-Ok-decide.ensures) c.print_decision.ensures.ok c.print_decision.ensures.front c.print_decision.ensures.rose c.written.ensures.all c.written.ensures.fault)
+
+pub returns-clause-ends : goal.returns-clause-ends
+returns-clause-ends g c = record { files = []; loaded = tt; ended = nothing_put _ _ _ }

@@ -1,6 +1,11 @@
 // Runs of whole scripts: what each prints, worked by hand.
-use super::{FIRST_REPORT, FIRST_SCRIPT, ends_so};
+ghost use Rattle.std.specs.Prelude.{None};
+
+use super::{FIRST_REPORT, FIRST_SCRIPT, command_line, ends_so, folder_of};
+use crate::run::run;
 use crate::status::Status;
+use moos_io::{Failed, Gate, Sink};
+use std::sync::atomic::{AtomicBool, AtomicUsize, Ordering};
 use std::test::Fail;
 
 #[test]
@@ -55,5 +60,60 @@ fn good_scripts_are_played(rt: HostRuntime) -> Result<(), Fail> {
         let line = ["play", "f.txt"];
         ends_so(&rt, rt.alloc(), &line, script, Status::Done, report)?;
     }
+    Ok(())
+}
+
+// A sink that lets others see how many bytes it has taken.
+#[derive(Drop)]
+struct Counter<'a> {
+    taken: &'a AtomicUsize,
+}
+
+impl<'a> Sink for Counter<'a> {
+    ghost taken = { λ counter. None };
+
+    ghost faults = { λ counter. 0 };
+
+    fn put(&mut self, bytes: &[u8]) -> Result<usize, Failed> {
+        self.taken.fetch_add(bytes.len(), Ordering::SeqCst);
+        Ok(bytes.len())
+    }
+}
+
+// Where the entries of the first report begin.
+const ENTRIES: [usize; 4] = [32, 70, 104, 145];
+
+// Sees at each call whether just what stands before its entry was taken.
+#[derive(Drop)]
+struct Between<'a> {
+    taken: &'a AtomicUsize,
+    missed: AtomicBool,
+}
+
+impl<'a> Gate for Between<'a> {
+    fn at_node(&self, _worker: u32, _nth: u64) {}
+
+    fn at_call(&self, _client: u32, nth: u64) {
+        let taken = self.taken.load(Ordering::SeqCst);
+        if ENTRIES.get(nth as usize) != Some(&taken) {
+            self.missed.store(true, Ordering::SeqCst);
+        }
+    }
+}
+
+#[test]
+fn written_between(rt: HostRuntime) -> Result<(), Fail> {
+    let taken = AtomicUsize::new(0);
+    let gate = Between {
+        taken: &taken,
+        missed: AtomicBool::new(false),
+    };
+    let words = command_line(&rt, rt.alloc(), &["play", "f.txt"])?;
+    let mut folder = folder_of(&rt, rt.alloc(), FIRST_SCRIPT)?;
+    let mut out = Counter { taken: &taken };
+    let status = run(&rt, rt.alloc(), &words, &mut folder, &mut out, &gate);
+    assert_eq!(rt; status, Status::Done);
+    assert!(rt; !gate.missed.load(Ordering::SeqCst));
+    assert_eq!(rt; taken.load(Ordering::SeqCst), FIRST_REPORT.len());
     Ok(())
 }
