@@ -24,7 +24,6 @@ use Rattle.moos_play.proofs.Rounding.{due_is}
 use Rattle.script_reader.specs.declared.script.Order.{Order}
 use Rattle.script_reader.specs.declared.script.Order.TheVariants.{Stamp, Race}
 use Rattle.script_reader.specs.declared.script.Script.{Script}
-use Rattle.turn_lock.specs.Passes.{Begins}
 
 -- nothing is added
 pub adds_none : (order : Order) (stamp : ℕ) (history : History) → AddsAt order stamp history history
@@ -60,10 +59,6 @@ round_stamped play before middle after last stamp from same stamp_is from_is fir
     (subst (λ stamp. AddsAt play.order stamp (history_in play) (history_in middle)) (sym stamp_is)
     (subst (λ (before : Play). AddsAt before.order (stamp_due play.script.now before) (history_in before) (history_in middle)) same first))
     (subst (λ order. AddsAt order stamp (history_in middle) (history_in after)) (order ∙ ap (λ (play : Play). play.order) same) others)))
-
--- in a race whatever is added will do
-pub race_adds : (order : Order) (stamp : ℕ) (before after : History) → order ≡ Race → Begins after before → AddsAt order stamp before after
-race_adds order stamp before after race later = subst (λ order. AddsAt order stamp before after) (sym race) (record { later = later; stamped = tt })
 
 -- the first of the lines that are left is the next one
 next_line : (lines : List Entry) (from : ℕ) (line : Entry) (left : List Entry) → drop from lines ≡ line ∷ left → slice_get lines from ≡ Some line
