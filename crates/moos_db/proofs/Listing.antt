@@ -2,7 +2,7 @@
 use Rattle.std.proofs.Common.{◌≡◌, ℕ, suc, ◌+◌, ◌<◌, Bool, true, false, cond, ◌&&◌, ◌||◌, not, List, [], ◌∷◌, ◌++◌, append-nil, append_assoc, length, length-append, map, fold, take, get_or, All, Some, slice_get, set, refl, sym, ap, ◌∙◌, arith}
 use Rattle.std.specs.List.{list_any}
 use Rattle.std.proofs.Math.Seq.{take-suc}
-use Rattle.std.proofs.lemmas.List.{length-take}
+use Rattle.std.proofs.lemmas.List.{get_or-map, length-map, length-take, map-append}
 use Rattle.std.proofs.lemmas.List.Elements.{All-cons, All-nil}
 use Rattle.std.proofs.lemmas.List.Sums.{fold-append}
 use Rattle.moos_post.specs.Patterns.{matches}
@@ -10,7 +10,8 @@ use Rattle.std.proofs.lemmas.Option.{slice_get-get_or}
 use Rattle.moos_post.specs.Delivery.{is_past}
 use Rattle.moos_db.specs.Subscribers.{SubscriptionState, has_patterns, is_due_held, passed, with_stamp, without_held}
 use Rattle.moos_db.specs.Tables.{number_of}
-use Rattle.moos_db.specs.Index.{matching_from, pass_found, pass_place, Passing}
+use Rattle.moos_db.specs.declared.index.Spot.{Spot}
+use Rattle.moos_db.specs.Index.{is_due_listed, matching_from, pass_found, pass_place, passed_listed, Passing, places_of}
 
 -- a list with one element in front or not
 front-append : {A : Type 0} (b : Bool) (x : A) (all front back : List A) → all ≡ front ++ back → cond b (x ∷ all) all ≡ cond b (x ∷ front) front ++ back
@@ -49,10 +50,11 @@ matching-more var helds place held below is =
     ∙ matching-push 0 var (take place helds) held
     ∙ ap (λ n. matching_from 0 var (take place helds) ++ cond (matches held.reg.var var) (n ∷ []) []) counted
 
-pub matching-next : (var : List ℕ) (helds : List SubscriptionState) (place : ℕ) (held : SubscriptionState) (places : List ℕ) → place < length helds → held ≡ get_or helds place held →
-    places ≡ matching_from 0 var (take place helds) → matches held.reg.var var ≡ true → places ++ place ∷ [] ≡ matching_from 0 var (take (place + 1) helds)
-matching-next var helds place held places below is so matched =
-    ap (λ all. all ++ place ∷ []) so
+pub matching-next : (var : List ℕ) (helds : List SubscriptionState) (place row : ℕ) (held : SubscriptionState) (spots : List Spot) → place < length helds → held ≡ get_or helds place held →
+    places_of spots ≡ matching_from 0 var (take place helds) → matches held.reg.var var ≡ true → places_of (spots ++ record { place = place; row = row } ∷ []) ≡ matching_from 0 var (take (place + 1) helds)
+matching-next var helds place row held spots below is so matched =
+    map-append (λ (spot : Spot). spot.place) spots (record { place = place; row = row } ∷ [])
+    ∙ ap (λ all. all ++ place ∷ []) so
     ∙ ap (λ b. matching_from 0 var (take place helds) ++ cond b (place ∷ []) []) (sym matched)
     ∙ sym (matching-more var helds place held below is)
 
@@ -62,6 +64,16 @@ matching-skip var helds place held places below is so unmatched =
     so ∙ sym (append-nil (matching_from 0 var (take place helds)))
     ∙ ap (λ b. matching_from 0 var (take place helds) ++ cond b (place ∷ []) []) (sym unmatched)
     ∙ sym (matching-more var helds place held below is)
+
+-- a spot in a list, by the places of the list
+pub spot-at : (places : List ℕ) (spots : List Spot) (k : ℕ) (spot : Spot) → places_of spots ≡ places → k < length spots → spot ≡ get_or spots k spot → (spot.place ≡ get_or places k 0) × (k < length places)
+spot-at places spots k spot same below is = (
+  ap (λ (one : Spot). one.place) is ∙ sym (get_or-map (λ (one : Spot). one.place) spots k spot 0 below) ∙ ap (λ all. get_or all k 0) same,
+  omega (arith, below, length-map spots (λ (one : Spot). one.place), ap length same),
+)
+
+pub length-spots : (spots others : List Spot) → places_of spots ≡ places_of others → length spots ≡ length others
+length-spots spots others same = sym (length-map spots (λ (one : Spot). one.place)) ∙ ap length same ∙ length-map others (λ (one : Spot). one.place)
 
 -- each place is one of a registration
 pub matching-within : (place end : ℕ) (var : List ℕ) (helds : List SubscriptionState) → place + length helds ≡ end → All (λ n. n < end) (matching_from place var helds)
@@ -116,9 +128,11 @@ module _ (stamp : ℕ) (var source : List ℕ) where
       fold (pass_place stamp var source) (passing (before ++ held ∷ helds) due) (cond b (length before ∷ matching_from (suc (length before)) var helds) (matching_from (suc (length before)) var helds))
       ≡ passing (before ++ passed stamp var source held ∷ map (passed stamp var source) helds) (due || (is_due_held stamp var source held || list_any (is_due_held stamp var source) helds))
   passes-first before helds held due rest true matched =
+      let same : is_due_listed stamp var source held ≡ is_due_held stamp var source held = ap (λ m. (m && matches held.reg.source source) && is_past (number_of var held.lasts) stamp held.reg.interval) (sym matched) in
       ap (λ now. fold (pass_place stamp var source) now (matching_from (suc (length before)) var helds))
       (ap (pass_found stamp var source (passing (before ++ held ∷ helds) due) (length before)) (here before held helds)
-      ∙ ap (λ all. passing all (due || is_due_held stamp var source held)) (set-here before held (passed stamp var source held) helds))
+      ∙ ap (λ all. passing all (due || is_due_listed stamp var source held)) (set-here before held (passed_listed stamp var source held) helds)
+      ∙ (λ i. passing (before ++ cond (same i) (with_stamp stamp var held) held ∷ helds) (due || same i)))
       ∙ rest (passed stamp var source held) (due || is_due_held stamp var source held)
       ∙ ap (passing (before ++ passed stamp var source held ∷ map (passed stamp var source) helds)) (or-later due (is_due_held stamp var source held) (list_any (is_due_held stamp var source) helds))
   passes-first before helds held due rest false unmatched =
@@ -137,18 +151,17 @@ module _ (stamp : ℕ) (var source : List ℕ) where
       (matches held.reg.var var) refl
 
   -- the post after one place more
-  pub passes-next : (start : Passing) (places : List ℕ) (i : ℕ) (helds : List SubscriptionState) (due passes now : Bool) (held after : SubscriptionState) → now ≡ due || passes → i < length places → get_or places i 0 < length helds → held ≡ get_or helds (get_or places i 0) held →
-      passes ≡ is_due_held stamp var source held → after ≡ passed stamp var source held → passing helds due ≡ fold (pass_place stamp var source) start (take i places) →
-      passing (set helds (get_or places i 0) after) now ≡ fold (pass_place stamp var source) start (take (i + 1) places)
-  passes-next start places i helds due passes now held after now_is below within is due_is after_is so =
-      let place : ℕ = get_or places i 0 in
+  pub passes-next : (start : Passing) (places : List ℕ) (i place : ℕ) (helds : List SubscriptionState) (due passes now : Bool) (held after : SubscriptionState) → now ≡ due || passes → i < length places → place ≡ get_or places i 0 → place < length helds → held ≡ get_or helds place held →
+      passes ≡ is_due_listed stamp var source held → after ≡ passed_listed stamp var source held → passing helds due ≡ fold (pass_place stamp var source) start (take i places) →
+      passing (set helds place after) now ≡ fold (pass_place stamp var source) start (take (i + 1) places)
+  passes-next start places i place helds due passes now held after now_is below at within is due_is after_is so =
       let found : slice_get helds place ≡ Some held = slice_get-get_or helds place held within ∙ ap Some (sym is) in
       let next : i + 1 ≡ suc i = omega arith in
       (λ k. passing (set helds place (after_is k)) ((now_is ∙ ap (λ b. due || b) due_is) k))
       ∙ sym (ap (pass_found stamp var source (passing helds due) place) found)
       ∙ ap (λ now. pass_place stamp var source now place) so
       ∙ sym (fold-append (pass_place stamp var source) start (take i places) (place ∷ []))
-      ∙ ap (fold (pass_place stamp var source) start) (sym (ap (λ n. take n places) next ∙ take-suc places i 0 below))
+      ∙ ap (fold (pass_place stamp var source) start) (ap (λ one. take i places ++ one ∷ []) at ∙ sym (ap (λ n. take n places) next ∙ take-suc places i 0 below))
 
   pub passes-matching : (helds : List SubscriptionState) → fold (pass_place stamp var source) (passing helds false) (matching_from 0 var helds)
       ≡ passing (map (passed stamp var source) helds) (list_any (is_due_held stamp var source) helds)

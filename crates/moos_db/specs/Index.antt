@@ -1,12 +1,19 @@
 -- The lists by variable that are kept of a client's registrations, so that a post looks at those alone that may select it.
-use Rattle.std.specs.Prelude.{◌≡◌, ℕ, suc, Bool, ◌||◌, if◌then◌else◌, List, [], ◌∷◌, Option, Some, None, slice_get, slice_set}
+use Rattle.std.specs.Prelude.{◌≡◌, ℕ, suc, Bool, ◌&&◌, ◌||◌, if◌then◌else◌, List, [], ◌∷◌, map, Option, Some, None, slice_get, slice_set}
+use Rattle.moos_post.specs.Delivery.{is_past}
 use Rattle.moos_post.specs.Patterns.{matches}
-use Rattle.moos_db.specs.Subscribers.{SubscriptionState, is_due_held, passed}
+use Rattle.moos_db.specs.declared.index.Spot.{Spot}
+use Rattle.moos_db.specs.Subscribers.{SubscriptionState, with_stamp}
+use Rattle.moos_db.specs.Tables.{number_of}
 
--- a variable, and the places of the registrations whose pattern matches it
+-- a variable, and the spots of the registrations whose pattern matches it
 pub record VarList : Type 0 where
   pub var : List ℕ
-  pub places : List ℕ
+  pub spots : List Spot
+
+-- the places of these registrations
+abbrev pub places_of : List Spot → List ℕ
+places_of spots = map (λ spot. spot.place) spots
 
 -- the places of the registrations whose pattern matches the variable, where the first has this place
 abbrev pub matching_from : ℕ → List ℕ → List SubscriptionState → List ℕ
@@ -16,11 +23,15 @@ matching_from place var (held ∷ helds) =
 
 -- each list that stands has the places of just those registrations that match its variable
 abbrev pub AreListed : List SubscriptionState → List (Option VarList) → Type 0
-AreListed helds lists = (number : ℕ) (list : VarList) → slice_get lists number ≡ Some (Some list) → list.places ≡ matching_from 0 list.var helds
+AreListed helds lists = (number : ℕ) (list : VarList) → slice_get lists number ≡ Some (Some list) → places_of list.spots ≡ matching_from 0 list.var helds
 
--- the variable's list stands under this number
-abbrev pub HasList : ℕ → List ℕ → List (Option VarList) → Type 0
-HasList number var lists = (list : VarList) × (slice_get lists number ≡ Some (Some list)) × (list.var ≡ var)
+-- at a registration of the variable's list, a post of this stamp from the source is due
+abbrev pub is_due_listed : ℕ → List ℕ → List ℕ → SubscriptionState → Bool
+is_due_listed stamp var source held = matches held.reg.source source && is_past (number_of var held.lasts) stamp held.reg.interval
+
+-- after such a post, which comes through where it is due
+abbrev pub passed_listed : ℕ → List ℕ → List ℕ → SubscriptionState → SubscriptionState
+passed_listed stamp var source held = if is_due_listed stamp var source held then with_stamp stamp var held else held
 
 -- registrations, and whether a post was due at one of them
 pub record Passing : Type 0 where
@@ -31,7 +42,7 @@ pub record Passing : Type 0 where
 abbrev pub pass_found : ℕ → List ℕ → List ℕ → Passing → ℕ → Option SubscriptionState → Passing
 pass_found stamp var source passing place None = passing
 pass_found stamp var source passing place (Some held) =
-    record { helds = slice_set passing.helds place (passed stamp var source held); due = passing.due || is_due_held stamp var source held }
+    record { helds = slice_set passing.helds place (passed_listed stamp var source held); due = passing.due || is_due_listed stamp var source held }
 
 -- after a post came through the registration at this place where it was due there
 abbrev pub pass_place : ℕ → List ℕ → List ℕ → Passing → ℕ → Passing

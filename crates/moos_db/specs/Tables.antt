@@ -1,6 +1,6 @@
 -- Tables with a number for each variable: the stamps of the last posts that came through a registration, and the
 -- numbers of the latest posts.
-use Rattle.std.specs.Prelude.{◌≡◌, ◌≢◌, None, ℕ, suc, ◌≤◌, Bool, if◌then◌else◌, List, [], ◌∷◌, length, fold, find, take, Option, option_map, bytes_eq}
+use Rattle.std.specs.Prelude.{◌≡◌, ℕ, suc, ◌≤◌, Bool, if◌then◌else◌, List, [], ◌∷◌, length, fold, find, take, Option, Some, option_map, bytes_eq, slice_get}
 use Rattle.moos_post.specs.declared.value.Post.{Post}
 use Rattle.moos_post.specs.Delivery.{is_latest, is_past}
 
@@ -23,10 +23,12 @@ with_row var number [] = record { var = var; number = number } ∷ []
 with_row var number (row ∷ rows) =
     if is_of var row then record row { number = number } ∷ rows else row ∷ with_row var number rows
 
--- the variable has a number, and this one takes its place just where it passes: where that one is at least the interval
--- below
+-- the variable's row stands at this place
+abbrev pub HasRow : ℕ → List ℕ → List Row → Type 0
+HasRow place var rows = (row : Row) × (slice_get rows place ≡ Some row) × (row.var ≡ var)
+
+-- this number takes the place of the variable's just where it passes: where that one is at least the interval below
 pub record IsPassed (var : List ℕ) (number interval : ℕ) (passes : Bool) (before after : List Row) : Type 0 where
-  pub stood : number_of var before ≢ None
   pub past : passes ≡ is_past (number_of var before) number interval
   pub rows : after ≡ (if passes then with_row var number before else before)
 

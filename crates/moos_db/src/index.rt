@@ -1,17 +1,26 @@
-ghost use Rattle.std.specs.Prelude.{◌≡◌, ◌<◌, ℕ, List, length, fold, All, true, false, IfOk, OnOk};
+ghost use Rattle.std.specs.Prelude.{◌≡◌, ◌<◌, List, length, fold, All, true, false, IfOk};
 ghost use Rattle.moos_db.specs.Subscribers.{SubscriptionState};
-ghost use Rattle.moos_db.specs.Index.{AreListed, HasList, matching_from, pass_place};
+ghost use Rattle.moos_db.specs.Index.{AreListed, matching_from, pass_place, places_of};
 
-use crate::subscription::{Subscription, is_same};
+use crate::subscription::Subscription;
+use crate::table::is_same;
 use moos_post::{Name, NoMemory};
 use std::alloc::Global;
 use std::marker::Model;
+use std::mem;
 
-// Of one variable, the places of those of a client's registrations whose pattern matches it.
+// Where a registration stands among a client's, and at which row its last stamp of the list's variable may stand.
+#[derive(Clone, Copy)]
+pub(crate) struct Spot {
+    place: usize,
+    row: usize,
+}
+
+// Of one variable, the spots of those of a client's registrations whose pattern matches it.
 #[derive(Drop)]
 pub(crate) struct Listed {
     var: Vec<u8>,
-    places: Vec<usize>,
+    spots: Vec<Spot>,
 }
 
 impl Model for Listed {
@@ -19,91 +28,94 @@ impl Model for Listed {
 
     ghost Value = { VarList };
 
-    ghost view = { λ listed. record { var = listed.var.items; places = listed.places.items } };
+    ghost view = { λ listed. record { var = listed.var.items; spots = listed.spots.items } };
 }
 
-// The places of the registrations whose pattern matches the variable.
-fn matching(alloc: Global, var: &Name, lives: &[Subscription]) -> Result<Vec<usize>, NoMemory>
-    ensures { IfOk result (λ places. places.items ≡ matching_from 0 var.now lives.now) }
+// The spots of the registrations whose pattern matches the variable.
+fn matching(alloc: Global, var: &Name, lives: &[Subscription]) -> Result<Vec<Spot>, NoMemory>
+    ensures { IfOk result (λ spots. places_of spots.items ≡ matching_from 0 var.now lives.now) }
 {
-    let mut places = Vec::new(alloc);
+    let mut spots = Vec::new(alloc);
     for place in 0..lives.len() {
         if lives[place].matches_var(var) {
-            places.push(place)?;
+            spots.push(Spot { place, row: 0 })?;
         }
     }
-    Ok(places)
+    Ok(spots)
 }
 
 // The variable's list.
 fn list_of(alloc: Global, var: &Name, lives: &[Subscription]) -> Result<Listed, NoMemory>
-    ensures { IfOk result (λ list. list ≡ record { var = var.now; places = matching_from 0 var.now lives.now }) }
+    ensures var { IfOk result (λ list. list.var ≡ var.now) }
+    ensures listed { IfOk result (λ list. places_of list.spots ≡ matching_from 0 var.now lives.now) }
 {
-    let places = matching(alloc, var, lives)?;
+    let spots = matching(alloc, var, lives)?;
     let var = Vec::from_slice(alloc, var.bytes())?;
-    Ok(Listed { var, places })
+    Ok(Listed { var, spots })
 }
 
-// Whether the variable's list stands under this number.
-fn has_list(lists: &[Option<Listed>], number: usize, var: &Name) -> bool
-    ensures { result ≡ true → HasList number var.now lists.now }
-{
-    match lists.get(number) {
-        Some(Some(list)) => is_same(list.var.as_slice(), var.bytes()),
-        _ => false,
-    }
-}
-
-// Makes the variable's list under this number, unless it stands there.
-pub(crate) fn list_var(
+// The variable's list, which is made unless it stands under this number. Until it is put back none stands there.
+pub(crate) fn take_list(
     alloc: Global,
     lists: &mut Vec<Option<Listed>>,
     number: usize,
     var: &Name,
     lives: &[Subscription],
-) -> Result<(), NoMemory>
+) -> Result<Listed, NoMemory>
     requires listed { AreListed lives.now lists.old.items }
     ensures listed { AreListed lives.now lists.new.items }
-    ensures there { OnOk result (HasList number var.now lists.new.items) }
+    ensures var { IfOk result (λ list. list.var ≡ var.now) }
+    ensures places { IfOk result (λ list. places_of list.spots ≡ matching_from 0 var.now lives.now) }
 {
-    if has_list(lists.as_slice(), number, var) {
-        return Ok(());
-    }
-    let list = list_of(alloc, var, lives)?;
     'unlisted: while lists.len() <= number {
         lists.push(None)?;
     }
-    lists[number] = Some(list);
-    Ok(())
-}
-
-// The places in the variable's list, which stands under this number.
-pub(crate) fn places_at(lists: &[Option<Listed>], number: usize) -> &[usize]
-    ensures { (var : List ℕ) → HasList number var lists.now → (helds : List SubscriptionState) → AreListed helds lists.now → result.now ≡ matching_from 0 var helds }
-{
-    match lists.get(number) {
-        Some(Some(list)) => list.places.as_slice(),
-        _ => &[],
+    match mem::replace(&mut lists[number], None) {
+        Some(list) if list.is_of(var) => Ok(list),
+        _ => list_of(alloc, var, lives),
     }
 }
 
-// A post of this stamp and variable, from the client with this name, comes through each registration of these places at
-// which it is due. Tells whether there is one.
-pub(crate) fn pass_places(
-    alloc: Global,
-    lives: &mut Vec<Subscription>,
-    places: &[usize],
-    stamp: u64,
-    var: &Name,
-    source: &[u8],
-) -> Result<bool, NoMemory>
-    requires { All (λ place. place < length lives.old.items) places.now }
-    ensures { IfOk result (λ due. record { helds = lives.new.items; due = due } ≡ fold (pass_place stamp var.now source.now) (record { helds = lives.old.items; due = false }) places.now) }
+// Puts a list back under its number.
+pub(crate) fn put_list(lists: &mut Vec<Option<Listed>>, number: usize, list: Listed)
+    ensures { (helds : List SubscriptionState) → AreListed helds lists.old.items → places_of list.spots ≡ matching_from 0 list.var helds → AreListed helds lists.new.items }
 {
-    let mut due = false;
-    for &place in places {
-        let passes = lives[place].pass_if_due(alloc, stamp, var, source)?;
-        due = due || passes;
+    if number < lists.len() {
+        lists[number] = Some(list);
     }
-    Ok(due)
+}
+
+impl Listed {
+    // Whether it is the list of this variable.
+    fn is_of(&self, var: &Name) -> bool
+        ensures { result ≡ true → self.now.var ≡ var.now }
+    {
+        is_same(self.var.as_slice(), var.bytes())
+    }
+
+    // A post of this stamp and of its variable, from the client with this name, comes through each registration in the list at
+    // which it is due. Tells whether there is one.
+    pub fn pass(
+        &mut self,
+        alloc: Global,
+        lives: &mut Vec<Subscription>,
+        stamp: u64,
+        var: &Name,
+        source: &[u8],
+    ) -> Result<bool, NoMemory>
+        requires { All (λ place. place < length lives.old.items) (places_of self.old.spots) }
+        ensures var { self.new.var ≡ self.old.var }
+        ensures places { places_of self.new.spots ≡ places_of self.old.spots }
+        ensures passed { IfOk result (λ due. record { helds = lives.new.items; due = due } ≡ fold (pass_place stamp var.now source.now) (record { helds = lives.old.items; due = false }) (places_of self.old.spots)) }
+    {
+        let mut due = false;
+        for k in 0..self.spots.len() {
+            let Spot { place, row } = self.spots[k];
+            let mut found = row;
+            let passes = lives[place].pass_if_due(alloc, &mut found, stamp, var, source)?;
+            self.spots[k] = Spot { place, row: found };
+            due = due || passes;
+        }
+        Ok(due)
+    }
 }

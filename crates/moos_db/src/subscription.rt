@@ -1,8 +1,9 @@
-ghost use Rattle.std.specs.Prelude.{◌≡◌, ◌&&◌, bytes_eq, IfOk};
+ghost use Rattle.std.specs.Prelude.{◌≡◌, IfOk};
 ghost use Rattle.moos_post.specs.Patterns.{matches};
-ghost use Rattle.moos_db.specs.Subscribers.{picks, has_patterns, held_of_reg, with_stamp, is_due_held, passed, is_new_held, caught};
+ghost use Rattle.moos_db.specs.Subscribers.{picks, has_patterns, held_of_reg, with_stamp, is_new_held, caught};
+ghost use Rattle.moos_db.specs.Index.{is_due_listed, passed_listed};
 
-use crate::table::Table;
+use crate::table::{Table, is_same};
 use moos_post::{Copied, Name, NoMemory, Pattern, Reg};
 use moos_reg::matches;
 use std::alloc::Global;
@@ -32,14 +33,9 @@ fn picks(reg: &Reg, var: &Name, source: &[u8]) -> bool
     matches(&reg.var, var.bytes()) && matches(&reg.source, source)
 }
 
-pub(crate) fn is_same(left: &[u8], right: &[u8]) -> bool
-    ensures { result ≡ bytes_eq left.now right.now }
-{
-    left == right
-}
-
 impl Subscription {
-    ghost use Rattle.moos_db.specs.Subscribers.{held_of_reg, with_stamp, is_due_held, passed, is_new_held, caught, has_patterns};
+    ghost use Rattle.moos_db.specs.Subscribers.{held_of_reg, with_stamp, is_new_held, caught, has_patterns};
+    ghost use Rattle.moos_db.specs.Index.{is_due_listed, passed_listed};
 
     // A new registration, with nothing come through.
     pub fn new(alloc: Global, reg: &Reg, made: u64) -> Result<Subscription, NoMemory>
@@ -95,22 +91,27 @@ impl Subscription {
         matches(&self.reg.var, var.bytes())
     }
 
-    // The post comes through where it is due. Tells whether it is.
+    // A post of a variable that its pattern matches comes through where it is due. Tells whether it is. The last stamp of the
+    // variable is looked for at the row that is told first, and from then on that is the row where it was found.
     pub fn pass_if_due(
         &mut self,
         alloc: Global,
+        row: &mut usize,
         stamp: u64,
         var: &Name,
         source: &[u8],
     ) -> Result<bool, NoMemory>
-        ensures due { IfOk result (λ due. due ≡ is_due_held stamp var.now source.now self.old) }
-        ensures passed { IfOk result (λ _. self.new ≡ passed stamp var.now source.now self.old) }
+        ensures due { IfOk result (λ due. due ≡ is_due_listed stamp var.now source.now self.old) }
+        ensures passed { IfOk result (λ _. self.new ≡ passed_listed stamp var.now source.now self.old) }
     {
-        if !picks(&self.reg, var, source) {
+        if !matches(&self.reg.source, source) {
             return Ok(false);
         }
-        match self.lasts.pass(var, stamp, self.reg.interval) {
-            Some(due) => Ok(due),
+        match self.lasts.place_of(*row, var) {
+            Some(place) => {
+                *row = place;
+                Ok(self.lasts.pass_at(place, stamp, self.reg.interval))
+            }
             None => {
                 self.pass(alloc, stamp, var)?;
                 Ok(true)

@@ -4,7 +4,7 @@ ghost use Rattle.moos_post.specs.Patterns.{matches};
 ghost use Rattle.moos_db.specs.Hearing.{IsListed, hears, patterns_of};
 ghost use Rattle.moos_db.specs.Subscribers.{has_patterns, is_due_held, passed, is_new_held, caught, without_held, with_held};
 
-use crate::index::{Listed, list_var, pass_places, places_at};
+use crate::index::{Listed, put_list, take_list};
 use crate::subscription::Subscription;
 use crate::variables::Variables;
 use moos_post::{Name, NoMemory, Pattern, Reg};
@@ -74,10 +74,12 @@ impl Subscriptions {
         ensures due { IfOk result (λ due. due ≡ list_any (is_due_held stamp var.now source.now) self.old) }
         ensures passed { IfOk result (λ _. self.new ≡ map (passed stamp var.now source.now) self.old) }
     {
-        list_var(alloc, &mut self.lists, number, var, self.lives.as_slice())?;
-        let places = places_at(self.lists.as_slice(), number);
-        match pass_places(alloc, &mut self.lives, places, stamp, var, source) {
-            Ok(due) => Ok(due),
+        let mut list = take_list(alloc, &mut self.lists, number, var, self.lives.as_slice())?;
+        match list.pass(alloc, &mut self.lives, stamp, var, source) {
+            Ok(due) => {
+                put_list(&mut self.lists, number, list);
+                Ok(due)
+            }
             Err(no_memory) => {
                 self.lists.clear();
                 Err(no_memory)

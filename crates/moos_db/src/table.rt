@@ -1,4 +1,4 @@
-ghost use Rattle.std.specs.Prelude.{◌≡◌, List, [], map, IfOk, OnOk, OnErr};
+ghost use Rattle.std.specs.Prelude.{◌≡◌, ℕ, List, [], map, bytes_eq, IfOk, OnOk, OnErr};
 ghost use Rattle.moos_post.specs.declared.value.Post.{Post};
 ghost use Rattle.moos_db.specs.Tables.{rows_of, latest_from};
 
@@ -24,9 +24,16 @@ impl Model for Table {
     ghost view = { λ table. map (λ row. record { var = row.0.items; number = row.1 }) table.rows.entries };
 }
 
+// Whether these are the same bytes.
+pub(crate) fn is_same(left: &[u8], right: &[u8]) -> bool
+    ensures { result ≡ bytes_eq left.now right.now }
+{
+    left == right
+}
+
 impl Table {
-    ghost use Rattle.std.specs.Prelude.{Bool, None, Some};
-    ghost use Rattle.moos_db.specs.Tables.{IsPassed, number_of, with_row};
+    ghost use Rattle.std.specs.Prelude.{true, None, IfSome};
+    ghost use Rattle.moos_db.specs.Tables.{HasRow, IsPassed, number_of, with_row};
 
     pub fn new(alloc: Global) -> Table
         ensures { result ≡ [] }
@@ -43,18 +50,39 @@ impl Table {
         self.rows.get(var.bytes()).copied()
     }
 
-    // This number takes the place of the variable's, where it has one and that is at least the interval below. Tells whether
-    // it does, where the variable has one.
-    pub fn pass(&mut self, var: &Name, number: u64, interval: u64) -> Option<bool>
-        ensures none { result ≡ None → (number_of var.now self.old ≡ None) × (self.new ≡ self.old) }
-        ensures passed { (passes : Bool) → result ≡ Some passes → IsPassed var.now number interval passes self.old self.new }
+    // Whether the variable's number stands at this place.
+    fn is_at(&self, place: usize, var: &Name) -> bool
+        ensures { result ≡ true → HasRow place var.now self.now }
     {
-        let Some(stands) = self.rows.get_mut(var.bytes()) else {
-            return None;
+        match self.rows.get_index(place) {
+            Some((key, _)) => is_same(key.as_slice(), var.bytes()),
+            None => false,
+        }
+    }
+
+    // Where the variable's number stands, if it has one. It is looked for at this place first.
+    pub fn place_of(&self, first: usize, var: &Name) -> Option<usize>
+        ensures found { IfSome result (λ place. HasRow place var.now self.now) }
+        ensures none { result ≡ None → number_of var.now self.now ≡ None }
+    {
+        if self.is_at(first, var) {
+            return Some(first);
+        }
+        let (place, _, _) = self.rows.get_full(var.bytes())?;
+        Some(place)
+    }
+
+    // This number takes the place of the one that stands at this place, where that is at least the interval below. Tells
+    // whether it does.
+    pub fn pass_at(&mut self, place: usize, number: u64, interval: u64) -> bool
+        ensures { (var : List ℕ) → HasRow place var self.old → IsPassed var number interval result self.old self.new }
+    {
+        let Some(stands) = self.rows.get_index_mut(place) else {
+            return false;
         };
         let passes = due(Some(*stands), number, interval);
         *stands = if passes { number } else { *stands };
-        Some(passes)
+        passes
     }
 
     // Gives the variable this number.

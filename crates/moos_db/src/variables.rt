@@ -2,8 +2,7 @@ ghost use Rattle.std.specs.Prelude.{◌≡◌, [], ◌∷◌, ℕ, List, true, I
 ghost use Rattle.moos_mail.specs.Mailboxes.{is_one_of};
 ghost use Rattle.moos_db.specs.Hearing.{IsListed, VariableState, hears, patterns_asked};
 
-use crate::subscription::is_same;
-use crate::table::Table;
+use crate::table::{Table, is_same};
 use moos_post::{Copied, Name, NoMemory, Pattern, Reg};
 use moos_reg::matches;
 use std::alloc::Global;

@@ -1,6 +1,6 @@
 use Rattle.std.proofs.Common.{suc, ◌-◌, length}
 use Rattle.moos_db.specs.Index.{AreListed}
-use Rattle.moos_db.proofs.index.list_var.Given as goal
+use Rattle.moos_db.proofs.index.take_list.Given as goal
 
 abbrev pub invariant-unlisted : goal.invariant-unlisted
 invariant-unlisted l = AreListed l.lives l.lists.items
