@@ -5,8 +5,6 @@ use Rattle.std.proofs.lemmas.Slice.Eq.{bytes_eq-Decides}
 use Rattle.moos_post.specs.Delivery.{newer_stamp, last_stamp}
 use Rattle.moos_post.specs.declared.value.Post.{Post}
 use Rattle.moos_post.proofs.Texts.{bytes_eq_comm}
-use Rattle.moos_db.specs.Index.{is_due_listed, passed_listed}
-use Rattle.moos_db.specs.Subscribers.{SubscriptionState, with_stamp}
 use Rattle.moos_db.specs.Tables.{Row, is_of, number_of, with_row, lasts_of}
 
 -- what is found for a variable after a post of one
@@ -54,13 +52,3 @@ pub with_row-by : (passes : Bool) (var : List ℕ) (number stood : ℕ) (rows : 
     with_row var (if passes then number else stood) rows ≡ (if passes then with_row var number rows else rows)
 with_row-by true var number stood rows found = refl
 with_row-by false var number stood rows found = with_row-same var stood rows found
-
--- a registration of a variable's list whose last stamps a post has changed where it is due
-pub passed-by : (stamp : ℕ) (var source : List ℕ) (held : SubscriptionState) (due : Bool) (after : List Row) → due ≡ is_due_listed stamp var source held →
-    after ≡ (if due then with_row var stamp held.lasts else held.lasts) → record held { lasts = after } ≡ passed_listed stamp var source held
-passed-by stamp var source held due after is rows =
-    ap (λ lasts. record held { lasts = lasts }) rows ∙ by due ∙ ap (λ b. if b then with_stamp stamp var held else held) is
-  where
-    by : (b : Bool) → record held { lasts = if b then with_row var stamp held.lasts else held.lasts } ≡ (if b then with_stamp stamp var held else held)
-    by true = refl
-    by false = refl

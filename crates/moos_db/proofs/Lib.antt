@@ -12,5 +12,6 @@ pub mod Rows
 pub mod Runs
 pub mod Sorting
 pub mod Standing
+pub mod Stars
 pub mod Told
 pub mod Whole

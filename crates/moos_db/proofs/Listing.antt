@@ -11,7 +11,7 @@ use Rattle.moos_post.specs.Delivery.{is_past}
 use Rattle.moos_db.specs.Subscribers.{SubscriptionState, has_patterns, is_due_held, passed, with_stamp, without_held}
 use Rattle.moos_db.specs.Tables.{number_of}
 use Rattle.moos_db.specs.declared.index.Spot.{Spot}
-use Rattle.moos_db.specs.Index.{is_due_listed, matching_from, pass_found, pass_place, passed_listed, Passing, places_of}
+use Rattle.moos_db.specs.Index.{is_due_listed, matching_from, pass_found, pass_place, passed_listed, Passing, listed_places}
 
 -- a list with one element in front or not
 front-append : {A : Type 0} (b : Bool) (x : A) (all front back : List A) → all ≡ front ++ back → cond b (x ∷ all) all ≡ cond b (x ∷ front) front ++ back
@@ -51,7 +51,7 @@ matching-more var helds place held below is =
     ∙ ap (λ n. matching_from 0 var (take place helds) ++ cond (matches held.reg.var var) (n ∷ []) []) counted
 
 pub matching-next : (var : List ℕ) (helds : List SubscriptionState) (place row : ℕ) (held : SubscriptionState) (spots : List Spot) → place < length helds → held ≡ get_or helds place held →
-    places_of spots ≡ matching_from 0 var (take place helds) → matches held.reg.var var ≡ true → places_of (spots ++ record { place = place; row = row } ∷ []) ≡ matching_from 0 var (take (place + 1) helds)
+    listed_places spots ≡ matching_from 0 var (take place helds) → matches held.reg.var var ≡ true → listed_places (spots ++ record { place = place; row = row } ∷ []) ≡ matching_from 0 var (take (place + 1) helds)
 matching-next var helds place row held spots below is so matched =
     map-append (λ (spot : Spot). spot.place) spots (record { place = place; row = row } ∷ [])
     ∙ ap (λ all. all ++ place ∷ []) so
@@ -66,13 +66,13 @@ matching-skip var helds place held places below is so unmatched =
     ∙ sym (matching-more var helds place held below is)
 
 -- a spot in a list, by the places of the list
-pub spot-at : (places : List ℕ) (spots : List Spot) (k : ℕ) (spot : Spot) → places_of spots ≡ places → k < length spots → spot ≡ get_or spots k spot → (spot.place ≡ get_or places k 0) × (k < length places)
+pub spot-at : (places : List ℕ) (spots : List Spot) (k : ℕ) (spot : Spot) → listed_places spots ≡ places → k < length spots → spot ≡ get_or spots k spot → (spot.place ≡ get_or places k 0) × (k < length places)
 spot-at places spots k spot same below is = (
   ap (λ (one : Spot). one.place) is ∙ sym (get_or-map (λ (one : Spot). one.place) spots k spot 0 below) ∙ ap (λ all. get_or all k 0) same,
   omega (arith, below, length-map spots (λ (one : Spot). one.place), ap length same),
 )
 
-pub length-spots : (spots others : List Spot) → places_of spots ≡ places_of others → length spots ≡ length others
+pub length-spots : (spots others : List Spot) → listed_places spots ≡ listed_places others → length spots ≡ length others
 length-spots spots others same = sym (length-map spots (λ (one : Spot). one.place)) ∙ ap length same ∙ length-map others (λ (one : Spot). one.place)
 
 -- each place is one of a registration

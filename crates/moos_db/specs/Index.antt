@@ -12,8 +12,8 @@ pub record VarList : Type 0 where
   pub spots : List Spot
 
 -- the places of these registrations
-abbrev pub places_of : List Spot → List ℕ
-places_of spots = map (λ spot. spot.place) spots
+abbrev pub listed_places : List Spot → List ℕ
+listed_places spots = map (λ spot. spot.place) spots
 
 -- the places of the registrations whose pattern matches the variable, where the first has this place
 abbrev pub matching_from : ℕ → List ℕ → List SubscriptionState → List ℕ
@@ -23,7 +23,7 @@ matching_from place var (held ∷ helds) =
 
 -- each list that stands has the places of just those registrations that match its variable
 abbrev pub AreListed : List SubscriptionState → List (Option VarList) → Type 0
-AreListed helds lists = (number : ℕ) (list : VarList) → slice_get lists number ≡ Some (Some list) → places_of list.spots ≡ matching_from 0 list.var helds
+AreListed helds lists = (number : ℕ) (list : VarList) → slice_get lists number ≡ Some (Some list) → listed_places list.spots ≡ matching_from 0 list.var helds
 
 -- at a registration of the variable's list, a post of this stamp from the source is due
 abbrev pub is_due_listed : ℕ → List ℕ → List ℕ → SubscriptionState → Bool

@@ -1,6 +1,6 @@
 ghost use Rattle.std.specs.Prelude.{◌≡◌, ◌<◌, List, length, fold, All, true, false, IfOk};
 ghost use Rattle.moos_db.specs.Subscribers.{SubscriptionState};
-ghost use Rattle.moos_db.specs.Index.{AreListed, matching_from, pass_place, places_of};
+ghost use Rattle.moos_db.specs.Index.{AreListed, matching_from, pass_place, listed_places};
 
 use crate::subscription::Subscription;
 use crate::table::is_same;
@@ -33,7 +33,7 @@ impl Model for Listed {
 
 // The spots of the registrations whose pattern matches the variable.
 fn matching(alloc: Global, var: &Name, lives: &[Subscription]) -> Result<Vec<Spot>, NoMemory>
-    ensures { IfOk result (λ spots. places_of spots.items ≡ matching_from 0 var.now lives.now) }
+    ensures { IfOk result (λ spots. listed_places spots.items ≡ matching_from 0 var.now lives.now) }
 {
     let mut spots = Vec::new(alloc);
     for place in 0..lives.len() {
@@ -47,7 +47,7 @@ fn matching(alloc: Global, var: &Name, lives: &[Subscription]) -> Result<Vec<Spo
 // The variable's list.
 fn list_of(alloc: Global, var: &Name, lives: &[Subscription]) -> Result<Listed, NoMemory>
     ensures var { IfOk result (λ list. list.var ≡ var.now) }
-    ensures listed { IfOk result (λ list. places_of list.spots ≡ matching_from 0 var.now lives.now) }
+    ensures listed { IfOk result (λ list. listed_places list.spots ≡ matching_from 0 var.now lives.now) }
 {
     let spots = matching(alloc, var, lives)?;
     let var = Vec::from_slice(alloc, var.bytes())?;
@@ -65,7 +65,7 @@ pub(crate) fn take_list(
     requires listed { AreListed lives.now lists.old.items }
     ensures listed { AreListed lives.now lists.new.items }
     ensures var { IfOk result (λ list. list.var ≡ var.now) }
-    ensures places { IfOk result (λ list. places_of list.spots ≡ matching_from 0 var.now lives.now) }
+    ensures places { IfOk result (λ list. listed_places list.spots ≡ matching_from 0 var.now lives.now) }
 {
     'unlisted: while lists.len() <= number {
         lists.push(None)?;
@@ -78,7 +78,7 @@ pub(crate) fn take_list(
 
 // Puts a list back under its number.
 pub(crate) fn put_list(lists: &mut Vec<Option<Listed>>, number: usize, list: Listed)
-    ensures { (helds : List SubscriptionState) → AreListed helds lists.old.items → places_of list.spots ≡ matching_from 0 list.var helds → AreListed helds lists.new.items }
+    ensures { (helds : List SubscriptionState) → AreListed helds lists.old.items → listed_places list.spots ≡ matching_from 0 list.var helds → AreListed helds lists.new.items }
 {
     if number < lists.len() {
         lists[number] = Some(list);
@@ -103,10 +103,10 @@ impl Listed {
         var: &Name,
         source: &[u8],
     ) -> Result<bool, NoMemory>
-        requires { All (λ place. place < length lives.old.items) (places_of self.old.spots) }
+        requires { All (λ place. place < length lives.old.items) (listed_places self.old.spots) }
         ensures var { self.new.var ≡ self.old.var }
-        ensures places { places_of self.new.spots ≡ places_of self.old.spots }
-        ensures passed { IfOk result (λ due. record { helds = lives.new.items; due = due } ≡ fold (pass_place stamp var.now source.now) (record { helds = lives.old.items; due = false }) (places_of self.old.spots)) }
+        ensures places { listed_places self.new.spots ≡ listed_places self.old.spots }
+        ensures passed { IfOk result (λ due. record { helds = lives.new.items; due = due } ≡ fold (pass_place stamp var.now source.now) (record { helds = lives.old.items; due = false }) (listed_places self.old.spots)) }
     {
         let mut due = false;
         for k in 0..self.spots.len() {

@@ -33,6 +33,16 @@ fn picks(reg: &Reg, var: &Name, source: &[u8]) -> bool
     matches(&reg.var, var.bytes()) && matches(&reg.source, source)
 }
 
+// Whether the pattern matches the name of this source. A star alone, as most ask for, does so at a look.
+fn takes_source(pattern: &Pattern, source: &[u8]) -> bool
+    ensures { result ≡ matches pattern.now source.now }
+{
+    match pattern.bytes() {
+        [sign] if *sign == b'*' => true,
+        _ => matches(pattern, source),
+    }
+}
+
 impl Subscription {
     ghost use Rattle.moos_db.specs.Subscribers.{held_of_reg, with_stamp, is_new_held, caught, has_patterns};
     ghost use Rattle.moos_db.specs.Index.{is_due_listed, passed_listed};
@@ -104,7 +114,7 @@ impl Subscription {
         ensures due { IfOk result (λ due. due ≡ is_due_listed stamp var.now source.now self.old) }
         ensures passed { IfOk result (λ _. self.new ≡ passed_listed stamp var.now source.now self.old) }
     {
-        if !matches(&self.reg.source, source) {
+        if !takes_source(&self.reg.source, source) {
             return Ok(false);
         }
         match self.lasts.place_of(*row, var) {

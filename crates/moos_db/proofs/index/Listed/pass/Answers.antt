@@ -1,7 +1,7 @@
 use Rattle.std.proofs.Common.{◌≡◌, ◌<◌, ◌∙◌, ◌||◌, All, ap, arith, length, length-set, rules, subst, sym, vec_len}
 use Rattle.std.proofs.Math.Seq.{map-set_same}
 use Rattle.moos_db.specs.declared.index.Spot.{Spot}
-use Rattle.moos_db.specs.Index.{places_of, VarList}
+use Rattle.moos_db.specs.Index.{listed_places, VarList}
 use Rattle.moos_db.proofs.Listing.{length-spots, passes-next, spot-at}
 use Rattle.moos_db.proofs.index.Listed.pass.Goals as goal
 use Rattle.moos_db.proofs.index.Listed.pass.Goals.{then-due, else-due}
@@ -11,9 +11,9 @@ index_mut-requires c =
     let counted : vec_len c.self.inside.spots ≡ length c.self.inside.spots.items = search rules in
     let below : c.loop-k.k < length c.loop-k.self-inside.spots.items
     = omega (arith, counted, c.loop-k-test.true, c.len-k-end.ensures, length-spots c.loop-k.self-inside.spots.items c.self.inside.spots.items c.loop-k.invariant.places) in
-    let at = spot-at (places_of c.self.inside.spots.items) c.loop-k.self-inside.spots.items c.loop-k.k c.index.result.now c.loop-k.invariant.places below c.index.ensures in
-    let all : All (λ place. place < length c.args.lives.now.items) (places_of c.self.inside.spots.items)
-    = subst (λ (list : VarList). All (λ place. place < length c.args.lives.now.items) (places_of list.spots)) (sym c.self.view_is) c.requires in
+    let at = spot-at (listed_places c.self.inside.spots.items) c.loop-k.self-inside.spots.items c.loop-k.k c.index.result.now c.loop-k.invariant.places below c.index.ensures in
+    let all : All (λ place. place < length c.args.lives.now.items) (listed_places c.self.inside.spots.items)
+    = subst (λ (list : VarList). All (λ place. place < length c.args.lives.now.items) (listed_places list.spots)) (sym c.self.view_is) c.requires in
     let lives : vec_len c.loop-k.lives ≡ length c.loop-k.lives.items = search rules in
     omega (arith, lives, c.loop-k.invariant.each, at.0, all c.loop-k.k 0 at.1)
 
@@ -26,14 +26,14 @@ loop-k-preserved c =
     let counted : vec_len c.self.inside.spots ≡ length c.self.inside.spots.items = search rules in
     let below : c.loop-k.k < length c.loop-k.self-inside.spots.items
     = omega (arith, counted, c.loop-k-test.true, c.len-k-end.ensures, length-spots c.loop-k.self-inside.spots.items c.self.inside.spots.items c.loop-k.invariant.places) in
-    let at = spot-at (places_of c.self.inside.spots.items) c.loop-k.self-inside.spots.items c.loop-k.k c.index.result.now c.loop-k.invariant.places below c.index.ensures in
-    let all : All (λ place. place < length c.args.lives.now.items) (places_of c.self.inside.spots.items)
-    = subst (λ (list : VarList). All (λ place. place < length c.args.lives.now.items) (places_of list.spots)) (sym c.self.view_is) c.requires in
+    let at = spot-at (listed_places c.self.inside.spots.items) c.loop-k.self-inside.spots.items c.loop-k.k c.index.result.now c.loop-k.invariant.places below c.index.ensures in
+    let all : All (λ place. place < length c.args.lives.now.items) (listed_places c.self.inside.spots.items)
+    = subst (λ (list : VarList). All (λ place. place < length c.args.lives.now.items) (listed_places list.spots)) (sym c.self.view_is) c.requires in
     let within : c.index.result.now.place < length c.loop-k.lives.items = omega (arith, c.loop-k.invariant.each, at.0, all c.loop-k.k 0 at.1) in
     record {
       each = length-set c.loop-k.lives.items _ _ ∙ c.loop-k.invariant.each;
       var = c.loop-k.invariant.var;
       places = map-set_same (λ (spot : Spot). spot.place) c.loop-k.self-inside.spots.items c.loop-k.k _ c.index.result.now (ap (λ (spot : Spot). spot.place) c.index.ensures) ∙ c.loop-k.invariant.places;
-      done = passes-next c.args.stamp c.args.var.now c.args.source.now _ (places_of c.self.inside.spots.items) c.loop-k.k c.index.result.now.place c.loop-k.lives.items c.loop-k.due c.in_ok-passes.passes c.if-due.due c.index_mut.result.now c.pass_if_due.new.self
+      done = passes-next c.args.stamp c.args.var.now c.args.source.now _ (listed_places c.self.inside.spots.items) c.loop-k.k c.index.result.now.place c.loop-k.lives.items c.loop-k.due c.in_ok-passes.passes c.if-due.due c.index_mut.result.now c.pass_if_due.new.self
           either at.1 at.0 within c.index_mut.ensures.value c.in_ok-passes.ensures.due c.in_ok-passes.ensures.passed c.loop-k.invariant.done;
     }

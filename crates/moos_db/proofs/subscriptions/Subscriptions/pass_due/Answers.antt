@@ -1,19 +1,19 @@
 use Rattle.std.proofs.Common.{◌≡◌, ◌<◌, ◌∙◌, ℕ, List, All, false, fold, length, map, ap, sym, subst, arith}
 use Rattle.std.specs.List.{list_any}
-use Rattle.moos_db.specs.Index.{matching_from, pass_place, Passing, places_of}
+use Rattle.moos_db.specs.Index.{matching_from, pass_place, Passing, listed_places}
 use Rattle.moos_db.specs.Subscribers.{is_due_held, passed}
 use Rattle.moos_db.proofs.Listing.{matching-passed, matching-within, passes-matching}
 use Rattle.moos_db.proofs.subscriptions.Subscriptions.pass_due.Goals as goal
 
 pub pass-requires : goal.pass-requires
 pass-requires c =
-    let places : places_of c.in_ok-list.list.spots ≡ matching_from 0 c.args.var.now c.self.inside.lives.items
+    let places : listed_places c.in_ok-list.list.spots ≡ matching_from 0 c.args.var.now c.self.inside.lives.items
     = c.in_ok-list.ensures.places ∙ ap (matching_from 0 c.args.var.now) c.as_slice.ensures.value in
     subst (All (λ n. n < length c.self.inside.lives.items)) (sym places) (matching-within 0 (length c.self.inside.lives.items) c.args.var.now c.self.inside.lives.items (omega arith))
 
 pub invariant_of-self-in-Ok : goal.invariant_of-self-in-Ok
 invariant_of-self-in-Ok c =
-    let places : places_of c.in_ok-list.list.spots ≡ matching_from 0 c.args.var.now c.self.inside.lives.items
+    let places : listed_places c.in_ok-list.list.spots ≡ matching_from 0 c.args.var.now c.self.inside.lives.items
     = c.in_ok-list.ensures.places ∙ ap (matching_from 0 c.args.var.now) c.as_slice.ensures.value in
     let done : record { helds = c.pass.new.lives.items; due = c.in-Ok.due } ≡ record { helds = map (passed c.args.stamp c.args.var.now c.args.source.now) c.self.inside.lives.items; due = list_any (is_due_held c.args.stamp c.args.var.now c.args.source.now) c.self.inside.lives.items }
     = c.in-Ok.ensures.passed ∙ ap (fold (pass_place c.args.stamp c.args.var.now c.args.source.now) (record { helds = c.self.inside.lives.items; due = false })) places ∙ passes-matching c.args.stamp c.args.var.now c.args.source.now c.self.inside.lives.items in
@@ -25,7 +25,7 @@ invariant_of-self-in-Ok c =
 
 pub returns-in-Ok-clause-due : goal.returns-in-Ok-clause-due
 returns-in-Ok-clause-due c =
-    let places : places_of c.in_ok-list.list.spots ≡ matching_from 0 c.args.var.now c.self.inside.lives.items
+    let places : listed_places c.in_ok-list.list.spots ≡ matching_from 0 c.args.var.now c.self.inside.lives.items
     = c.in_ok-list.ensures.places ∙ ap (matching_from 0 c.args.var.now) c.as_slice.ensures.value in
     let done : record { helds = c.pass.new.lives.items; due = c.in-Ok.due } ≡ record { helds = map (passed c.args.stamp c.args.var.now c.args.source.now) c.self.inside.lives.items; due = list_any (is_due_held c.args.stamp c.args.var.now c.args.source.now) c.self.inside.lives.items }
     = c.in-Ok.ensures.passed ∙ ap (fold (pass_place c.args.stamp c.args.var.now c.args.source.now) (record { helds = c.self.inside.lives.items; due = false })) places ∙ passes-matching c.args.stamp c.args.var.now c.args.source.now c.self.inside.lives.items in
@@ -33,7 +33,7 @@ returns-in-Ok-clause-due c =
 
 pub returns-in-Ok-clause-passed : goal.returns-in-Ok-clause-passed
 returns-in-Ok-clause-passed c =
-    let places : places_of c.in_ok-list.list.spots ≡ matching_from 0 c.args.var.now c.self.inside.lives.items
+    let places : listed_places c.in_ok-list.list.spots ≡ matching_from 0 c.args.var.now c.self.inside.lives.items
     = c.in_ok-list.ensures.places ∙ ap (matching_from 0 c.args.var.now) c.as_slice.ensures.value in
     let done : record { helds = c.pass.new.lives.items; due = c.in-Ok.due } ≡ record { helds = map (passed c.args.stamp c.args.var.now c.args.source.now) c.self.inside.lives.items; due = list_any (is_due_held c.args.stamp c.args.var.now c.args.source.now) c.self.inside.lives.items }
     = c.in-Ok.ensures.passed ∙ ap (fold (pass_place c.args.stamp c.args.var.now c.args.source.now) (record { helds = c.self.inside.lives.items; due = false })) places ∙ passes-matching c.args.stamp c.args.var.now c.args.source.now c.self.inside.lives.items in
