@@ -4,7 +4,7 @@ ghost use Rattle.moos_db.specs.Index.{AreListed, matching_from, pass_place, list
 
 use crate::subscription::Subscription;
 use crate::table::is_same;
-use moos_post::{Name, NoMemory};
+use moos_post::{Copied, Name, NoMemory};
 use std::alloc::Global;
 use std::marker::Model;
 use std::mem;
@@ -19,7 +19,7 @@ pub(crate) struct Spot {
 // Of one variable, the spots of those of a client's registrations whose pattern matches it.
 #[derive(Drop)]
 pub(crate) struct Listed {
-    var: Vec<u8>,
+    var: Name,
     spots: Vec<Spot>,
 }
 
@@ -28,7 +28,7 @@ impl Model for Listed {
 
     ghost Value = { VarList };
 
-    ghost view = { λ listed. record { var = listed.var.items; spots = listed.spots.items } };
+    ghost view = { λ listed. record { var = listed.var; spots = listed.spots.items } };
 }
 
 // The spots of the registrations whose pattern matches the variable.
@@ -50,7 +50,7 @@ fn list_of(alloc: Global, var: &Name, lives: &[Subscription]) -> Result<Listed, 
     ensures listed { IfOk result (λ list. listed_places list.spots ≡ matching_from 0 var.now lives.now) }
 {
     let spots = matching(alloc, var, lives)?;
-    let var = Vec::from_slice(alloc, var.bytes())?;
+    let var = var.copy(alloc)?;
     Ok(Listed { var, spots })
 }
 
@@ -90,7 +90,7 @@ impl Listed {
     fn is_of(&self, var: &Name) -> bool
         ensures { result ≡ true → self.now.var ≡ var.now }
     {
-        is_same(self.var.as_slice(), var.bytes())
+        is_same(self.var.bytes(), var.bytes())
     }
 
     // A post of this stamp and of its variable, from the client with this name, comes through each registration in the list at

@@ -5,7 +5,7 @@ use Rattle.moos_db.proofs.index.Listed.pass.Given as goal
 abbrev pub invariant-loop-k : goal.invariant-loop-k
 invariant-loop-k l = record {
   each : length l.lives.items ≡ length l.initial.lives.items;
-  var : l.self-inside.var.items ≡ l.initial.self-inside.var.items;
+  var : l.self-inside.var ≡ l.initial.self-inside.var;
   places : listed_places l.self-inside.spots.items ≡ listed_places l.initial.self-inside.spots.items;
   done : record { helds = l.lives.items; due = l.due } ≡ fold (pass_place l.stamp l.var l.source) (record { helds = l.initial.lives.items; due = false }) (take l.k (listed_places l.initial.self-inside.spots.items));
 }
