@@ -135,6 +135,11 @@ fn parts_of_a_condition(rt: HostRuntime) -> Result<(), Fail> {
     assert!(rt; cond.variable(0).bytes() == b"X".as_slice());
     assert!(rt; cond.variable(1).bytes() == b"MODE".as_slice());
     assert!(rt; cond.parent().is_none());
+    Ok(())
+}
+
+#[test]
+fn condition_that_names_a_parent(rt: HostRuntime) -> Result<(), Fail> {
     let line = Cond::read(rt.alloc(), b"((MODE == A:B))")?;
     assert!(rt; line.parent().is_some());
     Ok(())

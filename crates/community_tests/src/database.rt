@@ -1,19 +1,11 @@
+// Worked rows of the database: calls of clients, a line each, and the numbers of the posts that each fetch gives.
 ghost use Rattle.std.specs.Prelude.{◌<◌, length};
 
-use moos_db::{Db, Mail};
+use moos_db::Db;
 use moos_post::{Batch, Milli, Name, Names, Pair, Pattern, Reg, Regs, Value};
 use std::alloc::Global;
 use std::process::Abort;
 use std::test::Fail;
-
-// What a client does, and for a fetch the numbers that it is given.
-#[derive(Clone, Copy)]
-enum Step<'a> {
-    Register(&'a [(&'a str, u64, &'a str)]),
-    Unregister(&'a str, &'a str),
-    Post(&'a [(&'a str, i64)]),
-    Fetch(&'a [u64]),
-}
 
 fn reg_of(alloc: Global, var: &str, interval: u64, source: &str) -> Result<Reg, Fail> {
     let var = Pattern::read(alloc, var.as_bytes())?;
@@ -25,31 +17,31 @@ fn reg_of(alloc: Global, var: &str, interval: u64, source: &str) -> Result<Reg, 
     })
 }
 
-pub(crate) fn regs_of(alloc: Global, asked: &[(&str, u64, &str)]) -> Result<Regs, Fail> {
+/// The registrations that the words name: of each a pattern for the variable, an interval, and a pattern for the source.
+pub(crate) fn regs_of(alloc: Global, words: &[&str]) -> Result<Regs, Fail> {
     let mut regs = Regs::new(alloc);
-    for (var, interval, source) in asked {
-        regs.push(reg_of(alloc, var, *interval, source)?)?;
+    for three in words.chunks_exact(3) {
+        let interval = three[1].parse::<u64>().ok().ok_or("an interval")?;
+        regs.push(reg_of(alloc, three[0], interval, three[2])?)?;
     }
     Ok(regs)
 }
 
-fn pair_of(alloc: Global, var: &str, value: i64) -> Result<Pair, Fail> {
-    let var = Name::new(alloc, var.as_bytes())?;
-    let value = Value::Num(Milli::new(value).ok_or("a number")?);
-    Ok(Pair { var, value })
-}
-
-pub(crate) fn batch_of(alloc: Global, pairs: &[(&str, i64)]) -> Result<Batch, Fail> {
+/// A batch of posts of these variables.
+pub(crate) fn batch_of(alloc: Global, vars: &[&str]) -> Result<Batch, Fail> {
     let mut batch = Batch::new(alloc);
-    for (var, value) in pairs {
-        batch.push(pair_of(alloc, var, *value)?)?;
+    for var in vars {
+        let var = Name::new(alloc, var.as_bytes())?;
+        let value = Value::Num(Milli::new(5).ok_or("a number")?);
+        batch.push(Pair { var, value })?;
     }
     Ok(batch)
 }
 
-pub(crate) fn database(rt: &impl Abort, alloc: Global, names: &[&str]) -> Result<Db, Fail> {
+// A database of clients with these names, and no calls.
+fn database(rt: &impl Abort, alloc: Global, names: &str) -> Result<Db, Fail> {
     let mut list = Names::new(alloc);
-    for name in names {
+    for name in names.split_whitespace() {
         list.push(Name::new(alloc, name.as_bytes())?)?;
     }
     assert!(rt; list.len() < 100);
@@ -61,222 +53,183 @@ fn unregister(
     db: &mut Db,
     client: u32,
     stamp: u64,
-    var: &str,
-    source: &str,
+    words: &[&str],
 ) -> Result<(), Fail>
     requires { client < length db.old.names }
 {
+    let [var, source] = words else {
+        return Err(Fail::from("two patterns"));
+    };
     let var = Pattern::read(alloc, var.as_bytes())?;
     let source = Pattern::read(alloc, source.as_bytes())?;
     db.unregister(alloc, client, stamp, var, source)?;
     Ok(())
 }
 
-fn numbers_of(alloc: Global, mail: &Mail) -> Result<Vec<u64>, Fail> {
-    let mut numbers = Vec::new(alloc);
-    for letter in mail.all() {
-        numbers.push(letter.number)?;
-    }
-    Ok(numbers)
-}
-
+// A fetch gives the posts with these numbers, and is said to have given them.
 fn fetch(
     rt: &impl Abort,
     alloc: Global,
     db: &mut Db,
     client: u32,
     stamp: u64,
-    numbers: &[u64],
+    numbers: &[&str],
 ) -> Result<(), Fail>
     requires { client < length db.old.names }
 {
     let k = db.entries();
     let mail = db.fetch(alloc, client, stamp)?;
-    assert_eq!(rt; numbers_of(alloc, &mail)?.as_slice(), numbers);
-    assert!(rt; k < db.entries());
-    assert_eq!(rt; db.letters(k), numbers);
-    Ok(())
-}
-
-fn perform(
-    rt: &impl Abort,
-    alloc: Global,
-    db: &mut Db,
-    stamp: u64,
-    client: u32,
-    call: &Step,
-) -> Result<(), Fail>
-    requires { client < length db.old.names }
-{
-    match call {
-        Step::Register(regs) => db.register(alloc, client, stamp, regs_of(alloc, regs)?)?,
-        Step::Unregister(var, source) => unregister(alloc, db, client, stamp, var, source)?,
-        Step::Post(pairs) => db.post(alloc, client, stamp, batch_of(alloc, pairs)?)?,
-        Step::Fetch(numbers) => fetch(rt, alloc, db, client, stamp, numbers)?,
+    let given = db.letters(k);
+    assert!(rt; mail.len() == numbers.len() && given.len() == numbers.len());
+    for ((letter, number), word) in mail.all().iter().zip(given).zip(numbers) {
+        let wanted = word.parse::<u64>().ok().ok_or("a number")?;
+        assert!(rt; letter.number == wanted && *number == wanted);
     }
     Ok(())
 }
 
-fn play(
-    rt: &impl Abort,
-    alloc: Global,
-    names: &[&str],
-    steps: &[(u64, u32, Step)],
-) -> Result<(), Fail> {
+// Makes a call: its stamp, the number of its client, and what it does. Of a fetch the numbers that it is given follow.
+fn perform(rt: &impl Abort, alloc: Global, db: &mut Db, call: &str) -> Result<(), Fail> {
+    let mut words = Vec::new(alloc);
+    for word in call.split_whitespace() {
+        words.push(word)?;
+    }
+    let [stamp, client, verb, rest @ ..] = words.as_slice() else {
+        return Err(Fail::from("a call"));
+    };
+    let stamp = stamp.parse::<u64>().ok().ok_or("a stamp")?;
+    let client = client.parse::<u32>().ok().ok_or("a client")?;
+    assert!(rt; client < db.clients());
+    match *verb {
+        "register" => db.register(alloc, client, stamp, regs_of(alloc, rest)?)?,
+        "unregister" => unregister(alloc, db, client, stamp, rest)?,
+        "post" => db.post(alloc, client, stamp, batch_of(alloc, rest)?)?,
+        _ => fetch(rt, alloc, db, client, stamp, rest)?,
+    }
+    Ok(())
+}
+
+/// A database of clients with these names behind the calls, a line each.
+pub(crate) fn played(rt: &impl Abort, alloc: Global, names: &str, calls: &str) -> Result<Db, Fail> {
     let mut db = database(rt, alloc, names)?;
-    for (stamp, client, call) in steps {
-        assert!(rt; *client < db.clients());
-        perform(rt, alloc, &mut db, *stamp, *client, call)?;
+    for call in calls.lines() {
+        perform(rt, alloc, &mut db, call)?;
     }
-    Ok(())
+    Ok(db)
 }
 
-// Clients 0 to 3 are log, two, p and q. A source pattern lets through whom it matches; `?` wants one byte.
-#[test]
-fn patterns_select(rt: HostRuntime) -> Result<(), Fail> {
-    let steps = [
-        (0, 0, Step::Register(&[("NAV_*", 0, "p*")])),
-        (500, 1, Step::Register(&[("NAV_?", 0, "*")])),
-        (
-            1000,
-            2,
-            Step::Post(&[("NAV_", 1), ("NAV_X", 2), ("NAV_XY", 3)]),
-        ),
-        (2000, 3, Step::Post(&[("NAV_X", 4)])),
-        (3000, 0, Step::Fetch(&[0, 1, 2])),
-        (4000, 1, Step::Fetch(&[1, 3])),
-    ];
-    play(&rt, rt.alloc(), &["log", "two", "p", "q"], &steps)
-}
+// A source pattern lets through whom it matches; `?` wants one byte.
+const PATTERNS: &str = "0 0 register NAV_* 0 p*
+500 1 register NAV_? 0 *
+1000 2 post NAV_ NAV_X NAV_XY
+2000 3 post NAV_X
+3000 0 fetch 0 1 2
+4000 1 fetch 1 3";
 
 // The interval counts from the last post that came through, and a post of the client itself is mailed too.
-#[test]
-fn interval_counts_from_the_last_that_came(rt: HostRuntime) -> Result<(), Fail> {
-    let steps = [
-        (0, 0, Step::Register(&[("X", 500, "*")])),
-        (0, 0, Step::Post(&[("X", 1)])),
-        (499, 0, Step::Post(&[("X", 2)])),
-        (500, 0, Step::Post(&[("X", 3)])),
-        (999, 0, Step::Post(&[("X", 4)])),
-        (1000, 0, Step::Post(&[("X", 5)])),
-        (2000, 0, Step::Fetch(&[0, 2, 4])),
-        (2000, 0, Step::Fetch(&[])),
-    ];
-    play(&rt, rt.alloc(), &["a"], &steps)
-}
+const INTERVAL: &str = "0 0 register X 500 *
+0 0 post X
+499 0 post X
+500 0 post X
+999 0 post X
+1000 0 post X
+2000 0 fetch 0 2 4
+2000 0 fetch";
 
 // Registering late mails each variable's latest post once, when the registration is made.
-#[test]
-fn late_registration_catches_up(rt: HostRuntime) -> Result<(), Fail> {
-    let steps = [
-        (0, 0, Step::Post(&[("A", 1)])),
-        (1000, 0, Step::Post(&[("B", 2)])),
-        (2000, 0, Step::Post(&[("A", 3)])),
-        (3000, 1, Step::Register(&[("A", 0, "*")])),
-        (4000, 1, Step::Register(&[("*", 0, "*")])),
-        (5000, 1, Step::Fetch(&[2, 1])),
-    ];
-    play(&rt, rt.alloc(), &["a", "b"], &steps)
-}
+const LATE: &str = "0 0 post A
+1000 0 post B
+2000 0 post A
+3000 1 register A 0 *
+4000 1 register * 0 *
+5000 1 fetch 2 1";
 
 // A post that was mailed isn't mailed again to who withdraws and registers anew, and the interval begins anew.
-#[test]
-fn registration_begins_anew(rt: HostRuntime) -> Result<(), Fail> {
-    let steps = [
-        (0, 0, Step::Register(&[("X", 10_000, "*")])),
-        (1000, 1, Step::Post(&[("X", 1)])),
-        (2000, 0, Step::Unregister("X", "*")),
-        (3000, 0, Step::Register(&[("X", 10_000, "*")])),
-        (4000, 1, Step::Post(&[("X", 2)])),
-        (5000, 0, Step::Fetch(&[0, 1])),
-    ];
-    play(&rt, rt.alloc(), &["b", "a"], &steps)
-}
+const ANEW: &str = "0 0 register X 10000 *
+1000 1 post X
+2000 0 unregister X *
+3000 0 register X 10000 *
+4000 1 post X
+5000 0 fetch 0 1";
 
-// Clients 0, 1 and 2 are a, b and c.
+// Two registrations are due at post 0, and one of them at post 1: each is mailed once.
+const TWO_ARE_DUE: &str = "0 0 register X 1000 * * 0 *
+0 1 post X
+500 1 post X
+600 0 fetch 0 1";
+
+// Post 1 comes while nothing is live, and is mailed when the registration is made again.
+const WITHDRAWN_AND_MADE_AGAIN: &str = "0 0 register X 0 *
+1000 1 post X
+2000 0 unregister X *
+3000 1 post X
+4000 0 fetch 0
+5000 0 register X 0 *
+6000 0 fetch 1";
+
+// Only the registration with both patterns is withdrawn.
+const OTHER_SOURCE: &str = "0 0 register X 0 b X 0 c
+1000 0 unregister X c
+2000 0 unregister X *
+3000 1 post X
+4000 2 post X
+5000 0 fetch 0";
+
+// Post 2 catches up once and counts for both registrations, so post 3 is due at none, and post 4 at both.
+const TWO_PATTERNS_SELECT_THE_LATEST: &str = "0 1 post A B
+2000 1 post A
+2500 0 register A 1000 * * 1000 b
+2999 1 post A
+3000 1 post A
+3000 0 fetch 1 2 4";
+
+// Each variable's latest post is mailed in the order of the posts, not of the variables.
+const LATE_FOR_MANY: &str = "0 1 post C B A C
+1000 2 post B D
+2000 0 register * 0 *
+3000 0 fetch 2 3 4 5";
+
+// The second X of a batch is due where the interval is 0 alone.
+const VARIABLE_TWICE_IN_A_BATCH: &str = "0 0 register X 500 *
+0 2 register X 0 *
+1000 1 post X Y X
+2000 0 fetch 0
+2000 2 fetch 0 2";
+
+// A stamp below the last one that came through is never due, and the last one stays.
+const STAMPS_FALL_BACK: &str = "0 0 register X 0 *
+1000 1 post X
+999 1 post X
+1000 1 post X
+0 0 fetch 0 2";
+
+// A variable that was posted before it was registered for is heard from then on, another client's registration for it
+// stays, and one of two registrations that hear it is withdrawn.
+const HEARD_LATER: &str = "0 1 post X
+0 0 register X 0 *
+0 2 register ? 0 * X 0 *
+1 2 unregister X *
+1 1 post X
+2 0 fetch 0 1
+2 2 fetch 0 1";
+
 #[test]
-fn further_cases(rt: HostRuntime) -> Result<(), Fail> {
-    // Two registrations are due at post 0, and one of them at post 1: each is mailed once.
-    let two_are_due = [
-        (0, 0, Step::Register(&[("X", 1000, "*"), ("*", 0, "*")])),
-        (0, 1, Step::Post(&[("X", 1)])),
-        (500, 1, Step::Post(&[("X", 2)])),
-        (600, 0, Step::Fetch(&[0, 1])),
-    ];
-    // Post 1 comes while nothing is live, and is mailed when the registration is made again.
-    let withdrawn_and_made_again = [
-        (0, 0, Step::Register(&[("X", 0, "*")])),
-        (1000, 1, Step::Post(&[("X", 1)])),
-        (2000, 0, Step::Unregister("X", "*")),
-        (3000, 1, Step::Post(&[("X", 2)])),
-        (4000, 0, Step::Fetch(&[0])),
-        (5000, 0, Step::Register(&[("X", 0, "*")])),
-        (6000, 0, Step::Fetch(&[1])),
-    ];
-    // Only the registration with both patterns is withdrawn.
-    let other_source = [
-        (0, 0, Step::Register(&[("X", 0, "b"), ("X", 0, "c")])),
-        (1000, 0, Step::Unregister("X", "c")),
-        (2000, 0, Step::Unregister("X", "*")),
-        (3000, 1, Step::Post(&[("X", 1)])),
-        (4000, 2, Step::Post(&[("X", 2)])),
-        (5000, 0, Step::Fetch(&[0])),
-    ];
-    // Post 2 catches up once and counts for both registrations, so post 3 is due at none, and post 4 at both.
-    let two_patterns_select_the_latest = [
-        (0, 1, Step::Post(&[("A", 1), ("B", 2)])),
-        (2000, 1, Step::Post(&[("A", 3)])),
-        (
-            2500,
-            0,
-            Step::Register(&[("A", 1000, "*"), ("*", 1000, "b")]),
-        ),
-        (2999, 1, Step::Post(&[("A", 4)])),
-        (3000, 1, Step::Post(&[("A", 5)])),
-        (3000, 0, Step::Fetch(&[1, 2, 4])),
-    ];
-    // Each variable's latest post is mailed in the order of the posts, not of the variables.
-    let late_for_many = [
-        (0, 1, Step::Post(&[("C", 1), ("B", 2), ("A", 3), ("C", 4)])),
-        (1000, 2, Step::Post(&[("B", 5), ("D", 6)])),
-        (2000, 0, Step::Register(&[("*", 0, "*")])),
-        (3000, 0, Step::Fetch(&[2, 3, 4, 5])),
-    ];
-    // The second X of a batch is due where the interval is 0 alone.
-    let variable_twice_in_a_batch = [
-        (0, 0, Step::Register(&[("X", 500, "*")])),
-        (0, 2, Step::Register(&[("X", 0, "*")])),
-        (1000, 1, Step::Post(&[("X", 1), ("Y", 2), ("X", 3)])),
-        (2000, 0, Step::Fetch(&[0])),
-        (2000, 2, Step::Fetch(&[0, 2])),
-    ];
-    let fetched_twice = [
-        (0, 0, Step::Register(&[("X", 0, "*")])),
-        (1000, 0, Step::Post(&[("X", 1)])),
-        (2000, 0, Step::Fetch(&[0])),
-        (3000, 0, Step::Fetch(&[])),
-        (4000, 0, Step::Post(&[("X", 2)])),
-        (5000, 0, Step::Fetch(&[1])),
-    ];
-    // A stamp below the last one that came through is never due, and the last one stays.
-    let stamps_fall_back = [
-        (0, 0, Step::Register(&[("X", 0, "*")])),
-        (1000, 1, Step::Post(&[("X", 1)])),
-        (999, 1, Step::Post(&[("X", 2)])),
-        (1000, 1, Step::Post(&[("X", 3)])),
-        (0, 0, Step::Fetch(&[0, 2])),
-    ];
-    for steps in [
-        two_are_due.as_slice(),
-        &withdrawn_and_made_again,
-        &other_source,
-        &two_patterns_select_the_latest,
-        &late_for_many,
-        &variable_twice_in_a_batch,
-        &fetched_twice,
-        &stamps_fall_back,
+fn worked_rows(rt: HostRuntime) -> Result<(), Fail> {
+    let _ = played(&rt, rt.alloc(), "log two p q", PATTERNS)?;
+    for calls in [
+        INTERVAL,
+        LATE,
+        ANEW,
+        TWO_ARE_DUE,
+        WITHDRAWN_AND_MADE_AGAIN,
+        OTHER_SOURCE,
+        TWO_PATTERNS_SELECT_THE_LATEST,
+        LATE_FOR_MANY,
+        VARIABLE_TWICE_IN_A_BATCH,
+        STAMPS_FALL_BACK,
+        HEARD_LATER,
     ] {
-        play(&rt, rt.alloc(), &["a", "b", "c"], steps)?;
+        let _ = played(&rt, rt.alloc(), "a b c", calls)?;
     }
     Ok(())
 }

@@ -1,38 +1,27 @@
 // What a database tells of its parts, and the mail of a list of calls.
-use crate::database::{batch_of, database, regs_of};
-use moos_db::{Db, mails_of};
-use moos_post::{Batch, Call, Entry, Name, Names, Regs, Value};
-use std::alloc::Global;
-use std::process::Abort;
+use crate::database::{batch_of, played, regs_of};
+use moos_db::mails_of;
+use moos_post::{Call, Entry, Name, Names, Value};
 use std::test::Fail;
 
 // A call that asks for nothing is an entry too.
 #[test]
 fn empty_lists_are_entries(rt: HostRuntime) -> Result<(), Fail> {
-    let alloc = rt.alloc();
-    let mut db = database(&rt, alloc, &["a"])?;
-    assert!(rt; db.clients() == 1);
-    db.post(alloc, 0, 0, Batch::new(alloc))?;
-    db.register(alloc, 0, 0, Regs::new(alloc))?;
+    let db = played(&rt, rt.alloc(), "a", "0 0 post\n0 0 register")?;
     assert_eq!(rt; db.entries(), 2);
     assert_eq!(rt; db.posts(), 0);
     Ok(())
 }
 
-// A database with a registration of the second client, a batch of the first, and a post of the second.
-fn busy(rt: &impl Abort, alloc: Global) -> Result<Db, Fail> {
-    let mut db = database(rt, alloc, &["pA", "pB"])?;
-    assert!(rt; db.clients() == 2);
-    db.register(alloc, 1, 0, regs_of(alloc, &[("X", 0, "*")])?)?;
-    db.post(alloc, 0, 1000, batch_of(alloc, &[("Y", 4), ("X", 5)])?)?;
-    db.post(alloc, 1, 2000, batch_of(alloc, &[("X", 6)])?)?;
-    Ok(db)
-}
+// A registration of the second client, a batch of the first, and a post of the second.
+const BUSY: &str = "0 1 register X 0 *
+1000 0 post Y X
+2000 1 post X";
 
 // The numbers that a fetch gave are those of posts before it.
 #[test]
 fn tells_its_parts(rt: HostRuntime) -> Result<(), Fail> {
-    let mut db = busy(&rt, rt.alloc())?;
+    let mut db = played(&rt, rt.alloc(), "pA pB", BUSY)?;
     assert!(rt; db.clients() == 2 && db.entries() == 3 && db.posts() == 3);
     assert_eq!(rt; db.name(1).bytes(), b"pB".as_slice());
     let entry = db.entry(1);
@@ -67,8 +56,8 @@ fn mails_of_a_list_of_calls(rt: HostRuntime) -> Result<(), Fail> {
     let mut names = Names::new(alloc);
     names.push(Name::new(alloc, b"pA")?)?;
     let mut calls = Vec::new(alloc);
-    calls.push(entry(0, 0, Call::Register(regs_of(alloc, &[("X", 0, "*")])?)))?;
-    calls.push(entry(1000, 0, Call::Post(batch_of(alloc, &[("X", 5)])?)))?;
+    calls.push(entry(0, 0, Call::Register(regs_of(alloc, &["X", "0", "*"])?)))?;
+    calls.push(entry(1000, 0, Call::Post(batch_of(alloc, &["X"])?)))?;
     calls.push(entry(2000, 0, Call::Fetch))?;
     calls.push(entry(3000, 0, Call::Fetch))?;
     assert!(rt; names.len() == 1);

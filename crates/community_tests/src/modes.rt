@@ -50,11 +50,12 @@ fn child(rt: &impl Abort, alloc: Global, called: &[u8], line: &[u8]) -> Result<D
     })
 }
 
-fn says(alloc: Global, info: &mut Info, var: &[u8], text: &[u8]) -> Result<(), AllocError> {
-    let Ok(text) = Txt::new(alloc, text) else {
-        return Err(AllocError);
-    };
-    info.learn(alloc, &name(alloc, var)?, &Value::Text(text))
+// Active, and then surveying or else returning; or inactive.
+fn mission(rt: &impl Abort, alloc: Global) -> Result<ModeTree, AllocError> {
+    let first = root(rt, alloc)?;
+    let second = child(rt, alloc, b"SURVEYING", b"SURVEY = true")?;
+    let third = child(rt, alloc, b"RETURNING", b"RETURN = true")?;
+    Ok(ModeTree::make(Decls::of(vec![in alloc; first, second, third]?)))
 }
 
 struct Row {
@@ -91,21 +92,29 @@ const ROWS: [Row; 4] = [
     },
 ];
 
-// A mission's modes: active, and then surveying or else returning; or inactive.
+// What is known in a row.
+fn knowledge(alloc: Global, row: &Row) -> Result<Info, AllocError> {
+    let mut info = Info::make(alloc);
+    for (var, text) in [
+        (b"DEPLOY".as_slice(), row.deploy),
+        (b"SURVEY", row.survey),
+        (b"RETURN", row.back),
+    ] {
+        let Ok(text) = Txt::new(alloc, text) else {
+            return Err(AllocError);
+        };
+        info.learn(alloc, &name(alloc, var)?, &Value::Text(text))?;
+    }
+    Ok(info)
+}
+
 #[test]
 fn modes(rt: HostRuntime) -> Result<(), Fail> {
-    let alloc = rt.alloc();
-    let first = root(&rt, alloc)?;
-    let second = child(&rt, alloc, b"SURVEYING", b"SURVEY = true")?;
-    let third = child(&rt, alloc, b"RETURNING", b"RETURN = true")?;
-    let tree = ModeTree::make(Decls::of(vec![in alloc; first, second, third]?));
+    let tree = mission(&rt, rt.alloc())?;
     for row in &ROWS {
-        let mut info = Info::make(alloc);
-        says(alloc, &mut info, b"DEPLOY", row.deploy)?;
-        says(alloc, &mut info, b"SURVEY", row.survey)?;
-        says(alloc, &mut info, b"RETURN", row.back)?;
+        let info = knowledge(rt.alloc(), row)?;
         let path = tree.mode(&info);
-        let text = tree.text(alloc, &path)?;
+        let text = tree.text(rt.alloc(), &path)?;
         assert!(rt; text.bytes() == row.mode);
     }
     Ok(())

@@ -1,35 +1,12 @@
 // Files of behaviours worked by hand, and their limits.
 ghost use Rattle.std.specs.Prelude.{◌<◌};
 
-use bhv_reader::{BhvFile, Block, Common, Shape, Spec, read_behaviors, set_param};
-use ivp_domain::{Axis, AxisName, Domain};
+use crate::files::{Kind, are_refused, behaviors, count, refusal, stands_at};
+use bhv_reader::{Block, Common, Shape, Spec, set_param};
 use moos_post::Copied;
-use moos_text::{Cause, ReadFault, print_seconds};
+use moos_text::Cause;
 use std::alloc::{AllocError, Global};
-use std::process::Abort;
 use std::test::Fail;
-
-fn axis(rt: &impl Abort, name: &[u8]) -> Axis {
-    let name = AxisName::new(name).expect(rt, "a name");
-    Axis {
-        name,
-        low: 0,
-        high: 4000,
-        points: 41,
-    }
-}
-
-fn domain(rt: &impl Abort) -> Domain {
-    match Domain::make(&[axis(rt, b"course"), axis(rt, b"speed"), axis(rt, b"depth")]) {
-        Ok(domain) => domain,
-        Err(_) => panic!(rt; "a domain"),
-    }
-}
-
-fn read(rt: &impl Abort, alloc: Global, text: &[u8]) -> Result<BhvFile, ReadFault> {
-    assert!(rt; text.len() < 4_000_000_000);
-    read_behaviors(alloc, text, &domain(rt))
-}
 
 const SURVEY: &[u8] =
     b"initialize DEPLOY = false\ninitialize RETURN = false\n\nBehavior = BHV_Waypoint\n{\n  name = waypt_survey\n  pwt = 100\n  condition = RETURN = false\n  condition = DEPLOY = true\n  endflag = RETURN = true\n  updates = WPT_UPDATE\n  perpetual = true\n  lead = 8\n  speed = 2   // meters per second\n  capture_radius = 5.0\n  slip_radius = 15.0\n  points = 60,-40 : 60,-160 : 150,-160 : 180,-100 : 150,-40\n  repeat = 1\n  visual_hints = nextpt_color=red\n}\n\nBehavior = BHV_Waypoint\n{\n  name = waypt_return\n  pwt = 100\n  condition = RETURN = true\n  condition = DEPLOY = true\n  endflag = RETURN = false\n  endflag = DEPLOY = false\n  speed = 2.0\n  capture_radius = 2.0\n  slip_radius = 8.0\n  points = 0,-20\n}\n\nBehavior = BHV_ConstantDepth\n{\n  name = const_depth\n  pwt = 100\n  condition = DEPLOY = true\n  duration = no-time-limit\n  depth = 10\n}\n";
@@ -37,7 +14,7 @@ const SURVEY: &[u8] =
 #[test]
 fn survey(rt: HostRuntime) -> Result<(), Fail> {
     let alloc = rt.alloc();
-    let file = read(&rt, alloc, SURVEY)?;
+    let file = behaviors(&rt, alloc, SURVEY)?;
     assert_eq!(rt; file.opening.len(), 2);
     assert_eq!(rt; file.blocks.len(), 3);
     assert_eq!(rt; file.unused.len(), 2);
@@ -50,69 +27,52 @@ fn survey(rt: HostRuntime) -> Result<(), Fail> {
     Ok(())
 }
 
-// What stands before a count from 0 up, and what stands behind it, so many times.
-fn counted(text: &mut Vec<u8>, count: u32, before: &[u8], behind: &[u8]) -> Result<(), AllocError> {
-    for number in 0..count {
-        text.extend_from_slice(before)?;
-        text.extend_from_slice(print_seconds(number as u64 * 1000).bytes())?;
-        text.extend_from_slice(behind)?;
-    }
+#[test]
+fn most_blocks(rt: HostRuntime) -> Result<(), Fail> {
+    let alloc = rt.alloc();
+    let mut text = Vec::new(alloc);
+    count(&mut text, 64, b"Behavior = BHV_Timer {\nname = t", b"\n}\n")?;
+    let more = [(b"Behavior = BHV_Timer {\nname = x\n}".as_slice(), Cause::B9)];
+    stands_at(&rt, alloc, Kind::Behaviors, &text, &more)?;
     Ok(())
 }
 
-fn refusal(rt: &impl Abort, alloc: Global, text: &[u8]) -> Option<Cause> {
-    match read(rt, alloc, text) {
-        Ok(_) => None,
-        Err(ReadFault::At { cause, .. }) => Some(cause),
-        Err(ReadFault::NoMemory) => None,
-    }
-}
+const TIMER: &[u8] = b"Behavior = BHV_Timer {\nname = t\n";
 
+// One more is refused where it is good, and for what is wrong with it where it isn't.
 #[test]
-fn limits(rt: HostRuntime) -> Result<(), Fail> {
+fn most_conditions_and_flags(rt: HostRuntime) -> Result<(), Fail> {
     let alloc = rt.alloc();
-    let mut text = Vec::new(alloc);
-    counted(&mut text, 64, b"Behavior = BHV_Timer {\nname = t", b"\n}\n")?;
-    assert_eq!(rt; refusal(&rt, alloc, &text), None);
-    text.extend_from_slice(b"Behavior = BHV_Timer {\nname = x\n}")?;
-    assert_eq!(rt; refusal(&rt, alloc, &text), Some(Cause::B9));
-    for (count, line, good, bad) in [
-        (
-            64,
-            b"condition = X = ".as_slice(),
-            b"condition = X = 1".as_slice(),
-            (b"condition = X".as_slice(), Cause::B5),
-        ),
-        (
-            32,
-            b"endflag = X = ",
-            b"idleflag = X = 1",
-            (b"runflag = X", Cause::B6),
-        ),
-    ] {
-        let mut text = Vec::from_slice(alloc, b"Behavior = BHV_Timer {\nname = t\n")?;
-        counted(&mut text, count, line, b"\n")?;
-        let mut whole = Vec::from_slice(alloc, &text)?;
-        whole.extend_from_slice(b"}")?;
-        assert_eq!(rt; refusal(&rt, alloc, &whole), None);
-        let mut more = Vec::from_slice(alloc, &text)?;
-        more.extend_from_slice(good)?;
-        assert_eq!(rt; refusal(&rt, alloc, &more), Some(Cause::B9));
-        text.extend_from_slice(bad.0)?;
-        assert_eq!(rt; refusal(&rt, alloc, &text), Some(bad.1));
-    }
+    let conditions = [
+        (b"condition = X = 1".as_slice(), 67, Cause::B9),
+        (b"condition = X", 67, Cause::B5),
+    ];
+    let mut text = Vec::from_slice(alloc, TIMER)?;
+    count(&mut text, 64, b"condition = X = ", b"\n")?;
+    are_refused(&rt, alloc, Kind::Behaviors, &text, &conditions)?;
+    text.extend_from_slice(b"}")?;
+    assert_eq!(rt; refusal(&rt, alloc, Kind::Behaviors, &text), None);
+    let flags = [
+        (b"idleflag = X = 1".as_slice(), 35, Cause::B9),
+        (b"runflag = X", 35, Cause::B6),
+    ];
+    let mut text = Vec::from_slice(alloc, TIMER)?;
+    count(&mut text, 32, b"endflag = X = ", b"\n")?;
+    are_refused(&rt, alloc, Kind::Behaviors, &text, &flags)?;
+    text.extend_from_slice(b"}")?;
+    assert_eq!(rt; refusal(&rt, alloc, Kind::Behaviors, &text), None);
     Ok(())
 }
 
 // A path of so many points.
-fn path(alloc: Global, count: u32) -> Result<Vec<u8>, AllocError>
-    requires { 0 < count }
+fn path(alloc: Global, places: u32) -> Result<Vec<u8>, AllocError>
+    requires { 0 < places }
 {
     let mut text = Vec::from_slice(
         alloc,
         b"Behavior = BHV_Waypoint {\nname = w\nspeed = 1\npoints = ",
     )?;
-    counted(&mut text, count - 1, b"1,", b" : ")?;
+    count(&mut text, places - 1, b"1,", b" : ")?;
     text.extend_from_slice(b"0,0\n}")?;
     Ok(text)
 }
@@ -121,9 +81,9 @@ fn path(alloc: Global, count: u32) -> Result<Vec<u8>, AllocError>
 fn most_places(rt: HostRuntime) -> Result<(), Fail> {
     let alloc = rt.alloc();
     let good = path(alloc, 64)?;
-    assert_eq!(rt; refusal(&rt, alloc, &good), None);
+    assert_eq!(rt; refusal(&rt, alloc, Kind::Behaviors, &good), None);
     let bad = path(alloc, 65)?;
-    assert_eq!(rt; refusal(&rt, alloc, &bad), Some(Cause::B6));
+    are_refused(&rt, alloc, Kind::Behaviors, b"", &[(&bad, 4, Cause::B6)])?;
     Ok(())
 }
 
@@ -167,7 +127,7 @@ fn copied(alloc: Global, block: &Block) -> Result<(Common, Spec), AllocError> {
 #[test]
 fn copies(rt: HostRuntime) -> Result<(), Fail> {
     let alloc = rt.alloc();
-    let file = read(&rt, alloc, SURVEY)?;
+    let file = behaviors(&rt, alloc, SURVEY)?;
     assert_eq!(rt; file.blocks.len(), 3);
     let (common, spec) = copied(alloc, file.blocks.get(2))?;
     assert_eq!(rt; common.name.bytes(), b"const_depth".as_slice());

@@ -1,7 +1,7 @@
 use Rattle.std.proofs.Common.{◌≡◌, ◌∙◌, true, ◌&&◌, [], ◌∷◌, None, Some, ap}
 use Rattle.bhv_reader.specs.declared.decl.Decl.{Decl}
 use Rattle.mode_tree.specs.Scans.{stands_before, are_rooted}
-use Rattle.community_tests.proofs.modes.modes.Goals as goal
+use Rattle.community_tests.proofs.modes.mission.Goals as goal
 
 -- a root and two declarations under it
 rooted : (a b d : Decl) → a.parent ≡ None → b.parent ≡ Some 0 → d.parent ≡ Some 0 → are_rooted 0 (a ∷ b ∷ d ∷ []) ≡ true
@@ -10,7 +10,7 @@ rooted a b d first second third =
     ∙ ap (λ parent. stands_before parent 1 && (stands_before d.parent 2 && true)) second
     ∙ ap (λ parent. stands_before parent 2 && true) third
 
-pub make-tree-requires-clause-rooted : goal.make-tree-requires-clause-rooted
-make-tree-requires-clause-rooted g c =
+pub make-requires-clause-rooted : goal.make-requires-clause-rooted
+make-requires-clause-rooted g c =
     ap (are_rooted 0) (c.of.ensures ∙ c.in_ok-vec.ensures.items)
     ∙ rooted c.in_ok-first.first c.in_ok-second.second c.in_ok-third.third c.in_ok-first.ensures c.in_ok-second.ensures c.in_ok-third.ensures

@@ -1,26 +1,10 @@
 // Missions and refusals worked by hand.
+use crate::files::{Kind, append, are_refused};
 use mission_reader::{Mission, read_mission};
 use moos_post::Milli;
-use moos_text::{Cause, ReadFault, print_milli, print_seconds};
+use moos_text::{Cause, print_milli, print_seconds};
 use std::alloc::{AllocError, Global};
-use std::process::Abort;
 use std::test::Fail;
-
-fn read(rt: &impl Abort, alloc: Global, text: &[u8]) -> Result<Mission, ReadFault> {
-    assert!(rt; text.len() < 4_000_000_000);
-    read_mission(alloc, text)
-}
-
-fn append(text: &mut Vec<u8>, pieces: &[&[u8]]) -> Result<(), AllocError> {
-    for piece in pieces {
-        text.extend_from_slice(*piece)?;
-    }
-    Ok(())
-}
-
-fn number(thousandths: i64) -> Option<Milli> {
-    Milli::new(thousandths)
-}
 
 // The period and the last line, the behaviour file, and then each axis.
 fn shown(alloc: Global, mission: &Mission) -> Result<Vec<u8>, AllocError> {
@@ -40,7 +24,7 @@ fn shown(alloc: Global, mission: &Mission) -> Result<Vec<u8>, AllocError> {
         append(&mut text, &[b" ", axis.name.bytes()])?;
         for end in [axis.low, axis.high, axis.points as i64 * 1000] {
             text.extend_from_slice(b":")?;
-            if let Some(end) = number(end) {
+            if let Some(end) = Milli::new(end) {
                 text.extend_from_slice(print_milli(end).bytes())?;
             }
         }
@@ -79,7 +63,8 @@ fn good_missions(rt: HostRuntime) -> Result<(), Fail> {
             b"0.001 6 <b> a:0:1:2048 b:0:1:2048",
         ),
     ] {
-        let mission = read(&rt, alloc, text)?;
+        assert!(rt; text.len() < 1000);
+        let mission = read_mission(alloc, text)?;
         assert_eq!(rt; shown(alloc, &mission)?.as_slice(), wanted, "{text:?}");
     }
     Ok(())
@@ -142,47 +127,28 @@ const HELM: &[(&[u8], u32, Cause)] = &[
     (b"AppTick = -1", 2, Cause::M6),
 ];
 
+// The same of whole missions. In the last one the survey's axis of speeds is empty.
+const WHOLE: &[(&[u8], u32, Cause)] = &[
+    (b"", 1, Cause::M5),
+    (b"behaviors = b\ndomain = a:0:1:2\n", 2, Cause::M5),
+    (b"x = {\n\n {  \n", 3, Cause::M1),
+    (
+        b"ServerHost = localhost\nServerPort = 9000\nCommunity = alpha\nProcessConfig = pHelmIvP\n{\n  AppTick = 4\n  CommsTick = 4\n  behaviors = alpha.bhv\n  domain = course:0:359:360\n  domain = speed:4:4:1\n  domain = depth:0:100:101\n}\n",
+        10,
+        Cause::M3,
+    ),
+];
+
 #[test]
 fn refusals(rt: HostRuntime) -> Result<(), Fail> {
     let alloc = rt.alloc();
-    for (lines, line, cause) in HELM {
-        let mut text = Vec::from_slice(alloc, b"ProcessConfig = pHelmIvP {\n")?;
-        text.extend_from_slice(*lines)?;
-        let at = ReadFault::At {
-            line: *line,
-            cause: *cause,
-        };
-        assert_eq!(rt; read(&rt, alloc, &text).err(), Some(at), "{lines:?}");
-    }
-    for (text, line, cause) in [
-        (b"".as_slice(), 1, Cause::M5),
-        (b"behaviors = b\ndomain = a:0:1:2\n", 2, Cause::M5),
-        (b"x = {\n\n {  \n", 3, Cause::M1),
-    ] {
-        let at = ReadFault::At { line, cause };
-        assert_eq!(rt; read(&rt, alloc, text).err(), Some(at), "{text:?}");
-    }
-    Ok(())
-}
-
-// The survey's speed axis made empty, and a name of one byte more than a text has.
-#[test]
-fn survey_is_refused_with_another_line(rt: HostRuntime) -> Result<(), Fail> {
-    let alloc = rt.alloc();
-    let name = [b'x'; 4097];
-    let mut text = Vec::from_slice(alloc, b"ProcessConfig = pHelmIvP {\n\nbehaviors = ")?;
-    text.extend_from_slice(&name)?;
-    let cause = Cause::M1;
-    assert_eq!(rt;
-        read(&rt, alloc, &text).err(),
-        Some(ReadFault::At { line: 3, cause })
-    );
-    let empty =
-        b"ServerHost = localhost\nServerPort = 9000\nCommunity = alpha\nProcessConfig = pHelmIvP\n{\n  AppTick = 4\n  CommsTick = 4\n  behaviors = alpha.bhv\n  domain = course:0:359:360\n  domain = speed:4:4:1\n  domain = depth:0:100:101\n}\n";
-    let cause = Cause::M3;
-    assert_eq!(rt;
-        read(&rt, alloc, empty).err(),
-        Some(ReadFault::At { line: 10, cause })
-    );
+    let helm = b"ProcessConfig = pHelmIvP {\n".as_slice();
+    are_refused(&rt, alloc, Kind::Mission, helm, HELM)?;
+    are_refused(&rt, alloc, Kind::Mission, b"", WHOLE)?;
+    // A name of one byte more than a text has.
+    let mut text = Vec::from_slice(alloc, b"behaviors = ")?;
+    text.extend_from_slice(&[b'x'; 4097])?;
+    let rows = [(text.as_slice(), 2, Cause::M1)];
+    are_refused(&rt, alloc, Kind::Mission, helm, &rows)?;
     Ok(())
 }

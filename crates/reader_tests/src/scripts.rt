@@ -1,22 +1,10 @@
 // Scripts and refusals worked by hand, and each limit with what stands just beyond it.
+use crate::files::{Kind, append, are_refused, count, refusal, stands_at};
 use moos_post::{Call, Entry, Pair, Value};
 use moos_text::{Cause, Limit, ReadFault, print_milli, print_seconds};
 use script_reader::{Lines, Script, read_script};
 use std::alloc::{AllocError, Global};
-use std::process::Abort;
 use std::test::Fail;
-
-fn read(rt: &impl Abort, alloc: Global, text: &[u8]) -> Result<Script, ReadFault> {
-    assert!(rt; text.len() < 4_000_000_000);
-    read_script(alloc, text)
-}
-
-fn append(text: &mut Vec<u8>, pieces: &[&[u8]]) -> Result<(), AllocError> {
-    for piece in pieces {
-        text.extend_from_slice(*piece)?;
-    }
-    Ok(())
-}
 
 fn show_pair(text: &mut Vec<u8>, pair: &Pair) -> Result<(), AllocError> {
     text.extend_from_slice(b" ")?;
@@ -115,94 +103,64 @@ fn good_scripts(rt: HostRuntime) -> Result<(), Fail> {
         ),
         (b"7 until", b"| 7"),
     ] {
-        let script = read(&rt, alloc, text)?;
+        assert!(rt; text.len() < 1000);
+        let script = read_script(alloc, text)?;
         assert_eq!(rt; shown(alloc, &script)?.as_slice(), wanted, "{text:?}");
     }
     Ok(())
 }
 
+const REFUSED: &[(&[u8], u32, Cause)] = &[
+    (b"x a fetch", 1, Cause::S1),
+    (b"-0.001 a fetch", 1, Cause::S1),
+    (b"1000000.001 a fetch", 1, Cause::S1),
+    (b"\n// nobody\n1e3 until", 3, Cause::S1),
+    (b"1 a fetch\n0 a fetch\n", 2, Cause::S2),
+    (b"1 a post X=1\n\n0.5 pHelmIvP fetch\n", 3, Cause::S2),
+    (b"2 until\n1.999 until\n", 2, Cause::S2),
+    (b"0 a", 1, Cause::S3),
+    (b"0 a jump", 1, Cause::S3),
+    (b"0 a Fetch", 1, Cause::S3),
+    (b"0 a fetch now", 1, Cause::S3),
+    (b"0 until x", 1, Cause::S3),
+    (b"0 Until", 1, Cause::S3),
+    (b"0 a register X 0 * more", 1, Cause::S3),
+    (b"0 a unregister X * more", 1, Cause::S3),
+    (b"0", 1, Cause::S4),
+    (b"0 9a fetch", 1, Cause::S4),
+    (b"0 a post 9X=1", 1, Cause::S4),
+    (b"0 a post A=1 # =2", 1, Cause::S4),
+    // An open quote is told before all words, and not in a comment.
+    (b"x a post X=\"open", 1, Cause::S5),
+    (b"0 a fetch // \"\n0 a fetch \"", 2, Cause::S5),
+    (b"0 a post X=\"open // \n", 1, Cause::S5),
+    (b"0 a post", 1, Cause::S5),
+    (b"0 a post X", 1, Cause::S5),
+    (b"0 a post X=//1\n", 1, Cause::S5),
+    (b"0 a post X=1 #", 1, Cause::S5),
+    (b"0 a post X=\"1\" 2", 1, Cause::S5),
+    (b"0 a post X=\x01", 1, Cause::S5),
+    (b"0 a register", 1, Cause::S6),
+    (b"0 a register N#", 1, Cause::S6),
+    (b"0 a register X 0 p,", 1, Cause::S6),
+    (b"0 a unregister", 1, Cause::S6),
+    (b"0 a unregister X p,", 1, Cause::S6),
+    (b"0 a register X -1", 1, Cause::S7),
+    (b"0 a register X 1000000.001 p,", 1, Cause::S7),
+    (b"0 pHelmIvP fetch", 1, Cause::S9),
+    (b"0 pHelmIvP jump", 1, Cause::S9),
+];
+
 #[test]
-fn refusals(rt: HostRuntime) {
-    let alloc = rt.alloc();
-    for (text, line, cause) in [
-        (b"x a fetch".as_slice(), 1, Cause::S1),
-        (b"-0.001 a fetch", 1, Cause::S1),
-        (b"1000000.001 a fetch", 1, Cause::S1),
-        (b"\n// nobody\n1e3 until", 3, Cause::S1),
-        (b"1 a fetch\n0 a fetch\n", 2, Cause::S2),
-        (b"1 a post X=1\n\n0.5 pHelmIvP fetch\n", 3, Cause::S2),
-        (b"2 until\n1.999 until\n", 2, Cause::S2),
-        (b"0 a", 1, Cause::S3),
-        (b"0 a jump", 1, Cause::S3),
-        (b"0 a Fetch", 1, Cause::S3),
-        (b"0 a fetch now", 1, Cause::S3),
-        (b"0 until x", 1, Cause::S3),
-        (b"0 Until", 1, Cause::S3),
-        (b"0 a register X 0 * more", 1, Cause::S3),
-        (b"0 a unregister X * more", 1, Cause::S3),
-        (b"0", 1, Cause::S4),
-        (b"0 9a fetch", 1, Cause::S4),
-        (b"0 a post 9X=1", 1, Cause::S4),
-        (b"0 a post A=1 # =2", 1, Cause::S4),
-        // An open quote is told before all words, and not in a comment.
-        (b"x a post X=\"open", 1, Cause::S5),
-        (b"0 a fetch // \"\n0 a fetch \"", 2, Cause::S5),
-        (b"0 a post X=\"open // \n", 1, Cause::S5),
-        (b"0 a post", 1, Cause::S5),
-        (b"0 a post X", 1, Cause::S5),
-        (b"0 a post X=//1\n", 1, Cause::S5),
-        (b"0 a post X=1 #", 1, Cause::S5),
-        (b"0 a post X=\"1\" 2", 1, Cause::S5),
-        (b"0 a post X=\x01", 1, Cause::S5),
-        (b"0 a register", 1, Cause::S6),
-        (b"0 a register N#", 1, Cause::S6),
-        (b"0 a register X 0 p,", 1, Cause::S6),
-        (b"0 a unregister", 1, Cause::S6),
-        (b"0 a unregister X p,", 1, Cause::S6),
-        (b"0 a register X -1", 1, Cause::S7),
-        (b"0 a register X 1000000.001 p,", 1, Cause::S7),
-        (b"0 pHelmIvP fetch", 1, Cause::S9),
-        (b"0 pHelmIvP jump", 1, Cause::S9),
-    ] {
-        let fault = read(&rt, alloc, text).err();
-        assert_eq!(rt; fault, Some(ReadFault::At { line, cause }), "{text:?}");
-    }
-}
-
-// So many times what stands before a count, the count from 0 up, and what stands behind it.
-fn counted(alloc: Global, count: u32, before: &[u8], behind: &[u8]) -> Result<Vec<u8>, AllocError> {
-    let mut text = Vec::new(alloc);
-    for number in 0..count {
-        append(
-            &mut text,
-            &[before, print_seconds(number as u64 * 1000).bytes(), behind],
-        )?;
-    }
-    Ok(text)
-}
-
-// A script that keeps a limit is good, and refused with one more line at its end.
-fn stands_at(
-    rt: &impl Abort,
-    alloc: Global,
-    good: &[u8],
-    more: &[(&[u8], Cause)],
-) -> Result<(), Fail> {
-    assert_eq!(rt; read(rt, alloc, good).err(), None);
-    for (end, cause) in more {
-        let mut text = Vec::from_slice(alloc, good)?;
-        text.extend_from_slice(*end)?;
-        match read(rt, alloc, &text) {
-            Err(ReadFault::At { cause: found, .. }) => assert_eq!(rt; found, *cause, "{end:?}"),
-            _ => assert!(rt; false, "{end:?}"),
-        }
-    }
+fn refusals(rt: HostRuntime) -> Result<(), Fail> {
+    are_refused(&rt, rt.alloc(), Kind::Script, b"", REFUSED)?;
     Ok(())
 }
 
 #[test]
 fn most_clients(rt: HostRuntime) -> Result<(), Fail> {
-    let clients = counted(rt.alloc(), 64, b"0 c", b" fetch\n")?;
+    let mut clients = Vec::new(rt.alloc());
+    count(&mut clients, 64, b"0 c", b" fetch\n")?;
     let too_many = Cause::S8(Limit::Clients);
     let more = [
         (b"0 c64 fetch".as_slice(), too_many),
@@ -211,12 +169,14 @@ fn most_clients(rt: HostRuntime) -> Result<(), Fail> {
         (b"0 pHelmIvP fetch", Cause::S9),
         (b"0 c63 fetch\n0 until\n0 c00 fetch", too_many),
     ];
-    stands_at(&rt, rt.alloc(), &clients, &more)
+    stands_at(&rt, rt.alloc(), Kind::Script, &clients, &more)?;
+    Ok(())
 }
 
 #[test]
 fn most_registrations(rt: HostRuntime) -> Result<(), Fail> {
-    let registrations = counted(rt.alloc(), 256, b"0 a register X", b"\n")?;
+    let mut registrations = Vec::new(rt.alloc());
+    count(&mut registrations, 256, b"0 a register X", b"\n")?;
     let too_many = Cause::S8(Limit::Registrations);
     let more = [
         (b"0 a register X".as_slice(), too_many),
@@ -227,21 +187,23 @@ fn most_registrations(rt: HostRuntime) -> Result<(), Fail> {
             too_many,
         ),
     ];
-    stands_at(&rt, rt.alloc(), &registrations, &more)
+    stands_at(&rt, rt.alloc(), Kind::Script, &registrations, &more)?;
+    Ok(())
 }
 
 #[test]
 fn most_pairs(rt: HostRuntime) -> Result<(), Fail> {
-    let pairs = counted(rt.alloc(), 63, b" X=", b" #")?;
     let mut post = Vec::from_slice(rt.alloc(), b"0 a post")?;
-    append(&mut post, &[pairs.as_slice(), b"Y=\"#\""])?;
+    count(&mut post, 63, b" X=", b" #")?;
+    post.extend_from_slice(b"Y=\"#\"")?;
     let more = [
         (b"#Z=1".as_slice(), Cause::S8(Limit::Batch)),
         (b"#", Cause::S5),
         (b"#9Z=1", Cause::S4),
         (b"\n0 a post A=1 # B", Cause::S5),
     ];
-    stands_at(&rt, rt.alloc(), &post, &more)
+    stands_at(&rt, rt.alloc(), Kind::Script, &post, &more)?;
+    Ok(())
 }
 
 #[test]
@@ -257,12 +219,14 @@ fn longest_text(rt: HostRuntime) -> Result<(), Fail> {
         (b"y\x7f", Cause::S5),
         (b" y # Y", Cause::S8(Limit::Text)),
     ];
-    stands_at(&rt, rt.alloc(), &post, &more)
+    stands_at(&rt, rt.alloc(), Kind::Script, &post, &more)?;
+    Ok(())
 }
 
 #[test]
 fn most_variables(rt: HostRuntime) -> Result<(), Fail> {
-    let posts = counted(rt.alloc(), 4096, b"0 a post X", b"=1\n")?;
+    let mut posts = Vec::new(rt.alloc());
+    count(&mut posts, 4096, b"0 a post X", b"=1\n")?;
     let too_many = Cause::S8(Limit::Variables);
     let more = [
         (b"0 a post X4096=1".as_slice(), too_many),
@@ -270,7 +234,8 @@ fn most_variables(rt: HostRuntime) -> Result<(), Fail> {
         (b"0 b post X4095=1\n0 b post Y=2", too_many),
         (b"0 a post Y=", Cause::S5),
     ];
-    stands_at(&rt, rt.alloc(), &posts, &more)
+    stands_at(&rt, rt.alloc(), Kind::Script, &posts, &more)?;
+    Ok(())
 }
 
 #[test]
@@ -285,13 +250,15 @@ fn most_lines(rt: HostRuntime) -> Result<(), Fail> {
         (b"// the end\n\n\"\n".as_slice(), too_many),
         (b"0 until", too_many),
     ];
-    stands_at(&rt, alloc, &lines, &more)
+    stands_at(&rt, alloc, Kind::Script, &lines, &more)?;
+    Ok(())
 }
 
 #[test]
 fn lines_of_refusals_are_counted_from_1(rt: HostRuntime) -> Result<(), Fail> {
-    let clients = counted(rt.alloc(), 65, b"0 c", b" fetch\n")?;
-    let fault = read(&rt, rt.alloc(), &clients).err();
+    let mut clients = Vec::new(rt.alloc());
+    count(&mut clients, 65, b"0 c", b" fetch\n")?;
+    let fault = refusal(&rt, rt.alloc(), Kind::Script, &clients);
     let cause = Cause::S8(Limit::Clients);
     assert_eq!(rt; fault, Some(ReadFault::At { line: 65, cause }));
     Ok(())

@@ -1,0 +1,114 @@
+// What the kinds of files share: how each is refused, and texts that come up to a limit.
+use bhv_reader::{BhvFile, read_behaviors};
+use ivp_domain::{Axis, AxisName, Domain};
+use mission_reader::read_mission;
+use moos_text::{Cause, ReadFault, print_seconds};
+use script_reader::read_script;
+use std::alloc::{AllocError, Global};
+use std::process::Abort;
+
+/// A kind of file.
+#[derive(Clone, Copy)]
+pub(crate) enum Kind {
+    Script,
+    Mission,
+    Behaviors,
+}
+
+fn axis(rt: &impl Abort, name: &[u8]) -> Axis {
+    let name = AxisName::new(name).expect(rt, "a name");
+    Axis {
+        name,
+        low: 0,
+        high: 4000,
+        points: 41,
+    }
+}
+
+/// Reads a behaviour file for a domain of course, speed and depth.
+pub(crate) fn behaviors(rt: &impl Abort, alloc: Global, text: &[u8]) -> Result<BhvFile, ReadFault> {
+    assert!(rt; text.len() < 4_000_000_000);
+    match Domain::make(&[axis(rt, b"course"), axis(rt, b"speed"), axis(rt, b"depth")]) {
+        Ok(domain) => read_behaviors(alloc, text, &domain),
+        Err(_) => panic!(rt; "a domain"),
+    }
+}
+
+/// What is said of a text that is refused.
+pub(crate) fn refusal(
+    rt: &impl Abort,
+    alloc: Global,
+    kind: Kind,
+    text: &[u8],
+) -> Option<ReadFault> {
+    assert!(rt; text.len() < 4_000_000_000);
+    match kind {
+        Kind::Script => read_script(alloc, text).err(),
+        Kind::Mission => read_mission(alloc, text).err(),
+        Kind::Behaviors => behaviors(rt, alloc, text).err(),
+    }
+}
+
+/// Each text, behind the same beginning, is refused at its line for its cause.
+pub(crate) fn are_refused(
+    rt: &impl Abort,
+    alloc: Global,
+    kind: Kind,
+    beginning: &[u8],
+    rows: &[(&[u8], u32, Cause)],
+) -> Result<(), AllocError> {
+    for (end, line, cause) in rows {
+        let mut text = Vec::from_slice(alloc, beginning)?;
+        text.extend_from_slice(*end)?;
+        let at = ReadFault::At {
+            line: *line,
+            cause: *cause,
+        };
+        assert_eq!(rt; refusal(rt, alloc, kind, &text), Some(at), "{end:?}");
+    }
+    Ok(())
+}
+
+/// A text that keeps a limit is good, and with each of these ends it is refused for its cause.
+pub(crate) fn stands_at(
+    rt: &impl Abort,
+    alloc: Global,
+    kind: Kind,
+    good: &[u8],
+    ends: &[(&[u8], Cause)],
+) -> Result<(), AllocError> {
+    assert_eq!(rt; refusal(rt, alloc, kind, good), None);
+    for (end, cause) in ends {
+        let mut text = Vec::from_slice(alloc, good)?;
+        text.extend_from_slice(*end)?;
+        match refusal(rt, alloc, kind, &text) {
+            Some(ReadFault::At { cause: found, .. }) => assert_eq!(rt; found, *cause, "{end:?}"),
+            _ => assert!(rt; false, "{end:?}"),
+        }
+    }
+    Ok(())
+}
+
+/// Appends the pieces.
+pub(crate) fn append(text: &mut Vec<u8>, pieces: &[&[u8]]) -> Result<(), AllocError> {
+    for piece in pieces {
+        text.extend_from_slice(*piece)?;
+    }
+    Ok(())
+}
+
+/// Appends so many times what stands before a count, the count from 0 up, and what stands behind it.
+pub(crate) fn count(
+    text: &mut Vec<u8>,
+    count: u32,
+    before: &[u8],
+    behind: &[u8],
+) -> Result<(), AllocError> {
+    for number in 0..count {
+        append(
+            text,
+            &[before, print_seconds(number as u64 * 1000).bytes(), behind],
+        )?;
+    }
+    Ok(())
+}

@@ -1,0 +1,28 @@
+//! What tests alone show of the readers and of what lies outside the program: that their calls succeed with ample memory, and
+//! give what was worked by hand.
+//!
+//! The tests of these crates stand here, since a crate with tests of its own is proved once more with them. One module for
+//! each subject: `outside`, `texts`, `words` and `pairs`, `scripts`, `missions`, `mode_files` and `behavior_files`, `generated`
+//! missions, and `files`, which has what the kinds of files share.
+#![tactic(auto)]
+
+#[cfg(test)]
+mod behavior_files;
+#[cfg(test)]
+mod files;
+#[cfg(test)]
+mod generated;
+#[cfg(test)]
+mod missions;
+#[cfg(test)]
+mod mode_files;
+#[cfg(test)]
+mod outside;
+#[cfg(test)]
+mod pairs;
+#[cfg(test)]
+mod scripts;
+#[cfg(test)]
+mod texts;
+#[cfg(test)]
+mod words;
