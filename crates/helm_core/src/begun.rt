@@ -37,7 +37,7 @@ pub(crate) struct EndedTurn {
     pub showing: Showing,
 }
 
-// BeginsTurn the turn of a behaviour: its updates come first, and then its step.
+// Begins the turn of a behaviour: its updates come first, and then its step.
 pub(crate) fn begin<'a>(
     alloc: Global,
     domain: &Domain,

@@ -17,7 +17,7 @@ use Rattle.ivp_pool.specs.Places.{InDeque, InDone, InHand, IsDoneOnce, IsFinishe
 use Rattle.ivp_pool.proofs.Moving.{beside, Lows, weigh_member}
 use Rattle.ivp_pool.proofs.Opening.{held_fresh, same_places, Stand}
 use Rattle.ivp_pool.proofs.Sounding.{in_some, some_in}
-use Rattle.ivp_pool.proofs.Stepping.{Keeps, step_keeps, step_stays}
+use Rattle.ivp_pool.proofs.Stepping.{KeepsShape, step_keeps, step_stays}
 use Rattle.ivp_pool.proofs.SameNodes.{is_same}
 use Rattle.ivp_pool.proofs.Weighing.{alike, at, has_at, one_at_most, self, weigh, weigh_append}
 
@@ -50,7 +50,7 @@ root_stand problem h =
       covered = λ p inside. inr (omega (arith, held_fresh problem h p root is, ap one_if inside));
     }
 
-pub start_keeps : (problem : WeightedSum) → IsProblem problem → (others : ℕ) → Keeps problem (start_of problem others)
+pub start_keeps : (problem : WeightedSum) → IsProblem problem → (others : ℕ) → KeepsShape problem (start_of problem others)
 start_keeps problem h others =
     record {
       known = inl refl;
@@ -59,8 +59,8 @@ start_keeps problem h others =
     }
 
 -- so each list of steps from there keeps it too
-pub ran_keeps : (problem : WeightedSum) → IsProblem problem → (steps : List Step) (core core' : Core) → StepsTo problem steps core core' → Keeps problem core → Keeps problem core'
-ran_keeps problem h [] core core' e keeps = subst (Keeps problem) (sym e) keeps
+pub ran_keeps : (problem : WeightedSum) → IsProblem problem → (steps : List Step) (core core' : Core) → StepsTo problem steps core core' → KeepsShape problem core → KeepsShape problem core'
+ran_keeps problem h [] core core' e keeps = subst (KeepsShape problem) (sym e) keeps
 ran_keeps problem h (step ∷ steps) core core' (next, stepped, ran) keeps = ran_keeps problem h steps next core' ran (step_keeps problem h step core next stepped keeps)
 
 weight_stays : (problem : WeightedSum) (steps : List Step) (core core' : Core) → StepsTo problem steps core core' → (node : Node) → weigh (at node) (node_places core) ≤ weigh (at node) (node_places core')
@@ -144,7 +144,7 @@ best_word : (problem : WeightedSum) (core : Core) → IsKnownKey problem core.wo
 best_word problem core (inl none) least = omega (arith, none, least)
 best_word problem core (inr (p, inside, is)) least = omega (arith, is, best_most problem p inside, least)
 
-pub finished : (problem : WeightedSum) (steps : List Step) (earlier core : Core) → Keeps problem core → StepsTo problem steps earlier core → IsOver core → IsFinished problem earlier core
+pub finished : (problem : WeightedSum) (steps : List Step) (earlier core : Core) → KeepsShape problem core → StepsTo problem steps earlier core → IsOver core → IsFinished problem earlier core
 finished problem steps earlier core keeps ran over = record { done = done; best = best_word problem core keeps.known known }
   where
     known : key_at problem (best_of problem) ≤ core.word

@@ -20,26 +20,26 @@ use Rattle.ivp_pool.proofs.Gluing.{whole}
 use Rattle.ivp_pool.proofs.Growing.{closed_covers}
 use Rattle.ivp_pool.proofs.Teams.{closed_one, searched}
 use Rattle.ivp_pool.specs.Tallies.{AreLinked, IsTally, IsWholeTree, Tally}
-use Rattle.ivp_pool.specs.Parts.{Done, Handed, handed_in, handed_of, IsPart, Part, Pruned, size_of, Expanded, Then}
+use Rattle.ivp_pool.specs.Parts.{Done, Handed, handed_in, handed_within, IsPart, TreePart, Pruned, part_size, Expanded, Then}
 
 -- the root and its child are split, and both leaves are pruned: the first has the best point, of sum 75 at index 2
-abbrev all_here : Part
+abbrev all_here : TreePart
 all_here = Expanded (Then (Expanded (Then Pruned (Then Pruned Done))) Done)
 
 all_here_is_one : IsPart two (key_of 75 2) (root_of two) all_here
 all_here_is_one = (omega arith, ((omega arith, (omega arith, (omega arith, tt))), tt))
 
-all_here_has_four : (size_of all_here ≡ 4) × (handed_of two (root_of two) all_here ≡ [])
+all_here_has_four : (part_size all_here ≡ 4) × (handed_within two (root_of two) all_here ≡ [])
 all_here_has_four = (refl, refl)
 
 -- the first leaf goes to others, so the second's bound, 55 at index 10, is enough to know
-abbrev one_handed : Part
+abbrev one_handed : TreePart
 one_handed = Expanded (Then (Expanded (Then Handed (Then Pruned Done))) Done)
 
 one_handed_is_one : IsPart two (key_of 55 10) (root_of two) one_handed
 one_handed_is_one = (omega arith, ((omega arith, (tt, (omega arith, tt))), tt))
 
-one_handed_has_left : (size_of one_handed ≡ 4) × (handed_of two (root_of two) one_handed ≡ left ∷ [])
+one_handed_has_left : (part_size one_handed ≡ 4) × (handed_within two (root_of two) one_handed ≡ left ∷ [])
 one_handed_has_left = (refl, refl)
 
 -- an expanded node has a part for each of its children
@@ -68,7 +68,7 @@ handed_itself : IsTally two (key_of 75 2) (record { node = left; part = Handed }
 handed_itself is = is.here refl
 
 -- so the part that they make together has the four nodes of the tree
-calls_have_four : IsWholeTree two (key_of 75 2) calls → (whole : Part) × (size_of whole ≡ 4)
+calls_have_four : IsWholeTree two (key_of 75 2) calls → (whole : TreePart) × (part_size whole ≡ 4)
 calls_have_four whole = let size = whole.size in (whole.part, omega arith)
 
 -- a search of the whole tree closes four nodes
@@ -76,7 +76,7 @@ four_closed : IsSearched two (key_of 75 2) 4
 four_closed = record { part = all_here; is = all_here_is_one; none = refl; size = refl }
 
 -- and with the best key known every search of it closes just four: the root and its child can't be pruned
-child_has_three : (part : Part) → IsPart two (key_of 75 2) first part → handed_in two (first ∷ []) (Then part Done) ≡ [] → size_of part ≡ 3
+child_has_three : (part : TreePart) → IsPart two (key_of 75 2) first part → handed_in two (first ∷ []) (Then part Done) ≡ [] → part_size part ≡ 3
 child_has_three Pruned is none = absurd (omega (arith, is))
 child_has_three Handed is none = absurd (cc)
 child_has_three (Expanded Done) is none = absurd is.1
@@ -88,7 +88,7 @@ child_has_three (Expanded (Then Pruned (Then (Expanded below) parts))) is none =
 child_has_three (Expanded (Then Pruned (Then Pruned Done))) is none = refl
 child_has_three (Expanded (Then Pruned (Then Pruned (Then part parts)))) is none = absurd is.1.1.1
 
-root_has_four : (part : Part) → IsPart two (key_of 75 2) (root_of two) part → handed_of two (root_of two) part ≡ [] → size_of part ≡ 4
+root_has_four : (part : TreePart) → IsPart two (key_of 75 2) (root_of two) part → handed_within two (root_of two) part ≡ [] → part_size part ≡ 4
 root_has_four Pruned is none = absurd (omega (arith, is))
 root_has_four Handed is none = absurd (cc)
 root_has_four (Expanded Done) is none = absurd is.1
@@ -147,7 +147,7 @@ searched_early is = less_known (key_of 75 3) (omega arith) (closed_covers two (k
         record {
           part = is.part;
           is = is.is;
-          here = λ handed. let none : handed_of two (root_of two) Handed ≡ [] = subst (λ part. handed_of two (root_of two) part ≡ []) handed is.none in absurd (cc);
+          here = λ handed. let none : handed_within two (root_of two) Handed ≡ [] = subst (λ part. handed_within two (root_of two) part ≡ []) handed is.none in absurd (cc);
           taken = sym is.none;
           counted = omega (arith, ap length is.none, is.size);
         }
@@ -174,7 +174,7 @@ idle = record { tallies = []; each = λ place tally here. absurd (cc); called = 
 closed_by_nobody : (key : ℕ) (nodes : List Node) (count : ℕ) → AreClosed two key [] nodes count → count ≡ 0
 closed_by_nobody key nodes count is = none_at is.tallies (is.called (λ node. 1)) is.size
   where
-    none_at : (tallies : List Tally) → sum_by (λ (tally : Tally). 1) tallies ≡ 0 → count + length nodes ≡ sum_by (λ (tally : Tally). size_of tally.part) tallies → count ≡ 0
+    none_at : (tallies : List Tally) → sum_by (λ (tally : Tally). 1) tallies ≡ 0 → count + length nodes ≡ sum_by (λ (tally : Tally). part_size tally.part) tallies → count ≡ 0
     none_at [] none size = omega (arith, size)
     none_at (tally ∷ tallies) none size = absurd (omega (arith, none, sum_by-cons (λ (tally : Tally). 1) tally tallies))
 
@@ -182,14 +182,14 @@ closed_by_nobody key nodes count is = none_at is.tallies (is.called (λ node. 1)
 closed_nothing : (key : ℕ) → AreClosed two key (root_of two ∷ []) [] 0 → ⊥
 closed_nothing key is = at_least is.tallies (is.called (λ node. 1)) is.size
   where
-    own : (part : Part) → 1 ≤ size_of part
+    own : (part : TreePart) → 1 ≤ part_size part
     own Pruned = omega arith
     own Handed = omega arith
     own (Expanded parts) = omega arith
 
-    at_least : (tallies : List Tally) → sum_by (λ (tally : Tally). 1) tallies ≡ 1 → 0 ≡ sum_by (λ (tally : Tally). size_of tally.part) tallies → ⊥
+    at_least : (tallies : List Tally) → sum_by (λ (tally : Tally). 1) tallies ≡ 1 → 0 ≡ sum_by (λ (tally : Tally). part_size tally.part) tallies → ⊥
     at_least [] one size = omega arith
-    at_least (tally ∷ tallies) one size = omega (arith, sum_by-cons (λ (tally : Tally). size_of tally.part) tally tallies, own tally.part)
+    at_least (tally ∷ tallies) one size = omega (arith, sum_by-cons (λ (tally : Tally). part_size tally.part) tally tallies, own tally.part)
 
 -- and no calls close the whole tree so early
 all_closed_early : AreClosed two (key_of 75 3) (root_of two ∷ []) [] 4 → ⊥

@@ -9,7 +9,7 @@ use Rattle.ivp_problem.specs.declared.node.Node.{Node}
 use Rattle.ivp_problem.specs.Problems.{IsProblem, WeightedSum}
 use Rattle.ivp_problem.specs.Sums.{key_at}
 use Rattle.ivp_problem.specs.Trees.{children_of, has_in, IsNode, root_of}
-use Rattle.ivp_pool.specs.Parts.{AreParts, Done, Handed, handed_in, handed_of, IsPart, Part, Parts, Pruned, size_in, size_of, Expanded, Then}
+use Rattle.ivp_pool.specs.Parts.{AreParts, Done, Handed, handed_in, handed_within, IsPart, TreePart, TreeParts, Pruned, size_in, part_size, Expanded, Then}
 use Rattle.ivp_pool.specs.Tallies.{AreLinked, handed_by, IsTally, IsWholeTree, Tally}
 use Rattle.ivp_pool.proofs.Growing.{covered}
 use Rattle.ivp_pool.proofs.SameNodes.{is_same, is_same-self, is_same-true}
@@ -21,18 +21,18 @@ both_empty [] ys e = (refl, e)
 both_empty (x ∷ xs) ys e = absurd (cc)
 
 -- a part whose handed nodes were filled by the first of some whole parts, and what is left of these
-record Filled (problem : WeightedSum) (key : ℕ) (node : Node) (part : Part) (rest : List Node) (parts : Parts) : Type 0 where
-  whole : Part
-  left : Parts
+record Filled (problem : WeightedSum) (key : ℕ) (node : Node) (part : TreePart) (rest : List Node) (parts : TreeParts) : Type 0 where
+  whole : TreePart
+  left : TreeParts
   is : IsPart problem key node whole
-  none : handed_of problem node whole ≡ []
+  none : handed_within problem node whole ≡ []
   are : AreParts problem key rest left
   nothing : handed_in problem rest left ≡ []
-  size : size_of whole + size_in left + length (handed_of problem node part) ≡ size_of part + size_in parts
+  size : part_size whole + size_in left + length (handed_within problem node part) ≡ part_size part + size_in parts
 
-record AllFilled (problem : WeightedSum) (key : ℕ) (nodes : List Node) (old : Parts) (rest : List Node) (parts : Parts) : Type 0 where
-  wholes : Parts
-  left : Parts
+record AllFilled (problem : WeightedSum) (key : ℕ) (nodes : List Node) (old : TreeParts) (rest : List Node) (parts : TreeParts) : Type 0 where
+  wholes : TreeParts
+  left : TreeParts
   all : AreParts problem key nodes wholes
   none : handed_in problem nodes wholes ≡ []
   are : AreParts problem key rest left
@@ -40,23 +40,23 @@ record AllFilled (problem : WeightedSum) (key : ℕ) (nodes : List Node) (old : 
   size : size_in wholes + size_in left + length (handed_in problem nodes old) ≡ size_in old + size_in parts
 
 mutual
-  fill : (problem : WeightedSum) (key : ℕ) (node : Node) (part : Part) (rest : List Node) (parts : Parts) → IsPart problem key node part → AreParts problem key (handed_of problem node part ++ rest) parts → handed_in problem (handed_of problem node part ++ rest) parts ≡ [] → Filled problem key node part rest parts
+  fill : (problem : WeightedSum) (key : ℕ) (node : Node) (part : TreePart) (rest : List Node) (parts : TreeParts) → IsPart problem key node part → AreParts problem key (handed_within problem node part ++ rest) parts → handed_in problem (handed_within problem node part ++ rest) parts ≡ [] → Filled problem key node part rest parts
   fill problem key node Pruned rest parts is are none = record { whole = Pruned; left = parts; is = is; none = refl; are = are; nothing = none; size = omega arith }
   fill problem key node Handed rest Done is are none = absurd are
   fill problem key node Handed rest (Then one others) is are none =
-      let both = both_empty (handed_of problem node one) (handed_in problem rest others) none in
+      let both = both_empty (handed_within problem node one) (handed_in problem rest others) none in
       record { whole = one; left = others; is = are.0; none = both.0; are = are.1; nothing = both.1; size = omega arith }
   fill problem key node (Expanded old) rest parts is are none =
       let filled = fill_all problem key (children_of problem node) old rest parts is.1 are none in
       let size = filled.size in
       record { whole = Expanded filled.wholes; left = filled.left; is = (is.0, filled.all); none = filled.none; are = filled.are; nothing = filled.nothing; size = omega arith }
 
-  fill_all : (problem : WeightedSum) (key : ℕ) (nodes : List Node) (old : Parts) (rest : List Node) (parts : Parts) → AreParts problem key nodes old → AreParts problem key (handed_in problem nodes old ++ rest) parts → handed_in problem (handed_in problem nodes old ++ rest) parts ≡ [] → AllFilled problem key nodes old rest parts
+  fill_all : (problem : WeightedSum) (key : ℕ) (nodes : List Node) (old : TreeParts) (rest : List Node) (parts : TreeParts) → AreParts problem key nodes old → AreParts problem key (handed_in problem nodes old ++ rest) parts → handed_in problem (handed_in problem nodes old ++ rest) parts ≡ [] → AllFilled problem key nodes old rest parts
   fill_all problem key [] Done rest parts all are none = record { wholes = Done; left = parts; all = tt; none = refl; are = are; nothing = none; size = omega arith }
   fill_all problem key (node ∷ nodes) Done rest parts all are none = absurd all
   fill_all problem key [] (Then part more) rest parts all are none = absurd all
   fill_all problem key (node ∷ nodes) (Then part more) rest parts all are none =
-      let mine = handed_of problem node part in
+      let mine = handed_within problem node part in
       let others = handed_in problem nodes more in
       let again = append_assoc mine others rest in
       let first = fill problem key node part (others ++ rest) parts all.0 (subst (λ ns. AreParts problem key ns parts) again are) (subst (λ ns. handed_in problem ns parts ≡ []) again none) in
@@ -78,7 +78,7 @@ abbrev burden : WeightedSum → Node → ℕ
 burden problem node = suc (length problem.terms - node.depth) * weight_of problem node
 
 mutual
-  burden_most : (problem : WeightedSum) → IsProblem problem → (key from levels : ℕ) (node : Node) (part : Part) → Stands problem from levels node → IsPart problem key node part → sum_by (burden problem) (handed_of problem node part) ≤ suc levels * weight_of problem node
+  burden_most : (problem : WeightedSum) → IsProblem problem → (key from levels : ℕ) (node : Node) (part : TreePart) → Stands problem from levels node → IsPart problem key node part → sum_by (burden problem) (handed_within problem node part) ≤ suc levels * weight_of problem node
   burden_most problem h key from levels node Pruned stands is = omega arith
   burden_most problem h key from levels node Handed stands is =
       let most = stands.most in
@@ -94,13 +94,13 @@ mutual
         burdens_most problem h key (suc from) levels (children_of problem node) parts (children_stand problem from levels node stands) is.1,
       )
 
-  burdens_most : (problem : WeightedSum) → IsProblem problem → (key from levels : ℕ) (nodes : List Node) (parts : Parts) → Each (Stands problem from levels) nodes → AreParts problem key nodes parts → sum_by (burden problem) (handed_in problem nodes parts) ≤ suc levels * weight_in problem nodes
+  burdens_most : (problem : WeightedSum) → IsProblem problem → (key from levels : ℕ) (nodes : List Node) (parts : TreeParts) → Each (Stands problem from levels) nodes → AreParts problem key nodes parts → sum_by (burden problem) (handed_in problem nodes parts) ≤ suc levels * weight_in problem nodes
   burdens_most problem h key from levels nodes Done stand are = omega arith
   burdens_most problem h key from levels [] (Then part parts) stand are = absurd are
   burdens_most problem h key from levels (node ∷ nodes) (Then part parts) stand are =
       omega (
         arith,
-        sum_by-append (burden problem) (handed_of problem node part) (handed_in problem nodes parts),
+        sum_by-append (burden problem) (handed_within problem node part) (handed_in problem nodes parts),
         burden_most problem h key from levels node part stand.0 are.0,
         burdens_most problem h key from levels nodes parts stand.1 are.1,
         ap (λ n. suc levels * n) (weight_cons problem node nodes),
@@ -108,7 +108,7 @@ mutual
       )
 
 -- what a tally handed on weighs less than its node
-lighter : (problem : WeightedSum) → IsProblem problem → (key : ℕ) (node : Node) (part : Part) → IsNode problem node → IsPart problem key node part → part ≢ Handed → sum_by (burden problem) (handed_of problem node part) < burden problem node
+lighter : (problem : WeightedSum) → IsProblem problem → (key : ℕ) (node : Node) (part : TreePart) → IsNode problem node → IsPart problem key node part → part ≢ Handed → sum_by (burden problem) (handed_within problem node part) < burden problem node
 lighter problem h key node Pruned is part here = omega (arith, suc-mul (length problem.terms - node.depth) (weight_of problem node), some_weight problem node h is)
 lighter problem h key node Handed is part here = absurd (here refl)
 lighter problem h key node (Expanded parts) is part here = by (length problem.terms - node.depth) refl
@@ -166,10 +166,10 @@ each_picked P (first ∷ front) tally behind h = let rest = each_picked P front 
 
 -- whole parts of some nodes, made of tallies
 record Glued (problem : WeightedSum) (key : ℕ) (nodes : List Node) (tallies : List Tally) : Type 0 where
-  parts : Parts
+  parts : TreeParts
   are : AreParts problem key nodes parts
   none : handed_in problem nodes parts ≡ []
-  size : size_in parts + sum_by (λ tally. length (handed_by problem tally)) tallies ≡ sum_by (λ tally. size_of tally.part) tallies
+  size : size_in parts + sum_by (λ tally. length (handed_by problem tally)) tallies ≡ sum_by (λ tally. part_size tally.part) tallies
 
 -- no nodes, no tallies
 no_tally : (problem : WeightedSum) → IsProblem problem → (key : ℕ) (tallies : List Tally) → Each (IsTally problem key) tallies → AreLinked problem [] tallies → Glued problem key [] tallies
@@ -192,7 +192,7 @@ linked_rest problem node nodes front tally behind same linked = λ weigh.
 glued_with : (problem : WeightedSum) (key : ℕ) (node : Node) (nodes : List Node) (front : List Tally) (tally : Tally) (behind : List Tally) → tally.node ≡ node → IsTally problem key tally → Glued problem key (handed_by problem tally ++ nodes) (front ++ behind) → Glued problem key (node ∷ nodes) (front ++ tally ∷ behind)
 glued_with problem key node nodes front tally behind same is rest =
     let filled = fill problem key tally.node tally.part nodes rest.parts is.is rest.are rest.none in
-    let none : handed_of problem node filled.whole ≡ [] = subst (λ n. handed_of problem n filled.whole ≡ []) same filled.none in
+    let none : handed_within problem node filled.whole ≡ [] = subst (λ n. handed_within problem n filled.whole ≡ []) same filled.none in
     let size = filled.size in
     let size' = rest.size in
     record {
@@ -203,7 +203,7 @@ glued_with problem key node nodes front tally behind same is rest =
           omega (
             arith,
             sum_picked (λ (t : Tally). length (handed_by problem t)) front tally behind,
-            sum_picked (λ (t : Tally). size_of t.part) front tally behind,
+            sum_picked (λ (t : Tally). part_size t.part) front tally behind,
           );
     }
 
@@ -229,11 +229,11 @@ whole problem h key tallies each linked = by (glue problem h key (length tallies
     root : IsNode problem (root_of problem)
     root = record { path = []; reached = refl }
 
-    first : (parts : Parts) → AreParts problem key (root_of problem ∷ []) parts → handed_in problem (root_of problem ∷ []) parts ≡ [] → size_in parts + sum_by (λ tally. length (handed_by problem tally)) tallies ≡ sum_by (λ tally. size_of tally.part) tallies → IsWholeTree problem key tallies
+    first : (parts : TreeParts) → AreParts problem key (root_of problem ∷ []) parts → handed_in problem (root_of problem ∷ []) parts ≡ [] → size_in parts + sum_by (λ tally. length (handed_by problem tally)) tallies ≡ sum_by (λ tally. part_size tally.part) tallies → IsWholeTree problem key tallies
     first Done are none size = absurd are
     first (Then part (Then one more)) are none size = absurd are.1
     first (Then part Done) are none size =
-        let empty = (both_empty (handed_of problem (root_of problem) part) [] none).0 in
+        let empty = (both_empty (handed_within problem (root_of problem) part) [] none).0 in
         record {
           part = part;
           is = are.0;
@@ -242,7 +242,7 @@ whole problem h key tallies each linked = by (glue problem h key (length tallies
           most = λ p inside. known p (covered problem h key 0 (length problem.terms) (root_of problem) part (standing problem (root_of problem) root) are.0 p inside) empty;
         }
       where
-        known : (p : Point) → (key_at problem p ≤ key) ⊎ (has_in (handed_of problem (root_of problem) part) p ≡ true) → handed_of problem (root_of problem) part ≡ [] → key_at problem p ≤ key
+        known : (p : Point) → (key_at problem p ≤ key) ⊎ (has_in (handed_within problem (root_of problem) part) p ≡ true) → handed_within problem (root_of problem) part ≡ [] → key_at problem p ≤ key
         known p (inl less) empty = less
         known p (inr there) empty = let no = subst (λ ns. has_in ns p ≡ true) empty there in absurd (cc)
 

@@ -52,13 +52,13 @@ module _ (problem : WeightedSum) (port : ℕ) (held : Hand) where
 
   -- nodes are taken, wherever they stood
   takes_any : (taken nodes left : List Node) (hands : List Hand) → 0 < held.parts → ((weigh : Node → ℕ) → sum_by weigh nodes ≡ sum_by weigh taken + sum_by weigh left) → Each (IsNode problem) taken → Each (IsNode problem) left → IsBalanced problem nodes hands → get_elem? hands port ≡ some held → (after : Hand) × IsBalanced problem left (set hands port after) × AreTaken problem held taken after
-  takes_any taken nodes left hands part parted are remain rule at =
+  takes_any taken nodes left hands part with_parts_out are remain rule at =
       let after = hand held.parts held.put (held.taken ++ taken) in (
         after,
         record {
           parts = omega (arith, sum_set (λ h. h.parts) hands port held after at, rule.parts);
           each_once = λ weigh.
-              omega (arith, sum_set (λ h. sum_by weigh h.put) hands port held after at, sum_set (λ h. sum_by weigh h.taken) hands port held after at, rule.each_once weigh, sum_by-append weigh held.taken taken, parted weigh);
+              omega (arith, sum_set (λ h. sum_by weigh h.put) hands port held after at, sum_set (λ h. sum_by weigh h.taken) hands port held after at, rule.each_once weigh, sum_by-append weigh held.taken taken, with_parts_out weigh);
           idle = each_set hands port after rule.idle (λ none. absurd (omega (arith, none, part)));
           here = remain;
         },

@@ -34,14 +34,14 @@ pub child_is_node : (problem : WeightedSum) (node : Node) (number : ℕ) (child 
 child_is_node problem node number child is e = let of = child_is problem node number child e in child_node problem node child of.term number is of.stands of.in_term
 
 -- a point of a child lies in the node and in the piece
-parted : (term : Term) (node : Node) (number : ℕ) (child : Node) (p : Point) → (of : IsChild term node number child) → has_point child.area p ≡ true → (has_point node.area p ≡ true) × (has_point of.piece.area p ≡ true)
-parted term node number child p of inside =
+with_parts_out : (term : Term) (node : Node) (number : ℕ) (child : Node) (p : Point) → (of : IsChild term node number child) → has_point child.area p ≡ true → (has_point node.area p ≡ true) × (has_point of.piece.area p ≡ true)
+with_parts_out term node number child p of inside =
     let here : has_point (common node.area of.piece.area) p ≡ true = subst (λ (n : Node). has_point n.area p ≡ true) (sym of.same) inside in
     and_parts (has_point node.area p) (has_point of.piece.area p) (sym (has_point-common node.area of.piece.area p) ∙ here)
 
 pub child_point : (problem : WeightedSum) (node : Node) (number : ℕ) (child : Node) (p : Point) → child_of problem node number ≡ Some child → has_point child.area p ≡ true → has_point node.area p ≡ true
 child_point problem node number child p e inside =
-    let of = child_is problem node number child e in (parted of.term node number child p (child_parts of.term node number child of.in_term) inside).0
+    let of = child_is problem node number child e in (with_parts_out of.term node number child p (child_parts of.term node number child of.in_term) inside).0
 
 -- a point of a node lies in each node above it
 above : (terms : List Term) (path : List ℕ) (start node : Node) (p : Point) → node_below terms path start ≡ Some node → has_point node.area p ≡ true → has_point start.area p ≡ true
@@ -49,7 +49,7 @@ above terms [] start node p e inside = let same : start ≡ node = cc in subst (
 above [] (number ∷ path) start node p e inside = absurd (cc)
 above (term ∷ terms) (number ∷ path) start node p e inside =
     option_and_then_some (node_below terms path) (child_in term start number) node e
-    (λ child first later. (parted term start number child p (child_parts term start number child first) (above terms path child node p later inside)).0)
+    (λ child first later. (with_parts_out term start number child p (child_parts term start number child first) (above terms path child node p later inside)).0)
 
 -- a path leads as deep as it is long
 deeper : (terms : List Term) (path : List ℕ) (start node : Node) → node_below terms path start ≡ Some node → node.depth ≡ start.depth + length path
@@ -76,7 +76,7 @@ one_child : (axes : List Axis) (term : Term) (node : Node) (i j : ℕ) (x y : No
 one_child axes term node i j x y p h inside e e' in_x in_y =
     let of = child_parts term node i x e in
     let of' = child_parts term node j y e' in
-    one_piece axes term i j of.piece of'.piece p h inside of.stands of'.stands (parted term node i x p of in_x).1 (parted term node j y p of' in_y).1
+    one_piece axes term i j of.piece of'.piece p h inside of.stands of'.stands (with_parts_out term node i x p of in_x).1 (with_parts_out term node j y p of' in_y).1
 
 -- nodes of one depth with a point in common are one
 one_path : (problem : WeightedSum) → IsProblem problem → (terms : List Term) (path path' : List ℕ) (start a b : Node) (p : Point) → drop start.depth problem.terms ≡ terms → is_point problem.axes p ≡ true → node_below terms path start ≡ Some a → node_below terms path' start ≡ Some b → a.depth ≡ b.depth → has_point a.area p ≡ true → has_point b.area p ≡ true → a ≡ b

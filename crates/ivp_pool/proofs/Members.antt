@@ -8,7 +8,7 @@ use Rattle.ivp_problem.specs.Problems.{WeightedSum}
 use Rattle.ivp_pool.specs.declared.team.Member.{Member}
 use Rattle.ivp_pool.specs.declared.team.Worker.{Worker}
 use Rattle.ivp_pool.specs.Hands.{EndState, hand}
-use Rattle.ivp_pool.specs.Members.{Did, HasTaken, Keeps, Same, tag_of}
+use Rattle.ivp_pool.specs.Members.{Did, TookNode, KeepsShape, Same, tag_of}
 use Rattle.ivp_pool.specs.Solving.{low_of, WentOn}
 use Rattle.ivp_pool.proofs.Teams.{closed_none, went_more}
 
@@ -51,11 +51,11 @@ doors_set (x ∷ xs) zero door d within deque parts = let same : tag_of door ≡
 doors_set (x ∷ xs) (suc place) door d within deque parts = ap (λ rest. tag_of x ∷ rest) (doors_set xs place door d (omega (arith, within)) deque parts)
 
 module _ {K : Type 0} where
-  pub keeps_more : (old mid new : Member K) → Keeps old mid → Keeps mid new → Keeps old new
+  pub keeps_more : (old mid new : Member K) → KeepsShape old mid → KeepsShape mid new → KeepsShape old new
   keeps_more old mid new one two = record { deque = two.deque ∙ one.deque; parts = two.parts ∙ one.parts; doors = two.doors ∙ one.doors }
 
   -- a node of its own deque
-  pub popped : (node : Node) (old : Member K) → HasTaken node old (record old { deque = took_one old.deque node })
+  pub popped : (node : Node) (old : Member K) → TookNode node old (record old { deque = took_one old.deque node })
   popped node old =
       record {
         worker = refl;
@@ -76,7 +76,7 @@ module _ {K : Type 0} where
       }
 
   -- it did this, took a node, and closed it, with the children put into its deque
-  pub did_next : (problem : WeightedSum) (node : Node) (since : List Node) (start old mid : Member K) (worker : Worker) (deque : EndState) → Did problem start old → HasTaken node old mid → WentOn problem (node ∷ []) since mid.worker worker → deque ≡ put_more mid.deque since → Did problem start (record mid { worker = worker; deque = deque })
+  pub did_next : (problem : WeightedSum) (node : Node) (since : List Node) (start old mid : Member K) (worker : Worker) (deque : EndState) → Did problem start old → TookNode node old mid → WentOn problem (node ∷ []) since mid.worker worker → deque ≡ put_more mid.deque since → Did problem start (record mid { worker = worker; deque = deque })
   did_next problem node since start old mid worker deque did taken went is =
       let first : WentOn problem (node ∷ []) since old.worker worker = subst (λ (w : Worker). WentOn problem (node ∷ []) since w worker) taken.worker went in
       record {
@@ -98,7 +98,7 @@ module _ {K : Type 0} where
       }
 
   -- a node that was stolen through a door
-  pub stolen : (node : Node) (old new : Member K) (place : ℕ) (door d : EndState) → place < length old.doors.items → new.worker ≡ old.worker → new.deque ≡ old.deque → new.doors.items ≡ set old.doors.items place door → door ≡ took_one (get_or old.doors.items place d) node → HasTaken node old new
+  pub stolen : (node : Node) (old new : Member K) (place : ℕ) (door d : EndState) → place < length old.doors.items → new.worker ≡ old.worker → new.deque ≡ old.deque → new.doors.items ≡ set old.doors.items place door → door ≡ took_one (get_or old.doors.items place d) node → TookNode node old new
   stolen node old new place door d within worker deque doors is =
       let was = get_or old.doors.items place d in
       record {

@@ -14,28 +14,28 @@ use Rattle.ivp_pool.specs.declared.team.Member.{Member}
 use Rattle.ivp_pool.specs.declared.rule.Hand.{Hand}
 use Rattle.ivp_pool.specs.Hands.{EndState, hand}
 use Rattle.ivp_pool.specs.Solving.{IsNew}
-use Rattle.ivp_pool.specs.Members.{absorbed, deques_of, doors_of, first_parts, ClosedTo, IsNewMember, new_door, OpenTo, parted, put_by, put_in, tag_of, taken_by, taken_in, took_back, with_part_out, workers_of}
+use Rattle.ivp_pool.specs.Members.{absorbed, deques_of, doors_of, first_parts, ClosedTo, IsNewMember, new_door, OpenTo, with_parts_out, put_by, put_in, tag_of, taken_by, taken_in, took_back, with_part_out, workers_of}
 
 module _ {K : Type 0} where
-  pub parted_len : (count : ℕ) (members : List (Member K)) → length (parted count members) ≡ length members
+  pub parted_len : (count : ℕ) (members : List (Member K)) → length (with_parts_out count members) ≡ length members
   parted_len zero members = refl
   parted_len (suc count) [] = refl
   parted_len (suc count) (member ∷ members) = ap suc (parted_len count members)
 
-  pub parted_at : (count : ℕ) (members : List (Member K)) (d : Member K) → get_or (parted count members) count d ≡ get_or members count d
+  pub parted_at : (count : ℕ) (members : List (Member K)) (d : Member K) → get_or (with_parts_out count members) count d ≡ get_or members count d
   parted_at zero members d = refl
   parted_at (suc count) [] d = refl
   parted_at (suc count) (member ∷ members) d = parted_at count members d
 
-  parted_more : (count : ℕ) (members : List (Member K)) (d : Member K) → count < length members → set (parted count members) count (with_part_out (get_or members count d)) ≡ parted (suc count) members
+  parted_more : (count : ℕ) (members : List (Member K)) (d : Member K) → count < length members → set (with_parts_out count members) count (with_part_out (get_or members count d)) ≡ with_parts_out (suc count) members
   parted_more count [] d within = absurd (omega (arith, within))
   parted_more zero (member ∷ members) d within = refl
   parted_more (suc count) (member ∷ members) d within = ap (λ (rest : List (Member K)). with_part_out member ∷ rest) (parted_more count members d (omega (arith, within)))
 
-  pub parted_next : (count : ℕ) (members : List (Member K)) (d : Member K) → count < length members → set (parted count members) count (with_part_out (get_or members count d)) ≡ parted (count + 1) members
-  parted_next count members d within = let same : suc count ≡ count + 1 = omega arith in parted_more count members d within ∙ ap (λ n. parted n members) same
+  pub parted_next : (count : ℕ) (members : List (Member K)) (d : Member K) → count < length members → set (with_parts_out count members) count (with_part_out (get_or members count d)) ≡ with_parts_out (count + 1) members
+  parted_next count members d within = let same : suc count ≡ count + 1 = omega arith in parted_more count members d within ∙ ap (λ n. with_parts_out n members) same
 
-  pub parted_all : (count : ℕ) (members : List (Member K)) → length members ≤ count → parted count members ≡ map with_part_out members
+  pub parted_all : (count : ℕ) (members : List (Member K)) → length members ≤ count → with_parts_out count members ≡ map with_part_out members
   parted_all zero [] most = refl
   parted_all zero (member ∷ members) most = absurd (omega (arith, most))
   parted_all (suc count) [] most = refl

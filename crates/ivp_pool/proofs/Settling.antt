@@ -8,7 +8,7 @@ use Rattle.ivp_problem.specs.declared.node.Node.{Node}
 use Rattle.ivp_pool.specs.declared.team.Member.{Member}
 use Rattle.ivp_pool.specs.Hands.{EndState}
 use Rattle.ivp_pool.specs.Members.{put_by, put_in, taken_by, taken_in}
-use Rattle.ivp_pool.specs.Teams.{ends_of, HasEmptied, rows_of}
+use Rattle.ivp_pool.specs.Teams.{deque_states, HasEmptied, door_rows}
 
 -- all that was put through this end was taken
 abbrev pub IsEven : EndState → Type 0
@@ -39,23 +39,23 @@ settled_next count ends new within settled emptied =
     subst (λ n. SettledTo n new) same (subst (SettledTo (suc count)) (sym emptied.is) (settled_set count ends emptied.end even settled))
 
 module _ {K : Type 0} where
-  pub settled_start : (members : List (Member K)) → All (λ member. member.deque.hand.parts ≡ 1024) members → SettledTo 0 (ends_of members)
+  pub settled_start : (members : List (Member K)) → All (λ member. member.deque.hand.parts ≡ 1024) members → SettledTo 0 (deque_states members)
   settled_start members parts = by members (recursion_from_All (λ (member : Member K). member.deque.hand.parts ≡ 1024) members parts)
     where
-      by : (ms : List (Member K)) → Each (λ member. member.deque.hand.parts ≡ 1024) ms → SettledTo 0 (ends_of ms)
+      by : (ms : List (Member K)) → Each (λ member. member.deque.hand.parts ≡ 1024) ms → SettledTo 0 (deque_states ms)
       by [] each = tt
       by (member ∷ ms) each = (each.0, by ms each.1)
 
-  pub all_settled : (count : ℕ) (start members : List (Member K)) → length members ≤ count → All (λ member. member.doors.items ≡ []) start → rows_of members ≡ rows_of start → SettledTo count (ends_of members) → (weigh : Node → ℕ) → put_in weigh members ≡ taken_in weigh members
+  pub all_settled : (count : ℕ) (start members : List (Member K)) → length members ≤ count → All (λ member. member.doors.items ≡ []) start → door_rows members ≡ door_rows start → SettledTo count (deque_states members) → (weigh : Node → ℕ) → put_in weigh members ≡ taken_in weigh members
   all_settled count start members most none same settled weigh = by count start members most (recursion_from_All (λ (member : Member K). member.doors.items ≡ []) start none) same settled
     where
-      by : (n : ℕ) (old ms : List (Member K)) → length ms ≤ n → Each (λ member. member.doors.items ≡ []) old → rows_of ms ≡ rows_of old → SettledTo n (ends_of ms) → put_in weigh ms ≡ taken_in weigh ms
+      by : (n : ℕ) (old ms : List (Member K)) → length ms ≤ n → Each (λ member. member.doors.items ≡ []) old → door_rows ms ≡ door_rows old → SettledTo n (deque_states ms) → put_in weigh ms ≡ taken_in weigh ms
       by n old [] most none same settled = refl
       by zero old (member ∷ ms) most none same settled = absurd (omega (arith, most))
       by (suc n) [] (member ∷ ms) most none same settled = absurd (cc)
       by (suc n) (old ∷ olds) (member ∷ ms) most none same settled =
           let here : member.doors.items ≡ old.doors.items = cc in
-          let rest : rows_of ms ≡ rows_of olds = cc in
+          let rest : door_rows ms ≡ door_rows olds = cc in
           omega (
             arith,
             sum_by-cons (put_by weigh) member ms,

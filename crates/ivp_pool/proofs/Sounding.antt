@@ -13,7 +13,7 @@ use Rattle.ivp_problem.proofs.Children.{has}
 use Rattle.ivp_pool.specs.Cores.{Core, Frame}
 use Rattle.ivp_pool.specs.Places.{AreDifferent, InDeque, InDone, InHand, IsIn, IsSound, IsTaken, node_in, open_in, NodePlace, node_places}
 use Rattle.ivp_pool.proofs.SameNodes.{is_same}
-use Rattle.ivp_pool.proofs.Stepping.{Keeps}
+use Rattle.ivp_pool.proofs.Stepping.{KeepsShape}
 use Rattle.ivp_pool.proofs.Weighing.{alike, at, has_at, heavy, holds, holds_some, self, some_holds, taken, weigh, weigh_at}
 
 -- a list that was mapped, by place
@@ -92,7 +92,7 @@ count_open : (problem : WeightedSum) (p : Point) (places : List NodePlace) → c
 count_open problem p [] = refl
 count_open problem p (x ∷ xs) = omega (arith, sum_by-append (λ (n : Node). one_if (has p n)) (open_in problem x) (flat_map (open_in problem) xs), count_open problem p xs)
 
-pub sound_from : (problem : WeightedSum) (core : Core) → Keeps problem core → IsSound problem core
+pub sound_from : (problem : WeightedSum) (core : Core) → KeepsShape problem core → IsSound problem core
 sound_from problem core keeps =
     let places = node_places core in
     let stand = keeps.stand in
@@ -105,7 +105,7 @@ sound_from problem core keeps =
       ahead = λ frame number child held le of there. absurd (omega (arith, in_some places child there, stand.ahead frame.node number child of (held_some places frame number held le)));
     }
 
-pub sound_keeps : (problem : WeightedSum) (core : Core) → IsSound problem core → Keeps problem core
+pub sound_keeps : (problem : WeightedSum) (core : Core) → IsSound problem core → KeepsShape problem core
 sound_keeps problem core sound =
     let places = node_places core in
     record {

@@ -15,7 +15,7 @@ use Rattle.ivp_pool.proofs.Opening.{dropped_stand, known_more, pushed_stand, sam
 use Rattle.ivp_pool.proofs.Weighing.{at, weigh}
 
 -- what holds of a core at any time
-pub record Keeps (problem : WeightedSum) (core : Core) : Type 0 where
+pub record KeepsShape (problem : WeightedSum) (core : Core) : Type 0 where
   pub known : IsKnownKey problem core.word
   pub lows : Lows core.word core.members
   pub stand : Stand problem core.word (node_places core)
@@ -24,7 +24,7 @@ pub record Keeps (problem : WeightedSum) (core : Core) : Type 0 where
 learnt_places : (core : Core) (worker low : ℕ) (member : CoreWorker) → Has core worker member → (h : NodePlace → ℕ) → weigh h (node_places (with_member core worker (record member { low = low }))) ≡ weigh h (node_places core)
 learnt_places core worker low member has h = let by = beside core.members worker member has in omega (arith, by.old h, by.new (record member { low = low }) h)
 
-learnt_keeps : (problem : WeightedSum) (core : Core) (worker : ℕ) (member : CoreWorker) → Has core worker member → Keeps problem core → Keeps problem (with_member core worker (record member { low = core.word }))
+learnt_keeps : (problem : WeightedSum) (core : Core) (worker : ℕ) (member : CoreWorker) → Has core worker member → KeepsShape problem core → KeepsShape problem (with_member core worker (record member { low = core.word }))
 learnt_keeps problem core worker member has keeps =
     record {
       known = keeps.known;
@@ -32,7 +32,7 @@ learnt_keeps problem core worker member has keeps =
       stand = same_places problem core.word (node_places core) (node_places (with_member core worker (record member { low = core.word }))) (learnt_places core worker core.word member has) keeps.stand;
     }
 
-raised_keeps : (problem : WeightedSum) (core : Core) (point : Point) → is_point problem.axes point ≡ true → Keeps problem core → Keeps problem (record core { word = max core.word (key_at problem point) })
+raised_keeps : (problem : WeightedSum) (core : Core) (point : Point) → is_point problem.axes point ≡ true → KeepsShape problem core → KeepsShape problem (record core { word = max core.word (key_at problem point) })
 raised_keeps problem core point inside keeps =
     let key = key_at problem point in
     let up : core.word ≤ max core.word key = omega arith in
@@ -52,12 +52,12 @@ pushed_places core worker taker holder child member has h =
     let by = beside_top core worker holder in
     omega (arith, received (went_on core worker holder) taker child member has h, by.hand (frame_passed holder.frame ∷ holder.below) h)
 
-top_stand : (problem : WeightedSum) (core : Core) (worker : ℕ) (holder : Holds core worker) → Keeps problem core → Stand problem core.word (InHand holder.frame ∷ (beside_top core worker holder).rest)
+top_stand : (problem : WeightedSum) (core : Core) (worker : ℕ) (holder : Holds core worker) → KeepsShape problem core → Stand problem core.word (InHand holder.frame ∷ (beside_top core worker holder).rest)
 top_stand problem core worker holder keeps =
     let by = beside_top core worker holder in
     same_places problem core.word (node_places core) (InHand holder.frame ∷ by.rest) (λ h. sym (by.old h)) keeps.stand
 
-pushed_keeps : (problem : WeightedSum) → IsProblem problem → (core : Core) (worker taker : ℕ) (holder : Holds core worker) (child : Node) (member : CoreWorker) → child_of problem holder.frame.node holder.frame.next ≡ Some child → Has (went_on core worker holder) taker member → Keeps problem core → Keeps problem (with_member (went_on core worker holder) taker (record member { deque = member.deque ++ child ∷ [] }))
+pushed_keeps : (problem : WeightedSum) → IsProblem problem → (core : Core) (worker taker : ℕ) (holder : Holds core worker) (child : Node) (member : CoreWorker) → child_of problem holder.frame.node holder.frame.next ≡ Some child → Has (went_on core worker holder) taker member → KeepsShape problem core → KeepsShape problem (with_member (went_on core worker holder) taker (record member { deque = member.deque ++ child ∷ [] }))
 pushed_keeps problem h core worker taker holder child member of has keeps =
     let by = beside_top core worker holder in
     let gone = went_on core worker holder in
@@ -74,7 +74,7 @@ pushed_keeps problem h core worker taker holder child member of has keeps =
 kept_places : (core : Core) (worker : ℕ) (holder : Holds core worker) (child : Node) (h : NodePlace → ℕ) → weigh h (node_places (with_member core worker (record holder.member { hand = fresh child ∷ frame_passed holder.frame ∷ holder.below }))) ≡ weigh h (InHand (fresh child) ∷ InHand (frame_passed holder.frame) ∷ (beside_top core worker holder).rest)
 kept_places core worker holder child h = let by = beside_top core worker holder in omega (arith, by.hand (fresh child ∷ frame_passed holder.frame ∷ holder.below) h)
 
-kept_keeps : (problem : WeightedSum) → IsProblem problem → (core : Core) (worker : ℕ) (holder : Holds core worker) (child : Node) → child_of problem holder.frame.node holder.frame.next ≡ Some child → Keeps problem core → Keeps problem (with_member core worker (record holder.member { hand = fresh child ∷ frame_passed holder.frame ∷ holder.below }))
+kept_keeps : (problem : WeightedSum) → IsProblem problem → (core : Core) (worker : ℕ) (holder : Holds core worker) (child : Node) → child_of problem holder.frame.node holder.frame.next ≡ Some child → KeepsShape problem core → KeepsShape problem (with_member core worker (record holder.member { hand = fresh child ∷ frame_passed holder.frame ∷ holder.below }))
 kept_keeps problem h core worker holder child of keeps =
     let by = beside_top core worker holder in
     let pushed = pushed_stand problem h core.word holder.frame child by.rest of (top_stand problem core worker holder keeps) in
@@ -89,7 +89,7 @@ kept_keeps problem h core worker holder child of keeps =
 skipped_places : (core : Core) (worker : ℕ) (holder : Holds core worker) (h : NodePlace → ℕ) → weigh h (node_places (went_on core worker holder)) ≡ weigh h (InHand (frame_passed holder.frame) ∷ (beside_top core worker holder).rest)
 skipped_places core worker holder h = let by = beside_top core worker holder in omega (arith, by.hand (frame_passed holder.frame ∷ holder.below) h)
 
-skipped_keeps : (problem : WeightedSum) (core : Core) (worker : ℕ) (holder : Holds core worker) → holder.frame.next < pieces_of problem holder.frame.node → child_of problem holder.frame.node holder.frame.next ≡ None → Keeps problem core → Keeps problem (went_on core worker holder)
+skipped_keeps : (problem : WeightedSum) (core : Core) (worker : ℕ) (holder : Holds core worker) → holder.frame.next < pieces_of problem holder.frame.node → child_of problem holder.frame.node holder.frame.next ≡ None → KeepsShape problem core → KeepsShape problem (went_on core worker holder)
 skipped_keeps problem core worker holder less none keeps =
     let by = beside_top core worker holder in
     record {
@@ -99,7 +99,7 @@ skipped_keeps problem core worker holder less none keeps =
     }
 
 -- a node of a deque is taken, its own or another's
-taken_keeps : (problem : WeightedSum) → IsProblem problem → (core : Core) (worker from : ℕ) (member : CoreWorker) (front : List Node) (node : Node) (behind : List Node) → Has core from member → member.deque ≡ front ++ node ∷ behind → (rests : Rests (with_member core from (record member { deque = front ++ behind })) worker) → Keeps problem core → Keeps problem (with_member (with_member core from (record member { deque = front ++ behind })) worker (record rests.member { hand = fresh node ∷ [] }))
+taken_keeps : (problem : WeightedSum) → IsProblem problem → (core : Core) (worker from : ℕ) (member : CoreWorker) (front : List Node) (node : Node) (behind : List Node) → Has core from member → member.deque ≡ front ++ node ∷ behind → (rests : Rests (with_member core from (record member { deque = front ++ behind })) worker) → KeepsShape problem core → KeepsShape problem (with_member (with_member core from (record member { deque = front ++ behind })) worker (record rests.member { hand = fresh node ∷ [] }))
 taken_keeps problem h core worker from member front node behind has e rests keeps =
     let mid = with_member core from (record member { deque = front ++ behind }) in
     let lows : Lows core.word mid.members = lows_set core.word core.members from (record member { deque = front ++ behind }) keeps.lows (keeps.lows from member has) in
@@ -111,7 +111,7 @@ taken_keeps problem h core worker from member front node behind has e rests keep
       stand = same_places problem core.word (InHand (fresh node) ∷ node_places mid) (node_places (with_member mid worker other)) (began mid worker node rests) (taken_stand problem h core.word node (node_places mid) old);
     }
 
-dropped_keeps : (problem : WeightedSum) → IsProblem problem → (core : Core) (worker : ℕ) (holder : Holds core worker) → MayDrop problem holder.member.low holder.frame → Keeps problem core → Keeps problem (with_member core worker (record holder.member { hand = holder.below; done = holder.frame.node ∷ holder.member.done }))
+dropped_keeps : (problem : WeightedSum) → IsProblem problem → (core : Core) (worker : ℕ) (holder : Holds core worker) → MayDrop problem holder.member.low holder.frame → KeepsShape problem core → KeepsShape problem (with_member core worker (record holder.member { hand = holder.below; done = holder.frame.node ∷ holder.member.done }))
 dropped_keeps problem h core worker holder may keeps =
     let by = beside_top core worker holder in
     let low = keeps.lows worker holder.member holder.has in
@@ -122,16 +122,16 @@ dropped_keeps problem h core worker holder may keeps =
       stand = same_places problem core.word (InDone holder.frame.node ∷ by.rest) (node_places (with_member core worker other)) by.dropped (dropped_stand problem h holder.member.low core.word holder.frame by.rest low may (top_stand problem core worker holder keeps));
     }
 
-pub step_keeps : (problem : WeightedSum) → IsProblem problem → (step : Step) (core core' : Core) → Stepped problem step core core' → Keeps problem core → Keeps problem core'
-step_keeps problem h (Load worker) core core' (member, has, e) keeps = subst (Keeps problem) (sym e) (learnt_keeps problem core worker member has keeps)
+pub step_keeps : (problem : WeightedSum) → IsProblem problem → (step : Step) (core core' : Core) → Stepped problem step core core' → KeepsShape problem core → KeepsShape problem core'
+step_keeps problem h (Load worker) core core' (member, has, e) keeps = subst (KeepsShape problem) (sym e) (learnt_keeps problem core worker member has keeps)
 step_keeps problem h (Raise worker point) core core' (inside, (member, has, e)) keeps =
-    subst (Keeps problem) (sym e) (learnt_keeps problem (record core { word = max core.word (key_at problem point) }) worker member has (raised_keeps problem core point inside keeps))
-step_keeps problem h (Push worker) core core' (holder, child, of, (member, has, e)) keeps = subst (Keeps problem) (sym e) (pushed_keeps problem h core worker (taker_of core worker holder.frame) holder child member of has keeps)
-step_keeps problem h (Keep worker) core core' (holder, child, of, e) keeps = subst (Keeps problem) (sym e) (kept_keeps problem h core worker holder child of keeps)
-step_keeps problem h (Skip worker) core core' (holder, less, none, e) keeps = subst (Keeps problem) (sym e) (skipped_keeps problem core worker holder less none keeps)
-step_keeps problem h (Pop worker) core core' (member, has, front, node, behind, split, (rests, e)) keeps = subst (Keeps problem) (sym e) (taken_keeps problem h core worker worker member front node behind has split rests keeps)
-step_keeps problem h (Steal worker from) core core' (member, has, node, rest, split, (rests, e)) keeps = subst (Keeps problem) (sym e) (taken_keeps problem h core worker from member [] node rest has split rests keeps)
-step_keeps problem h (Drop worker) core core' (holder, may, e) keeps = subst (Keeps problem) (sym e) (dropped_keeps problem h core worker holder may keeps)
+    subst (KeepsShape problem) (sym e) (learnt_keeps problem (record core { word = max core.word (key_at problem point) }) worker member has (raised_keeps problem core point inside keeps))
+step_keeps problem h (Push worker) core core' (holder, child, of, (member, has, e)) keeps = subst (KeepsShape problem) (sym e) (pushed_keeps problem h core worker (taker_of core worker holder.frame) holder child member of has keeps)
+step_keeps problem h (Keep worker) core core' (holder, child, of, e) keeps = subst (KeepsShape problem) (sym e) (kept_keeps problem h core worker holder child of keeps)
+step_keeps problem h (Skip worker) core core' (holder, less, none, e) keeps = subst (KeepsShape problem) (sym e) (skipped_keeps problem core worker holder less none keeps)
+step_keeps problem h (Pop worker) core core' (member, has, front, node, behind, split, (rests, e)) keeps = subst (KeepsShape problem) (sym e) (taken_keeps problem h core worker worker member front node behind has split rests keeps)
+step_keeps problem h (Steal worker from) core core' (member, has, node, rest, split, (rests, e)) keeps = subst (KeepsShape problem) (sym e) (taken_keeps problem h core worker from member [] node rest has split rests keeps)
+step_keeps problem h (Drop worker) core core' (holder, may, e) keeps = subst (KeepsShape problem) (sym e) (dropped_keeps problem h core worker holder may keeps)
 
 -- no step takes a node away
 abbrev StillThere : Core → Node → Core → Type 0

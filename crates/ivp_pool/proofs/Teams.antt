@@ -12,7 +12,7 @@ use Rattle.ivp_problem.specs.Problems.{IsProblem, WeightedSum}
 use Rattle.ivp_problem.specs.Sums.{key_at}
 use Rattle.ivp_problem.specs.Trees.{IsNode, root_of}
 use Rattle.ivp_pool.specs.Closing.{Closed}
-use Rattle.ivp_pool.specs.Parts.{handed_of, size_of}
+use Rattle.ivp_pool.specs.Parts.{handed_within, part_size}
 use Rattle.ivp_pool.specs.Solving.{AreClosed, IsSearched, low_of, WentOn}
 use Rattle.ivp_pool.specs.declared.team.Worker.{Worker}
 use Rattle.ivp_pool.specs.Tallies.{handed_by, IsTally, IsWholeTree, Tally}
@@ -25,7 +25,7 @@ pub closed_none : (problem : WeightedSum) (key : ℕ) → AreClosed problem key 
 closed_none problem key = record { tallies = []; each = λ place tally at. absurd (cc); called = λ weigh. refl; passed = λ weigh. refl; size = refl }
 
 -- one call
-pub closed_one : (problem : WeightedSum) (key : ℕ) (took took' : List Node) (node : Node) (count : ℕ) → IsNode problem node → (closed : Closed problem key took took' node count) → AreClosed problem key (node ∷ []) (handed_of problem node closed.part) count
+pub closed_one : (problem : WeightedSum) (key : ℕ) (took took' : List Node) (node : Node) (count : ℕ) → IsNode problem node → (closed : Closed problem key took took' node count) → AreClosed problem key (node ∷ []) (handed_within problem node closed.part) count
 closed_one problem key took took' node count is closed =
     let tally : Tally = record { node = node; part = closed.part } in
     record {
@@ -37,10 +37,10 @@ closed_one problem key took took' node count is closed =
     }
 
 -- what it handed on are nodes of the tree
-pub handed_nodes : (problem : WeightedSum) (key : ℕ) (took took' : List Node) (node : Node) (count : ℕ) → IsNode problem node → (closed : Closed problem key took took' node count) → All (IsNode problem) (handed_of problem node closed.part)
+pub handed_nodes : (problem : WeightedSum) (key : ℕ) (took took' : List Node) (node : Node) (count : ℕ) → IsNode problem node → (closed : Closed problem key took took' node count) → All (IsNode problem) (handed_within problem node closed.part)
 handed_nodes problem key took took' node count is closed =
-    All-from_recursion (IsNode problem) (handed_of problem node closed.part)
-    (each_weaker (IsBelow problem (suc node.depth)) (IsNode problem) (λ n below. below.is) (handed_of problem node closed.part) (handed_deeper problem key (length problem.terms) node closed.part (standing problem node is) closed.is closed.here))
+    All-from_recursion (IsNode problem) (handed_within problem node closed.part)
+    (each_weaker (IsBelow problem (suc node.depth)) (IsNode problem) (λ n below. below.is) (handed_within problem node closed.part) (handed_deeper problem key (length problem.terms) node closed.part (standing problem node is) closed.is closed.here))
 
 -- calls and further calls, where as much is known as in both
 pub closed_more : (problem : WeightedSum) (one other key : ℕ) (nodes handed nodes' handed' : List Node) (count count' : ℕ) → one ≤ key → other ≤ key → AreClosed problem one nodes handed count → AreClosed problem other nodes' handed' count' → AreClosed problem key (nodes ++ nodes') (handed ++ handed') (count + count')
@@ -52,7 +52,7 @@ closed_more problem one other key nodes handed nodes' handed' count count' up up
       each = λ place tally at. each_at (IsTally problem key) (ts ++ us) place tally (each_append (IsTally problem key) ts us (known one up ts closed.each) (known other up' us closed'.each)) at;
       called = λ weigh. omega (arith, sum_by-append (λ (t : Tally). weigh t.node) ts us, sum_by-append weigh nodes nodes', closed.called weigh, closed'.called weigh);
       passed = λ weigh. omega (arith, sum_by-append (λ (t : Tally). sum_by weigh (handed_by problem t)) ts us, sum_by-append weigh handed handed', closed.passed weigh, closed'.passed weigh);
-      size = omega (arith, sum_by-append (λ (t : Tally). size_of t.part) ts us, length-append handed handed', closed.size, closed'.size);
+      size = omega (arith, sum_by-append (λ (t : Tally). part_size t.part) ts us, length-append handed handed', closed.size, closed'.size);
     }
   where
     tally_known : (low : ℕ) → low ≤ key → (tally : Tally) → IsTally problem low tally → IsTally problem key tally

@@ -13,7 +13,7 @@ use Rattle.ivp_pool.specs.declared.team.Worker.{Worker}
 use Rattle.ivp_pool.specs.Hands.{EndState, IsSettled}
 use Rattle.ivp_pool.specs.Members.{Did, put_by, put_in, taken_by, taken_in}
 use Rattle.ivp_pool.specs.Solving.{AreClosed, IsWorker, low_of, WentOn}
-use Rattle.ivp_pool.specs.Teams.{AllDid, AreBelow, AreWorkers, closed_in, ends_of, HasEmptied, rows_of, shape_of, shapes_of}
+use Rattle.ivp_pool.specs.Teams.{AllDid, AreBelow, AreWorkers, closed_in, deque_states, HasEmptied, door_rows, shape_of, shapes_of}
 use Rattle.ivp_pool.proofs.Members.{put_more, took_one}
 use Rattle.ivp_pool.proofs.Teams.{closed_more, closed_none}
 
@@ -190,19 +190,19 @@ module _ {K : Type 0} where
   shapes_set (member ∷ members) zero d new same = ap (λ s. s ∷ shapes_of members) same
   shapes_set (member ∷ members) (suc place) d new same = ap (λ ss. shape_of member ∷ ss) (shapes_set members place d new same)
 
-  pub rows_set : (members : List (Member K)) (place : ℕ) (d new : Member K) → new.doors.items ≡ (get_or members place d).doors.items → rows_of (set members place new) ≡ rows_of members
+  pub rows_set : (members : List (Member K)) (place : ℕ) (d new : Member K) → new.doors.items ≡ (get_or members place d).doors.items → door_rows (set members place new) ≡ door_rows members
   rows_set [] place d new same = refl
-  rows_set (member ∷ members) zero d new same = ap (λ s. s ∷ rows_of members) same
+  rows_set (member ∷ members) zero d new same = ap (λ s. s ∷ door_rows members) same
   rows_set (member ∷ members) (suc place) d new same = ap (λ ss. member.doors.items ∷ ss) (rows_set members place d new same)
 
-  pub ends_set : (members : List (Member K)) (place : ℕ) (new : Member K) → ends_of (set members place new) ≡ set (ends_of members) place new.deque
+  pub ends_set : (members : List (Member K)) (place : ℕ) (new : Member K) → deque_states (set members place new) ≡ set (deque_states members) place new.deque
   ends_set [] place new = refl
   ends_set (member ∷ members) zero new = refl
   ends_set (member ∷ members) (suc place) new = ap (λ ss. member.deque ∷ ss) (ends_set members place new)
 
-  pub ends_same : (members : List (Member K)) (place : ℕ) (d new : Member K) → new.deque ≡ (get_or members place d).deque → ends_of (set members place new) ≡ ends_of members
+  pub ends_same : (members : List (Member K)) (place : ℕ) (d new : Member K) → new.deque ≡ (get_or members place d).deque → deque_states (set members place new) ≡ deque_states members
   ends_same [] place d new same = refl
-  ends_same (member ∷ members) zero d new same = ap (λ s. s ∷ ends_of members) same
+  ends_same (member ∷ members) zero d new same = ap (λ s. s ∷ deque_states members) same
   ends_same (member ∷ members) (suc place) d new same = ap (λ ss. member.deque ∷ ss) (ends_same members place d new same)
 
   -- a child that its deque took, one that came back
@@ -258,11 +258,11 @@ emptied place start now d within so_far settled =
     record { end = so_far.end; is = so_far.is; settled = subst (λ (end : EndState). IsSettled end.hand) here settled; parts = so_far.parts }
 
 module _ {K : Type 0} where
-  pub ends_len : (members : List (Member K)) → length (ends_of members) ≡ length members
+  pub ends_len : (members : List (Member K)) → length (deque_states members) ≡ length members
   ends_len [] = refl
   ends_len (member ∷ members) = ap suc (ends_len members)
 
-  pub end_at : (members : List (Member K)) (place : ℕ) (d : Member K) → place < length members → get_or (ends_of members) place d.deque ≡ (get_or members place d).deque
+  pub end_at : (members : List (Member K)) (place : ℕ) (d : Member K) → place < length members → get_or (deque_states members) place d.deque ≡ (get_or members place d).deque
   end_at [] place d within = refl
   end_at (member ∷ members) zero d within = refl
   end_at (member ∷ members) (suc place) d within = end_at members place d (omega (arith, within))

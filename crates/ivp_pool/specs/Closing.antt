@@ -5,7 +5,7 @@ use Rattle.ivp_problem.specs.declared.node.Node.{Node}
 use Rattle.ivp_problem.specs.Problems.{WeightedSum}
 use Rattle.ivp_problem.specs.Sums.{key_at}
 use Rattle.ivp_problem.specs.Trees.{has_in}
-use Rattle.ivp_pool.specs.Parts.{handed_of, IsPart, Part, Handed, size_of}
+use Rattle.ivp_pool.specs.Parts.{handed_within, IsPart, TreePart, Handed, part_size}
 
 -- what a tray has taken after a push: the node at the end, or as before, where the node came back
 abbrev pub Pushed : List Node → List Node → Node → Option Node → Type 0
@@ -14,11 +14,11 @@ Pushed took took' node (Some back) = (back ≡ node) × (took' ≡ took)
 
 -- a node was closed while this key was known: it has a part, the tray took the handed nodes of that, in order, and so many nodes were closed as the part has others
 pub record Closed (problem : WeightedSum) (low : ℕ) (took took' : List Node) (node : Node) (count : ℕ) : Type 0 where
-  pub part : Part
+  pub part : TreePart
   pub is : IsPart problem low node part
   pub here : part ≢ Handed
-  pub taken : took' ≡ took ++ handed_of problem node part
-  pub counted : count + length (handed_of problem node part) ≡ size_of part
+  pub taken : took' ≡ took ++ handed_within problem node part
+  pub counted : count + length (handed_within problem node part) ≡ part_size part
 
 -- each of these points has a key that the scout knows of, or lies in a node that the tray took since
 abbrev pub AreCovered : WeightedSum → ℕ → List Node → List Node → (Point → Bool) → Type 0

@@ -37,7 +37,7 @@ module _ {K : Type 0} where
   doors_of member = map tag_of member.doors.items
 
   -- its deque and its doors are the same as before, whatever went through them
-  pub record Keeps (old new : Member K) : Type 0 where
+  pub record KeepsShape (old new : Member K) : Type 0 where
     pub deque : new.deque.deque ≡ old.deque.deque
     pub parts : new.deque.hand.parts ≡ old.deque.hand.parts
     pub doors : doors_of new ≡ doors_of old
@@ -49,11 +49,11 @@ module _ {K : Type 0} where
     pub doors : new.doors.items ≡ old.doors.items
 
   -- it has taken a node from a deque
-  pub record HasTaken (node : Node) (old new : Member K) : Type 0 where
+  pub record TookNode (node : Node) (old new : Member K) : Type 0 where
     pub worker : new.worker ≡ old.worker
     pub put : (weigh : Node → ℕ) → put_by weigh new ≡ put_by weigh old
     pub taken : (weigh : Node → ℕ) → taken_by weigh new ≡ taken_by weigh old + weigh node
-    pub keeps : Keeps old new
+    pub keeps : KeepsShape old new
 
   -- it has closed nodes that it took, each once, and put what these calls handed to others
   pub record Did (problem : WeightedSum) (old new : Member K) : Type 0 where
@@ -62,7 +62,7 @@ module _ {K : Type 0} where
     pub went : WentOn problem nodes handed old.worker new.worker
     pub put : (weigh : Node → ℕ) → put_by weigh new ≡ put_by weigh old + sum_by weigh handed
     pub taken : (weigh : Node → ℕ) → taken_by weigh new ≡ taken_by weigh old + sum_by weigh nodes
-    pub keeps : Keeps old new
+    pub keeps : KeepsShape old new
 
   -- which deques the members have
   abbrev pub deques_of : List (Member K) → List (RowsId × Global)
@@ -72,10 +72,11 @@ module _ {K : Type 0} where
   abbrev pub workers_of : List (Member K) → List Worker
   workers_of members = map (λ (member : Member K). member.worker) members
 
-  -- what they have put into deques together, and what they have taken
+  -- what they have put into deques together
   abbrev pub put_in : (Node → ℕ) → List (Member K) → ℕ
   put_in weigh members = sum_by (put_by weigh) members
 
+  -- what they have taken from deques together
   abbrev pub taken_in : (Node → ℕ) → List (Member K) → ℕ
   taken_in weigh members = sum_by (taken_by weigh) members
 
@@ -100,10 +101,10 @@ module _ {K : Type 0} where
     pub hand : member.deque.hand ≡ hand (1024 - out) [] []
 
   -- members of whom the first ones gave a part to a door
-  abbrev pub parted : ℕ → List (Member K) → List (Member K)
-  parted zero members = members
-  parted (suc count) [] = []
-  parted (suc count) (member ∷ members) = with_part_out member ∷ parted count members
+  abbrev pub with_parts_out : ℕ → List (Member K) → List (Member K)
+  with_parts_out zero members = members
+  with_parts_out (suc count) [] = []
+  with_parts_out (suc count) (member ∷ members) = with_part_out member ∷ with_parts_out count members
 
   -- the first members have these doors
   abbrev pub OpenTo : ℕ → List EndState → List (Member K) → Type 0

@@ -6,25 +6,25 @@ use Rattle.ivp_problem.specs.Trees.{bound_of, children_of}
 
 mutual
   -- what became of a node: it was pruned with all below it, handed to others, or expanded into its children
-  pub data Part : Type 0 where
-    Pruned : Part
-    Handed : Part
-    Expanded : Parts → Part
+  pub data TreePart : Type 0 where
+    Pruned : TreePart
+    Handed : TreePart
+    Expanded : TreeParts → TreePart
 
   -- what became of each of some nodes, one after the other
-  pub data Parts : Type 0 where
-    Done : Parts
-    Then : Part → Parts → Parts
+  pub data TreeParts : Type 0 where
+    Done : TreeParts
+    Then : TreePart → TreeParts → TreeParts
 
 abbrev mutual
   -- the part is one of this node: a pruned node's bound is at most this key, and an expanded one isn't at full depth and has a part for each of its children
-  pub IsPart : WeightedSum → ℕ → Node → Part → Type 0
+  pub IsPart : WeightedSum → ℕ → Node → TreePart → Type 0
   IsPart problem low node Pruned = bound_of problem node ≤ low
   IsPart problem low node Handed = Unit {0}
   IsPart problem low node (Expanded parts) = (node.depth < length problem.terms) × AreParts problem low (children_of problem node) parts
 
   -- there is one part for each of these nodes
-  pub AreParts : WeightedSum → ℕ → List Node → Parts → Type 0
+  pub AreParts : WeightedSum → ℕ → List Node → TreeParts → Type 0
   AreParts problem low [] Done = Unit {0}
   AreParts problem low (node ∷ nodes) Done = ⊥
   AreParts problem low [] (Then part parts) = ⊥
@@ -32,25 +32,25 @@ abbrev mutual
 
 abbrev mutual
   -- how many nodes a part has
-  pub size_of : Part → ℕ
-  size_of Pruned = 1
-  size_of Handed = 1
-  size_of (Expanded parts) = 1 + size_in parts
+  pub part_size : TreePart → ℕ
+  part_size Pruned = 1
+  part_size Handed = 1
+  part_size (Expanded parts) = 1 + size_in parts
 
   -- how many nodes several parts have together
-  pub size_in : Parts → ℕ
+  pub size_in : TreeParts → ℕ
   size_in Done = 0
-  size_in (Then part parts) = size_of part + size_in parts
+  size_in (Then part parts) = part_size part + size_in parts
 
 abbrev mutual
   -- the nodes of a part that were handed to others, depth first
-  pub handed_of : WeightedSum → Node → Part → List Node
-  handed_of problem node Pruned = []
-  handed_of problem node Handed = node ∷ []
-  handed_of problem node (Expanded parts) = handed_in problem (children_of problem node) parts
+  pub handed_within : WeightedSum → Node → TreePart → List Node
+  handed_within problem node Pruned = []
+  handed_within problem node Handed = node ∷ []
+  handed_within problem node (Expanded parts) = handed_in problem (children_of problem node) parts
 
   -- the nodes of several parts that were handed to others, part after part
-  pub handed_in : WeightedSum → List Node → Parts → List Node
+  pub handed_in : WeightedSum → List Node → TreeParts → List Node
   handed_in problem nodes Done = []
   handed_in problem [] (Then part parts) = []
-  handed_in problem (node ∷ nodes) (Then part parts) = handed_of problem node part ++ handed_in problem nodes parts
+  handed_in problem (node ∷ nodes) (Then part parts) = handed_within problem node part ++ handed_in problem nodes parts

@@ -8,15 +8,15 @@ use Rattle.ivp_problem.specs.Problems.{WeightedSum}
 use Rattle.ivp_problem.specs.Trees.{root_of}
 use Rattle.ivp_pool.specs.declared.team.Worker.{Worker}
 use Rattle.ivp_pool.specs.declared.work.Work.{Work}
-use Rattle.ivp_pool.specs.Parts.{handed_of, IsPart, Part, size_of}
+use Rattle.ivp_pool.specs.Parts.{handed_within, IsPart, TreePart, part_size}
 use Rattle.ivp_pool.specs.Tallies.{handed_by, IsTally, Tally}
 
 -- so many nodes are a part of the whole tree, with the root and nothing handed to others: each node has all its children there, or none and a bound of at most this key
 pub record IsSearched (problem : WeightedSum) (key count : ℕ) : Type 0 where
-  pub part : Part
+  pub part : TreePart
   pub is : IsPart problem key (root_of problem) part
-  pub none : handed_of problem (root_of problem) part ≡ []
-  pub size : size_of part ≡ count
+  pub none : handed_within problem (root_of problem) part ≡ []
+  pub size : part_size part ≡ count
 
 -- how many nodes workers closed together
 abbrev pub total_of : List Work → ℕ
@@ -28,7 +28,7 @@ pub record AreClosed (problem : WeightedSum) (key : ℕ) (nodes handed : List No
   pub each : (place : ℕ) (tally : Tally) → slice_get tallies place ≡ Some tally → IsTally problem key tally
   pub called : (weigh : Node → ℕ) → sum_by (λ tally. weigh tally.node) tallies ≡ sum_by weigh nodes
   pub passed : (weigh : Node → ℕ) → sum_by (λ tally. sum_by weigh (handed_by problem tally)) tallies ≡ sum_by weigh handed
-  pub size : count + length handed ≡ sum_by (λ tally. size_of tally.part) tallies
+  pub size : count + length handed ≡ sum_by (λ tally. part_size tally.part) tallies
 
 -- the key that a worker knows
 abbrev pub low_of : Worker → ℕ

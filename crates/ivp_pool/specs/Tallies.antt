@@ -7,16 +7,16 @@ use Rattle.ivp_problem.specs.declared.node.Node.{Node}
 use Rattle.ivp_problem.specs.Problems.{WeightedSum}
 use Rattle.ivp_problem.specs.Sums.{key_at}
 use Rattle.ivp_problem.specs.Trees.{IsNode, root_of}
-use Rattle.ivp_pool.specs.Parts.{Handed, handed_of, IsPart, Part, size_of}
+use Rattle.ivp_pool.specs.Parts.{Handed, handed_within, IsPart, TreePart, part_size}
 
 -- a node, and the part that was made of it
 pub record Tally : Type 0 where
   pub node : Node
-  pub part : Part
+  pub part : TreePart
 
 -- the nodes that were handed to others
 abbrev pub handed_by : WeightedSum → Tally → List Node
-handed_by problem tally = handed_of problem tally.node tally.part
+handed_by problem tally = handed_within problem tally.node tally.part
 
 -- a node of the tree that was closed while this key was known
 pub record IsTally (problem : WeightedSum) (key : ℕ) (tally : Tally) : Type 0 where
@@ -30,8 +30,8 @@ AreLinked problem nodes tallies = (weigh : Node → ℕ) → sum_by (λ tally. w
 
 -- together they are one part of the whole tree with nothing handed to others, and as many nodes as all parts without the handed ones; so no point has a greater key
 pub record IsWholeTree (problem : WeightedSum) (key : ℕ) (tallies : List Tally) : Type 0 where
-  pub part : Part
+  pub part : TreePart
   pub is : IsPart problem key (root_of problem) part
-  pub none : handed_of problem (root_of problem) part ≡ []
-  pub size : size_of part + sum_by (λ tally. length (handed_by problem tally)) tallies ≡ sum_by (λ tally. size_of tally.part) tallies
+  pub none : handed_within problem (root_of problem) part ≡ []
+  pub size : part_size part + sum_by (λ tally. length (handed_by problem tally)) tallies ≡ sum_by (λ tally. part_size tally.part) tallies
   pub most : (p : Point) → IsTrue (is_point problem.axes p) → key_at problem p ≤ key

@@ -25,17 +25,18 @@ module _ {K : Type 0} where
   closed_in members = sum_by (λ (member : Member K). member.worker.work.closed) members
 
   -- their deques
-  abbrev pub ends_of : List (Member K) → List EndState
-  ends_of members = map (λ (member : Member K). member.deque) members
+  abbrev pub deque_states : List (Member K) → List EndState
+  deque_states members = map (λ (member : Member K). member.deque) members
 
   -- their doors
-  abbrev pub rows_of : List (Member K) → List (List EndState)
-  rows_of members = map (λ (member : Member K). member.doors.items) members
+  abbrev pub door_rows : List (Member K) → List (List EndState)
+  door_rows members = map (λ (member : Member K). member.doors.items) members
 
   -- which deques and doors they have, whatever went through them
   abbrev pub shape_of : Member K → ((RowsId × Global) × ℕ) × List ((RowsId × Global) × ℕ)
   shape_of member = ((member.deque.deque, member.deque.hand.parts), doors_of member)
 
+  -- the shapes of all of them
   abbrev pub shapes_of : List (Member K) → List (((RowsId × Global) × ℕ) × List ((RowsId × Global) × ℕ))
   shapes_of members = map shape_of members
 

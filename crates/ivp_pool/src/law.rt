@@ -6,7 +6,7 @@ ghost use Rattle.ivp_problem.specs.Problems.{IsProblem, WeightedSum};
 ghost use Rattle.ivp_problem.specs.Sums.{key_at};
 ghost use Rattle.ivp_problem.specs.Trees.{has_in, IsNode, root_of};
 ghost use Rattle.ivp_pool.specs.Cores.{Core, StepsTo, start_of, Step, Stepped};
-ghost use Rattle.ivp_pool.specs.Parts.{Handed, handed_of, IsPart, Part, size_of};
+ghost use Rattle.ivp_pool.specs.Parts.{Handed, handed_within, IsPart, TreePart, part_size};
 ghost use Rattle.ivp_pool.specs.Places.{IsFinished, IsIn, IsOver, IsSound, nodes_in};
 ghost use Rattle.ivp_pool.specs.Tallies.{AreLinked, IsTally, IsWholeTree, Tally};
 
@@ -17,10 +17,10 @@ use ivp_problem::{Node, Problem, problem_law};
 /// a part is small. It does nothing.
 pub fn parts_law(problem: &Problem, node: &Node)
     requires node { IsNode problem.now node.now }
-    ensures raised { (low high : ℕ) (part : Part) → low ≤ high → IsPart problem.now low node.now part → IsPart problem.now high node.now part }
-    ensures covered { (low : ℕ) (part : Part) → IsPart problem.now low node.now part → (p : Point) → IsTrue (has_point node.now.area p) → (key_at problem.now p ≤ low) ⊎ IsTrue (has_in (handed_of problem.now node.now part) p) }
-    ensures deeper { (low : ℕ) (part : Part) → IsPart problem.now low node.now part → part ≢ Handed → (place : ℕ) (child : Node) → slice_get (handed_of problem.now node.now part) place ≡ Some child → IsNode problem.now child × (node.now.depth < child.depth) }
-    ensures few { (low : ℕ) (part : Part) → IsPart problem.now low node.now part → size_of part ≤ 65 * 2 ^ 22 }
+    ensures raised { (low high : ℕ) (part : TreePart) → low ≤ high → IsPart problem.now low node.now part → IsPart problem.now high node.now part }
+    ensures covered { (low : ℕ) (part : TreePart) → IsPart problem.now low node.now part → (p : Point) → IsTrue (has_point node.now.area p) → (key_at problem.now p ≤ low) ⊎ IsTrue (has_in (handed_within problem.now node.now part) p) }
+    ensures deeper { (low : ℕ) (part : TreePart) → IsPart problem.now low node.now part → part ≢ Handed → (place : ℕ) (child : Node) → slice_get (handed_within problem.now node.now part) place ≡ Some child → IsNode problem.now child × (node.now.depth < child.depth) }
+    ensures few { (low : ℕ) (part : TreePart) → IsPart problem.now low node.now part → part_size part ≤ 65 * 2 ^ 22 }
 {
     problem_law(problem);
 }

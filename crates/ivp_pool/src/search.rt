@@ -6,7 +6,7 @@ ghost use Rattle.ivp_problem.specs.declared.node.Node.{Node};
 ghost use Rattle.ivp_problem.specs.Sums.{key_at};
 ghost use Rattle.ivp_problem.specs.Trees.{IsNode};
 ghost use Rattle.ivp_pool.specs.Members.{Did, IsNewMember, put_in, taken_in};
-ghost use Rattle.ivp_pool.specs.Teams.{AllDid, ends_of, HasEmptied, rows_of, shapes_of, AreBelow, AreWorkers, closed_in};
+ghost use Rattle.ivp_pool.specs.Teams.{AllDid, deque_states, HasEmptied, door_rows, shapes_of, AreBelow, AreWorkers, closed_in};
 ghost use Rattle.ivp_pool.specs.Solving.{IsSearched, IsWorker};
 
 use crate::rule::About;
@@ -95,8 +95,8 @@ fn empty_deque<K: About, R: Wait, G: Gate>(
     requires number { number < length members.old }
     requires workers { AreWorkers problem.now best.now members.old }
     ensures did { AllDid problem.now best.now [] [] members.old members.new }
-    ensures doors { rows_of members.new ≡ rows_of members.old }
-    ensures empty { HasEmptied number (ends_of members.old) (ends_of members.new) }
+    ensures doors { door_rows members.new ≡ door_rows members.old }
+    ensures empty { HasEmptied number (deque_states members.old) (deque_states members.new) }
 {
     let mut none = NoTray { problem };
     for _ in rt.forever() {

@@ -28,9 +28,9 @@ pub struct Solved {
 
 /// Finds the best point of a problem by 1 to 16 workers. Worker 0 closes the root, whose child `k` is dealt to worker `k`
 /// modulo the number of workers. Then each worker, on a thread of its own where one can be started, closes the nodes of its
-/// deque, to which their children go, and steals from the others when it has none; a child that finds no memory there is
-/// closed at once, as each is where one worker is alone. They share the best key that any of them knows. The gate is told
-/// before each call for a worker's node. `Err` is want of memory for the word, for the workers, their deques or their counts.
+/// deque, to which their children go, and steals from the others when it has none; a child is closed at once where 16 nodes
+/// wait there already or no memory is found for it, as each is where one worker is alone. They share the best key that any
+/// of them knows. The gate is told before each call for a worker's node. `Err` is want of memory for the word, for the workers, their deques or their counts.
 pub fn solve<R: Threads + Wait + Sync, G: Gate>(
     rt: &R,
     alloc: Global,

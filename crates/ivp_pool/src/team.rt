@@ -2,7 +2,7 @@
 ghost use Rattle.std.specs.Prelude.{◌≡◌, ◌<◌, ◌≤◌, ◌++◌, ◌∷◌, [], length, All, List, MatchOption};
 ghost use Rattle.ivp_problem.specs.declared.node.Node.{Node};
 ghost use Rattle.ivp_problem.specs.Trees.{IsNode, root_of};
-ghost use Rattle.ivp_pool.specs.Members.{Did, HasTaken, Same};
+ghost use Rattle.ivp_pool.specs.Members.{Did, TookNode, Same};
 ghost use Rattle.ivp_pool.specs.Solving.{IsWorker, WentOn};
 
 use crate::close::close_one;
@@ -100,7 +100,7 @@ pub(crate) fn close_next<T: Tray, G: Gate>(
 fn next_node<K: About, R: Wait>(rt: &R, number: usize, member: &mut Member<K>) -> Option<Node>
     requires number { number < length member.old.doors.items }
     requires few { length member.old.doors.items ≤ 16 }
-    ensures { MatchOption result (Same member.old member.new) (λ node. IsNode K.problem node × HasTaken node member.old member.new) }
+    ensures { MatchOption result (Same member.old member.new) (λ node. IsNode K.problem node × TookNode node member.old member.new) }
 {
     if let Some(node) = member.deque.pop() {
         return Some(node);

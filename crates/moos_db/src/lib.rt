@@ -8,7 +8,7 @@
 // kept of one client, where `index` has for each variable the registrations that may select it; `log`, what is kept of the
 // history, `latest`, the latest post of each variable, `variables`, the clients that may hear each variable, `listener`, a
 // client with the posts that it is to look at, `hearing`, how posts come to these, `calls` and `mail`, what each call does,
-// `db`, and last `run`, which makes a list of calls.
+// `db`, `journal`, how a lock sees a `Db`, and last `run`, which makes a list of calls.
 #![tactic(auto)]
 
 mod calls;

@@ -1,4 +1,4 @@
--- What a round does to the seats of the clients. This serves the functions of this crate alone.
+-- What the clients' lines of one stamp do to their seats. This serves the functions of this crate alone.
 use Rattle.std.specs.Prelude.{◌≡◌, ℕ, ◌+◌, ◌-◌, ◌==◌, ◌<◌, ◌≤◌, ◌≢◌, Bool, IsTrue, List, [], ◌++◌, length, map, take, drop, OnOk, Result, count_by}
 use Rattle.std.specs.List.{All, list_all, list_any}
 use Rattle.moos_client.specs.Calls.{MayCall, SeatState, entries_of}

@@ -1,4 +1,4 @@
-// One round: the seats of the clients that have lines are parted from the first, their clients make their calls beside
+// One step of the clients: the seats of the clients that have lines are parted from the first, their clients make their calls beside
 // each other, and the first takes all in again.
 ghost use Rattle.std.specs.Prelude.{◌≡◌, ◌<◌, ◌≤◌, ◌^◌, length, nat_lt, IsTrue, IfOk, OnOk, OnErr, Ok};
 ghost use Rattle.std.specs.List.{All, AllZip, list_all};

@@ -39,7 +39,7 @@ pub struct Ran {
 /// the pairs to begin with, where there are any, both at stamp 0. It ticks at each multiple of its period from 0 up to the
 /// script's last stamp: it fetches and posts, also where it has nothing to post.
 ///
-/// In order Stamp there is a round for each stamp at which there are lines, and a tick follows the clients of its stamp. In
+/// In order Stamp there is a step for each stamp at which there are lines, and a tick follows the clients of its stamp. In
 /// order Race each client plays its whole script and the helm makes all its ticks, beside each other. The gate is called
 /// before each client's nth call, counted from 0, and the helm's too. There are 1 to 16 workers for what the helm solves.
 pub fn play<R: Threads + Wait + Sync, G: Gate>(

@@ -1,6 +1,6 @@
 use Rattle.std.proofs.Common.{suc, length, arith}
 use Rattle.moos_io.proofs.Lists.{each_at}
-use Rattle.ivp_pool.specs.Parts.{handed_of}
+use Rattle.ivp_pool.specs.Parts.{handed_within}
 use Rattle.ivp_pool.proofs.Growing.{covered, handed_deeper, IsBelow, raised}
 use Rattle.ivp_pool.proofs.Standing.{standing, Stands}
 use Rattle.ivp_pool.proofs.Weights.{few_weight, size_most}
@@ -20,7 +20,7 @@ returns-clause-deeper c = λ low part is here place child at.
     let problem = c.args.problem.now in
     let node = c.args.node.now in
     let each = handed_deeper problem low (length problem.terms) node part (standing problem node c.requires.node) is here in
-    let below = each_at (IsBelow problem (suc node.depth)) (handed_of problem node part) place child each at in
+    let below = each_at (IsBelow problem (suc node.depth)) (handed_within problem node part) place child each at in
     (below.is, omega (arith, below.deep))
 
 pub returns-clause-few : goal.returns-clause-few

@@ -4,7 +4,7 @@ use Rattle.std.proofs.lemmas.List.{length-set}
 use Rattle.ivp_pool.specs.declared.team.Member.{Member}
 use Rattle.std.specs.Option.{IsSome}
 use Rattle.ivp_pool.specs.Hands.{EndState, IsSettled}
-use Rattle.ivp_pool.specs.Teams.{ends_of, HasEmptied}
+use Rattle.ivp_pool.specs.Teams.{deque_states, HasEmptied}
 use Rattle.ivp_pool.proofs.Whole.{all_call, all_more, all_none, emptied, emptying_more, emptying_none, end_at, ends_len, ends_same, ends_set, rows_set, taken_out}
 use Rattle.ivp_pool.proofs.search.empty_deque.Goals as goal
 use Rattle.ivp_pool.proofs.search.empty_deque.Goals.{in-None, in-Some+in-None-pop}
@@ -14,7 +14,7 @@ loop-init g c =
     record {
       did = all_none c.args.problem.now c.args.best.now [] c.args.members.now c.requires.workers;
       rows = refl;
-      ends = emptying_none c.args.number (ends_of c.args.members.now) (omega (arith, c.requires.number, ends_len c.args.members.now));
+      ends = emptying_none c.args.number (deque_states c.args.members.now) (omega (arith, c.requires.number, ends_len c.args.members.now));
       tray = refl;
     }
 
@@ -43,7 +43,7 @@ loop-preserved g c =
     record {
       did = all_more problem word [] [] [] start members (set now 0 last) inv.did (all_more problem word [] (node ∷ []) [] members now (set now 0 last) one two);
       rows = rows_set now 0 e last refl ∙ (rows_set members number d mid refl ∙ inv.rows);
-      ends = emptying_more number (ends_of start) (ends_of members) (ends_of (set now 0 last)) c.pop.new.self d.deque (omega (arith, c.requires.number, ends_len start)) inv.ends (ends_same now 0 e last refl ∙ ends_set members number mid)
+      ends = emptying_more number (deque_states start) (deque_states members) (deque_states (set now 0 last)) c.pop.new.self d.deque (omega (arith, c.requires.number, ends_len start)) inv.ends (ends_same now 0 e last refl ∙ ends_set members number mid)
           (ap (λ (end : EndState). end.hand.parts) taken ∙ ap (λ (end : EndState). end.hand.parts) (sym (end_at members number d within)));
       tray = c.close_next.ensures.tray ∙ inv.tray;
     }
@@ -62,6 +62,6 @@ returns-clause-empty g c =
           let mid : Member g.row.K.Denot = record { worker = was.worker; deque = w.pop.new.self; doors = was.doors } in
           let within : number < length members = omega (arith, c.requires.number, inv.did.len) in
           let none = w.in-None-pop.ensures in
-          subst (HasEmptied number (ends_of start)) (sym (ap ends_of w.members-is ∙ ends_same members number d mid none.0))
-          (emptied number (ends_of start) (ends_of members) d.deque (omega (arith, c.requires.number, ends_len start)) inv.ends (subst (λ (end : EndState). IsSettled end.hand) (sym (end_at members number d within)) none.1))
+          subst (HasEmptied number (deque_states start)) (sym (ap deque_states w.members-is ∙ ends_same members number d mid none.0))
+          (emptied number (deque_states start) (deque_states members) d.deque (omega (arith, c.requires.number, ends_len start)) inv.ends (subst (λ (end : EndState). IsSettled end.hand) (sym (end_at members number d within)) none.1))
     ]

@@ -1,5 +1,5 @@
 use Rattle.std.proofs.Common.{[], arith, refl, ◌∙◌}
-use Rattle.ivp_pool.specs.Teams.{ends_of}
+use Rattle.ivp_pool.specs.Teams.{deque_states}
 use Rattle.ivp_pool.proofs.Settling.{all_settled, settled_next, settled_start}
 use Rattle.ivp_pool.proofs.Whole.{all_more, all_none, ends_len}
 use Rattle.ivp_pool.proofs.search.finish.Goals as goal
@@ -19,7 +19,7 @@ loop-number-preserved g c =
     record {
       did = all_more c.args.problem.now c.args.best.now [] [] [] c.args.members.now members c.empty_deque.new.members inv.did c.empty_deque.ensures.did;
       rows = c.empty_deque.ensures.doors ∙ inv.rows;
-      settled = settled_next c.loop-number.number (ends_of members) (ends_of c.empty_deque.new.members) (omega (arith, c.loop-number-test.true, inv.did.len, ends_len members)) inv.settled c.empty_deque.ensures.empty;
+      settled = settled_next c.loop-number.number (deque_states members) (deque_states c.empty_deque.new.members) (omega (arith, c.loop-number-test.true, inv.did.len, ends_len members)) inv.settled c.empty_deque.ensures.empty;
     }
 
 pub returns-clause-settled : goal.returns-clause-settled

@@ -1,5 +1,5 @@
 use Rattle.std.proofs.Common.{◌+◌, ◌^◌, ◌/◌}
-use Rattle.ivp_pool.specs.Parts.{handed_of}
+use Rattle.ivp_pool.specs.Parts.{handed_within}
 use Rattle.ivp_pool.proofs.Teams.{closed_one, counted_on, handed_nodes}
 use Rattle.ivp_pool.proofs.team.close_next.Goals as goal
 
@@ -7,7 +7,7 @@ pub returns-clause-went : goal.returns-clause-went
 returns-clause-went g c =
     let problem = c.args.problem.now in
     let closed = c.close_one-closed.ensures.closed in (
-      handed_of problem c.args.node closed.part,
+      handed_within problem c.args.node closed.part,
       closed.taken,
       record {
         at_word = c.close_one-closed.ensures.scout.0;
