@@ -1,5 +1,6 @@
 pub mod BlockExamples
 pub mod Blocked
+pub mod Called
 pub mod Ending
 pub mod Examples
 pub mod Faults

@@ -94,16 +94,18 @@ impl Behavior {
         let Some((name, value)) = cut_at_equals(text) else {
             return Err(LineFault::Refused(Cause::B1));
         };
-        if !is_name(name) {
-            return Err(LineFault::Refused(Cause::B1));
+        // What a table knows is a name and stands in no other table: so the type's own is looked at first, and only what no
+        // table knows is judged.
+        if let Some(parameter) = parameter_named(&self.spec.shape, name) {
+            return self.set_own(alloc, parameter, value);
         }
         if let Some(parameter) = common_named(name) {
             return self.set_common(alloc, file.blocks.all(), parameter, value);
         }
-        match parameter_named(&self.spec.shape, name) {
-            Some(parameter) => self.set_own(alloc, parameter, value),
-            None => add_unused(alloc, file, line, name),
+        if !is_name(name) {
+            return Err(LineFault::Refused(Cause::B1));
         }
+        add_unused(alloc, file, line, name)
     }
 
     /// Closes the block, behind whose `}` this stands, in a file over this domain.

@@ -4,7 +4,7 @@ ghost use Rattle.moos_post.specs.Words.{begins_name, is_alphabetic, is_name, is_
 ghost use Rattle.std.specs.List.{list_all};
 
 /// Whether these bytes are a name: 1 to 64 letters, digits, `_`, `-` and `.`, the first a letter or `_`. It is asked of each
-/// parameter, and takes no memory.
+/// parameter that no table knows, and takes no memory.
 pub fn is_name(bytes: &[u8]) -> bool
     ensures { result ≡ is_name bytes.now }
 {
