@@ -1,5 +1,5 @@
 -- How far the reader has come. This serves the reader alone: what bytes stand for is said without it.
-use Rattle.std.specs.Prelude.{ℕ, nat_le, if◌then◌else◌, List, length, Option, Some, None, Result, Ok, Err}
+use Rattle.std.specs.Prelude.{ℕ, Bool, false, not, nat_le, if◌then◌else◌, List, length, Option, Some, None, Result, Ok, Err}
 use Rattle.moos_post.specs.declared.value.Value.{Value}
 use Rattle.moos_text.specs.declared.cause.Cause.{Cause}
 use Rattle.moos_text.specs.declared.cause.Cause.TheVariants.{B1, B9}
@@ -14,7 +14,7 @@ use Rattle.bhv_reader.specs.declared.reading.Position.{Position}
 use Rattle.bhv_reader.specs.declared.reading.Position.TheVariants.{Loose, Headed, Braced}
 use Rattle.bhv_reader.specs.declared.reading.Unclosed.{Unclosed}
 use Rattle.bhv_reader.specs.declared.reading.Unclosed.TheVariants.{OfMode, OfBehavior}
-use Rattle.bhv_reader.specs.Behaviors.{ModeBlock, named_by, OfBehavior as BehaviorOpen, OfMode as ModeOpen, OpenBlock, the_one}
+use Rattle.bhv_reader.specs.Behaviors.{begins_by_brace, ModeBlock, named_by, OfBehavior as BehaviorOpen, OfMode as ModeOpen, OpenBlock, the_one}
 use Rattle.bhv_reader.specs.Blocks.{behavior_of_type, BehaviorBlock}
 use Rattle.bhv_reader.specs.Paths.{meant_by, parent_path, paths_of}
 
@@ -36,6 +36,11 @@ abbrev pub standing_at : BhvFile → Position → Standing BhvFile OpenBlock
 standing_at file Loose = Outside file
 standing_at file (Headed block) = Opened (open_block file block)
 standing_at file (Braced block) = Inside (open_block file block)
+
+-- a line stands in a block and doesn't close it
+abbrev pub is_within : Position → List ℕ → Bool
+is_within (Braced block) text = not (begins_by_brace text)
+is_within place text = false
 
 -- the parent that is known, with what a condition says of it where that is a parent line
 abbrev pub parent_behind : List Decl → Option ℕ → Option Value → Result (Option ℕ) Cause

@@ -51,17 +51,17 @@ pub fn begin_mode(alloc: Global, file: &BhvFile, text: &[u8]) -> Result<Mode, Li
 }
 
 impl Mode {
-    /// The same with one condition more.
-    pub fn with_condition(
-        self,
+    /// One condition more.
+    pub fn add_condition(
+        &mut self,
         alloc: Global,
         file: &BhvFile,
         text: &[u8],
-    ) -> Result<Mode, LineFault>
+    ) -> Result<(), LineFault>
         requires text { length text.now < 2 ^ 32 }
         requires few { length file.now.decls ≤ 256 }
-        ensures read { IfOk result (λ mode. with_condition (mode_block file.now self) (condition_of text.now) ≡ Ok (mode_block file.now mode)) }
-        ensures refused { IfErr result (λ fault. IsLineFault fault (with_condition (mode_block file.now self) (condition_of text.now))) }
+        ensures read { IfOk result (λ _. with_condition (mode_block file.now self.old) (condition_of text.now) ≡ Ok (mode_block file.now self.new)) }
+        ensures refused { IfErr result (λ fault. IsLineFault fault (with_condition (mode_block file.now self.old) (condition_of text.now))) }
     {
         let cond = condition_in(alloc, text)?;
         if !fits_mode(self.conds.all(), &cond) {
@@ -70,23 +70,15 @@ impl Mode {
         if self.conds.len() >= MOST_CONDITIONS {
             return Err(LineFault::Refused(Cause::B9));
         }
-        let Mode {
-            name,
-            parent,
-            mut conds,
-        } = self;
-        let parent = match parent_behind(file, parent, &cond) {
+        let parent = match parent_behind(file, self.parent, &cond) {
             Ok(parent) => parent,
             Err(cause) => return Err(LineFault::Refused(cause)),
         };
-        if conds.push(cond).is_err() {
+        if self.conds.push(cond).is_err() {
             return Err(LineFault::NoMemory);
         }
-        Ok(Mode {
-            name,
-            parent,
-            conds,
-        })
+        self.parent = parent;
+        Ok(())
     }
 
     /// The declaration, by what stands behind the `}` that closes its block.

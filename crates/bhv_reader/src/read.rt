@@ -31,11 +31,11 @@ pub fn read_behaviors(alloc: Global, bytes: &[u8], domain: &Domain) -> Result<Bh
     let mut left = bytes;
     while let Some(said) = next_said(left) {
         lines += 1;
-        place = after_line(
+        after_line(
             alloc,
             domain,
             &mut file,
-            place,
+            &mut place,
             lines,
             said.text,
             said.unclosed,

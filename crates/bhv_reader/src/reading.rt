@@ -1,13 +1,14 @@
 // A behaviour file line by line.
-ghost use Rattle.std.specs.Prelude.{◌≡◌, ◌<◌, ◌≤◌, ◌^◌, Ok, Err, IfOk, OnOk, IfErr, MatchOption, length, true, false, if◌then◌else◌, codes, bytes_eq};
+ghost use Rattle.std.specs.Prelude.{◌≡◌, ◌<◌, ◌≤◌, ◌^◌, Ok, Err, IfOk, OnOk, IfErr, List, length, true, false, if◌then◌else◌, codes, bytes_eq};
 ghost use Rattle.moos_text.specs.Lines.{behind_word, ends_with, first_word, is_unclosed};
 ghost use Rattle.moos_text.specs.Pairs.{pair_of, sides_of};
 ghost use Rattle.moos_text.specs.Refusals.{IsFirst, IsLineFault};
 ghost use Rattle.moos_text.specs.Standing.{after_statement, after_text, at_end, Outside};
-ghost use Rattle.bhv_reader.specs.Behaviors.{OfBehavior as BehaviorOpen, begins_behavior, begins_by_brace, behavior_form, behind_close, block_closed, with_block_line, with_opening};
-ghost use Rattle.bhv_reader.specs.Places.{behavior_block, behavior_in, open_block, standing_at};
+ghost use Rattle.bhv_reader.specs.Behaviors.{OfBehavior as BehaviorOpen, begins_behavior, begins_by_brace, behavior_form, behind_close, block_closed, with_opening};
+ghost use Rattle.bhv_reader.specs.Places.{behavior_block, behavior_in, is_within, open_block, standing_at};
 ghost use Rattle.moos_text.specs.Sections.{Statement};
 ghost use Rattle.bhv_reader.specs.declared.file.BhvFile.{BhvFile};
+ghost use Rattle.ivp_domain.specs.declared.axis.Axis.{Axis};
 
 use crate::behavior::Behavior;
 use crate::file::BhvFile;
@@ -19,6 +20,7 @@ use moos_text::{
     read_pair, trimmed, without_last,
 };
 use std::alloc::Global;
+use std::mem;
 
 // The most opening pairs.
 const MOST_PAIRS: usize = 256;
@@ -39,25 +41,26 @@ pub enum Position {
     Braced(Unclosed),
 }
 
-/// Where the lines are behind one more, which has this number and says this; nothing where it is blank.
+/// Reads one line more, which has this number and says this; nothing where it is blank. Behind a refusal it isn't said where
+/// the lines are.
 pub fn after_line(
     alloc: Global,
     domain: &Domain,
     file: &mut BhvFile,
-    place: Position,
+    place: &mut Position,
     line: u32,
     text: &[u8],
     unclosed: bool,
-) -> Result<Position, ReadFault>
+) -> Result<(), ReadFault>
     requires quotes { unclosed ≡ is_unclosed text.now }
     requires text { length text.now < 2 ^ 32 }
     requires few { length file.old.decls ≤ 256 }
-    ensures read { IfOk result (λ next. after_text (behavior_form domain.now) line (standing_at file.old place) text.now ≡ Ok (standing_at file.new next)) }
-    ensures refused { IfErr result (λ fault. IsFirst fault (after_text (behavior_form domain.now) line (standing_at file.old place) text.now)) }
+    ensures read { IfOk result (λ _. after_text (behavior_form domain.now) line (standing_at file.old place.old) text.now ≡ Ok (standing_at file.new place.new)) }
+    ensures refused { IfErr result (λ fault. IsFirst fault (after_text (behavior_form domain.now) line (standing_at file.old place.old) text.now)) }
     ensures few { OnOk result (length file.new.decls ≤ 256) }
 {
     if text.len() == 0 {
-        return Ok(place);
+        return Ok(());
     }
     if unclosed {
         return Err(ReadFault::At {
@@ -66,7 +69,7 @@ pub fn after_line(
         });
     }
     match after_statement(alloc, domain, file, place, line, text) {
-        Ok(next) => Ok(next),
+        Ok(()) => Ok(()),
         Err(fault) => Err(fault.at(line)),
     }
 }
@@ -76,11 +79,75 @@ fn after_statement(
     alloc: Global,
     domain: &Domain,
     file: &mut BhvFile,
+    place: &mut Position,
+    line: u32,
+    text: &[u8],
+) -> Result<(), LineFault>
+    requires text { length text.now < 2 ^ 32 }
+    requires few { length file.old.decls ≤ 256 }
+    ensures read { IfOk result (λ _. after_statement (behavior_form domain.now) (standing_at file.old place.old) (record { line = line; text = text.now }) ≡ Ok (standing_at file.new place.new)) }
+    ensures refused { IfErr result (λ fault. IsLineFault fault (after_statement (behavior_form domain.now) (standing_at file.old place.old) (record { line = line; text = text.now }))) }
+    ensures few { OnOk result (length file.new.decls ≤ 256) }
+{
+    if is_within(place, text) {
+        return read_within(alloc, file, place, line, text);
+    }
+    let before = mem::replace(place, Position::Loose);
+    *place = read_at_edge(alloc, domain, file, before, line, text)?;
+    Ok(())
+}
+
+// Whether a line stands in a block and doesn't close it.
+fn is_within(place: &Position, text: &[u8]) -> bool
+    ensures { result ≡ is_within place.now text.now }
+{
+    match place {
+        Position::Braced(_) => !begins_by_brace(text),
+        _ => false,
+    }
+}
+
+fn begins_by_brace(text: &[u8]) -> bool
+    ensures { result ≡ begins_by_brace text.now }
+{
+    matches!(text, [b'}', ..])
+}
+
+// A line that stands in a block and doesn't close it changes the block in its place.
+fn read_within(
+    alloc: Global,
+    file: &mut BhvFile,
+    place: &mut Position,
+    line: u32,
+    text: &[u8],
+) -> Result<(), LineFault>
+    requires within { is_within place.old text.now ≡ true }
+    requires text { length text.now < 2 ^ 32 }
+    requires few { length file.old.decls ≤ 256 }
+    ensures read { (domain : List Axis) → IfOk result (λ _. after_statement (behavior_form domain) (standing_at file.old place.old) (record { line = line; text = text.now }) ≡ Ok (standing_at file.new place.new)) }
+    ensures refused { (domain : List Axis) → IfErr result (λ fault. IsLineFault fault (after_statement (behavior_form domain) (standing_at file.old place.old) (record { line = line; text = text.now }))) }
+    ensures few { OnOk result (length file.new.decls ≤ 256) }
+{
+    match place {
+        Position::Braced(Unclosed::OfMode(mode)) => mode.add_condition(alloc, file, text),
+        Position::Braced(Unclosed::OfBehavior(behavior)) => {
+            behavior.read_line(alloc, file, line, text)
+        },
+        // Elsewhere no line stands in a block.
+        Position::Loose | Position::Headed(_) => Ok(()),
+    }
+}
+
+// A line outside blocks, the one behind a line that opens a block, or one that closes a block.
+fn read_at_edge(
+    alloc: Global,
+    domain: &Domain,
+    file: &mut BhvFile,
     place: Position,
     line: u32,
     text: &[u8],
 ) -> Result<Position, LineFault>
-    requires text { length text.now < 2 ^ 32 }
+    requires edge { is_within place text.now ≡ false }
     requires few { length file.old.decls ≤ 256 }
     ensures read { IfOk result (λ next. after_statement (behavior_form domain.now) (standing_at file.old place) (record { line = line; text = text.now }) ≡ Ok (standing_at file.new next)) }
     ensures refused { IfErr result (λ fault. IsLineFault fault (after_statement (behavior_form domain.now) (standing_at file.old place) (record { line = line; text = text.now }))) }
@@ -89,39 +156,9 @@ fn after_statement(
     match place {
         Position::Loose => after_loose(alloc, domain, file, line, text),
         Position::Headed(block) => Ok(braced(block, text)?),
-        Position::Braced(block) => match behind_close(text) {
-            Some(behind) => {
-                close(alloc, domain, file, block, behind)?;
-                Ok(Position::Loose)
-            },
-            None => Ok(Position::Braced(inside(alloc, file, block, line, text)?)),
-        },
-    }
-}
-
-// A line of a block that doesn't close it.
-fn inside(
-    alloc: Global,
-    file: &mut BhvFile,
-    block: Unclosed,
-    line: u32,
-    text: &[u8],
-) -> Result<Unclosed, LineFault>
-    requires text { length text.now < 2 ^ 32 }
-    requires few { length file.old.decls ≤ 256 }
-    ensures read { IfOk result (λ next. with_block_line (open_block file.old block) (record { line = line; text = text.now }) ≡ Ok (open_block file.new next)) }
-    ensures refused { IfErr result (λ fault. IsLineFault fault (with_block_line (open_block file.old block) (record { line = line; text = text.now }))) }
-    ensures few { OnOk result (length file.new.decls ≤ 256) }
-{
-    match block {
-        Unclosed::OfMode(mode) => {
-            let mode = mode.with_condition(alloc, file, text)?;
-            Ok(Unclosed::OfMode(mode))
-        },
-        Unclosed::OfBehavior(behavior) => {
-            let mut behavior = behavior;
-            behavior.read_line(alloc, file, line, text)?;
-            Ok(Unclosed::OfBehavior(behavior))
+        Position::Braced(block) => {
+            close(alloc, domain, file, block, behind_close(text))?;
+            Ok(Position::Loose)
         },
     }
 }
@@ -223,13 +260,13 @@ fn braced(block: Unclosed, text: &[u8]) -> Result<Position, Cause>
     }
 }
 
-// What stands behind the `}` that a line begins with; `None` exactly where it doesn't.
-fn behind_close(text: &[u8]) -> Option<&[u8]>
-    ensures { MatchOption result (begins_by_brace text.now ≡ false) (λ rest. (begins_by_brace text.now ≡ true) × (rest.now ≡ behind_close text.now)) }
+// What stands behind the `}` that a line begins with.
+fn behind_close(text: &[u8]) -> &[u8]
+    ensures { result.now ≡ behind_close text.now }
 {
     match text {
-        [b'}', rest @ ..] => Some(trimmed(rest)),
-        _ => None,
+        [] => text,
+        [_, rest @ ..] => trimmed(rest),
     }
 }
 

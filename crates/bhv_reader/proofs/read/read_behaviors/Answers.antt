@@ -26,19 +26,19 @@ loop-said-preserved c =
     let place = standing_at c.loop-said.file c.loop-said.place in
     let next : IsNext left (first_line left) c.in-Some.said.rest.now = record { lines = c.in-Some.ensures.lines; shorter = omega (arith, c.in-Some.ensures.shorter) } in
     record {
-      read = one_read (after_raw (behavior_form c.args.domain.now)) (Outside nothing_said) c.args.bytes.now c.loop-said.lines place (standing_at c.after_line.new.file c.in_ok-place.place) left (first_line left) c.in-Some.said.rest.now
-          c.loop-said.invariant.read next (ap (after_text (behavior_form c.args.domain.now) (c.loop-said.lines + 1) place) (sym c.in-Some.ensures.said) ∙ c.in_ok-place.ensures.read);
-      few = c.in_ok-place.ensures.few;
+      read = one_read (after_raw (behavior_form c.args.domain.now)) (Outside nothing_said) c.args.bytes.now c.loop-said.lines place (standing_at c.after_line.new.file c.after_line.new.place) left (first_line left) c.in-Some.said.rest.now
+          c.loop-said.invariant.read next (ap (after_text (behavior_form c.args.domain.now) (c.loop-said.lines + 1) place) (sym c.in-Some.ensures.said) ∙ c.in_ok-after_line.ensures.read);
+      few = c.in_ok-after_line.ensures.few;
     }
 
-pub returns-in_err-place-clause-refused : goal.returns-in_err-place-clause-refused
-returns-in_err-place-clause-refused c =
+pub returns-in_err-after_line-clause-refused : goal.returns-in_err-after_line-clause-refused
+returns-in_err-after_line-clause-refused c =
     let left = c.loop-said.left.now in
     let place = standing_at c.loop-said.file c.loop-said.place in
     let next : IsNext left (first_line left) c.in-Some.said.rest.now = record { lines = c.in-Some.ensures.lines; shorter = omega (arith, c.in-Some.ensures.shorter) } in
     let said = ap (after_text (behavior_form c.args.domain.now) (c.loop-said.lines + 1) place) c.in-Some.ensures.said in
     let first = one_refused (after_raw (behavior_form c.args.domain.now)) (Outside nothing_said) (at_end (behavior_form c.args.domain.now) (last_line c.args.bytes.now)) (behaviors_of c.args.domain.now c.args.bytes.now) c.args.bytes.now c.loop-said.lines place left (first_line left)
-    c.in-Some.said.rest.now c.in_err-place.field-0.0 (behaviors_read c.args.domain.now c.args.bytes.now) c.loop-said.invariant.read next (subst (IsFirst c.in_err-place.field-0.0) said c.in_err-place.ensures.refused) in
+    c.in-Some.said.rest.now c.in_err-after_line.field-0.0 (behaviors_read c.args.domain.now c.args.bytes.now) c.loop-said.invariant.read next (subst (IsFirst c.in_err-after_line.field-0.0) said c.in_err-after_line.ensures.refused) in
     let p = err_from_is_err_and c.from_residual.result c.from_residual.ensures.1 in
     rw (p.1, p.2) first
 

@@ -7,10 +7,10 @@ use Rattle.bhv_reader.proofs.reading.after_line.Goals as goal
 
 pub returns-in-Ok-clause-read : goal.returns-in-Ok-clause-read
 returns-in-Ok-clause-read c =
-    line_read c.args.domain.now c.args.line (standing_at c.args.file.now c.args.place) (standing_at c.after_statement.new.file c.in-Ok.next) c.args.text.now (omega (arith, c.if-text-eq0.false)) (sym c.requires.quotes ∙ c.if-unclosed.false)
+    line_read c.args.domain.now c.args.line (standing_at c.args.file.now c.args.place.now) (standing_at c.after_statement.new.file c.after_statement.new.place) c.args.text.now (omega (arith, c.if-text-eq0.false)) (sym c.requires.quotes ∙ c.if-unclosed.false)
     c.in-Ok.ensures.read
 
 pub returns-in-Err-clause-refused : goal.returns-in-Err-clause-refused
 returns-in-Err-clause-refused c =
-    rw c.at.ensures (line_refused (behavior_form c.args.domain.now) c.args.line (standing_at c.args.file.now c.args.place) c.args.text.now c.in-Err.fault (omega (arith, c.if-text-eq0.false)) (sym c.requires.quotes ∙ c.if-unclosed.false)
+    rw c.at.ensures (line_refused (behavior_form c.args.domain.now) c.args.line (standing_at c.args.file.now c.args.place.now) c.args.text.now c.in-Err.fault (omega (arith, c.if-text-eq0.false)) (sym c.requires.quotes ∙ c.if-unclosed.false)
     c.in-Err.ensures.refused)
