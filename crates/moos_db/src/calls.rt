@@ -54,6 +54,28 @@ fn letters_of(
     Ok(Mail::of(letters))
 }
 
+// The letters that wait for the client, once what is kept of it has seen all entries.
+fn mail_waiting(
+    alloc: Global,
+    names: &Names,
+    log: &Log,
+    variables: &mut Variables,
+    listeners: &mut Vec<Listener>,
+    client: u32,
+) -> Result<Mail, NoMemory>
+    requires within { client < length listeners.old.items }
+    requires listeners { AreListeners names.now log.now.entries variables.old listeners.old.items }
+    ensures mail { let numbers = mail_after names.now client log.now.entries
+        in IfOk result (AreLetters (posts_of log.now.entries) numbers) }
+    ensures each { length listeners.new.items ≡ length listeners.old.items }
+    ensures listeners { AreListeners names.now log.now.entries variables.new listeners.new.items }
+{
+    let listener = &mut listeners[client as usize];
+    listener.catch_up(alloc, names, log, variables, client)?;
+    let mail = letters_of(alloc, log, variables, listener.waits())?;
+    Ok(mail)
+}
+
 // The client fetches, which is the next entry.
 pub(crate) fn fetch(
     alloc: Global,
@@ -76,9 +98,33 @@ pub(crate) fn fetch(
     ensures each { length listeners.new.items ≡ length listeners.old.items }
     ensures listeners { AreListeners names.now log.new.entries variables.new listeners.new.items }
 {
+    let mail = mail_waiting(alloc, names, log, variables, listeners, client)?;
+    fetch_unread(alloc, names, log, variables, listeners, client, stamp)?;
+    Ok(mail)
+}
+
+// The client fetches, which is the next entry, and no letters are made of what it is given.
+pub(crate) fn fetch_unread(
+    alloc: Global,
+    names: &Names,
+    log: &mut Log,
+    variables: &mut Variables,
+    listeners: &mut Vec<Listener>,
+    client: u32,
+    stamp: u64,
+) -> Result<(), NoMemory>
+    requires within { client < length listeners.old.items }
+    requires listeners { AreListeners names.now log.old.entries variables.old listeners.old.items }
+    ensures given { OnOk result (log.new ≡ record {
+      entries = log.old.entries ++ record { stamp = stamp; client = client; call = Call.Fetch } ∷ [];
+      letters = log.old.letters ++ mail_after names.now client log.old.entries ∷ [];
+    }) }
+    ensures same { OnErr result (log.new ≡ log.old) }
+    ensures each { length listeners.new.items ≡ length listeners.old.items }
+    ensures listeners { AreListeners names.now log.new.entries variables.new listeners.new.items }
+{
     let listener = &mut listeners[client as usize];
     listener.catch_up(alloc, names, log, variables, client)?;
-    let mail = letters_of(alloc, log, variables, listener.waits())?;
     let call = Call::Fetch;
     listener.fetch(
         alloc,
@@ -89,7 +135,7 @@ pub(crate) fn fetch(
             call,
         },
     )?;
-    Ok(mail)
+    Ok(())
 }
 
 // The client may hear each variable that a registration of its call hears.

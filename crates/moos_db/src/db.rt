@@ -3,7 +3,7 @@ ghost use Rattle.moos_post.specs.Delivery.{mail_after, mail_at, is_fetch};
 ghost use Rattle.moos_post.specs.History.{posts_of};
 ghost use Rattle.moos_db.specs.Subscribers.{makes_posts};
 
-use crate::calls::{add_own, fetch};
+use crate::calls::{add_own, fetch, fetch_unread};
 use crate::hearing::{follow_block, hear_posts, new_listeners};
 use crate::latest::Latest;
 use crate::listener::Listener;
@@ -197,6 +197,29 @@ impl Db {
             stamp,
         )?;
         Ok(mail)
+    }
+
+    /// The client is given the same, and no letters are made of it: for one that doesn't read its mail, which stands in the
+    /// history by its numbers.
+    pub fn fetch_unread(&mut self, alloc: Global, client: u32, stamp: u64) -> Result<(), NoMemory>
+        requires { client < length self.old.names }
+        ensures ok { OnOk result (self.new ≡ after_entry self.old (record {
+          stamp = stamp;
+          client = client;
+          call = Call.Fetch;
+        })) }
+        ensures same { OnErr result (self.new ≡ self.old) }
+    {
+        fetch_unread(
+            alloc,
+            &self.names,
+            &mut self.log,
+            &mut self.variables,
+            &mut self.listeners,
+            client,
+            stamp,
+        )?;
+        Ok(())
     }
 
     /// How many entries the history has.

@@ -4,10 +4,10 @@ use Rattle.moos_post.specs.declared.entry.Entry.{Entry}
 use Rattle.moos_post.specs.History.{posts_of}
 use Rattle.moos_mail.proofs.Lists.{length-push}
 use Rattle.moos_db.specs.Hearing.{IsListener, ListenerState}
-use Rattle.moos_db.proofs.Growth.{IsSubscriber-below, IsSubscriber-fetch}
+use Rattle.moos_db.proofs.Growth.{IsSubscriber-fetch}
 use Rattle.moos_db.proofs.Heard.{IsListener-own}
 use Rattle.moos_db.proofs.Whole.{AreListeners-at, AreListeners-own, AreListeners-set}
-use Rattle.moos_db.proofs.calls.fetch.Goals as goal
+use Rattle.moos_db.proofs.calls.fetch_unread.Goals as goal
 
 pub catch_up-requires : goal.catch_up-requires
 catch_up-requires c =
@@ -16,15 +16,6 @@ catch_up-requires c =
 
 pub returns-in_err-catch_up-clause-listeners : goal.returns-in_err-catch_up-clause-listeners
 returns-in_err-catch_up-clause-listeners c = AreListeners-set _ _ _ _ _ _ _ c.catch_up.ensures.kept c.catch_up.ensures.listener c.requires.listeners
-
-pub letters_of-requires : goal.letters_of-requires
-letters_of-requires c =
-    let known : IsListener c.args.names.now c.args.log.now.entries c.catch_up.new.variables c.args.client (length (posts_of c.args.log.now.entries)) c.catch_up.new.self
-    = c.catch_up.ensures.listener c.in_ok-catch_up.ensures.all.there in
-    rw c.waits.ensures (IsSubscriber-below _ _ _ _ c.in_ok-catch_up.ensures.all.seen known.inbox)
-
-pub returns-in_err-mail-clause-listeners : goal.returns-in_err-mail-clause-listeners
-returns-in_err-mail-clause-listeners c = AreListeners-set _ _ _ _ _ _ _ c.catch_up.ensures.kept c.catch_up.ensures.listener c.requires.listeners
 
 pub returns-in_err-fetch-clause-listeners : goal.returns-in_err-fetch-clause-listeners
 returns-in_err-fetch-clause-listeners c =
