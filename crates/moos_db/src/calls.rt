@@ -24,8 +24,7 @@ fn letter_at(
     requires { number < length (posts_of log.now.entries) }
     ensures { IfOk result (λ letter. letter_at (posts_of log.now.entries) number ≡ Some letter) }
 {
-    let pair = log.pair(number as usize);
-    let origin = log.origin(number as usize);
+    let (pair, origin) = log.post(number as usize);
     let var = variables.shared(number, &pair.var).copy(alloc)?;
     let value = pair.value.copy(alloc)?;
     let post = Post {

@@ -115,13 +115,27 @@ impl Log {
         self.places.len()
     }
 
+    // What the post with this number says, and when it was made and by which client.
+    pub fn post(&self, number: usize) -> (&Pair, Origin)
+        requires { number < length (posts_of self.now.entries) }
+        ensures pair { option_map pair_posted (slice_get (posts_of self.now.entries) number) ≡ Some result.0.now }
+        ensures origin { option_map origin_of (slice_get (posts_of self.now.entries) number) ≡ Some result.1 }
+    {
+        let place = self.places[number];
+        let entry = &self.entries[place.entry];
+        let origin = Origin {
+            stamp: entry.stamp,
+            client: entry.client,
+        };
+        (pair_in(entry, place.pair), origin)
+    }
+
     // What the post with this number says.
     pub fn pair(&self, number: usize) -> &Pair
         requires { number < length (posts_of self.now.entries) }
         ensures { option_map pair_posted (slice_get (posts_of self.now.entries) number) ≡ Some result.now }
     {
-        let place = self.places[number];
-        pair_in(&self.entries[place.entry], place.pair)
+        self.post(number).0
     }
 
     // When the post with this number was made, and by which client.
@@ -129,12 +143,7 @@ impl Log {
         requires { number < length (posts_of self.now.entries) }
         ensures { option_map origin_of (slice_get (posts_of self.now.entries) number) ≡ Some result }
     {
-        let place = self.places[number];
-        let entry = &self.entries[place.entry];
-        Origin {
-            stamp: entry.stamp,
-            client: entry.client,
-        }
+        self.post(number).1
     }
 
     // Adds an entry that gives what waits in the mailbox. All memory is taken before anything changes.

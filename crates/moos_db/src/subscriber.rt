@@ -257,11 +257,11 @@ impl Subscriber {
             self.new ≡ kept_post post.stamp (name_of names.now post.source) (record self.old { posts = number }) post.var) }
         ensures fresh { IfOk result (λ _. IsFresh self.new) }
     {
-        let var = &log.pair(number as usize).var;
-        let origin = log.origin(number as usize);
+        let (pair, origin) = log.post(number as usize);
         let source = source_of(names, origin.client);
         self.posts = number;
-        self.see_post(alloc, variables.of_post(number), origin.stamp, source, var)
+        let variable = variables.of_post(number);
+        self.see_post(alloc, variable, origin.stamp, source, &pair.var)
     }
 
     // The posts that it hasn't seen, of which it needs to look at those with these numbers alone.

@@ -52,11 +52,10 @@ impl Subscriber {
         ensures { IfOk result (λ _. (post : Post) → slice_get (posts_of log.now.entries) number ≡ Some post →
             self.new ≡ catch_post names.now number self.old post) }
     {
-        let var = &log.pair(number as usize).var;
-        let origin = log.origin(number as usize);
+        let (pair, origin) = log.post(number as usize);
         let source = source_of(names, origin.client);
-        if self.is_missed(var, source, number) {
-            self.mail_missed(alloc, number, origin.stamp, source, var)?;
+        if self.is_missed(&pair.var, source, number) {
+            self.mail_missed(alloc, number, origin.stamp, source, &pair.var)?;
         }
         Ok(())
     }
