@@ -1,5 +1,5 @@
 ghost use Rattle.std.specs.Prelude.{IfOk, OnOk, OnErr};
-ghost use Rattle.moos_post.specs.declared.entry.Call.TheVariants.{Register, Unregister, Post};
+ghost use Rattle.moos_post.specs.declared.entry.Call.TheVariants.{Fetch, Register, Unregister, Post};
 ghost use Rattle.moos_client.specs.Calls.{IsCalled, IsFetched, IsUncalled, MayCall};
 
 use moos_db::{Db, Mail};
@@ -105,6 +105,29 @@ pub fn fetch<R: Wait>(
     let answer = held.value_mut().fetch(alloc, client, stamp);
     match &answer {
         Ok(_) => lock.give(seat, held),
+        Err(_) => lock.give_back(seat, held),
+    }
+    answer
+}
+
+/// The client fetches its mail at this stamp, in milliseconds, and doesn't read it: no letters are made of it. It waits for the
+/// client's turn.
+pub fn fetch_unread<R: Wait>(
+    rt: &R,
+    alloc: Global,
+    lock: &Lock,
+    seat: &mut Seat,
+    stamp: u64,
+) -> Result<(), NoMemory>
+    requires { MayCall lock.now seat.old }
+    ensures called { OnOk result (IsCalled seat.old seat.new stamp Fetch) }
+    ensures uncalled { OnErr result (IsUncalled seat.old seat.new) }
+{
+    let client = seat.number();
+    let mut held = lock.take(rt, seat);
+    let answer = held.value_mut().fetch_unread(alloc, client, stamp);
+    match answer {
+        Ok(()) => lock.give(seat, held),
         Err(_) => lock.give_back(seat, held),
     }
     answer

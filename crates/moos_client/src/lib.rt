@@ -9,4 +9,4 @@
 
 mod calls;
 
-pub use calls::{Lock, Seat, fetch, post, register, unregister};
+pub use calls::{Lock, Seat, fetch, fetch_unread, post, register, unregister};

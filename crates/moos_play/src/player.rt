@@ -3,7 +3,7 @@ ghost use Rattle.std.specs.Prelude.{◌≡◌, ◌∷◌, [], OnOk, OnErr};
 ghost use Rattle.moos_client.specs.Calls.{MayCall};
 ghost use Rattle.moos_play.specs.Rounds.{HasEnded, HasMade, IsPlayed, Makes};
 
-use moos_client::{Lock, Seat, fetch, post, register, unregister};
+use moos_client::{Lock, Seat, fetch_unread, post, register, unregister};
 use moos_io::Gate;
 use moos_post::{Call, Copied, Entry, NoMemory};
 use std::alloc::Global;
@@ -84,9 +84,6 @@ fn make_call<R: Wait>(
             unregister(rt, alloc, lock, seat, stamp, var, source)
         }
         Call::Post(batch) => post(rt, alloc, lock, seat, stamp, batch.copy(alloc)?),
-        Call::Fetch => match fetch(rt, alloc, lock, seat, stamp) {
-            Ok(_) => Ok(()),
-            Err(no_memory) => Err(no_memory),
-        },
+        Call::Fetch => fetch_unread(rt, alloc, lock, seat, stamp),
     }
 }
