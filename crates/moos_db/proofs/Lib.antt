@@ -3,6 +3,7 @@ pub mod Examples
 pub mod Growth
 pub mod Heard
 pub mod Keeping
+pub mod Knowing
 pub mod Lasts
 pub mod Latests
 pub mod Letters

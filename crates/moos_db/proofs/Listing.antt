@@ -1,5 +1,5 @@
 -- The places of the registrations that a variable's list has, and a post that comes through these alone.
-use Rattle.std.proofs.Common.{◌≡◌, ℕ, suc, ◌+◌, ◌<◌, Bool, true, false, cond, ◌&&◌, ◌||◌, not, List, [], ◌∷◌, ◌++◌, append-nil, append_assoc, length, length-append, map, fold, take, get_or, All, Some, slice_get, set, refl, sym, ap, ◌∙◌, arith}
+use Rattle.std.proofs.Common.{◌≡◌, ℕ, suc, ◌+◌, ◌<◌, Bool, true, false, cond, ◌&&◌, ◌||◌, not, List, [], ◌∷◌, ◌++◌, append-nil, append_assoc, length, length-append, map, fold, take, get_or, All, Option, Some, slice_get, set, refl, sym, ap, ◌∙◌, arith}
 use Rattle.std.specs.List.{list_any}
 use Rattle.std.proofs.Math.Seq.{take-suc}
 use Rattle.std.proofs.lemmas.List.{get_or-map, length-map, length-take, map-append}
@@ -50,7 +50,7 @@ matching-more var helds place held below is =
     ∙ matching-push 0 var (take place helds) held
     ∙ ap (λ n. matching_from 0 var (take place helds) ++ cond (matches held.reg.var var) (n ∷ []) []) counted
 
-pub matching-next : (var : List ℕ) (helds : List SubscriptionState) (place row : ℕ) (held : SubscriptionState) (spots : List Spot) → place < length helds → held ≡ get_or helds place held →
+pub matching-next : (var : List ℕ) (helds : List SubscriptionState) (place : ℕ) (row : Option ℕ) (held : SubscriptionState) (spots : List Spot) → place < length helds → held ≡ get_or helds place held →
     listed_places spots ≡ matching_from 0 var (take place helds) → matches held.reg.var var ≡ true → listed_places (spots ++ record { place = place; row = row } ∷ []) ≡ matching_from 0 var (take (place + 1) helds)
 matching-next var helds place row held spots below is so matched =
     map-append (λ (spot : Spot). spot.place) spots (record { place = place; row = row } ∷ [])

@@ -1,10 +1,10 @@
 -- The lists by variable that are kept of a client's registrations, so that a post looks at those alone that may select it.
-use Rattle.std.specs.Prelude.{◌≡◌, ℕ, suc, Bool, ◌&&◌, ◌||◌, if◌then◌else◌, List, [], ◌∷◌, map, Option, Some, None, slice_get, slice_set}
+use Rattle.std.specs.Prelude.{◌≡◌, ℕ, suc, Bool, ◌&&◌, ◌||◌, if◌then◌else◌, List, [], ◌∷◌, map, All, IfSome, Option, Some, None, slice_get, slice_set}
 use Rattle.moos_post.specs.Delivery.{is_past}
 use Rattle.moos_post.specs.Patterns.{matches}
 use Rattle.moos_db.specs.declared.index.Spot.{Spot}
 use Rattle.moos_db.specs.Subscribers.{SubscriptionState, with_stamp}
-use Rattle.moos_db.specs.Tables.{number_of}
+use Rattle.moos_db.specs.Tables.{HasRow, number_of}
 
 -- a variable, and the spots of the registrations whose pattern matches it
 pub record VarList : Type 0 where
@@ -21,9 +21,18 @@ matching_from place var [] = []
 matching_from place var (held ∷ helds) =
     if matches held.reg.var var then place ∷ matching_from (suc place) var helds else matching_from (suc place) var helds
 
--- each list that stands has the places of just those registrations that match its variable
+-- at the row that the spot knows, if it knows one, stands the last stamp of the variable with the registration in its place
+abbrev pub KnowsRow : List ℕ → List SubscriptionState → Spot → Type 0
+KnowsRow var helds spot = (held : SubscriptionState) → slice_get helds spot.place ≡ Some held → IfSome spot.row (λ row. HasRow row var held.lasts)
+
+-- the list has the places of just those registrations that match its variable, and each row that it knows is the variable's
+pub record IsListing (helds : List SubscriptionState) (list : VarList) : Type 0 where
+  pub places : listed_places list.spots ≡ matching_from 0 list.var helds
+  pub rows : All (KnowsRow list.var helds) list.spots
+
+-- each list that stands is one of these registrations
 abbrev pub AreListed : List SubscriptionState → List (Option VarList) → Type 0
-AreListed helds lists = (number : ℕ) (list : VarList) → slice_get lists number ≡ Some (Some list) → listed_places list.spots ≡ matching_from 0 list.var helds
+AreListed helds lists = (number : ℕ) (list : VarList) → slice_get lists number ≡ Some (Some list) → IsListing helds list
 
 -- at a registration of the variable's list, a post of this stamp from the source is due
 abbrev pub is_due_listed : ℕ → List ℕ → List ℕ → SubscriptionState → Bool

@@ -1,6 +1,6 @@
-ghost use Rattle.std.specs.Prelude.{◌≡◌, ◌<◌, List, length, fold, All, true, false, IfOk};
+ghost use Rattle.std.specs.Prelude.{◌≡◌, ◌<◌, List, length, fold, All, true, false, IfOk, OnOk};
 ghost use Rattle.moos_db.specs.Subscribers.{SubscriptionState};
-ghost use Rattle.moos_db.specs.Index.{AreListed, matching_from, pass_place, listed_places};
+ghost use Rattle.moos_db.specs.Index.{AreListed, KnowsRow, IsListing, matching_from, pass_place, listed_places};
 
 use crate::subscription::Subscription;
 use crate::table::is_same;
@@ -9,11 +9,12 @@ use std::alloc::Global;
 use std::marker::Model;
 use std::mem;
 
-// Where a registration stands among a client's, and at which row its last stamp of the list's variable may stand.
+// Where a registration stands among a client's, and at which row its last stamp of the list's variable stands, once that is
+// known.
 #[derive(Clone, Copy)]
 pub(crate) struct Spot {
     place: usize,
-    row: usize,
+    row: Option<usize>,
 }
 
 // Of one variable, the spots of those of a client's registrations whose pattern matches it.
@@ -33,12 +34,13 @@ impl Model for Listed {
 
 // The spots of the registrations whose pattern matches the variable.
 fn matching(alloc: Global, var: &Name, lives: &[Subscription]) -> Result<Vec<Spot>, NoMemory>
-    ensures { IfOk result (λ spots. listed_places spots.items ≡ matching_from 0 var.now lives.now) }
+    ensures places { IfOk result (λ spots. listed_places spots.items ≡ matching_from 0 var.now lives.now) }
+    ensures rows { IfOk result (λ spots. All (KnowsRow var.now lives.now) spots.items) }
 {
     let mut spots = Vec::new(alloc);
     for place in 0..lives.len() {
         if lives[place].matches_var(var) {
-            spots.push(Spot { place, row: 0 })?;
+            spots.push(Spot { place, row: None })?;
         }
     }
     Ok(spots)
@@ -47,7 +49,7 @@ fn matching(alloc: Global, var: &Name, lives: &[Subscription]) -> Result<Vec<Spo
 // The variable's list.
 fn list_of(alloc: Global, var: &Name, lives: &[Subscription]) -> Result<Listed, NoMemory>
     ensures var { IfOk result (λ list. list.var ≡ var.now) }
-    ensures listed { IfOk result (λ list. listed_places list.spots ≡ matching_from 0 var.now lives.now) }
+    ensures listing { IfOk result (IsListing lives.now) }
 {
     let spots = matching(alloc, var, lives)?;
     let var = var.copy(alloc)?;
@@ -65,7 +67,7 @@ pub(crate) fn take_list(
     requires listed { AreListed lives.now lists.old.items }
     ensures listed { AreListed lives.now lists.new.items }
     ensures var { IfOk result (λ list. list.var ≡ var.now) }
-    ensures places { IfOk result (λ list. listed_places list.spots ≡ matching_from 0 var.now lives.now) }
+    ensures listing { IfOk result (IsListing lives.now) }
 {
     'unlisted: while lists.len() <= number {
         lists.push(None)?;
@@ -78,7 +80,7 @@ pub(crate) fn take_list(
 
 // Puts a list back under its number.
 pub(crate) fn put_list(lists: &mut Vec<Option<Listed>>, number: usize, list: Listed)
-    ensures { (helds : List SubscriptionState) → AreListed helds lists.old.items → listed_places list.spots ≡ matching_from 0 list.var helds → AreListed helds lists.new.items }
+    ensures { (helds : List SubscriptionState) → AreListed helds lists.old.items → IsListing helds list → AreListed helds lists.new.items }
 {
     if number < lists.len() {
         lists[number] = Some(list);
@@ -103,9 +105,12 @@ impl Listed {
         var: &Name,
         source: &[u8],
     ) -> Result<bool, NoMemory>
-        requires { All (λ place. place < length lives.old.items) (listed_places self.old.spots) }
+        requires own { self.old.var ≡ var.now }
+        requires places { All (λ place. place < length lives.old.items) (listed_places self.old.spots) }
+        requires rows { All (KnowsRow var.now lives.old.items) self.old.spots }
         ensures var { self.new.var ≡ self.old.var }
         ensures places { listed_places self.new.spots ≡ listed_places self.old.spots }
+        ensures rows { OnOk result (All (KnowsRow var.now lives.new.items) self.new.spots) }
         ensures passed { IfOk result (λ due. record { helds = lives.new.items; due = due } ≡ fold (pass_place stamp var.now source.now) (record { helds = lives.old.items; due = false }) (listed_places self.old.spots)) }
     {
         let mut due = false;

@@ -1,7 +1,8 @@
-ghost use Rattle.std.specs.Prelude.{◌≡◌, IfOk};
+ghost use Rattle.std.specs.Prelude.{◌≡◌, IfOk, IfSome, OnOk};
 ghost use Rattle.moos_post.specs.Patterns.{matches};
 ghost use Rattle.moos_db.specs.Subscribers.{picks, has_patterns, held_of_reg, with_stamp, is_new_held, caught};
 ghost use Rattle.moos_db.specs.Index.{is_due_listed, passed_listed};
+ghost use Rattle.moos_db.specs.Tables.{HasRow};
 
 use crate::table::{Table, is_same};
 use moos_post::{Copied, Name, NoMemory, Pattern, Reg};
@@ -101,27 +102,27 @@ impl Subscription {
         matches(&self.reg.var, var.bytes())
     }
 
-    // A post of a variable that its pattern matches comes through where it is due. Tells whether it is. The last stamp of the
-    // variable is looked for at the row that is told first, and from then on that is the row where it was found.
+    // A post of a variable that its pattern matches comes through where it is due. Tells whether it is. The row is that of the
+    // variable's last stamp, where that is known, and is known from then on where the stamp was found.
     pub fn pass_if_due(
         &mut self,
         alloc: Global,
-        row: &mut usize,
+        row: &mut Option<usize>,
         stamp: u64,
         var: &Name,
         source: &[u8],
     ) -> Result<bool, NoMemory>
+        requires { IfSome row.old (λ row. HasRow row var.now self.old.lasts) }
         ensures due { IfOk result (λ due. due ≡ is_due_listed stamp var.now source.now self.old) }
         ensures passed { IfOk result (λ _. self.new ≡ passed_listed stamp var.now source.now self.old) }
+        ensures row { OnOk result (IfSome row.new (λ row. HasRow row var.now self.new.lasts)) }
     {
         if !takes_source(&self.reg.source, source) {
             return Ok(false);
         }
-        match self.lasts.place_of(*row, var) {
-            Some(place) => {
-                *row = place;
-                Ok(self.lasts.pass_at(place, stamp, self.reg.interval))
-            }
+        *row = self.lasts.place_of(*row, var);
+        match *row {
+            Some(place) => Ok(self.lasts.pass_at(place, stamp, self.reg.interval)),
             None => {
                 self.pass(alloc, stamp, var)?;
                 Ok(true)

@@ -32,7 +32,7 @@ pub(crate) fn is_same(left: &[u8], right: &[u8]) -> bool
 }
 
 impl Table {
-    ghost use Rattle.std.specs.Prelude.{true, None, IfSome};
+    ghost use Rattle.std.specs.Prelude.{None, IfSome};
     ghost use Rattle.moos_db.specs.Tables.{HasRow, IsPassed, number_of, with_row};
 
     pub fn new(alloc: Global) -> Table
@@ -50,23 +50,14 @@ impl Table {
         self.rows.get(var.bytes()).copied()
     }
 
-    // Whether the variable's number stands at this place.
-    fn is_at(&self, place: usize, var: &Name) -> bool
-        ensures { result ≡ true → HasRow place var.now self.now }
-    {
-        match self.rows.get_index(place) {
-            Some((key, _)) => is_same(key.as_slice(), var.bytes()),
-            None => false,
-        }
-    }
-
-    // Where the variable's number stands, if it has one. It is looked for at this place first.
-    pub fn place_of(&self, first: usize, var: &Name) -> Option<usize>
+    // Where the variable's number stands, if it has one. A place that is known is that.
+    pub fn place_of(&self, known: Option<usize>, var: &Name) -> Option<usize>
+        requires { IfSome known (λ place. HasRow place var.now self.now) }
         ensures found { IfSome result (λ place. HasRow place var.now self.now) }
         ensures none { result ≡ None → number_of var.now self.now ≡ None }
     {
-        if self.is_at(first, var) {
-            return Some(first);
+        if known.is_some() {
+            return known;
         }
         let (place, _, _) = self.rows.get_full(var.bytes())?;
         Some(place)
