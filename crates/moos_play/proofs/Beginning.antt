@@ -1,7 +1,7 @@
 -- How a run begins.
-use Rattle.std.proofs.Common.{◌≡◌, ℕ, ◌+◌, ◌*◌, ◌^◌, ◌<◌, ◌≤◌, true, cond, List, [], ◌∷◌, ◌++◌, drop, length, length-append, Option, None, Some, sym, ap, ◌∙◌, subst, arith}
+use Rattle.std.proofs.Common.{◌≡◌, ℕ, ◌+◌, ◌*◌, ◌^◌, ◌<◌, ◌≤◌, true, cond, List, [], ◌++◌, drop, length, length-append, Option, None, Some, sym, ap, ◌∙◌, subst, arith}
 use Rattle.std.proofs.lemmas.List.{drop_all}
-use Rattle.std.specs.Prelude.{codes, IfSome, option_map, option_to_list}
+use Rattle.std.specs.Prelude.{IfSome, option_map, option_to_list}
 use Rattle.moos_play.specs.declared.playing.Play.{Play}
 use Rattle.moos_play.specs.declared.run.HelmRun.{HelmRun}
 use Rattle.moos_play.specs.declared.steersman.Steersman.{Steersman}
@@ -9,28 +9,25 @@ use Rattle.helm_core.specs.Helms.{plan_of}
 use Rattle.moos_post.specs.History.{History}
 use Rattle.moos_play.specs.Lawful.{names_with, ticks_to, iterations_of, opening_of, ticks_of}
 use Rattle.moos_play.specs.Steered.{HasOpened, helm_of, IsAtPlay, IsUnopened, IsUnderWay, run_as, steering_of, Steers}
+use Rattle.moos_play.proofs.Below.{names_more}
 use Rattle.moos_play.proofs.Coming.{start_under}
 use Rattle.script_reader.specs.declared.script.Script.{Script}
 use Rattle.script_reader.specs.Validity.{are_lines}
 
--- with a helm there is a name more
-names_more : (script : Script) (run : HelmRun) → length (names_with script (Some run)) ≡ length script.names + 1
-names_more script run = length-append script.names (codes "pHelmIvP" ∷ [])
-
 -- the helm has a seat
-pub new_within : (script : Script) (helm : Option HelmRun) (n : ℕ) (base : List (List ℕ)) (steersman : Option Steersman) → helm_of steersman ≡ option_map (run_as n) helm → IfSome steersman (IsUnopened n) → n ≡ length script.names
-    → base ≡ names_with script helm → IfSome steersman (λ s. IsUnopened n s × (n < length base))
-new_within script helm n base None is new number names = tt
-new_within script None n base (Some s) is new number names = absurd cc
-new_within script (Some run) n base (Some s) is new number names = (new, omega (arith, number, ap length names, names_more script run))
+pub new_within : (script : Script) (helm : Option HelmRun) (further : List (List ℕ)) (n : ℕ) (base : List (List ℕ)) (steersman : Option Steersman) → helm_of steersman ≡ option_map (run_as n) helm → IfSome steersman (IsUnopened n) → n ≡ length script.names
+    → base ≡ names_with script helm ++ further → IfSome steersman (λ s. IsUnopened n s × (n < length base))
+new_within script helm further n base None is new number names = tt
+new_within script None further n base (Some s) is new number names = absurd cc
+new_within script (Some run) further n base (Some s) is new number names = (new, omega (arith, number, ap length names, length-append (names_with script (Some run)) further, names_more script run))
 
--- each client has a seat
-pub seats_made : (script : Script) (helm : Option HelmRun) (n : ℕ) (base : List (List ℕ)) (steersman : Option Steersman) → helm_of steersman ≡ option_map (run_as n) helm → base ≡ names_with script helm
-    → length base ≡ length script.names + length (option_to_list steersman)
-seats_made script None n base None is names = ap length names ∙ omega arith
-seats_made script None n base (Some s) is names = absurd cc
-seats_made script (Some run) n base None is names = absurd cc
-seats_made script (Some run) n base (Some s) is names = ap length names ∙ names_more script run
+-- each client that is known from the start has a seat
+pub seats_made : (script : Script) (helm : Option HelmRun) (further : List (List ℕ)) (n : ℕ) (base : List (List ℕ)) (steersman : Option Steersman) → helm_of steersman ≡ option_map (run_as n) helm → base ≡ names_with script helm ++ further
+    → length script.names + length (option_to_list steersman) ≤ length base
+seats_made script None further n base None is names = omega (arith, ap length names, length-append script.names further)
+seats_made script None further n base (Some s) is names = absurd cc
+seats_made script (Some run) further n base None is names = absurd cc
+seats_made script (Some run) further n base (Some s) is names = omega (arith, ap length names, length-append (names_with script (Some run)) further, names_more script run)
 
 -- no tick is made yet
 pub ticks_begin : (stop : ℕ) (steersman : Option Steersman) → IfSome steersman (λ helm. (helm.ticks ≡ 0) × (1 ≤ helm.period)) → IfSome steersman (λ helm. (1 ≤ helm.period) × (helm.ticks ≤ ticks_to stop (steering_of helm)))
@@ -38,19 +35,19 @@ ticks_begin stop None so = tt
 ticks_begin stop (Some s) so = (so.1, omega (arith, so.0))
 
 -- the run that is made
-pub play_made : (script : Script) (helm : Option HelmRun) (n : ℕ) (steersman : Option Steersman) (play : Play) → are_lines (length script.names) 0 script.stop script.lines ≡ true → n ≡ length script.names → helm_of play.steersman ≡ helm_of steersman
-    → helm_of steersman ≡ option_map (run_as n) helm → play.lock.base ≡ names_with script helm → HasOpened play.lock n play.steersman play.first.seat → length play.calls.items ≡ n → play.from ≡ 0 → IsAtPlay script play
-play_made script helm n steersman play valid number same is names opened calls from = record {
-  under = subst (λ from. IsUnderWay play.order script play.lock play.steersman from play.first.seat) (sym from) (start_under play.order script play.lock play.steersman play.first.seat valid (subst (λ n. HasOpened play.lock n play.steersman play.first.seat) number opened));
+pub play_made : (script : Script) (helm : Option HelmRun) (further : List (List ℕ)) (n : ℕ) (steersman : Option Steersman) (play : Play) → are_lines (length script.names) 0 script.stop script.lines ≡ true → n ≡ length script.names → helm_of play.steersman ≡ helm_of steersman
+    → helm_of steersman ≡ option_map (run_as n) helm → play.lock.base ≡ names_with script helm ++ further → HasOpened play.lock n play.steersman play.first.seat → length play.calls.items ≡ n → play.from ≡ 0 → IsAtPlay script play
+play_made script helm further n steersman play valid number same is names opened calls from = record {
+  under = subst (λ from. IsUnderWay play.order script play.lock play.steersman from play.first.seat) (sym from)
+      (start_under play.order script play.lock play.steersman play.first.seat valid (seats_made script helm further n play.lock.base play.steersman (same ∙ is) names) (subst (λ n. HasOpened play.lock n play.steersman play.first.seat) number opened));
   calls = calls ∙ number;
-  seats = seats_made script helm n play.lock.base play.steersman (same ∙ is) names;
   period = ticks_begin script.stop play.steersman opened.ticks;
 }
 
--- the names are few
-pub few_names : (script : Script) (helm : Option HelmRun) (names : List (List ℕ)) → names ≡ names_with script helm → length script.names ≤ 64 → length names < 2 ^ 32
-few_names script None names is few = omega (arith, ap length is, few)
-few_names script (Some run) names is few = omega (arith, ap length is, names_more script run, few)
+-- the names are few where there are no further ones
+pub few_names : (script : Script) (helm : Option HelmRun) (further : List (List ℕ)) → further ≡ [] → length script.names ≤ 64 → length (names_with script helm ++ further) < 2 ^ 32
+few_names script None further none few = omega (arith, length-append script.names further, ap length none, few)
+few_names script (Some run) further none few = omega (arith, length-append (names_with script (Some run)) further, ap length none, names_more script run, few)
 
 -- a helm that has yet to open stands where an empty history has brought it
 pub new_steers : (names : List (List ℕ)) (n : ℕ) (s : Steersman) (seen : History) → IsUnopened n s → seen ≡ [] → Steers names s seen

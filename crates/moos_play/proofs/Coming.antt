@@ -1,5 +1,6 @@
 -- A run from one round to the next, and to the end.
 use Rattle.std.proofs.Common.{◌≡◌, ◌≢◌, ℕ, suc, ◌+◌, ◌-◌, ◌*◌, ◌/◌, ◌<◌, ◌≤◌, ◌==◌, ◌&&◌, Bool, true, false, cond, List, [], ◌∷◌, ◌++◌, length, take, drop, Option, None, Some, Ok, Err, OnOk, Result, nat_le, nat_lt, refl, sym, ap, ◌∙◌, subst, arith, append-nil, append_assoc, eq-eqb, ne_eqb}
+use Rattle.std.specs.Prelude.{option_to_list}
 use Rattle.std.specs.List.{list_all}
 use Rattle.std.specs.declared.alloc.AllocError.{AllocError}
 use Rattle.std.proofs.lemmas.Bool.{and_from, and_parts}
@@ -12,9 +13,10 @@ use Rattle.moos_client.specs.Calls.{SeatState, entries_of}
 use Rattle.moos_post.specs.declared.entry.Entry.{Entry}
 use Rattle.moos_post.specs.History.{History}
 use Rattle.moos_play.specs.declared.steersman.Steersman.{Steersman}
-use Rattle.moos_play.specs.Lawful.{heard_in, heard_of, helm_number, moment_of, never_falls, opening, opening_of, Steering, tick_entries, ticks_of, ticks_to}
+use Rattle.moos_play.specs.Lawful.{clients_below, entries_below, heard_in, heard_of, helm_number, known_clients, moment_of, never_falls, opening, opening_of, Steering, tick_entries, ticks_of, ticks_to}
 use Rattle.moos_play.specs.Rounds.{CommunityLock, GoesOn, IsAlone, IsGathered, IsPlayed, IsPlayedBeside, IsWhole, KnowsNothing}
 use Rattle.moos_play.specs.Steered.{HasOpened, helm_of, IsBehind, IsEarly, comes_before, IsDue, IsUnopened, IsTimed, IsUnderWay, KeepsTime, StandsAt, steering_of, Steers, tick_due}
+use Rattle.moos_play.proofs.Below.{below_more, below_raised, beside_below, both_below, known_helm, known_many, known_more}
 use Rattle.moos_play.proofs.Hearing.{heard_append, ticks_stay}
 use Rattle.moos_play.proofs.Histories.{all_same, more_rise, only_own, own_rest, rise_end, same_rise}
 use Rattle.moos_play.proofs.Rounds.{none_past}
@@ -43,41 +45,65 @@ grown_beside helm lines result before after whole on ok n other = at_ok result _
 
 -- others go on: who is at the helm stands as before
 pub stands_on : (names : List (List ℕ)) (number : ℕ) (steersman : Option Steersman) (history rest : History) → StandsAt names number steersman history → entries_of number rest ≡ [] → StandsAt names number steersman (history ++ rest)
-stands_on names number None history rest so none = filter-append (λ entry. entry.client == number) history rest ∙ ap (λ front. front ++ entries_of number rest) so ∙ none
+stands_on names number None history rest so none = tt
 stands_on names number (Some s) history rest so none =
     (so.0, so.1, steered_on names (steering_of s) s.helm s.opened s.ticks s.told s.iterations history rest so.2 (subst (λ n. entries_of n rest ≡ []) (sym so.0) none))
 
 -- some lines are played
 pub lines_under : (order : Order) (script : Script) (lock : CommunityLock) (steersman : Option Steersman) (from to : ℕ) (lines : List Entry) (first after : SeatState) → (under : IsUnderWay order script lock steersman from first)
     → IsGathered lock after → IsWhole after → (later : Begins after.seen first.seen) → ((n : ℕ) → entries_of n later.0 ≡ entries_of n lines) → to ≤ length script.lines → take to script.lines ≡ take from script.lines ++ lines
-    → entries_of (helm_number script) lines ≡ [] → KeepsTime order script steersman to (under.rest ++ later.0) → IsUnderWay order script lock steersman to after
-lines_under order script lock steersman from to lines first after under gathered whole later same within cut helm timed = record {
+    → clients_below (helm_number script) lines ≡ true → KeepsTime order script steersman to (entries_below (known_clients script (helm_of steersman)) under.rest ++ later.0) → IsUnderWay order script lock steersman to after
+lines_under order script lock steersman from to lines first after under gathered whole later same within cut clients timed = record {
   gathered = gathered;
   whole = whole;
   within = within;
+  seats = under.seats;
   rest = under.rest ++ later.0;
   opened = later.1 ∙ ap (λ front. front ++ later.0) under.opened ∙ append_assoc (opening (helm_of steersman)) under.rest later.0;
-  own = λ n other. filter-append (λ entry. entry.client == n) under.rest later.0 ∙ ap (λ front. front ++ entries_of n later.0) (under.own n other) ∙ ap (λ end. entries_of n (take from script.lines) ++ end) (same n)
-      ∙ sym (ap (entries_of n) cut ∙ filter-append (λ entry. entry.client == n) (take from script.lines) lines);
-  steered = subst (StandsAt lock.base (helm_number script) steersman) (sym later.1) (stands_on lock.base (helm_number script) steersman first.seen later.0 under.steered (same (helm_number script) ∙ helm));
-  timed = timed;
+  own = λ n other. ap (entries_of n) more ∙ filter-append (λ entry. entry.client == n) (entries_below known under.rest) later.0 ∙ ap (λ front. front ++ entries_of n later.0) (under.own n other)
+      ∙ ap (λ end. entries_of n (take from script.lines) ++ end) (same n) ∙ sym (ap (entries_of n) cut ∙ filter-append (λ entry. entry.client == n) (take from script.lines) lines);
+  steered = subst (StandsAt lock.base (helm_number script) steersman) (sym later.1)
+      (stands_on lock.base (helm_number script) steersman first.seen later.0 under.steered (same (helm_number script) ∙ none_past (length script.names) (helm_number script) lines clients (omega arith)));
+  timed = subst (KeepsTime order script steersman to) (sym more) timed;
+  named = both_below (length lock.base) under.rest later.0 under.named (below_raised (helm_number script) (length lock.base) later.0 (omega (arith, under.seats)) new);
 }
+  where
+    known : ℕ
+    known = known_clients script (helm_of steersman)
+
+    new : clients_below (helm_number script) later.0 ≡ true
+    new = all_same (λ entry. nat_lt entry.client (helm_number script)) later.0 lines same clients
+
+    more : entries_below known (under.rest ++ later.0) ≡ entries_below known under.rest ++ later.0
+    more = below_more known under.rest later.0 (below_raised (helm_number script) known later.0 (known_more script (helm_of steersman)) new)
 
 -- the helm makes ticks, and perhaps others their lines
 pub helm_under : (order : Order) (script : Script) (lock : CommunityLock) (old new : Steersman) (from to : ℕ) (lines : List Entry) (first after : SeatState) → (under : IsUnderWay order script lock (Some old) from first)
     → IsGathered lock after → IsWhole after → (later : Begins after.seen first.seen) → ((n : ℕ) → n ≢ helm_number script → entries_of n later.0 ≡ entries_of n lines) → to ≤ length script.lines → take to script.lines ≡ take from script.lines ++ lines
-    → steering_of new ≡ steering_of old → new.opened ≡ true → Steers lock.base new after.seen → KeepsTime order script (Some new) to (under.rest ++ later.0) → IsUnderWay order script lock (Some new) to after
-helm_under order script lock old new from to lines first after under gathered whole later same within cut steering opened steers timed = record {
+    → clients_below (helm_number script) lines ≡ true → steering_of new ≡ steering_of old → new.opened ≡ true → Steers lock.base new after.seen
+    → KeepsTime order script (Some new) to (entries_below (known_clients script (Some new)) under.rest ++ later.0) → IsUnderWay order script lock (Some new) to after
+helm_under order script lock old new from to lines first after under gathered whole later same within cut clients steering opened steers timed = record {
   gathered = gathered;
   whole = whole;
   within = within;
+  seats = under.seats;
   rest = under.rest ++ later.0;
   opened = later.1 ∙ ap (λ front. front ++ later.0) under.opened ∙ append_assoc (opening_of (steering_of old)) under.rest later.0 ∙ ap (λ helm. opening_of helm ++ (under.rest ++ later.0)) (sym steering);
-  own = λ n other. filter-append (λ entry. entry.client == n) under.rest later.0 ∙ ap (λ front. front ++ entries_of n later.0) (under.own n other) ∙ ap (λ end. entries_of n (take from script.lines) ++ end) (same n other)
-      ∙ sym (ap (entries_of n) cut ∙ filter-append (λ entry. entry.client == n) (take from script.lines) lines);
+  own = λ n other. ap (entries_of n) more ∙ filter-append (λ entry. entry.client == n) (entries_below known under.rest) later.0 ∙ ap (λ front. front ++ entries_of n later.0) (under.own n other)
+      ∙ ap (λ end. entries_of n (take from script.lines) ++ end) (same n other) ∙ sym (ap (entries_of n) cut ∙ filter-append (λ entry. entry.client == n) (take from script.lines) lines);
   steered = (ap (λ (helm : Steering). helm.client) steering ∙ under.steered.0, opened, steers);
-  timed = timed;
+  timed = subst (KeepsTime order script (Some new) to) (sym more) timed;
+  named = both_below (length lock.base) under.rest later.0 under.named (below_raised known (length lock.base) later.0 (omega (arith, under.seats, known_many script (Some old))) all);
 }
+  where
+    known : ℕ
+    known = known_clients script (Some new)
+
+    all : clients_below known later.0 ≡ true
+    all = beside_below known (helm_number script) lines later.0 (known_helm script new) (below_raised (helm_number script) known lines (known_more script (Some new)) clients) same
+
+    more : entries_below known (under.rest ++ later.0) ≡ entries_below known under.rest ++ later.0
+    more = below_more known under.rest later.0 all
 
 -- entries that aren't the helm's have the first moment of their stamp
 pub line_moment : (helm : ℕ) (entry : Entry) → entry.client ≢ helm → moment_of helm entry ≡ 2 * entry.stamp
@@ -239,17 +265,19 @@ ends lines from to below =
     sym (take-append-drop (to - from) (drop from lines)) ∙ ap (λ end. take (to - from) (drop from lines) ++ end) (drop-drop (to - from) from lines ∙ ap (λ k. drop k lines) n)
 
 -- before the first round
-pub start_under : (order : Order) (script : Script) (lock : CommunityLock) (steersman : Option Steersman) (first : SeatState) → are_lines (length script.names) 0 script.stop script.lines ≡ true → HasOpened lock (helm_number script) steersman first
-    → IsUnderWay order script lock steersman 0 first
-start_under order script lock steersman first valid so = record {
+pub start_under : (order : Order) (script : Script) (lock : CommunityLock) (steersman : Option Steersman) (first : SeatState) → are_lines (length script.names) 0 script.stop script.lines ≡ true → length script.names + length (option_to_list steersman) ≤ length lock.base
+    → HasOpened lock (helm_number script) steersman first → IsUnderWay order script lock steersman 0 first
+start_under order script lock steersman first valid seats so = record {
   gathered = so.gathered;
   whole = so.whole;
   within = omega arith;
+  seats = seats;
   rest = [];
   opened = so.opened ∙ sym (append-nil (opening (helm_of steersman)));
   own = λ n other. refl;
   steered = so.steered;
   timed = timed order;
+  named = refl;
 }
   where
     early : (s : Option Steersman) → IsEarly (helm_number script) s script.stop []
@@ -266,7 +294,7 @@ pub lines_next : (order : Order) (script : Script) (lock : CommunityLock) (steer
     → IsDue script.lines (tick_due script.stop steersman) from to → from < to → IsUnderWay order script lock steersman to after
 lines_next order script lock steersman from to result first after valid under gathered on ok due some =
     lines_under order script lock steersman from to lines first after under gathered on.whole on.later same due.within (parts script.lines from to due.more)
-    (none_past (length script.names) (helm_number script) lines clients (omega arith)) (timed order under.timed)
+    clients (timed order under.timed)
   where
     lines : List Entry
     lines = take (to - from) (drop from script.lines)
@@ -277,15 +305,18 @@ lines_next order script lock steersman from to result first after valid under ga
     same : (n : ℕ) → entries_of n on.later.0 ≡ entries_of n lines
     same = grown_lines lines result first after under.whole on ok
 
-    before : (s : Option Steersman) → comes_before (tick_due script.stop s) due.stamp ≡ false → (t : Steersman) → s ≡ Some t → t.ticks < ticks_to script.stop (steering_of t) → due.stamp ≤ t.ticks * t.period
-    before s late t is left =
+    ahead : (s : Option Steersman) → comes_before (tick_due script.stop s) due.stamp ≡ false → (t : Steersman) → s ≡ Some t → t.ticks < ticks_to script.stop (steering_of t) → due.stamp ≤ t.ticks * t.period
+    ahead s late t is left =
         let here : nat_le t.ticks (script.stop / t.period) ≡ true = grind (arith, nat_tests, left) in
         let now : nat_lt (t.ticks * t.period) due.stamp ≡ false = subst (λ b. comes_before (cond b (Some (t.ticks * t.period)) None) due.stamp ≡ false) here (subst (λ s. comes_before (tick_due script.stop s) due.stamp ≡ false) is late) in
         grind (arith, nat_tests, now)
 
-    timed : (order : Order) → KeepsTime order script steersman from under.rest → KeepsTime order script steersman to (under.rest ++ on.later.0)
-    timed Stamp so = timed_lines script steersman from to due.stamp lines under.rest on.later.0 so (ends script.lines from to due.more) clients due.one same
-        (early_lines script steersman due.stamp lines on.later.0 clients due.one same (before steersman (due.early some)))
+    before : History
+    before = entries_below (known_clients script (helm_of steersman)) under.rest
+
+    timed : (order : Order) → KeepsTime order script steersman from before → KeepsTime order script steersman to (before ++ on.later.0)
+    timed Stamp so = timed_lines script steersman from to due.stamp lines before on.later.0 so (ends script.lines from to due.more) clients due.one same
+        (early_lines script steersman due.stamp lines on.later.0 clients due.one same (ahead steersman (due.early some)))
     timed Race so = tt
 
 -- all lines are played in a race
@@ -294,16 +325,17 @@ pub lines_all : (script : Script) (lock : CommunityLock) (steersman : Option Ste
 lines_all script lock steersman from result first after valid under gathered on ok =
     lines_under Race script lock steersman from (length script.lines) (drop from script.lines) first after under gathered on.whole on.later (grown_lines (drop from script.lines) result first after under.whole on ok) (omega arith)
     (take_all (length script.lines) script.lines (omega arith) ∙ sym (take-append-drop from script.lines))
-    (none_past (length script.names) (helm_number script) (drop from script.lines) (all_end (λ line. nat_lt line.client (helm_number script)) script.lines from (lines_clients (length script.names) 0 script.stop script.lines valid)) (omega arith)) tt
+    (all_end (λ line. nat_lt line.client (helm_number script)) script.lines from (lines_clients (length script.names) 0 script.stop script.lines valid)) tt
 
 -- a race with a helm
-pub race_under : (script : Script) (lock : CommunityLock) (old new : Steersman) (from : ℕ) (result : Result (Unit {0}) AllocError) (first after : SeatState) → IsUnderWay Race script lock (Some old) from first → IsGathered lock after
+pub race_under : (script : Script) (lock : CommunityLock) (old new : Steersman) (from : ℕ) (result : Result (Unit {0}) AllocError) (first after : SeatState) → are_lines (length script.names) 0 script.stop script.lines ≡ true → IsUnderWay Race script lock (Some old) from first → IsGathered lock after
     → GoesOn (IsPlayedBeside old.number (drop from script.lines) result) first after → result ≡ Ok tt → steering_of new ≡ steering_of old → new.opened ≡ true → Steers lock.base new after.seen
     → IsUnderWay Race script lock (Some new) (length script.lines) after
-race_under script lock old new from result first after under gathered on ok steering opened steers =
+race_under script lock old new from result first after valid under gathered on ok steering opened steers =
     helm_under Race script lock old new from (length script.lines) (drop from script.lines) first after under gathered on.whole on.later
     (λ n other. grown_beside old.number (drop from script.lines) result first after under.whole on ok n (λ e. other (e ∙ under.steered.0)))
-    (omega arith) (take_all (length script.lines) script.lines (omega arith) ∙ sym (take-append-drop from script.lines)) steering opened steers tt
+    (omega arith) (take_all (length script.lines) script.lines (omega arith) ∙ sym (take-append-drop from script.lines))
+    (all_end (λ line. nat_lt line.client (helm_number script)) script.lines from (lines_clients (length script.names) 0 script.stop script.lines valid)) steering opened steers tt
 
 -- where the helm is alone it adds its tick
 pub tick_alone : (order : Order) (script : Script) (lock : CommunityLock) (old new : Steersman) (from : ℕ) (first after : SeatState) → IsUnderWay order script lock (Some old) from first → (on : GoesOn (IsAlone old.number) first after)
@@ -317,7 +349,7 @@ pub tick_under : (order : Order) (script : Script) (lock : CommunityLock) (old n
     → IsGathered lock after → GoesOn (IsAlone old.number) first after → steering_of new ≡ steering_of old → new.opened ≡ true → new.ticks ≡ old.ticks + 1 → Steers lock.base new after.seen → old.ticks < ticks_to script.stop (steering_of old)
     → IsBehind (Some (old.ticks * old.period)) (drop from script.lines) → IsUnderWay order script lock (Some new) from after
 tick_under order script lock old new from first after valid under gathered on steering opened count steers left behind =
-    helm_under order script lock old new from from [] first after under gathered on.whole on.later alone under.within (sym (append-nil (take from script.lines))) steering opened steers (timed order under.timed)
+    helm_under order script lock old new from from [] first after under gathered on.whole on.later alone under.within (sym (append-nil (take from script.lines))) refl steering opened steers (timed order under.timed)
   where
     alone : (n : ℕ) → n ≢ helm_number script → entries_of n on.later.0 ≡ []
     alone n other = grown (IsAlone old.number) first after under.whole on n (λ e. other (e ∙ under.steered.0))
@@ -328,8 +360,11 @@ tick_under order script lock old new from first after valid under gathered on st
     next : new.ticks * new.period ≡ old.period + old.ticks * old.period
     next = ap (λ n. n * new.period) (count ∙ omega arith) ∙ ap (λ (helm : Steering). suc old.ticks * helm.period) steering ∙ omega arith
 
-    timed : (order : Order) → KeepsTime order script (Some old) from under.rest → KeepsTime order script (Some new) from (under.rest ++ on.later.0)
-    timed Stamp so = timed_tick script old new from under.rest on.later.0 so left
+    earlier : History
+    earlier = entries_below (known_clients script (Some new)) under.rest
+
+    timed : (order : Order) → KeepsTime order script (Some old) from earlier → KeepsTime order script (Some new) from (earlier ++ on.later.0)
+    timed Stamp so = timed_tick script old new from earlier on.later.0 so left
         (ap (list_all (λ entry. moment_of (helm_number script) entry == suc (2 * (old.ticks * old.period)))) added ∙ tick_moment (steering_of old) (helm_number script) (heard_of lock.base old.number (first.seen ++ on.later.0)) old.ticks under.steered.0)
         next (all_end (λ line. nat_lt line.client (helm_number script)) script.lines from (lines_clients (length script.names) 0 script.stop script.lines valid)) behind
     timed Race so = tt
@@ -367,10 +402,10 @@ lines_left order script lock steersman from to result first after race all valid
     (subst (λ lines. GoesOn (IsPlayed lines result) first after) (to_end script.lines from to all) on) ok))
 
 pub race_left : (order : Order) (script : Script) (lock : CommunityLock) (steersman : Option Steersman) (old new : Steersman) (from to : ℕ) (result : Result (Unit {0}) AllocError) (first after : SeatState) → order ≡ Race → to ≡ length script.lines → steersman ≡ Some old
-    → IsUnderWay order script lock steersman from first → IsGathered lock after → GoesOn (IsPlayedBeside old.number (take (to - from) (drop from script.lines)) result) first after → result ≡ Ok tt → steering_of new ≡ steering_of old → new.opened ≡ true → Steers lock.base new after.seen
+    → are_lines (length script.names) 0 script.stop script.lines ≡ true → IsUnderWay order script lock steersman from first → IsGathered lock after → GoesOn (IsPlayedBeside old.number (take (to - from) (drop from script.lines)) result) first after → result ≡ Ok tt → steering_of new ≡ steering_of old → new.opened ≡ true → Steers lock.base new after.seen
     → IsUnderWay order script lock (Some new) to after
-race_left order script lock steersman old new from to result first after race all is under gathered on ok steering opened steers =
+race_left order script lock steersman old new from to result first after race all is valid under gathered on ok steering opened steers =
     subst (λ to. IsUnderWay order script lock (Some new) to after) (sym all)
     (subst (λ order. IsUnderWay order script lock (Some new) (length script.lines) after) (sym race)
-    (race_under script lock old new from result first after (subst (λ order. IsUnderWay order script lock (Some old) from first) race (subst (λ s. IsUnderWay order script lock s from first) is under)) gathered
+    (race_under script lock old new from result first after valid (subst (λ order. IsUnderWay order script lock (Some old) from first) race (subst (λ s. IsUnderWay order script lock s from first) is under)) gathered
     (subst (λ lines. GoesOn (IsPlayedBeside old.number lines result) first after) (to_end script.lines from to all) on) ok steering opened steers))

@@ -14,8 +14,9 @@ use Rattle.moos_db.specs.Database.{letters_after}
 use Rattle.moos_post.specs.declared.entry.Call.TheVariants.{Register, Post as Posts, Fetch}
 use Rattle.moos_post.specs.declared.entry.Entry.{Entry}
 use Rattle.moos_post.specs.History.{History}
-use Rattle.moos_play.specs.Lawful.{heard_of, helm_number, IsLawful, KeepsOrder, moment_of, never_falls, opening, opening_of, Steering, tick_entries, ticks, ticks_of, ticks_to}
+use Rattle.moos_play.specs.Lawful.{clients_below, entries_below, heard_of, helm_number, IsLawfulBeside, KeepsOrder, known_clients, moment_of, never_falls, opening, opening_of, Steering, tick_entries, ticks, ticks_of, ticks_to}
 use Rattle.moos_play.specs.Steered.{IsBehind}
+use Rattle.moos_play.proofs.Below.{below_more, below_raised, both_below, known_helm, known_more, none_below, own_below, tick_below}
 use Rattle.moos_play.proofs.Coming.{early_tick, line_moment, rise_tick, tick_moment}
 use Rattle.moos_play.proofs.Hearing.{entries_next, heard_fetch, heard_next, heard_on, IsNext, ticks_stay}
 use Rattle.moos_play.proofs.Histories.{own_rest}
@@ -51,9 +52,9 @@ pub record HasComeTo (names : List (List ℕ)) (number stop : ℕ) (helm : Steer
   pub many : length (heard_of names helm.client history) ≡ count
   pub own : entries_of helm.client history ≡ opening_of helm ++ ticks_of helm (heard_of names helm.client history) count
 
--- the same where there is a helm; without one the number has no entry
+-- the same where there is a helm
 abbrev pub StandsThere : List (List ℕ) → ℕ → ℕ → Option Steering → ℕ → History → Type 0
-StandsThere names number stop None count history = entries_of number history ≡ []
+StandsThere names number stop None count history = Unit {0}
 StandsThere names number stop (Some helm) count history = HasComeTo names number stop helm count history
 
 -- where a tick is left no entry is of a later moment
@@ -67,14 +68,17 @@ abbrev pub MayGoOn : Order → ℕ → ℕ → Option Steering → ℕ → List 
 MayGoOn Stamp number stop helm count left rest = (never_falls (moment_of number) 0 (rest ++ left) ≡ true) × IsInTime number stop helm count rest
 MayGoOn Race number stop helm count left rest = Unit {0}
 
--- a history on its way: behind the opening it has the lines but those that are left, and so many ticks
+-- A history on its way: behind the opening it has the lines but those that are left, and so many ticks, beside the entries of
+-- further clients.
 pub record IsOnItsWay (order : Order) (script : Script) (helm : Option Steering) (names : List (List ℕ)) (count : ℕ) (left : List Entry) (history : History) : Type 0 where
   pub rest : History
   pub opened : history ≡ opening helm ++ rest
-  pub own : (n : ℕ) → n ≢ helm_number script → entries_of n (rest ++ left) ≡ entries_of n script.lines
+  pub own : (n : ℕ) → n ≢ helm_number script → entries_of n (entries_below (known_clients script helm) rest ++ left) ≡ entries_of n script.lines
   pub clients : list_all (λ line. nat_lt line.client (helm_number script)) left ≡ true
   pub stands : StandsThere names (helm_number script) script.stop helm count history
-  pub timed : MayGoOn order (helm_number script) script.stop helm count left rest
+  pub timed : MayGoOn order (helm_number script) script.stop helm count left (entries_below (known_clients script helm) rest)
+  pub room : known_clients script helm ≤ length names
+  pub named : clients_below (length names) rest ≡ true
 
 -- how many ticks are left after so many
 abbrev pub ticks_after : ℕ → Option Steering → ℕ → ℕ
@@ -83,33 +87,35 @@ ticks_after stop (Some helm) count = ticks_to stop helm - count
 
 -- where nothing is left the history is lawful
 pub lawful_then : (order : Order) (script : Script) (helm : Option Steering) (names : List (List ℕ)) (count : ℕ) (left : List Entry) (history : History) → IsOnItsWay order script helm names count left history → length left + ticks_after script.stop helm count ≡ 0
-    → IsLawful order script helm names history
+    → IsLawfulBeside order script helm names history
 lawful_then order script helm names count (line ∷ left) history so none = absurd (omega (arith, none))
 lawful_then order script helm names count [] history so none = record {
   rest = so.rest;
   opened = so.opened;
   steered = steered helm so.opened so.stands none;
-  own = λ n other. ap (entries_of n) (sym (append-nil so.rest)) ∙ so.own n other;
+  own = λ n other. ap (entries_of n) (sym (append-nil (entries_below (known_clients script helm) so.rest))) ∙ so.own n other;
   moments = moments order so.timed;
+  named = so.named;
 }
   where
-    moments : (order : Order) → MayGoOn order (helm_number script) script.stop helm count [] so.rest → KeepsOrder order (helm_number script) so.rest
-    moments Stamp timed = subst (λ all. never_falls (moment_of (helm_number script)) 0 all ≡ true) (append-nil so.rest) timed.0
+    moments : (order : Order) → MayGoOn order (helm_number script) script.stop helm count [] (entries_below (known_clients script helm) so.rest) → KeepsOrder order (helm_number script) (entries_below (known_clients script helm) so.rest)
+    moments Stamp timed = subst (λ all. never_falls (moment_of (helm_number script)) 0 all ≡ true) (append-nil (entries_below (known_clients script helm) so.rest)) timed.0
     moments Race timed = tt
 
     steered : (helm : Option Steering) → history ≡ opening helm ++ so.rest → StandsThere names (helm_number script) script.stop helm count history → 0 + ticks_after script.stop helm count ≡ 0
-        → entries_of (helm_number script) so.rest ≡ ticks helm script.stop (heard_of names (helm_number script) history)
-    steered None opened stands none = ap (entries_of (helm_number script)) (sym opened) ∙ stands
+        → entries_of (helm_number script) (entries_below (known_clients script helm) so.rest) ≡ ticks helm script.stop (heard_of names (helm_number script) history)
+    steered None opened stands none = none_below (helm_number script) so.rest
     steered (Some helm) opened stands none =
         let all : count ≡ ticks_to script.stop helm = omega (arith, none, stands.few) in
-        subst (λ n. entries_of n so.rest ≡ ticks_of helm (heard_of names n history) (ticks_to script.stop helm)) stands.client
+        own_below (known_clients script (Some helm)) (helm_number script) so.rest (known_helm script helm)
+        ∙ subst (λ n. entries_of n so.rest ≡ ticks_of helm (heard_of names n history) (ticks_to script.stop helm)) stands.client
         (own_rest (opening_of helm) so.rest helm.client (ticks_of helm (heard_of names helm.client history) (ticks_to script.stop helm))
         (ap (entries_of helm.client) (sym opened) ∙ stands.own ∙ ap (λ n. opening_of helm ++ ticks_of helm (heard_of names helm.client history) n) all
         ∙ ap (λ front. front ++ ticks_of helm (heard_of names helm.client history) (ticks_to script.stop helm)) (sym (own_opening helm))))
 
 -- others go on: the helm stands as before
 stands_there : (names : List (List ℕ)) (number stop : ℕ) (helm : Option Steering) (count : ℕ) (history rest : History) → StandsThere names number stop helm count history → entries_of number rest ≡ [] → StandsThere names number stop helm count (history ++ rest)
-stands_there names number stop None count history rest so none = filter-append (λ entry. entry.client == number) history rest ∙ ap (λ front. front ++ entries_of number rest) so ∙ none
+stands_there names number stop None count history rest so none = tt
 stands_there names number stop (Some helm) count history rest so none =
     let here : entries_of helm.client rest ≡ [] = subst (λ n. entries_of n rest ≡ []) (sym so.client) none in
     let heard : heard_of names helm.client (history ++ rest) ≡ heard_of names helm.client history = heard_on names helm.client history rest here in
@@ -132,32 +138,43 @@ line_on : (order : Order) (script : Script) (helm : Option Steering) (names : Li
 line_on order script helm names count line left history so first = record {
   rest = so.rest ++ line ∷ [];
   opened = ap (λ front. front ++ line ∷ []) so.opened ∙ append_assoc (opening helm) so.rest (line ∷ []);
-  own = λ n another. ap (entries_of n) same ∙ so.own n another;
+  own = λ n another. ap (λ front. entries_of n (front ++ left)) more ∙ ap (entries_of n) same ∙ so.own n another;
   clients = tests.1;
   stands = stands_there names (helm_number script) script.stop helm count history (line ∷ []) so.stands (ap (λ b. cond b (line ∷ []) []) (ne_eqb line.client (helm_number script) other));
-  timed = timed order so.timed;
+  timed = subst (MayGoOn order (helm_number script) script.stop helm count left) (sym more) (timed order so.timed);
+  room = so.room;
+  named = both_below (length names) so.rest (line ∷ []) so.named (below_raised (known_clients script helm) (length names) (line ∷ []) so.room here);
 }
   where
+    start : History
+    start = entries_below (known_clients script helm) so.rest
+
     tests : (nat_lt line.client (helm_number script) ≡ true) × (list_all (λ line. nat_lt line.client (helm_number script)) left ≡ true)
     tests = and_parts (nat_lt line.client (helm_number script)) (list_all (λ line. nat_lt line.client (helm_number script)) left) so.clients
 
     other : line.client ≢ helm_number script
     other e = grind (arith, nat_tests, tests.0, e)
 
-    same : (so.rest ++ line ∷ []) ++ left ≡ so.rest ++ line ∷ left
-    same = append_assoc so.rest (line ∷ []) left
+    here : clients_below (known_clients script helm) (line ∷ []) ≡ true
+    here = below_raised (helm_number script) (known_clients script helm) (line ∷ []) (known_more script helm) (and_from (nat_lt line.client (helm_number script)) true tests.0 refl)
 
-    in_time : (helm : Option Steering) → MayComeFirst script.stop helm count line.stamp → IsInTime (helm_number script) script.stop helm count so.rest → IsInTime (helm_number script) script.stop helm count (so.rest ++ line ∷ [])
+    more : entries_below (known_clients script helm) (so.rest ++ line ∷ []) ≡ start ++ line ∷ []
+    more = below_more (known_clients script helm) so.rest (line ∷ []) here
+
+    same : (start ++ line ∷ []) ++ left ≡ start ++ line ∷ left
+    same = append_assoc start (line ∷ []) left
+
+    in_time : (helm : Option Steering) → MayComeFirst script.stop helm count line.stamp → IsInTime (helm_number script) script.stop helm count start → IsInTime (helm_number script) script.stop helm count (start ++ line ∷ [])
     in_time None first early = tt
     in_time (Some helm) first early = λ more.
         let bound : ℕ = suc (2 * (count * helm.period)) in
         let below : line.stamp ≤ count * helm.period = first more in
-        list_all-append (λ entry. nat_le (moment_of (helm_number script) entry) bound) so.rest (line ∷ [])
-        ∙ and_from (list_all (λ entry. nat_le (moment_of (helm_number script) entry) bound) so.rest) (nat_le (moment_of (helm_number script) line) bound && true) (early more)
+        list_all-append (λ entry. nat_le (moment_of (helm_number script) entry) bound) start (line ∷ [])
+        ∙ and_from (list_all (λ entry. nat_le (moment_of (helm_number script) entry) bound) start) (nat_le (moment_of (helm_number script) line) bound && true) (early more)
         (and_from (nat_le (moment_of (helm_number script) line) bound) true
         (subst (λ key. nat_le key bound ≡ true) (sym (line_moment (helm_number script) line other)) (grind (arith, nat_tests))) refl)
 
-    timed : (order : Order) → MayGoOn order (helm_number script) script.stop helm count (line ∷ left) so.rest → MayGoOn order (helm_number script) script.stop helm count left (so.rest ++ line ∷ [])
+    timed : (order : Order) → MayGoOn order (helm_number script) script.stop helm count (line ∷ left) start → MayGoOn order (helm_number script) script.stop helm count left (start ++ line ∷ [])
     timed Stamp (rises, early) = (subst (λ all. never_falls (moment_of (helm_number script)) 0 all ≡ true) (sym same) rises, in_time helm first early)
     timed Race so = tt
 
@@ -215,14 +232,19 @@ tick_on order script helm names count left history so more behind = record {
   rest = so.rest ++ added;
   opened = ap (λ front. front ++ added) so.opened ∙ append_assoc (opening_of helm) so.rest added;
   own = λ n other.
-      filter-append (λ entry. entry.client == n) (so.rest ++ added) left
-      ∙ ap (λ front. front ++ entries_of n left) (filter-append (λ entry. entry.client == n) so.rest added ∙ ap (λ end. entries_of n so.rest ++ end) (none n other) ∙ append-nil (entries_of n so.rest))
-      ∙ sym (filter-append (λ entry. entry.client == n) so.rest left) ∙ so.own n other;
+      ap (λ front. entries_of n (front ++ left)) on ∙ filter-append (λ entry. entry.client == n) (start ++ added) left
+      ∙ ap (λ front. front ++ entries_of n left) (filter-append (λ entry. entry.client == n) start added ∙ ap (λ end. entries_of n start ++ end) (none n other) ∙ append-nil (entries_of n start))
+      ∙ sym (filter-append (λ entry. entry.client == n) start left) ∙ so.own n other;
   clients = so.clients;
   stands = tick_there names (helm_number script) script.stop helm count history so.stands more;
-  timed = timed order so.timed;
+  timed = subst (MayGoOn order (helm_number script) script.stop (Some helm) (suc count) left) (sym on) (timed order so.timed);
+  room = so.room;
+  named = both_below (length names) so.rest added so.named (below_raised (known_clients script (Some helm)) (length names) added so.room here);
 }
   where
+    start : History
+    start = entries_below (known_clients script (Some helm)) so.rest
+
     added : List Entry
     added = next_tick names helm count history
 
@@ -238,25 +260,31 @@ tick_on order script helm names count left history so more behind = record {
     one : list_all (λ entry. moment_of (helm_number script) entry == suc (2 * (count * helm.period))) added ≡ true
     one = tick_moment helm (helm_number script) (heard_of names helm.client (history ++ fetching ∷ [])) count so.stands.client
 
-    timed : (order : Order) → MayGoOn order (helm_number script) script.stop (Some helm) count left so.rest → MayGoOn order (helm_number script) script.stop (Some helm) (suc count) left (so.rest ++ added)
+    here : clients_below (known_clients script (Some helm)) added ≡ true
+    here = tick_below helm (known_clients script (Some helm)) (heard_of names helm.client (history ++ fetching ∷ [])) count (omega (arith, so.stands.client, known_helm script helm))
+
+    on : entries_below (known_clients script (Some helm)) (so.rest ++ added) ≡ start ++ added
+    on = below_more (known_clients script (Some helm)) so.rest added here
+
+    timed : (order : Order) → MayGoOn order (helm_number script) script.stop (Some helm) count left start → MayGoOn order (helm_number script) script.stop (Some helm) (suc count) left (start ++ added)
     timed Stamp (rises, early) = (
-      subst (λ all. never_falls (moment_of (helm_number script)) 0 all ≡ true) (sym (append_assoc so.rest added left)) (rise_tick (helm_number script) (count * helm.period) so.rest added left rises (early more) one so.clients behind),
-      λ _. early_tick (helm_number script) (count * helm.period) (suc count * helm.period) so.rest added (omega arith) (early more) one,
+      subst (λ all. never_falls (moment_of (helm_number script)) 0 all ≡ true) (sym (append_assoc start added left)) (rise_tick (helm_number script) (count * helm.period) start added left rises (early more) one so.clients behind),
+      λ _. early_tick (helm_number script) (count * helm.period) (suc count * helm.period) start added (omega arith) (early more) one,
     )
     timed Race so = tt
 
 -- what a history may go on with to be lawful
 abbrev pub Completion : Order → Script → Option Steering → List (List ℕ) → History → Type 0
-Completion order script helm names history = (rest : History) × IsLawful order script helm names (history ++ rest)
+Completion order script helm names history = (rest : History) × IsLawfulBeside order script helm names (history ++ rest)
 
 -- first these entries, and then the others
 completed : (order : Order) (script : Script) (helm : Option Steering) (names : List (List ℕ)) (history added : History) → Completion order script helm names (history ++ added) → Completion order script helm names history
-completed order script helm names history added then = (added ++ then.0, subst (IsLawful order script helm names) (append_assoc history added then.0) then.1)
+completed order script helm names history added then = (added ++ then.0, subst (IsLawfulBeside order script helm names) (append_assoc history added then.0) then.1)
 
 -- a history on its way may become lawful
 pub completion : (k : ℕ) (order : Order) (script : Script) (helm : Option Steering) (names : List (List ℕ)) (count : ℕ) (left : List Entry) (history : History) → IsOnItsWay order script helm names count left history
     → length left + ticks_after script.stop helm count ≡ k → Completion order script helm names history
-completion zero order script helm names count left history so none = ([], subst (IsLawful order script helm names) (sym (append-nil history)) (lawful_then order script helm names count left history so none))
+completion zero order script helm names count left history so none = ([], subst (IsLawfulBeside order script helm names) (sym (append-nil history)) (lawful_then order script helm names count left history so none))
 completion (suc k) order script None names count [] history so some = absurd (omega (arith, some))
 completion (suc k) order script None names count (line ∷ left) history so some =
     completed order script None names history (line ∷ [])

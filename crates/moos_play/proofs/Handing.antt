@@ -1,6 +1,6 @@
 -- The iterations of a round, and a run after they were handed out.
 use Rattle.std.proofs.Common.{◌≡◌, ℕ, zero, suc, ◌+◌, ◌-◌, inl, inr, ◌≤◌, List, [], ◌∷◌, ◌++◌, length, take, drop, Bool, true, false, nat_le, Option, None, Some, refl, sym, ap, ◌∙◌, subst, arith, append_assoc}
-use Rattle.std.specs.Prelude.{option_map, option_to_list, slice_get, IfSome}
+use Rattle.std.specs.Prelude.{option_map, slice_get, IfSome}
 use Rattle.std.proofs.lemmas.Bool.Decides.{nat_tests}
 use Rattle.std.proofs.lemmas.List.{drop_all, take-append-drop, take-append-le, take_all}
 use Rattle.helm_core.specs.declared.iteration.Iteration.{Iteration}
@@ -13,10 +13,11 @@ use Rattle.moos_post.specs.declared.entry.Entry.{Entry}
 use Rattle.moos_post.specs.History.{History}
 use Rattle.moos_play.specs.declared.playing.Play.{Play}
 use Rattle.moos_play.specs.declared.steersman.Steersman.{Steersman}
-use Rattle.moos_play.specs.Lawful.{heard_in, heard_of, helm_number, iterations, iterations_of, Steering, ticks_to}
+use Rattle.moos_play.specs.Lawful.{entries_below, heard_in, heard_of, helm_number, IsLawfulBeside, iterations, iterations_of, known_clients, Steering, ticks_to}
 use Rattle.moos_play.specs.Plays.{handed, handed_of, HasCompletion, IsBetween, IsPlayedOut, IsStampOver, iterations_made, left_in, made_by, stamp_next, StaysSeated, untold_in}
 use Rattle.moos_play.specs.Rounds.{CommunityLock}
 use Rattle.moos_play.specs.Steered.{GoesOnWith, helm_of, IsAtPlay, IsUnderWay, iterations_in, KeepsTime, StandsAt, steering_of, Steers, tick_due, ticks_left, told_in}
+use Rattle.moos_play.proofs.Below.{lawful_alone}
 use Rattle.moos_play.proofs.Completing.{completion}
 use Rattle.moos_play.proofs.Ending.{lawful_end, left_same, made_over, over_ticks, ticks_made, under_way}
 use Rattle.moos_play.proofs.Hearing.{heard_append, iterations_many, iterations_stay}
@@ -87,14 +88,19 @@ handed_under order script lock (Some s) from first under = record {
   gathered = under.gathered;
   whole = under.whole;
   within = under.within;
+  seats = under.seats;
   rest = under.rest;
   opened = under.opened;
   own = under.own;
   steered = (under.steered.0, under.steered.1, handed_steers lock.base s first.seen under.steered.2);
   timed = by order under.timed;
+  named = under.named;
 }
   where
-    by : (order : Order) → KeepsTime order script (Some s) from under.rest → KeepsTime order script (Some (handed_of s)) from under.rest
+    known : History
+    known = entries_below (known_clients script (Some s)) under.rest
+
+    by : (order : Order) → KeepsTime order script (Some s) from known → KeepsTime order script (Some (handed_of s)) from known
     by Stamp timed = record { left = timed.left; early = timed.early }
     by Race timed = tt
 
@@ -103,14 +109,9 @@ pub handed_at_play : (script : Script) (play : Play) → IsAtPlay script play �
 handed_at_play script play at = record {
   under = handed_under play.order script play.lock play.steersman play.from play.first.seat at.under;
   calls = at.calls;
-  seats = at.seats ∙ ap (λ n. length script.names + n) (many play.steersman);
   period = period play.steersman at.period;
 }
   where
-    many : (s : Option Steersman) → length (option_to_list s) ≡ length (option_to_list (option_map handed_of s))
-    many None = refl
-    many (Some s) = refl
-
     period : (s : Option Steersman) → IfSome s (λ helm. (1 ≤ helm.period) × (helm.ticks ≤ ticks_to script.stop (steering_of helm)))
         → IfSome (option_map handed_of s) (λ helm. (1 ≤ helm.period) × (helm.ticks ≤ ticks_to script.stop (steering_of helm)))
     period None so = tt
@@ -198,11 +199,15 @@ round_iterations before after between at stays on told =
 -- the end of a run that is played round by round
 pub over_now : (play last : Play) → IsBetween play → left_in play ≡ 0 → last ≡ play → IsPlayedOut last
 over_now play last between none is = subst IsPlayedOut (sym is) (record {
-  lawful = lawful_end play.order play.script.now play (helm_of play.steersman) play.lock.base play.first.seat.seen between.valid.lines between.at_play none refl refl refl refl;
+  lawful = lawful;
+  alone = λ named. lawful_alone play.order play.script.now (helm_of play.steersman) play.lock.base play.first.seat.seen named lawful;
   iterations =
       made_over play.lock.base (helm_number play.script.now) play.script.now.stop play.first.seat.seen play.steersman between.at_play.under.steered
       (over_ticks play.script.now play play.steersman between.at_play.period (omega (arith, none)));
 })
+  where
+    lawful : IsLawfulBeside play.order play.script.now (helm_of play.steersman) play.lock.base play.first.seat.seen
+    lawful = lawful_end play.order play.script.now play (helm_of play.steersman) play.lock.base play.first.seat.seen between.valid.lines between.at_play none refl refl refl refl
 
 -- the iterations of a history that goes on begin with those so far
 iterations_more : (names : List (List ℕ)) (number stop : ℕ) (steersman : Option Steersman) (history rest : History) → StandsAt names number steersman history → IfSome steersman (λ helm. (1 ≤ helm.period) × (helm.ticks ≤ ticks_to stop (steering_of helm)))
@@ -223,4 +228,10 @@ has_completion play between =
     completion (left_in play) play.order script (helm_of play.steersman) play.lock.base (ticks_made play.steersman) (drop play.from script.lines) play.first.seat.seen
     (under_way play.order script play.lock play.steersman play.from play.first.seat between.valid.lines between.at_play.under between.at_play.period) (left_same script play) in
     let made = iterations_more play.lock.base (helm_number script) script.stop play.steersman play.first.seat.seen whole.0 between.at_play.under.steered between.at_play.period in
-    record { rest = whole.0; lawful = whole.1; more = made.0; iterations = made.1 }
+    record {
+      rest = whole.0;
+      lawful = whole.1;
+      alone = λ named. lawful_alone play.order script (helm_of play.steersman) play.lock.base (play.first.seat.seen ++ whole.0) named whole.1;
+      more = made.0;
+      iterations = made.1;
+    }

@@ -17,13 +17,13 @@ all_rest p true x xs h = (and_parts (p x) (list_all p xs) h).1
 all_rest p false x xs h = h
 
 -- what each client's entries pass all entries pass
-all_own : (p : Entry → Bool) (xs : History) → ((n : ℕ) → list_all p (entries_of n xs) ≡ true) → list_all p xs ≡ true
+pub all_own : (p : Entry → Bool) (xs : History) → ((n : ℕ) → list_all p (entries_of n xs) ≡ true) → list_all p xs ≡ true
 all_own p [] h = refl
 all_own p (x ∷ xs) h =
     let here : list_all p (x ∷ entries_of x.client xs) ≡ true = subst (λ b. list_all p (cond b (x ∷ entries_of x.client xs) (entries_of x.client xs)) ≡ true) (eq-eqb x.client x.client refl) (h x.client) in
     and_from (p x) (list_all p xs) (and_parts (p x) (list_all p (entries_of x.client xs)) here).0 (all_own p xs (λ n. all_rest p (x.client == n) x (entries_of n xs) (h n)))
 
-all_kept : (p q : Entry → Bool) (xs : History) → list_all p xs ≡ true → list_all p (filter q xs) ≡ true
+pub all_kept : (p q : Entry → Bool) (xs : History) → list_all p xs ≡ true → list_all p (filter q xs) ≡ true
 all_kept p q [] h = refl
 all_kept p q (x ∷ xs) h = let tests = and_parts (p x) (list_all p xs) h in by (q x) tests.0 (all_kept p q xs tests.1)
   where

@@ -1,36 +1,41 @@
--- The helm's seat alone is parted from the first, makes its calls and is taken in, or is the first itself.
-use Rattle.std.proofs.Common.{◌≡◌, ◌≢◌, ℕ, ◌<◌, ◌==◌, cond, List, [], ◌∷◌, ◌++◌, length, Ok, Err, OnOk, Result, refl, sym, ap, ◌∙◌, subst, append-nil, eq-eqb, ne_eqb}
+-- The seat of one client alone, as the helm's, is parted from the first, makes its calls and is taken in, or is the first itself.
+use Rattle.std.proofs.Common.{◌≡◌, ◌≢◌, ℕ, ◌<◌, ◌==◌, cond, List, [], ◌∷◌, ◌++◌, length, arith, Ok, Err, OnOk, Result, refl, sym, ap, ◌∙◌, subst, append-nil, eq-eqb, ne_eqb}
 use Rattle.std.proofs.lemmas.List.{append_cancel_left}
 use Rattle.std.proofs.lemmas.List.Elements.{filter-append}
 use Rattle.std.specs.declared.alloc.AllocError.{AllocError}
 use Rattle.moos_client.specs.Calls.{SeatState, entries_of}
+use Rattle.moos_post.specs.declared.entry.Entry.{Entry}
 use Rattle.moos_play.specs.declared.player.Player.{Player}
 use Rattle.moos_play.specs.declared.steersman.Steersman.{Steersman}
-use Rattle.moos_play.specs.Rounds.{Anything, CommunityLock, GoesOn, HasSeenAll, IsAlone, IsGathered, IsWhole, Makes, times_met}
+use Rattle.moos_play.specs.Rounds.{Anything, CommunityLock, GoesOn, HasSeenAll, IsAlone, IsGathered, IsWhole, Makes, met_of, times_met}
 use Rattle.moos_play.specs.Steered.{HasOwn, steering_of, Steers}
 use Rattle.moos_play.proofs.Lines.{made_none}
-use Rattle.moos_play.proofs.Rounds.{parted_more, parted_none}
+use Rattle.moos_play.proofs.Rounds.{parted_more, parted_none, times_here}
 use Rattle.moos_play.proofs.Steering.{steered_on}
 use Rattle.moos_play.proofs.Taking.{IsRound, round_gathered, round_goes_on, seen_whole, taken_more, taken_none}
 use Rattle.turn_lock.specs.Passes.{Begins, beside, events_in, known_of, met_with, without_number}
 use Rattle.turn_lock.proofs.Fronts.{begins_on}
 use Rattle.turn_lock.proofs.Mets.{events_back}
 
--- a round in which one client alone makes entries
-pub record IsLed (lock : CommunityLock) (helm : ℕ) (before after : SeatState) : Type 0 where
+-- a round in which one client alone may make entries
+pub record IsLed (lock : CommunityLock) (may : ℕ → List Entry → Type 0) (before after : SeatState) : Type 0 where
   pub parted : SeatState
   pub played : SeatState
   pub players : List Player
   pub ended : List Player
-  pub round : IsRound lock (IsAlone helm) before parted played after players ended
+  pub round : IsRound lock may before parted played after players ended
 
--- the helm may make whatever it makes
-alone_made : {helm : ℕ} {before after : SeatState} → before.number ≡ helm → Makes Anything before after → Makes (IsAlone helm) before after
+-- the client may make whatever it makes
+pub alone_made : {client : ℕ} {before after : SeatState} → before.number ≡ client → Makes Anything before after → Makes (IsAlone client) before after
 alone_made is makes = record { added = makes.added; made = makes.made; allowed = λ other. absurd (other is) }
 
--- the helm is the first client
-pub led_first : (lock : CommunityLock) (helm : ℕ) (before after : SeatState) → IsGathered lock before → helm ≡ 0 → Makes Anything before after → IsLed lock helm before after
-led_first lock helm before after gathered is makes = record {
+-- and the others may make nothing
+pub alone_idle : (client n : ℕ) → n ≢ client → IsAlone client n []
+alone_idle client n other = λ another. refl
+
+-- the client is the first
+pub led_first : (lock : CommunityLock) (may : ℕ → List Entry → Type 0) (client : ℕ) (before after : SeatState) → IsGathered lock before → client ≡ 0 → ((n : ℕ) → n ≢ client → may n []) → Makes may before after → IsLed lock may before after
+led_first lock may client before after gathered is idle makes = record {
   parted = before;
   played = after;
   players = [];
@@ -38,10 +43,10 @@ led_first lock helm before after gathered is makes = record {
   round = record {
     gathered = gathered;
     apart = parted_none lock before;
-    first = alone_made (gathered.number ∙ sym is) makes;
+    first = makes;
     others = tt;
     taken = taken_none after;
-    idle = λ n above absent other. refl;
+    idle = λ n above absent. idle n (λ e. omega (arith, e, is, above));
   };
 }
 
@@ -49,29 +54,29 @@ led_first lock helm before after gathered is makes = record {
 abbrev pub player_of : SeatState → Player
 player_of seat = record { seat = seat; calls = 0; ended = Ok tt }
 
--- the helm is another client
-pub led_other : (lock : CommunityLock) (helm : ℕ) (before parted seat played after : SeatState) → IsGathered lock before → 0 < helm → helm < length lock.base → parted ≡ record before { met = without_number helm before.met }
-    → seat ≡ beside before helm (events_in before.met helm) → Makes Anything seat played → after ≡ met_with parted played → Begins after.seen parted.seen → IsLed lock helm before after
-led_other lock helm before parted seat played after gathered above below parted_is seat_is makes after_is later = record {
+-- the client is another one
+pub led_other : (lock : CommunityLock) (may : ℕ → List Entry → Type 0) (client : ℕ) (before parted seat played after : SeatState) → IsGathered lock before → 0 < client → client < length lock.base → parted ≡ record before { met = without_number client before.met }
+    → seat ≡ beside before client (events_in before.met client) → ((n : ℕ) → n ≢ client → may n []) → Makes may seat played → after ≡ met_with parted played → Begins after.seen parted.seen → IsLed lock may before after
+led_other lock may client before parted seat played after gathered above below parted_is seat_is idle makes after_is later = record {
   parted = parted;
   played = parted;
   players = player_of seat ∷ [];
   ended = player_of played ∷ [];
   round = record {
     gathered = gathered;
-    apart = parted_more lock helm before before parted seat [] (player_of seat) gathered (parted_none lock before) refl above below parted_is seat_is;
-    first = record { added = []; made = made_none parted; allowed = λ other. refl };
-    others = (alone_made (ap (λ s. s.number) seat_is) makes, tt);
+    apart = parted_more lock client before before parted seat [] (player_of seat) gathered (parted_none lock before) refl above below parted_is seat_is;
+    first = record { added = []; made = made_none parted; allowed = idle parted.number (λ e. omega (arith, e, ap (λ s. s.number) parted_is, gathered.number, above)) };
+    others = (makes, tt);
     taken = taken_more parted parted after played [] (player_of played) (taken_none parted) refl (ap (λ s. s.met) makes.made.same ∙ ap (λ s. s.met) seat_is) after_is later;
-    idle = λ n above absent other. refl;
+    idle = λ n above absent. idle n (λ e. omega (arith, absent, times_here [] (met_of (player_of seat)) n (ap (λ s. s.number) seat_is ∙ sym e)));
   };
 }
 
-pub led_gathered : (lock : CommunityLock) (helm : ℕ) (before after : SeatState) → IsLed lock helm before after → IsGathered lock after
-led_gathered lock helm before after led = round_gathered lock (IsAlone helm) before led.parted led.played after led.players led.ended led.round
+pub led_gathered : (lock : CommunityLock) (may : ℕ → List Entry → Type 0) (before after : SeatState) → IsLed lock may before after → IsGathered lock after
+led_gathered lock may before after led = round_gathered lock may before led.parted led.played after led.players led.ended led.round
 
-pub led_on : (lock : CommunityLock) (helm : ℕ) (before after seen : SeatState) → IsLed lock helm before after → HasSeenAll after seen → GoesOn (IsAlone helm) before seen
-led_on lock helm before after seen led all = round_goes_on lock (IsAlone helm) before led.parted led.played after seen led.players led.ended led.round all
+pub led_on : (lock : CommunityLock) (may : ℕ → List Entry → Type 0) (before after seen : SeatState) → IsLed lock may before after → HasSeenAll after seen → GoesOn may before seen
+led_on lock may before after seen led all = round_goes_on lock may before led.parted led.played after seen led.players led.ended led.round all
 
 -- what is known of a client that was just taken in
 pub known_met : (first after seat : SeatState) → after ≡ met_with first seat → seat.met ≡ [] → first.number ≢ seat.number → times_met seat.number first.met ≡ 0 → known_of after seat.number ≡ seat.mine

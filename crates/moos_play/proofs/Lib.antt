@@ -11,9 +11,11 @@ pub mod Leading
 pub mod Lending
 pub mod Racing
 pub mod Histories
+pub mod Below
 pub mod Coming
 pub mod Completing
 pub mod Ending
+pub mod Calling
 pub mod Beginning
 pub mod Rounding
 pub mod Stamping

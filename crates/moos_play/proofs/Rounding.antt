@@ -1,6 +1,6 @@
 -- A run after one of its rounds.
-use Rattle.std.proofs.Common.{◌≡◌, ◌≢◌, ℕ, suc, ◌+◌, ◌*◌, ◌/◌, ◌<◌, ◌≤◌, Bool, true, false, cond, List, [], ◌∷◌, ◌++◌, length, length-append, take, drop, Option, None, Some, Ok, Err, OnOk, Result, nat_le, nat_lt, refl, sym, ap, ◌∙◌, subst, arith}
-use Rattle.std.specs.Prelude.{IfSome, option_to_list}
+use Rattle.std.proofs.Common.{◌≡◌, ◌≢◌, ℕ, suc, ◌+◌, ◌*◌, ◌/◌, ◌<◌, ◌≤◌, Bool, true, false, cond, List, [], ◌∷◌, ◌++◌, length, length-append, take, drop, Option, None, Some, Ok, Err, OnOk, Result, nat_le, nat_lt, refl, sym, ap, subst, arith}
+use Rattle.std.specs.Prelude.{IfSome}
 use Rattle.std.specs.List.{list_all}
 use Rattle.std.specs.declared.alloc.AllocError.{AllocError}
 use Rattle.std.proofs.lemmas.Bool.{and_parts}
@@ -49,7 +49,6 @@ tick_at_play script play first old new (Ok _) valid at is due behind gathered on
       under = tick_under play.order script play.lock old new play.from play.first.seat first.seat valid (subst (λ s. IsUnderWay play.order script play.lock s play.from play.first.seat) is at.under) gathered on steering reached.0 reached.1 steers left
           (subst (λ tick. IsBehind tick (drop play.from script.lines)) (due_is script.stop old some) (subst (λ s. IsBehind (tick_due script.stop s) (drop play.from script.lines)) is behind));
       calls = at.calls;
-      seats = at.seats ∙ ap (λ s. length script.names + length (option_to_list s)) is;
       period = (
         subst (λ (helm : Steering). 1 ≤ helm.period) (sym steering) period.0,
         omega (arith, reached.1, left, ap (λ (helm : Steering). ticks_to script.stop helm) steering),

@@ -40,7 +40,7 @@ none_more (one ∷ met) number n h = by (none_more met number n) (has_number n o
     by rest false k = rest k
 
 -- how often a number is among others and one at the end
-times_here : (met : List (Met Entry)) (one : Met Entry) (n : ℕ) → one.number ≡ n → times_met n (met ++ one ∷ []) ≡ times_met n met + 1
+pub times_here : (met : List (Met Entry)) (one : Met Entry) (n : ℕ) → one.number ≡ n → times_met n (met ++ one ∷ []) ≡ times_met n met + 1
 times_here met one n e =
     let single : ℕ = 1 in
     let here : cond (one.number == n) single 0 ≡ single = ap (λ b. cond b single 0) (eq-eqb one.number n e) in

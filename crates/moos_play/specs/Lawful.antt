@@ -1,6 +1,6 @@
 -- Which histories the clients of a script and its helm may leave, whatever the threads did, and what the helm's iterations
 -- are then.
-use Rattle.std.specs.Prelude.{◌≡◌, ◌≢◌, ℕ, zero, suc, ◌*◌, ◌/◌, ◌==◌, ◌&&◌, ◌≤◌, Bool, true, nat_le, nat_lt, if◌then◌else◌, List, [], ◌∷◌, ◌++◌, length, Option, None, Some, codes, IsTrue}
+use Rattle.std.specs.Prelude.{◌≡◌, ◌≢◌, ℕ, zero, suc, ◌*◌, ◌/◌, ◌==◌, ◌&&◌, ◌≤◌, Bool, true, nat_le, nat_lt, if◌then◌else◌, List, [], ◌∷◌, ◌++◌, filter, length, Option, None, Some, codes, IsTrue}
 use Rattle.std.specs.List.{list_all}
 use Rattle.moos_post.specs.declared.entry.Call.TheVariants.{Register, Post as Posts, Fetch}
 use Rattle.moos_post.specs.declared.entry.Entry.{Entry}
@@ -125,3 +125,30 @@ pub record IsLawful (order : Order) (script : Script) (helm : Option Steering) (
   pub steered : entries_of (helm_number script) rest ≡ ticks helm script.stop (heard_of names (helm_number script) history)
   pub own : (client : ℕ) → client ≢ helm_number script → entries_of client rest ≡ entries_of client script.lines
   pub moments : KeepsOrder order (helm_number script) rest
+
+-- how many clients are known from the start: the script's, and the helm where there is one
+abbrev pub known_clients : {A : Type 0} → Script → Option A → ℕ
+known_clients script helm = length (names_with script helm)
+
+-- the entries of the clients below a number
+abbrev pub entries_below : ℕ → History → History
+entries_below number history = filter (λ entry. nat_lt entry.client number) history
+
+-- the entries of the clients from a number on
+abbrev pub entries_from : ℕ → History → History
+entries_from number history = filter (λ entry. nat_le number entry.client) history
+
+-- whether all entries are of clients below a number
+abbrev pub clients_below : ℕ → History → Bool
+clients_below number history = list_all (λ entry. nat_lt entry.client number) history
+
+-- A history is lawful beside the entries of further clients, whose numbers follow those of the clients known from the start:
+-- It begins with the helm's opening, and what stands behind that is lawful once the further clients' entries are left out.
+-- These may stand anywhere there, and the helm hears what they post. Nobody without a name has an entry.
+pub record IsLawfulBeside (order : Order) (script : Script) (helm : Option Steering) (names : List (List ℕ)) (history : History) : Type 0 where
+  pub rest : History
+  pub opened : history ≡ opening helm ++ rest
+  pub steered : entries_of (helm_number script) (entries_below (known_clients script helm) rest) ≡ ticks helm script.stop (heard_of names (helm_number script) history)
+  pub own : (client : ℕ) → client ≢ helm_number script → entries_of client (entries_below (known_clients script helm) rest) ≡ entries_of client script.lines
+  pub moments : KeepsOrder order (helm_number script) (entries_below (known_clients script helm) rest)
+  pub named : IsTrue (clients_below (length names) rest)

@@ -1,12 +1,18 @@
 -- A script that is played round by round, as its player sees it.
-use Rattle.std.specs.Prelude.{◌≡◌, ◌≢◌, ◌⊎◌, ℕ, nat_lt, if◌then◌else◌, List, [], ◌++◌, drop, length, Option, None, Some, IfSome, option_map, slice_get}
+use Rattle.std.specs.Prelude.{◌≡◌, ◌≢◌, ◌⊎◌, ℕ, ◌≤◌, ◌<◌, nat_lt, if◌then◌else◌, List, [], ◌∷◌, ◌++◌, drop, length, Option, None, Some, IfSome, IsTrue, Result, Ok, Err, option_map, slice_get}
 use Rattle.helm_core.specs.declared.iteration.Iteration.{Iteration}
 use Rattle.helm_core.specs.Helms.{plan_of}
+use Rattle.moos_client.specs.Calls.{IsCalled, SeatState}
+use Rattle.moos_db.specs.declared.mail.Letter.{Letter}
+use Rattle.moos_db.specs.Database.{letters_after}
+use Rattle.moos_post.specs.declared.entry.Call.{Call}
+use Rattle.moos_post.specs.declared.entry.Entry.{Entry}
+use Rattle.moos_post.specs.Delivery.{is_fetch}
 use Rattle.moos_post.specs.History.{History}
 use Rattle.moos_play.specs.declared.playing.Play.{Play}
 use Rattle.moos_play.specs.declared.round_made.Round.{Round}
 use Rattle.moos_play.specs.declared.steersman.Steersman.{Steersman}
-use Rattle.moos_play.specs.Lawful.{heard_of, helm_number, IsLawful, iterations, iterations_of, KeepsStamp, Steering}
+use Rattle.moos_play.specs.Lawful.{clients_below, entries_from, heard_of, helm_number, IsLawful, IsLawfulBeside, iterations, iterations_of, KeepsStamp, known_clients, names_with, Steering}
 use Rattle.moos_play.specs.Rounds.{IsGathered, IsWhole}
 use Rattle.moos_play.specs.Steered.{helm_of, IsAtPlay, iterations_in, left_of, tick_due}
 use Rattle.script_reader.specs.declared.script.Order.{Order}
@@ -26,6 +32,33 @@ history_in play = play.first.seat.seen
 -- how the helm is run, where there is one
 abbrev pub helm_in : Play → Option Steering
 helm_in play = helm_of play.steersman
+
+-- how many of the clients are known from the start: those of the script, and the helm where there is one
+abbrev pub known_clients_in : Play → ℕ
+known_clients_in play = known_clients play.script.now (helm_in play)
+
+-- a client that is none of these, but has a name
+pub record IsFurther (play : Play) (client : ℕ) : Type 0 where
+  pub past : known_clients_in play ≤ client
+  pub named : client < length (clients_in play)
+
+-- the entries of further clients so far
+abbrev pub further_in : Play → History
+further_in play = entries_from (known_clients_in play) (history_in play)
+
+-- the mail of a call that a client makes behind a history: what the delivery rule gives where it fetches, and nothing else
+abbrev pub mail_of_call : List (List ℕ) → History → ℕ → Call → List Letter
+mail_of_call names history client call = if is_fetch call then letters_after names client history else []
+
+-- what a call adds to the history: its entry, or nothing where it found no memory
+abbrev pub added_by : {A E : Type 0} → Result A E → Entry → List Entry
+added_by (Ok _) entry = entry ∷ []
+added_by (Err _) entry = []
+
+-- a call at a seat, and its mail
+pub record IsAnswered (names : List (List ℕ)) (old new : SeatState) (stamp : ℕ) (call : Call) (given : List Letter) : Type 0 where
+  pub called : IsCalled old new stamp call
+  pub mail : given ≡ mail_of_call names called.before old.number call
 
 -- the helm's iterations so far over what it has heard in a history, none without a helm
 abbrev pub made_by : List (List ℕ) → History → Option Steersman → List Iteration
@@ -93,30 +126,35 @@ pub record StaysSeated (before after : Play) : Type 0 where
 abbrev pub IsStampOver : Play → ℕ → Type 0
 IsStampOver play stamp = (left_in play ≡ 0) ⊎ (next_stamp play ≢ stamp)
 
--- what a part of a round with this stamp adds to the history
-pub record AddsAt (order : Order) (stamp : ℕ) (before after : History) : Type 0 where
+-- what a part of a round with this stamp adds to the history: entries of the clients below a number
+pub record AddsAt (order : Order) (stamp number : ℕ) (before after : History) : Type 0 where
   pub later : Begins after before
   pub stamped : KeepsStamp order stamp later.0
+  pub known : IsTrue (clients_below number later.0)
 
 -- A round: where its entries begin, its stamp, which they have in order Stamp and nothing of which is left, and the helm's
--- iterations in it, which follow those before.
+-- iterations in it, which follow those before. None of the entries is a further client's.
 pub record IsRound (before after : Play) (round : Round) : Type 0 where
   pub from : round.from ≡ length (history_in before)
   pub stamp : round.stamp ≡ next_stamp before
   pub stamped : KeepsStamp before.order round.stamp (drop round.from (history_in after))
+  pub further : further_in after ≡ further_in before
   pub finished : IsStampOver after round.stamp
   pub iterations : iterations_made after ≡ iterations_made before ++ round.iterations
 
--- a run in which nothing is left: its history is lawful, and its iterations are those of this history
+-- A run in which nothing is left: its history is lawful beside the entries of further clients, by itself where there are
+-- none, and its iterations are those of this history.
 pub record IsPlayedOut (play : Play) : Type 0 where
-  pub lawful : IsLawful play.order play.script.now (helm_in play) (clients_in play) (history_in play)
+  pub lawful : IsLawfulBeside play.order play.script.now (helm_in play) (clients_in play) (history_in play)
+  pub alone : clients_in play ≡ names_with play.script.now (helm_in play) → IsLawful play.order play.script.now (helm_in play) (clients_in play) (history_in play)
   pub iterations : iterations_made play ≡ iterations (helm_in play) play.script.now.stop (heard_of (clients_in play) (helm_number play.script.now) (history_in play))
 
--- A run between two rounds: with some entries more its history is lawful, and the iterations of that history are those so
--- far and some more.
+-- A run between two rounds: with some entries more its history is lawful beside the entries of further clients, by itself
+-- where there are none, and the iterations of that history are those so far and some more.
 pub record HasCompletion (play : Play) : Type 0 where
   pub rest : History
-  pub lawful : IsLawful play.order play.script.now (helm_in play) (clients_in play) (history_in play ++ rest)
+  pub lawful : IsLawfulBeside play.order play.script.now (helm_in play) (clients_in play) (history_in play ++ rest)
+  pub alone : clients_in play ≡ names_with play.script.now (helm_in play) → IsLawful play.order play.script.now (helm_in play) (clients_in play) (history_in play ++ rest)
   pub more : List Iteration
   pub iterations : iterations (helm_in play) play.script.now.stop (heard_of (clients_in play) (helm_number play.script.now) (history_in play ++ rest)) ≡ iterations_made play ++ more
 

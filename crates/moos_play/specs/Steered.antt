@@ -10,7 +10,7 @@ use Rattle.helm_core.specs.Helms.{clock_of, plan_of, StandsFor}
 use Rattle.moos_play.specs.declared.playing.Play.{Play}
 use Rattle.moos_play.specs.declared.run.HelmRun.{HelmRun}
 use Rattle.moos_play.specs.declared.steersman.Steersman.{Steersman}
-use Rattle.moos_play.specs.Lawful.{Steering, heard_of, helm_number, iterations_of, moment_of, never_falls, opening, opening_of, ticks_of, ticks_to}
+use Rattle.moos_play.specs.Lawful.{Steering, clients_below, entries_below, heard_of, helm_number, iterations_of, known_clients, moment_of, never_falls, opening, opening_of, ticks_of, ticks_to}
 use Rattle.moos_play.specs.Rounds.{Anything, CommunityLock, IsGathered, IsWhole, Makes}
 use Rattle.script_reader.specs.declared.script.Order.{Order}
 use Rattle.script_reader.specs.declared.script.Order.TheVariants.{Stamp, Race}
@@ -67,9 +67,9 @@ pub record HasSteered {E : Type 0} (lock : CommunityLock) (ticks : ℕ) (before 
 abbrev pub helm_of : Option Steersman → Option Steering
 helm_of steersman = option_map steering_of steersman
 
--- A helm has this number, has opened, and stands where the history has brought it. Without one the number has no entry.
+-- a helm, where there is one, has this number, has opened, and stands where the history has brought it
 abbrev pub StandsAt : List (List ℕ) → ℕ → Option Steersman → History → Type 0
-StandsAt names number None history = entries_of number history ≡ []
+StandsAt names number None history = Unit {0}
 StandsAt names number (Some steersman) history =
     (steersman.number ≡ number) × (steersman.opened ≡ true) × Steers names steersman history
 
@@ -91,16 +91,18 @@ KeepsTime Stamp script steersman from rest = IsTimed script steersman from rest
 KeepsTime Race script steersman from rest = Unit {0}
 
 -- A run between two rounds, in which so many lines are played: the first seat has taken in all others, and has seen a
--- history that is lawful as far as it goes.
+-- history that is lawful as far as it goes, beside the entries of further clients.
 pub record IsUnderWay (order : Order) (script : Script) (lock : CommunityLock) (steersman : Option Steersman) (from : ℕ) (first : SeatState) : Type 0 where
   pub gathered : IsGathered lock first
   pub whole : IsWhole first
   pub within : from ≤ length script.lines
+  pub seats : length script.names + length (option_to_list steersman) ≤ length lock.base
   pub rest : History
   pub opened : first.seen ≡ opening (helm_of steersman) ++ rest
-  pub own : (n : ℕ) → n ≢ helm_number script → entries_of n rest ≡ entries_of n (take from script.lines)
+  pub own : (n : ℕ) → n ≢ helm_number script → entries_of n (entries_below (known_clients script (helm_of steersman)) rest) ≡ entries_of n (take from script.lines)
   pub steered : StandsAt lock.base (helm_number script) steersman first.seen
-  pub timed : KeepsTime order script steersman from rest
+  pub timed : KeepsTime order script steersman from (entries_below (known_clients script (helm_of steersman)) rest)
+  pub named : IsTrue (clients_below (length lock.base) rest)
 
 -- the stamp of the helm's next tick, where one is left up to this stamp
 abbrev pub tick_due : ℕ → Option Steersman → Option ℕ
@@ -165,11 +167,10 @@ pub record HasOpened (lock : CommunityLock) (number : ℕ) (steersman : Option S
   pub ticks : IfSome steersman (λ helm. (helm.ticks ≡ 0) × (1 ≤ helm.period))
   pub told : IfSome steersman (λ helm. helm.told ≡ 0)
 
--- A run of a script between two rounds, with a seat and a count of calls for each client.
+-- A run of a script between two rounds, with a count of calls for each of its clients.
 pub record IsAtPlay (script : Script) (play : Play) : Type 0 where
   pub under : IsUnderWay play.order script play.lock play.steersman play.from play.first.seat
   pub calls : length play.calls.items ≡ length script.names
-  pub seats : length play.lock.base ≡ length script.names + length (option_to_list play.steersman)
   pub period : IfSome play.steersman (λ helm. (1 ≤ helm.period) × (helm.ticks ≤ ticks_to script.stop (steering_of helm)))
 
 -- how many iterations were handed out

@@ -1,6 +1,6 @@
 // A run in the open: from round to round, with the database lent in between.
 ghost use Rattle.std.specs.Prelude.{◌≡◌, ◌<◌, ◌≤◌, length, option_map, slice_get, IfOk, IfNone, IfSome, OnOk};
-ghost use Rattle.moos_play.specs.Plays.{AddsAt, earliest, handed, HasCompletion, history_in, IsBetween, IsStampOver, IsLentAs, IsPlayedOut, IsRound, IsSeated, left_in, clients_in, next_stamp, returned, StaysSeated, untold_in};
+ghost use Rattle.moos_play.specs.Plays.{AddsAt, earliest, handed, HasCompletion, history_in, IsBetween, IsStampOver, IsLentAs, IsPlayedOut, IsRound, IsSeated, known_clients_in, left_in, clients_in, next_stamp, returned, StaysSeated, untold_in};
 ghost use Rattle.moos_play.specs.Steered.{GoesOnWith, IsAtPlay, told_in};
 ghost use Rattle.script_reader.specs.Validity.{IsValid};
 
@@ -99,7 +99,7 @@ impl<'a> Play<'a> {
         ensures same { OnOk result (GoesOnWith self.old self.new) }
         ensures told { OnOk result (told_in self.new.steersman ≡ told_in self.old.steersman) }
         ensures less { OnOk result (left_in self.new ≤ left_in self.old) }
-        ensures stamped { OnOk result (AddsAt self.old.order stamp (history_in self.old) (history_in self.new)) }
+        ensures stamped { OnOk result (AddsAt self.old.order stamp (known_clients_in self.old) (history_in self.old) (history_in self.new)) }
         ensures all { OnOk result (IsStampOver self.new stamp) }
     {
         let script = self.script;

@@ -2,14 +2,17 @@
 //!
 //! The contract for the layer above: with Ok the history of the database is one that is lawful for the order, the script
 //! and the helm, whatever the threads did. Each client's entries are its lines, the helm's are its opening and its ticks
-//! over what it heard in this history, nobody else has one, and in order Stamp no stamp goes back.
+//! over what it heard in this history, nobody else has one, and in order Stamp no stamp goes back. A run that is played round
+//! by round may have further clients, whose entries stand where they were entered; without these its history is as lawful.
 //!
 //! Reading order: `player`, one client's calls; `round`, the clients of a round beside each other; `steersman`, the helm's
 //! calls; `race`, the helm beside the clients; `seats`, how a run begins; `stamps`, what is next; `playing`, from one step to
-//! the next; `by_round`, a run that is played round by round; `run`, the whole.
+//! the next; `by_round`, a run that is played round by round; `entering`, what further clients do between
+//! rounds; `run`, the whole.
 #![tactic(auto)]
 
 mod by_round;
+mod entering;
 mod player;
 mod playing;
 mod race;

@@ -1,6 +1,6 @@
 // A run from one step to the next: the clients' lines and the helm's ticks, in the order that was asked for.
-ghost use Rattle.std.specs.Prelude.{◌≡◌, ◌≢◌, ◌<◌, ◌≤◌, None, Ok, true, false, drop, length, option_map, IfOk, OnOk, IfSome};
-ghost use Rattle.moos_play.specs.Lawful.{names_with, opening, steering_with, MayStart};
+ghost use Rattle.std.specs.Prelude.{◌≡◌, ◌≢◌, ◌<◌, ◌≤◌, ◌++◌, ◌^◌, None, Ok, true, false, drop, length, option_map, IfOk, OnOk, IfSome};
+ghost use Rattle.moos_play.specs.Lawful.{known_clients, names_with, opening, steering_with, MayStart};
 ghost use Rattle.moos_play.specs.Plays.{AddsAt, helm_in, history_in, IsBetween, IsSeated, clients_in, stamp_due, StaysSeated, untold_in};
 ghost use Rattle.moos_play.specs.Steered.{GoesOnWith, IsAtPlay, IsBehind, IsDue, left_of, tick_due, told_in};
 ghost use Rattle.script_reader.specs.Validity.{IsValid};
@@ -15,7 +15,7 @@ use crate::steersman::{Steersman, lead};
 use moos_client::Lock;
 use moos_db::Db;
 use moos_io::Gate;
-use moos_post::{List, NoMemory};
+use moos_post::{List, Names, NoMemory};
 use script_reader::{Order, Script};
 use std::alloc::{AllocError, Global};
 use std::sync::Wait;
@@ -35,27 +35,30 @@ pub struct Play<'a> {
 }
 
 impl<'a> Play<'a> {
-    /// A run of this script that has yet to play its first line. The helm, where there is one, has made its opening.
+    /// A run of this script that has yet to play its first line. The helm, where there is one, has made its opening. The
+    /// further clients have the numbers behind the helm's, or behind those of the script's clients where there is no helm.
     pub fn make<R: Threads + Wait + Sync, G: Gate>(
         rt: &R,
         alloc: Global,
         script: &'a Script,
         helm: Option<HelmRun>,
+        further: Names,
         order: Order,
         gate: &G,
     ) -> Result<Play<'a>, NoMemory>
         requires valid { IsValid script.now }
         requires helm { IfSome helm MayStart }
-        requires some { 0 < length (names_with script.now helm) }
+        requires some { 0 < length (names_with script.now helm ++ further) }
+        requires few { length (names_with script.now helm ++ further) < 2 ^ 32 }
         ensures script { IfOk result (λ play. play.script.now ≡ script.now) }
         ensures order { IfOk result (λ play. play.order ≡ order) }
-        ensures names { IfOk result (λ play. clients_in play ≡ names_with script.now helm) }
+        ensures names { IfOk result (λ play. clients_in play ≡ names_with script.now helm ++ further) }
         ensures helm { IfOk result (λ play. helm_in play ≡ option_map (steering_with script.now) helm) }
         ensures begun { IfOk result (λ play. history_in play ≡ opening (helm_in play)) }
         ensures between { IfOk result IsBetween }
     {
         let clients = script.names.len() as u32;
-        let names = names_for(alloc, script, &helm)?;
+        let names = names_for(alloc, script, &helm, &further)?;
         let passes = names.len() as u32;
         let mut steersman = steersman_for(alloc, clients, helm);
         let calls = no_calls(alloc, clients)?;
@@ -98,7 +101,7 @@ impl<'a> Play<'a> {
         ensures same { OnOk result (GoesOnWith self.old self.new) }
         ensures told { OnOk result (told_in self.new.steersman ≡ told_in self.old.steersman) }
         ensures seated { StaysSeated self.old self.new }
-        ensures stamped { result ≡ Ok true → AddsAt self.old.order (stamp_due script.now self.old) (history_in self.old) (history_in self.new) }
+        ensures stamped { result ≡ Ok true → AddsAt self.old.order (stamp_due script.now self.old) (known_clients script.now (helm_in self.old)) (history_in self.old) (history_in self.new) }
         ensures more { result ≡ Ok true → left_of script.now self.new < left_of script.now self.old }
         ensures over { result ≡ Ok false → (left_of script.now self.old ≡ 0) × (self.new ≡ self.old) }
     {
@@ -133,7 +136,7 @@ impl<'a> Play<'a> {
         ensures same { OnOk result (GoesOnWith self.old self.new) }
         ensures told { OnOk result (told_in self.new.steersman ≡ told_in self.old.steersman) }
         ensures seated { StaysSeated self.old self.new }
-        ensures stamped { OnOk result (AddsAt self.old.order (stamp_due script.now self.old) (history_in self.old) (history_in self.new)) }
+        ensures stamped { OnOk result (AddsAt self.old.order (stamp_due script.now self.old) (known_clients script.now (helm_in self.old)) (history_in self.old) (history_in self.new)) }
         ensures more { OnOk result (left_of script.now self.new < left_of script.now self.old) }
     {
         if self.from < to {
@@ -160,7 +163,7 @@ impl<'a> Play<'a> {
         ensures same { OnOk result (GoesOnWith self.old self.new) }
         ensures told { OnOk result (told_in self.new.steersman ≡ told_in self.old.steersman) }
         ensures seated { StaysSeated self.old self.new }
-        ensures stamped { OnOk result (AddsAt self.old.order (stamp_due script.now self.old) (history_in self.old) (history_in self.new)) }
+        ensures stamped { OnOk result (AddsAt self.old.order (stamp_due script.now self.old) (known_clients script.now (helm_in self.old)) (history_in self.old) (history_in self.new)) }
         ensures more { OnOk result (left_of script.now self.new < left_of script.now self.old) }
     {
         let lines = &script.lines.all()[self.from..to];
@@ -188,7 +191,7 @@ impl<'a> Play<'a> {
         ensures same { OnOk result (GoesOnWith self.old self.new) }
         ensures told { OnOk result (told_in self.new.steersman ≡ told_in self.old.steersman) }
         ensures seated { StaysSeated self.old self.new }
-        ensures stamped { OnOk result (AddsAt self.old.order (stamp_due script.now self.old) (history_in self.old) (history_in self.new)) }
+        ensures stamped { OnOk result (AddsAt self.old.order (stamp_due script.now self.old) (known_clients script.now (helm_in self.old)) (history_in self.old) (history_in self.new)) }
         ensures more { OnOk result (left_of script.now self.new < left_of script.now self.old) }
     {
         let Some(steersman) = &mut self.steersman else {
@@ -214,10 +217,12 @@ impl<'a> Play<'a> {
         requires at_play { IsAtPlay script.now self.old }
         requires workers { (1 ≤ workers) × (workers ≤ 16) }
         requires race { self.old.order ≡ Order.Race }
+        requires left { (self.old.steersman ≡ None) → self.old.from < length script.now.lines }
         ensures at_play { OnOk result (IsAtPlay script.now self.new) }
         ensures same { OnOk result (GoesOnWith self.old self.new) }
         ensures told { OnOk result (told_in self.new.steersman ≡ told_in self.old.steersman) }
         ensures seated { StaysSeated self.old self.new }
+        ensures stamped { OnOk result (AddsAt self.old.order (stamp_due script.now self.old) (known_clients script.now (helm_in self.old)) (history_in self.old) (history_in self.new)) }
         ensures over { OnOk result (left_of script.now self.new ≡ 0) }
     {
         if self.steersman.is_none() {
@@ -239,10 +244,12 @@ impl<'a> Play<'a> {
         requires at_play { IsAtPlay script.now self.old }
         requires race { self.old.order ≡ Order.Race }
         requires none { self.old.steersman ≡ None }
+        requires left { self.old.from < length script.now.lines }
         ensures at_play { OnOk result (IsAtPlay script.now self.new) }
         ensures same { OnOk result (GoesOnWith self.old self.new) }
         ensures told { OnOk result (told_in self.new.steersman ≡ told_in self.old.steersman) }
         ensures seated { StaysSeated self.old self.new }
+        ensures stamped { OnOk result (AddsAt self.old.order (stamp_due script.now self.old) (known_clients script.now (helm_in self.old)) (history_in self.old) (history_in self.new)) }
         ensures over { OnOk result (left_of script.now self.new ≡ 0) }
     {
         let to = script.lines.len();
@@ -271,6 +278,7 @@ impl<'a> Play<'a> {
         ensures same { OnOk result (GoesOnWith self.old self.new) }
         ensures told { OnOk result (told_in self.new.steersman ≡ told_in self.old.steersman) }
         ensures seated { StaysSeated self.old self.new }
+        ensures stamped { OnOk result (AddsAt self.old.order (stamp_due script.now self.old) (known_clients script.now (helm_in self.old)) (history_in self.old) (history_in self.new)) }
         ensures over { OnOk result (left_of script.now self.new ≡ 0) }
     {
         let Some(steersman) = &mut self.steersman else {

@@ -65,7 +65,7 @@ pub fn play<R: Threads + Wait + Sync, G: Gate>(
         let iterations = List::new(alloc);
         return Ok(Ran { db, iterations });
     }
-    let mut play = Play::make(rt, alloc, script, helm, order, gate)?;
+    let mut play = Play::make(rt, alloc, script, helm, List::new(alloc), order, gate)?;
     while play.go_on(rt, alloc, script, workers, gate)? {}
     Ok(play.end(alloc))
 }

@@ -1,5 +1,5 @@
 // How a run begins: its names, a seat for each client, and the helm with its opening.
-ghost use Rattle.std.specs.Prelude.{◌≡◌, ◌<◌, length, option_map, IfOk, OnOk, IfSome};
+ghost use Rattle.std.specs.Prelude.{◌≡◌, ◌<◌, ◌++◌, length, option_map, IfOk, OnOk, IfSome};
 ghost use Rattle.moos_play.specs.Lawful.{names_with, MayStart};
 ghost use Rattle.moos_play.specs.Rounds.{IsGathered, KnowsNothing};
 ghost use Rattle.moos_play.specs.Steered.{HasOpened, helm_of, IsUnopened, run_as};
@@ -15,12 +15,34 @@ use std::alloc::{AllocError, Global};
 use std::sync::Wait;
 use std::thread::Threads;
 
-/// The names of all clients: the script's, and then the helm's where there is one.
+/// The names of all clients: the script's, then the helm's where there is one, and then the further ones.
 pub(crate) fn names_for(
     alloc: Global,
     script: &Script,
     helm: &Option<HelmRun>,
+    further: &Names,
 ) -> Result<Names, NoMemory>
+    ensures { IfOk result (λ names. names ≡ names_with script.now helm.now ++ further.now) }
+{
+    let mut names = known_names(alloc, script, helm)?;
+    add_names(alloc, &mut names, further.all())?;
+    Ok(names)
+}
+
+// Adds these names to the others.
+fn add_names(alloc: Global, names: &mut Names, more: &[Name]) -> Result<(), NoMemory>
+    ensures { OnOk result (names.new ≡ names.old ++ more.now) }
+{
+    for name in more {
+        let Ok(()) = names.push(name.copy(alloc)?) else {
+            return Err(AllocError);
+        };
+    }
+    Ok(())
+}
+
+// The names of the script's clients, and then the helm's where there is one.
+fn known_names(alloc: Global, script: &Script, helm: &Option<HelmRun>) -> Result<Names, NoMemory>
     ensures { IfOk result (λ names. names ≡ names_with script.now helm.now) }
 {
     let mut names = script.names.copy(alloc)?;

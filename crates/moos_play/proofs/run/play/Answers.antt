@@ -1,7 +1,11 @@
 use Rattle.std.proofs.Common.{◌∙◌, Ok, ap, arith, rules}
 use Rattle.moos_play.specs.Steered.{left_of}
-use Rattle.moos_play.proofs.Ending.{iterations_end, lawful_end, lawful_none}
+use Rattle.moos_play.proofs.Beginning.{few_names}
+use Rattle.moos_play.proofs.Ending.{iterations_end, lawful_none, lawful_whole}
 use Rattle.moos_play.proofs.run.play.Goals as goal
+
+pub make-requires-2-clause-few : goal.make-requires-2-clause-few
+make-requires-2-clause-few g c κs lives = few_names c.args.script.now c.args.helm c.new.result c.new.ensures c.requires.valid.few_clients
 
 pub returns-then-is_none-clause-lawful : goal.returns-then-is_none-clause-lawful
 returns-then-is_none-clause-lawful g c =
@@ -10,8 +14,8 @@ returns-then-is_none-clause-lawful g c =
 pub returns-clause-lawful : goal.returns-clause-lawful
 returns-clause-lawful g c =
     let over = c.in_ok-go_on.ensures.over (ap Ok c.if-branch.false) in
-    lawful_end c.args.order c.args.script.now c.go_on.new.self _ c.end.result.db.names c.end.result.db.history c.requires.valid.lines c.in_ok-go_on.ensures.at_play (ap (left_of c.args.script.now) over.1 ∙ over.0)
-    (c.in_ok-go_on.ensures.same.order ∙ c.loop-play.invariant.order) (c.in_ok-go_on.ensures.same.helm ∙ c.loop-play.invariant.helm) c.end.ensures.names c.end.ensures.history
+    lawful_whole c.args.order c.args.script.now c.go_on.new.self c.args.helm c.end.result.db.names c.end.result.db.history c.requires.valid.lines c.in_ok-go_on.ensures.at_play (ap (left_of c.args.script.now) over.1 ∙ over.0)
+    (c.in_ok-go_on.ensures.same.order ∙ c.loop-play.invariant.order) (c.in_ok-go_on.ensures.same.helm ∙ c.loop-play.invariant.helm) c.end.ensures.names c.end.ensures.history (search rules)
 
 pub returns-clause-iterations : goal.returns-clause-iterations
 returns-clause-iterations g c =

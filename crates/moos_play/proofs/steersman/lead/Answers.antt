@@ -1,9 +1,9 @@
 use Rattle.std.proofs.Common.{◌≡◌, ◌∙◌, ap, arith, refl, subst, sym}
 use Rattle.moos_client.specs.Calls.{SeatState}
 use Rattle.moos_play.specs.Lawful.{Steering}
-use Rattle.moos_play.specs.Rounds.{times_met}
+use Rattle.moos_play.specs.Rounds.{IsAlone, times_met}
 use Rattle.moos_play.specs.Steered.{Steers}
-use Rattle.moos_play.proofs.Leading.{IsLed, known_first, known_met, led_first, led_gathered, led_on, led_other, led_steered}
+use Rattle.moos_play.proofs.Leading.{alone_idle, alone_made, IsLed, known_first, known_met, led_first, led_gathered, led_on, led_other, led_steered}
 use Rattle.moos_play.proofs.Taking.{seen_gathered}
 use Rattle.turn_lock.proofs.Fronts.{begins_itself}
 use Rattle.turn_lock.proofs.Mets.{count_gone, is_taken}
@@ -19,37 +19,43 @@ steer-answer-requires-else-steersman-eq0-clause-steered g c κs lives =
 
 pub see_all-requires-clause-all : goal.see_all-requires-clause-all
 see_all-requires-clause-all g c =
-    let led : IsLed c.args.lock.now c.args.steersman.now.number c.args.first.now c.if-steersman-eq0.first = elim c.if-steersman-eq0.branch [
-      | then-steersman-eq0 w ↦ subst (IsLed c.args.lock.now c.args.steersman.now.number c.args.first.now) (sym w.first-is)
-          (led_first c.args.lock.now c.args.steersman.now.number c.args.first.now w.steer-answer.new.seat c.requires.gathered w.if-steersman-eq0.true w.steer-answer.ensures.made)
-      | else-steersman-eq0 w ↦ subst (IsLed c.args.lock.now c.args.steersman.now.number c.args.first.now) (sym w.first-is)
-          (led_other c.args.lock.now c.args.steersman.now.number c.args.first.now w.part-seat.new.pass w.part-seat.result w.steer-answer-else-steersman-eq0.new.seat w.meet.new.pass c.requires.gathered
-          (omega (arith, w.if-steersman-eq0.false)) c.requires.client w.part-seat.ensures.pass w.part-seat.ensures.part w.steer-answer-else-steersman-eq0.ensures.made w.meet.ensures.pass w.meet.ensures.seen.0)
+    let led : IsLed c.args.lock.now (IsAlone c.args.steersman.now.number) c.args.first.now c.if-steersman-eq0.first = elim c.if-steersman-eq0.branch [
+      | then-steersman-eq0 w ↦ subst (IsLed c.args.lock.now (IsAlone c.args.steersman.now.number) c.args.first.now) (sym w.first-is)
+          (led_first c.args.lock.now (IsAlone c.args.steersman.now.number) c.args.steersman.now.number c.args.first.now w.steer-answer.new.seat c.requires.gathered w.if-steersman-eq0.true (alone_idle c.args.steersman.now.number)
+          (alone_made (c.requires.gathered.number ∙ sym w.if-steersman-eq0.true) w.steer-answer.ensures.made))
+      | else-steersman-eq0 w ↦ subst (IsLed c.args.lock.now (IsAlone c.args.steersman.now.number) c.args.first.now) (sym w.first-is)
+          (led_other c.args.lock.now (IsAlone c.args.steersman.now.number) c.args.steersman.now.number c.args.first.now w.part-seat.new.pass w.part-seat.result w.steer-answer-else-steersman-eq0.new.seat w.meet.new.pass c.requires.gathered
+          (omega (arith, w.if-steersman-eq0.false)) c.requires.client w.part-seat.ensures.pass w.part-seat.ensures.part (alone_idle c.args.steersman.now.number)
+          (alone_made (ap (λ s. s.number) w.part-seat.ensures.part) w.steer-answer-else-steersman-eq0.ensures.made) w.meet.ensures.pass w.meet.ensures.seen.0)
     ] in
-    let gathered = led_gathered c.args.lock.now c.args.steersman.now.number c.args.first.now c.if-steersman-eq0.first led in
+    let gathered = led_gathered c.args.lock.now (IsAlone c.args.steersman.now.number) c.args.first.now c.if-steersman-eq0.first led in
     record { first = gathered.number; all = gathered.all }
 
 pub returns-clause-gathered : goal.returns-clause-gathered
 returns-clause-gathered g c =
-    let led : IsLed c.args.lock.now c.args.steersman.now.number c.args.first.now c.if-steersman-eq0.first = elim c.if-steersman-eq0.branch [
-      | then-steersman-eq0 w ↦ subst (IsLed c.args.lock.now c.args.steersman.now.number c.args.first.now) (sym w.first-is)
-          (led_first c.args.lock.now c.args.steersman.now.number c.args.first.now w.steer-answer.new.seat c.requires.gathered w.if-steersman-eq0.true w.steer-answer.ensures.made)
-      | else-steersman-eq0 w ↦ subst (IsLed c.args.lock.now c.args.steersman.now.number c.args.first.now) (sym w.first-is)
-          (led_other c.args.lock.now c.args.steersman.now.number c.args.first.now w.part-seat.new.pass w.part-seat.result w.steer-answer-else-steersman-eq0.new.seat w.meet.new.pass c.requires.gathered
-          (omega (arith, w.if-steersman-eq0.false)) c.requires.client w.part-seat.ensures.pass w.part-seat.ensures.part w.steer-answer-else-steersman-eq0.ensures.made w.meet.ensures.pass w.meet.ensures.seen.0)
+    let led : IsLed c.args.lock.now (IsAlone c.args.steersman.now.number) c.args.first.now c.if-steersman-eq0.first = elim c.if-steersman-eq0.branch [
+      | then-steersman-eq0 w ↦ subst (IsLed c.args.lock.now (IsAlone c.args.steersman.now.number) c.args.first.now) (sym w.first-is)
+          (led_first c.args.lock.now (IsAlone c.args.steersman.now.number) c.args.steersman.now.number c.args.first.now w.steer-answer.new.seat c.requires.gathered w.if-steersman-eq0.true (alone_idle c.args.steersman.now.number)
+          (alone_made (c.requires.gathered.number ∙ sym w.if-steersman-eq0.true) w.steer-answer.ensures.made))
+      | else-steersman-eq0 w ↦ subst (IsLed c.args.lock.now (IsAlone c.args.steersman.now.number) c.args.first.now) (sym w.first-is)
+          (led_other c.args.lock.now (IsAlone c.args.steersman.now.number) c.args.steersman.now.number c.args.first.now w.part-seat.new.pass w.part-seat.result w.steer-answer-else-steersman-eq0.new.seat w.meet.new.pass c.requires.gathered
+          (omega (arith, w.if-steersman-eq0.false)) c.requires.client w.part-seat.ensures.pass w.part-seat.ensures.part (alone_idle c.args.steersman.now.number)
+          (alone_made (ap (λ s. s.number) w.part-seat.ensures.part) w.steer-answer-else-steersman-eq0.ensures.made) w.meet.ensures.pass w.meet.ensures.seen.0)
     ] in
-    seen_gathered c.args.lock.now c.if-steersman-eq0.first c.see_all.new.first c.see_all.ensures (led_gathered c.args.lock.now c.args.steersman.now.number c.args.first.now c.if-steersman-eq0.first led)
+    seen_gathered c.args.lock.now c.if-steersman-eq0.first c.see_all.new.first c.see_all.ensures (led_gathered c.args.lock.now (IsAlone c.args.steersman.now.number) c.args.first.now c.if-steersman-eq0.first led)
 
 pub returns-clause-goes_on : goal.returns-clause-goes_on
 returns-clause-goes_on g c =
-    let led : IsLed c.args.lock.now c.args.steersman.now.number c.args.first.now c.if-steersman-eq0.first = elim c.if-steersman-eq0.branch [
-      | then-steersman-eq0 w ↦ subst (IsLed c.args.lock.now c.args.steersman.now.number c.args.first.now) (sym w.first-is)
-          (led_first c.args.lock.now c.args.steersman.now.number c.args.first.now w.steer-answer.new.seat c.requires.gathered w.if-steersman-eq0.true w.steer-answer.ensures.made)
-      | else-steersman-eq0 w ↦ subst (IsLed c.args.lock.now c.args.steersman.now.number c.args.first.now) (sym w.first-is)
-          (led_other c.args.lock.now c.args.steersman.now.number c.args.first.now w.part-seat.new.pass w.part-seat.result w.steer-answer-else-steersman-eq0.new.seat w.meet.new.pass c.requires.gathered
-          (omega (arith, w.if-steersman-eq0.false)) c.requires.client w.part-seat.ensures.pass w.part-seat.ensures.part w.steer-answer-else-steersman-eq0.ensures.made w.meet.ensures.pass w.meet.ensures.seen.0)
+    let led : IsLed c.args.lock.now (IsAlone c.args.steersman.now.number) c.args.first.now c.if-steersman-eq0.first = elim c.if-steersman-eq0.branch [
+      | then-steersman-eq0 w ↦ subst (IsLed c.args.lock.now (IsAlone c.args.steersman.now.number) c.args.first.now) (sym w.first-is)
+          (led_first c.args.lock.now (IsAlone c.args.steersman.now.number) c.args.steersman.now.number c.args.first.now w.steer-answer.new.seat c.requires.gathered w.if-steersman-eq0.true (alone_idle c.args.steersman.now.number)
+          (alone_made (c.requires.gathered.number ∙ sym w.if-steersman-eq0.true) w.steer-answer.ensures.made))
+      | else-steersman-eq0 w ↦ subst (IsLed c.args.lock.now (IsAlone c.args.steersman.now.number) c.args.first.now) (sym w.first-is)
+          (led_other c.args.lock.now (IsAlone c.args.steersman.now.number) c.args.steersman.now.number c.args.first.now w.part-seat.new.pass w.part-seat.result w.steer-answer-else-steersman-eq0.new.seat w.meet.new.pass c.requires.gathered
+          (omega (arith, w.if-steersman-eq0.false)) c.requires.client w.part-seat.ensures.pass w.part-seat.ensures.part (alone_idle c.args.steersman.now.number)
+          (alone_made (ap (λ s. s.number) w.part-seat.ensures.part) w.steer-answer-else-steersman-eq0.ensures.made) w.meet.ensures.pass w.meet.ensures.seen.0)
     ] in
-    led_on c.args.lock.now c.args.steersman.now.number c.args.first.now c.if-steersman-eq0.first c.see_all.new.first led c.see_all.ensures
+    led_on c.args.lock.now (IsAlone c.args.steersman.now.number) c.args.first.now c.if-steersman-eq0.first c.see_all.new.first led c.see_all.ensures
 
 pub returns-clause-steered : goal.returns-clause-steered
 returns-clause-steered g c = elim c.if-steersman-eq0.branch [

@@ -1,9 +1,12 @@
 use Rattle.std.proofs.Common.{◌≡◌, ◌∙◌, Ok, ap, drop, length, nat_lt, refl, subst, sym, take, ◌-◌, true, rules}
 use Rattle.std.specs.List.{list_all}
 use Rattle.moos_post.specs.declared.entry.Entry.{Entry}
+use Rattle.moos_play.specs.Lawful.{known_clients}
+use Rattle.moos_play.specs.Plays.{helm_in, stamp_due}
 use Rattle.moos_play.specs.Rounds.{GoesOn, IsPlayed}
 use Rattle.moos_play.proofs.Coming.{all_part, lines_clients, lines_left}
 use Rattle.moos_play.proofs.Rounding.{as_many}
+use Rattle.moos_play.proofs.Stamping.{lines_known, race_adds}
 use Rattle.moos_play.proofs.playing.Play.play_left.Goals as goal
 
 pub play_round-requires-clause-lines : goal.play_round-requires-clause-lines
@@ -19,6 +22,11 @@ returns-clause-at_play g c = record {
       c.in_ok-play_round.ensures.gathered
       (subst (λ lines. GoesOn (IsPlayed (take (c.len-to.result - c.args.self.now.from) (drop c.args.self.now.from lines)) (Ok c.in_ok-play_round.field-0)) c.args.self.now.first.seat c.play_round.new.first.seat) c.all.ensures c.in_ok-play_round.ensures.goes_on) refl;
   calls = as_many c.args.self.now.calls.len c.args.self.now.calls.items c.play_round.new.calls (c.play_round.auto.calls ∙ ap length c.as_mut_slice-calls.ensures.value) (search rules) ∙ (search rules);
-  seats = c.requires.at_play.seats;
   period = c.requires.at_play.period;
 }
+
+pub returns-clause-stamped : goal.returns-clause-stamped
+returns-clause-stamped g c =
+    let on = subst (λ lines. GoesOn (IsPlayed (take (c.len-to.result - c.args.self.now.from) (drop c.args.self.now.from lines)) (Ok c.in_ok-play_round.field-0)) c.args.self.now.first.seat c.play_round.new.first.seat) c.all.ensures c.in_ok-play_round.ensures.goes_on in
+    race_adds c.args.self.now.order (stamp_due c.args.script.now c.args.self.now) (known_clients c.args.script.now (helm_in c.args.self.now)) c.args.self.now.first.seat.seen c.play_round.new.first.seat.seen on.later c.requires.race
+    (lines_known c.args.script.now (helm_in c.args.self.now) c.args.self.now.from (c.len-to.result - c.args.self.now.from) (Ok c.in_ok-play_round.field-0) c.args.self.now.first.seat c.play_round.new.first.seat c.requires.valid.lines c.requires.at_play.under.whole on refl)

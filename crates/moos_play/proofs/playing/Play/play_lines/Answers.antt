@@ -1,6 +1,7 @@
 use Rattle.std.proofs.Common.{◌≡◌, ◌∙◌, ◌-◌, Ok, ap, arith, drop, length, nat_lt, refl, subst, sym, take, true, rules}
 use Rattle.std.specs.List.{list_all}
 use Rattle.moos_post.specs.declared.entry.Entry.{Entry}
+use Rattle.moos_play.specs.Plays.{helm_in}
 use Rattle.moos_play.specs.Rounds.{GoesOn, IsPlayed}
 use Rattle.moos_play.proofs.Coming.{all_part, lines_clients, lines_next}
 use Rattle.moos_play.specs.Steered.{tick_due}
@@ -13,7 +14,7 @@ play_round-requires-clause-clients g c κs lives =
     let long = ap length c.as_mut_slice-calls.ensures.value ∙ c.requires.at_play.calls in
     let script = c.args.script.now in
     let some = some_client (length script.names) script.lines c.args.self.now.from (lines_clients (length script.names) 0 script.stop script.lines c.requires.valid.lines) (omega (arith, c.requires.some, c.requires.due.within)) in
-    (omega (arith, long, some), omega (arith, long, c.requires.at_play.seats), omega (arith, long, c.requires.valid.few_clients))
+    (omega (arith, long, some), omega (arith, long, c.requires.at_play.under.seats), omega (arith, long, c.requires.valid.few_clients))
 
 pub play_round-requires-clause-lines : goal.play_round-requires-clause-lines
 play_round-requires-clause-lines g c κs lives =
@@ -29,12 +30,11 @@ returns-clause-at_play g c = record {
       (subst (λ lines. GoesOn (IsPlayed (take (c.args.to - c.args.self.now.from) (drop c.args.self.now.from lines)) (Ok c.in_ok-play_round.field-0)) c.args.self.now.first.seat c.play_round.new.first.seat) c.all.ensures c.in_ok-play_round.ensures.goes_on)
       refl c.requires.due c.requires.some;
   calls = as_many c.args.self.now.calls.len c.args.self.now.calls.items c.play_round.new.calls (c.play_round.auto.calls ∙ ap length c.as_mut_slice-calls.ensures.value) (search rules) ∙ (search rules);
-  seats = c.requires.at_play.seats;
   period = c.requires.at_play.period;
 }
 
 pub returns-clause-stamped : goal.returns-clause-stamped
 returns-clause-stamped g c =
-    lines_add c.args.self.now.order c.args.script.now (tick_due c.args.script.now.stop c.args.self.now.steersman) c.args.self.now.from c.args.to (Ok c.in_ok-play_round.field-0) c.args.self.now.first.seat c.play_round.new.first.seat c.requires.at_play.under.whole
+    lines_add c.args.self.now.order c.args.script.now (helm_in c.args.self.now) (tick_due c.args.script.now.stop c.args.self.now.steersman) c.args.self.now.from c.args.to (Ok c.in_ok-play_round.field-0) c.args.self.now.first.seat c.play_round.new.first.seat c.requires.valid.lines c.requires.at_play.under.whole
     (subst (λ lines. GoesOn (IsPlayed (take (c.args.to - c.args.self.now.from) (drop c.args.self.now.from lines)) (Ok c.in_ok-play_round.field-0)) c.args.self.now.first.seat c.play_round.new.first.seat) c.all.ensures c.in_ok-play_round.ensures.goes_on)
     refl c.requires.due c.requires.some

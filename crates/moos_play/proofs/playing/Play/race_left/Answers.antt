@@ -1,12 +1,15 @@
-use Rattle.std.proofs.Common.{◌≡◌, ◌≤◌, ◌+◌, ◌∙◌, Ok, ap, arith, drop, length, nat_lt, refl, subst, sym, take, ◌-◌, true, rules}
-use Rattle.std.specs.Prelude.{IfSome, option_to_list}
+use Rattle.std.proofs.Common.{◌≡◌, ◌≤◌, ◌∙◌, Option, Ok, ap, arith, drop, length, nat_lt, refl, subst, sym, take, ◌-◌, true, rules}
+use Rattle.std.specs.Prelude.{IfSome}
 use Rattle.std.specs.List.{list_all}
 use Rattle.moos_post.specs.declared.entry.Entry.{Entry}
 use Rattle.moos_play.specs.Rounds.{GoesOn, IsPlayedBeside}
-use Rattle.moos_play.specs.Lawful.{Steering, ticks_to}
-use Rattle.moos_play.specs.Steered.{steering_of}
+use Rattle.moos_play.specs.declared.steersman.Steersman.{Steersman}
+use Rattle.moos_play.specs.Lawful.{clients_below, helm_number, known_clients, Steering, ticks_to}
+use Rattle.moos_play.specs.Plays.{helm_in, stamp_due}
+use Rattle.moos_play.specs.Steered.{helm_of, StandsAt, steering_of}
 use Rattle.moos_play.proofs.Coming.{all_part, lines_clients, race_left}
 use Rattle.moos_play.proofs.Rounding.{as_many}
+use Rattle.moos_play.proofs.Stamping.{race_adds, race_known}
 use Rattle.moos_play.proofs.playing.Play.race_left.Goals as goal
 
 pub race-requires-clause-lines : goal.race-requires-clause-lines
@@ -22,11 +25,22 @@ returns-clause-at_play g c =
     let new = c.race.new.steersman in
     let period = subst (λ s. IfSome s (λ helm. (1 ≤ helm.period) × (helm.ticks ≤ ticks_to c.args.script.now.stop (steering_of helm)))) c.in-Some.is c.requires.at_play.period in
     record {
-      under = race_left c.args.self.now.order c.args.script.now c.args.self.now.lock c.args.self.now.steersman old new c.args.self.now.from _ (Ok c.in_ok-race.field-0) c.args.self.now.first.seat c.race.new.first.seat c.requires.race c.len-to.ensures c.in-Some.is c.requires.at_play.under
+      under = race_left c.args.self.now.order c.args.script.now c.args.self.now.lock c.args.self.now.steersman old new c.args.self.now.from _ (Ok c.in_ok-race.field-0) c.args.self.now.first.seat c.race.new.first.seat c.requires.race c.len-to.ensures c.in-Some.is c.requires.valid.lines c.requires.at_play.under
           c.in_ok-race.ensures.gathered
           (subst (λ lines. GoesOn (IsPlayedBeside old.number (take (c.len-to.result - c.args.self.now.from) (drop c.args.self.now.from lines)) (Ok c.in_ok-race.field-0)) c.args.self.now.first.seat c.race.new.first.seat) c.all.ensures c.in_ok-race.ensures.goes_on) refl
           c.in_ok-race.ensures.same c.in_ok-race.ensures.reached.0 c.in_ok-race.ensures.steered;
       calls = as_many c.args.self.now.calls.len c.args.self.now.calls.items c.race.new.calls (c.race.auto.calls ∙ ap length c.as_mut_slice-calls.ensures.value) (search rules) ∙ (search rules);
-      seats = c.requires.at_play.seats ∙ ap (λ s. length c.args.script.now.names + length (option_to_list s)) c.in-Some.is;
       period = (subst (λ (helm : Steering). 1 ≤ helm.period) (sym c.in_ok-race.ensures.same) period.0, omega (arith, c.in_ok-race.ensures.reached.1, ap (λ (helm : Steering). ticks_to c.args.script.now.stop helm) c.in_ok-race.ensures.same));
     }
+
+pub returns-clause-stamped : goal.returns-clause-stamped
+returns-clause-stamped g c =
+    let old = c.in-Some.steersman in
+    let script = c.args.script.now in
+    let before = c.args.self.now.first.seat in
+    let after = c.race.new.first.seat in
+    let on = subst (λ lines. GoesOn (IsPlayedBeside old.number (take (c.len-to.result - c.args.self.now.from) (drop c.args.self.now.from lines)) (Ok c.in_ok-race.field-0)) before after) c.all.ensures c.in_ok-race.ensures.goes_on in
+    let number = (subst (λ s. StandsAt c.args.self.now.lock.base (helm_number script) s before.seen) c.in-Some.is c.requires.at_play.under.steered).0 in
+    race_adds c.args.self.now.order (stamp_due script c.args.self.now) (known_clients script (helm_in c.args.self.now)) before.seen after.seen on.later c.requires.race
+    (subst (λ (s : Option Steersman). clients_below (known_clients script (helm_of s)) on.later.0 ≡ true) (sym c.in-Some.is)
+    (race_known script old c.args.self.now.from (c.len-to.result - c.args.self.now.from) (Ok c.in_ok-race.field-0) before after c.requires.valid.lines c.requires.at_play.under.whole number on refl))

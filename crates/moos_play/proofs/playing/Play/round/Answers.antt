@@ -1,9 +1,9 @@
 use Rattle.std.proofs.Common.{◌∙◌, ◌++◌, ap, rules, subst, sym}
 use Rattle.moos_play.specs.declared.playing.Play.{Play}
-use Rattle.moos_play.specs.Plays.{IsBetween, IsStampOver, handed, iterations_made, StaysSeated, untold_in}
+use Rattle.moos_play.specs.Plays.{history_in, IsBetween, IsStampOver, handed, iterations_made, known_clients_in, StaysSeated, untold_in}
 use Rattle.moos_play.specs.Steered.{GoesOnWith, left_of}
 use Rattle.moos_play.proofs.Handing.{at_ends, finished_handed, goes_on_handed, goes_on_twice, handed_between, over_now, round_iterations, stays_handed, stays_twice}
-use Rattle.moos_play.proofs.Stamping.{round_stamped}
+use Rattle.moos_play.proofs.Stamping.{all_stamped, none_further, round_adds}
 use Rattle.script_reader.specs.Validity.{IsValid}
 use Rattle.moos_play.proofs.playing.Play.round.Goals as goal
 
@@ -31,12 +31,19 @@ returns-clause-round g c =
     let after = c.finish_stamp.new.self in
     let same = c.count_entries-from.ensures.same in
     let told = c.hand_out-iterations.ensures.told in
+    let stamp = c.next_stamp-stamp.result in
+    let last = c.hand_out-iterations.new.self in
+    let on =
+    at_ends GoesOnWith before c.args.self.now (handed after) last same told
+    (goes_on_handed before after (goes_on_twice before c.go_on.new.self after c.in_ok-go_on.ensures.same c.in_ok-finish_stamp.ensures.same)) in
+    let adds =
+    round_adds c.args.self.now before c.go_on.new.self after last stamp same c.next_stamp-stamp.ensures (c.in_ok-go_on.ensures.stamped (search rules)) c.in_ok-go_on.ensures.same c.in_ok-finish_stamp.ensures.stamped
+    (ap (λ (play : Play). play.first.seat.seen) told) in
     record {
       from = c.count_entries-from.ensures.count;
       stamp = c.next_stamp-stamp.ensures;
-      stamped =
-          round_stamped c.args.self.now before c.go_on.new.self after c.hand_out-iterations.new.self c.next_stamp-stamp.result c.count_entries-from.result same c.next_stamp-stamp.ensures c.count_entries-from.ensures.count
-          (c.in_ok-go_on.ensures.stamped (search rules)) c.in_ok-go_on.ensures.same.order c.in_ok-finish_stamp.ensures.stamped (ap (λ (play : Play). play.first.seat.seen) told);
+      stamped = all_stamped c.args.self.now.order stamp (known_clients_in c.args.self.now) c.count_entries-from.result (history_in c.args.self.now) (history_in last) c.count_entries-from.ensures.count adds;
+      further = none_further c.args.self.now last stamp on adds;
       finished = subst (λ (play : Play). IsStampOver play c.next_stamp-stamp.result) (sym told) (finished_handed after c.next_stamp-stamp.result c.in_ok-finish_stamp.ensures.all);
       iterations =
           ap iterations_made told

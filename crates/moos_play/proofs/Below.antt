@@ -1,0 +1,137 @@
+-- The entries of the clients known from the start, with those of further clients left out.
+use Rattle.std.proofs.Common.{◌≡◌, ◌≢◌, ℕ, ◌+◌, ◌<◌, ◌≤◌, ◌==◌, ◌&&◌, Bool, true, false, cond, List, [], ◌∷◌, ◌++◌, filter, length, length-append, nat_le, nat_lt, Option, None, Some, refl, sym, ap, ◌∙◌, subst, arith, append-nil, ne_eqb}
+use Rattle.std.specs.Prelude.{codes, option_to_list}
+use Rattle.std.specs.List.{list_all}
+use Rattle.std.proofs.lemmas.Bool.{and_from, and_parts}
+use Rattle.std.proofs.lemmas.Bool.Decides.{nat_tests}
+use Rattle.std.proofs.lemmas.List.Elements.{filter-append}
+use Rattle.std.proofs.lemmas.List.Folds.{list_all-append}
+use native.Mathlib.Decide.{ℕ_discrete}
+use Rattle.helm_core.specs.Ticks.{Tick}
+use Rattle.moos_client.specs.Calls.{entries_of}
+use Rattle.moos_post.specs.declared.entry.Entry.{Entry}
+use Rattle.moos_post.specs.History.{History}
+use Rattle.moos_play.specs.declared.steersman.Steersman.{Steersman}
+use Rattle.moos_play.specs.Lawful.{clients_below, entries_below, entries_from, heard_of, helm_number, IsLawful, IsLawfulBeside, KeepsOrder, known_clients, names_with, Steering, tick_entries, ticks}
+use Rattle.moos_play.specs.Steered.{helm_of}
+use Rattle.moos_play.proofs.Histories.{all_kept, all_own}
+use Rattle.script_reader.specs.declared.script.Order.{Order}
+use Rattle.script_reader.specs.declared.script.Script.{Script}
+
+-- with a helm there is a name more
+pub names_more : {A : Type 0} (script : Script) (run : A) → length (names_with script (Some run)) ≡ length script.names + 1
+names_more script run = length-append script.names (codes "pHelmIvP" ∷ [])
+
+-- how many clients are known from the start
+pub known_many : (script : Script) (steersman : Option Steersman) → known_clients script (helm_of steersman) ≡ length script.names + length (option_to_list steersman)
+known_many script None = omega arith
+known_many script (Some s) = names_more script s
+
+pub known_more : {A : Type 0} (script : Script) (helm : Option A) → length script.names ≤ known_clients script helm
+known_more script None = omega arith
+known_more script (Some run) = omega (arith, names_more script run)
+
+pub known_helm : {A : Type 0} (script : Script) (run : A) → helm_number script < known_clients script (Some run)
+known_helm script run = omega (arith, names_more script run)
+
+-- what a test keeps passes it
+kept_pass : (p : Entry → Bool) (xs : History) → list_all p (filter p xs) ≡ true
+kept_pass p [] = refl
+kept_pass p (x ∷ xs) = by (p x) refl (kept_pass p xs)
+  where
+    by : (b : Bool) → p x ≡ b → list_all p (filter p xs) ≡ true → list_all p (cond b (x ∷ filter p xs) (filter p xs)) ≡ true
+    by true here rest = and_from (p x) (list_all p (filter p xs)) here rest
+    by false here rest = rest
+
+-- what passes a test is kept whole
+kept_all : (p : Entry → Bool) (xs : History) → list_all p xs ≡ true → filter p xs ≡ xs
+kept_all p [] all = refl
+kept_all p (x ∷ xs) all = let tests = and_parts (p x) (list_all p xs) all in ap (λ b. cond b (x ∷ filter p xs) (filter p xs)) tests.0 ∙ ap (λ rest. x ∷ rest) (kept_all p xs tests.1)
+
+-- nothing is kept of what passes a test that excludes it
+kept_none : (p q : Entry → Bool) (xs : History) → ((x : Entry) → q x ≡ true → p x ≡ false) → list_all q xs ≡ true → filter p xs ≡ []
+kept_none p q [] other all = refl
+kept_none p q (x ∷ xs) other all =
+    let tests = and_parts (q x) (list_all q xs) all in
+    ap (λ b. cond b (x ∷ filter p xs) (filter p xs)) (other x tests.0) ∙ kept_none p q xs other tests.1
+
+-- clients below a number are below a higher one
+pub below_raised : (low high : ℕ) (xs : History) → low ≤ high → clients_below low xs ≡ true → clients_below high xs ≡ true
+below_raised low high [] more all = refl
+below_raised low high (x ∷ xs) more all =
+    let tests = and_parts (nat_lt x.client low) (clients_below low xs) all in
+    let here = tests.0 in
+    and_from (nat_lt x.client high) (clients_below high xs) (grind (arith, nat_tests, here, more)) (below_raised low high xs more tests.1)
+
+-- those of one client are below each number above its own
+own_pass : (number n : ℕ) (xs : History) → n < number → clients_below number (entries_of n xs) ≡ true
+own_pass number n [] less = refl
+own_pass number n (x ∷ xs) less = by (x.client == n) refl (own_pass number n xs less)
+  where
+    by : (b : Bool) → (x.client == n) ≡ b → clients_below number (entries_of n xs) ≡ true → clients_below number (cond b (x ∷ entries_of n xs) (entries_of n xs)) ≡ true
+    by true here rest = and_from (nat_lt x.client number) (clients_below number (entries_of n xs)) (grind (arith, nat_tests, here, less)) rest
+    by false here rest = rest
+
+-- what the helm adds beside lines of clients below a number
+pub beside_below : (number helm : ℕ) (lines new : History) → helm < number → clients_below number lines ≡ true → ((n : ℕ) → n ≢ helm → entries_of n new ≡ entries_of n lines) → clients_below number new ≡ true
+beside_below number helm lines new less clients same = all_own (λ entry. nat_lt entry.client number) new (λ n. by n (ℕ_discrete n helm))
+  where
+    by : (n : ℕ) → Dec (n ≡ helm) → clients_below number (entries_of n new) ≡ true
+    by n (yes e) = own_pass number n new (omega (arith, e, less))
+    by n (no ne) = subst (λ entries. clients_below number entries ≡ true) (sym (same n ne)) (all_kept (λ entry. nat_lt entry.client number) (λ entry. entry.client == n) lines clients)
+
+-- the entries of a tick are the helm's
+pub tick_below : (helm : Steering) (number : ℕ) (heard : List Tick) (i : ℕ) → helm.client < number → clients_below number (tick_entries helm heard i) ≡ true
+tick_below helm number heard i less =
+    let here : nat_lt helm.client number ≡ true = grind (arith, nat_tests, less) in
+    and_from (nat_lt helm.client number) (nat_lt helm.client number && true) here (and_from (nat_lt helm.client number) true here refl)
+
+-- two parts of a history
+pub both_below : (number : ℕ) (some more : History) → clients_below number some ≡ true → clients_below number more ≡ true → clients_below number (some ++ more) ≡ true
+both_below number some more a b = list_all-append (λ entry. nat_lt entry.client number) some more ∙ and_from (clients_below number some) (clients_below number more) a b
+
+-- entries of known clients stand behind those so far
+pub below_more : (number : ℕ) (some more : History) → clients_below number more ≡ true → entries_below number (some ++ more) ≡ entries_below number some ++ more
+below_more number some more all =
+    filter-append (λ entry. nat_lt entry.client number) some more ∙ ap (λ end. entries_below number some ++ end) (kept_all (λ entry. nat_lt entry.client number) more all)
+
+-- and none of theirs are added where further clients' are
+pub below_beside : (number : ℕ) (some more : History) → list_all (λ entry. nat_le number entry.client) more ≡ true → entries_below number (some ++ more) ≡ entries_below number some
+below_beside number some more all =
+    filter-append (λ entry. nat_lt entry.client number) some more
+    ∙ ap (λ end. entries_below number some ++ end) (kept_none (λ entry. nat_lt entry.client number) (λ entry. nat_le number entry.client) more (λ x past. grind (arith, nat_tests, past)) all)
+    ∙ append-nil (entries_below number some)
+
+-- further clients have no more entries where known ones' are added
+pub from_more : (number : ℕ) (some more : History) → clients_below number more ≡ true → entries_from number (some ++ more) ≡ entries_from number some
+from_more number some more all =
+    filter-append (λ entry. nat_le number entry.client) some more
+    ∙ ap (λ end. entries_from number some ++ end) (kept_none (λ entry. nat_le number entry.client) (λ entry. nat_lt entry.client number) more (λ x less. grind (arith, nat_tests, less)) all)
+    ∙ append-nil (entries_from number some)
+
+-- all entries of a known client are among those of the known clients
+pub own_below : (number n : ℕ) (xs : History) → n < number → entries_of n (entries_below number xs) ≡ entries_of n xs
+own_below number n [] less = refl
+own_below number n (x ∷ xs) less = by (nat_lt x.client number) refl (own_below number n xs less)
+  where
+    by : (b : Bool) → nat_lt x.client number ≡ b → entries_of n (entries_below number xs) ≡ entries_of n xs
+        → entries_of n (cond b (x ∷ entries_below number xs) (entries_below number xs)) ≡ cond (x.client == n) (x ∷ entries_of n xs) (entries_of n xs)
+    by true here rest = ap (λ rest. cond (x.client == n) (x ∷ rest) rest) rest
+    by false here rest = rest ∙ sym (ap (λ b. cond b (x ∷ entries_of n xs) (entries_of n xs)) (ne_eqb x.client n (λ e. grind (arith, nat_tests, here, e, less))))
+
+-- and none of the client with the first number that isn't known
+pub none_below : (number : ℕ) (xs : History) → entries_of number (entries_below number xs) ≡ []
+none_below number xs = kept_none (λ entry. entry.client == number) (λ entry. nat_lt entry.client number) (entries_below number xs) (λ x less. ne_eqb x.client number (λ e. grind (arith, nat_tests, less, e))) (kept_pass (λ entry. nat_lt entry.client number) xs)
+
+-- where there are no further clients a history is lawful by itself
+pub lawful_alone : (order : Order) (script : Script) (helm : Option Steering) (names : List (List ℕ)) (history : History) → names ≡ names_with script helm → IsLawfulBeside order script helm names history → IsLawful order script helm names history
+lawful_alone order script helm names history is so = record {
+  rest = so.rest;
+  opened = so.opened;
+  steered = subst (λ rest. entries_of (helm_number script) rest ≡ ticks helm script.stop (heard_of names (helm_number script) history)) all so.steered;
+  own = λ n other. subst (λ rest. entries_of n rest ≡ entries_of n script.lines) all (so.own n other);
+  moments = subst (KeepsOrder order (helm_number script)) all so.moments;
+}
+  where
+    all : entries_below (known_clients script helm) so.rest ≡ so.rest
+    all = kept_all (λ entry. nat_lt entry.client (known_clients script helm)) so.rest (subst (λ (names : List (List ℕ)). clients_below (length names) so.rest ≡ true) is so.named)
