@@ -137,7 +137,7 @@ module _ (setup : Setup) (play : Play) (stay : FrontsStay) (between : IsBetween 
   lawful_text : IsOfLawful play.order play.script.now (helm_in play) setup text
   lawful_text =
       subst (IsOfLawful play.order play.script.now (helm_in play) setup) (stay setup (clients_in play) (history_in play) on.rest (iterations_made play) on.more (ends_far play between named))
-      (of_lawful play.order play.script.now (helm_in play) setup (clients_in play) (history_in play ++ on.rest) (iterations_made play ++ on.more) named on.lawful (sym on.iterations))
+      (of_lawful play.order play.script.now (helm_in play) setup (clients_in play) (history_in play ++ on.rest) (iterations_made play ++ on.more) named (on.alone named) (sym on.iterations))
 
   pub told_so_far : (before after : Option (List ℕ)) (faults later : ℕ) → IsToldSoFar setup before after play → ToldFront play.order play.script.now (helm_in play) setup (sinking before after faults later)
   told_so_far before after faults later told = record {
@@ -164,7 +164,7 @@ over_text : (setup : Setup) (play : Play) → IsNamed play → IsPlayedOut play 
     (front_text setup (clients_in play) (history_in play) (iterations_made play) ++ end_text (history_in play))
 over_text setup play named over =
     subst (IsOfLawful play.order play.script.now (helm_in play) setup) (sym (whole_text setup play))
-    (of_lawful play.order play.script.now (helm_in play) setup (clients_in play) (history_in play) (iterations_made play) named over.lawful over.iterations)
+    (of_lawful play.order play.script.now (helm_in play) setup (clients_in play) (history_in play) (iterations_made play) named (over.alone named) over.iterations)
 
 -- what holds of one run holds of another by the same order, script and helm
 pub run_as : (P : Order → Script → Option Steering → Type 0) {order order' : Order} {script script' : Script} {helm helm' : Option Steering} → order ≡ order' → script ≡ script' → helm ≡ helm'

@@ -17,6 +17,7 @@ use crate::status::Status;
 use moos_db::Db;
 use moos_io::{Failed, Gate, Sink};
 use moos_play::{HelmRun, Order, Play, Round};
+use moos_post::List;
 use moos_report::{Setup, parts_law, report_end, report_head, report_part};
 use script_reader::Script;
 use std::alloc::Global;
@@ -43,7 +44,7 @@ pub fn play_rounds<R: Threads + Wait + Sync, K: Sink, G: Gate>(
     ensures { Tells order script.now (option_map (steering_with script.now) helm) setup.now
         (sinking (K.taken out.old) (K.taken out.new) (K.faults out.old) (K.faults out.new)) result }
 {
-    match Play::make(rt, alloc, script, helm, order, gate) {
+    match Play::make(rt, alloc, script, helm, List::new(alloc), order, gate) {
         Ok(mut play) => tell(rt, alloc, &mut play, setup, workers, out, gate),
         Err(_) => Status::NoMemory,
     }

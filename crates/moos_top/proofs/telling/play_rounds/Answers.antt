@@ -1,5 +1,5 @@
 -- The run that is told has the order, the script, the helm and the names that were given.
-use Rattle.std.proofs.Common.{◌∙◌, inl, refl, sym}
+use Rattle.std.proofs.Common.{◌∙◌, ◌++◌, ap, append-nil, inl, refl, sym}
 use Rattle.moos_play.specs.Lawful.{names_with, steering_with}
 use Rattle.moos_top.specs.Steps.{sinking}
 use Rattle.moos_top.specs.Telling.{Tells}
@@ -9,7 +9,8 @@ use Rattle.moos_top.proofs.telling.play_rounds.Goals as goal
 pub tell-requires-clause-named : goal.tell-requires-clause-named
 tell-requires-clause-named g c κs lives =
     let made = c.in-Ok.ensures in
-    made.names ∙ named_with c.args.script.now (steering_with c.args.script.now) c.args.helm ∙ (λ i. names_with (sym made.script i) (sym made.helm i))
+    made.names ∙ ap (λ further. names_with c.args.script.now c.args.helm ++ further) c.new.ensures ∙ append-nil (names_with c.args.script.now c.args.helm)
+    ∙ named_with c.args.script.now (steering_with c.args.script.now) c.args.helm ∙ (λ i. names_with (sym made.script i) (sym made.helm i))
 
 pub returns-in-Ok : goal.returns-in-Ok
 returns-in-Ok g c =
