@@ -1,8 +1,9 @@
 // What no clause says: that clients are beside each other, and that the gate is called before each call.
-ghost use Rattle.std.specs.Prelude.{IfOk, IsTrue};
+ghost use Rattle.std.specs.Prelude.{◌≡◌, length, IfOk, IsTrue, OnOk};
 ghost use Rattle.bhv_reader.specs.Validity.{IsValidFile, serves};
 ghost use Rattle.mission_reader.specs.Validity.{IsValidMission};
 ghost use Rattle.moos_play.specs.Lawful.{MayStart};
+ghost use Rattle.moos_play.specs.Plays.{IsBetween, IsFurther};
 ghost use Rattle.script_reader.specs.Validity.{IsValid};
 
 use bhv_reader::{BhvFile, read_behaviors};
@@ -12,6 +13,7 @@ use mission_reader::{Mission, read_mission};
 use moos_db::Db;
 use moos_io::{Gate, NoGate};
 use moos_play::{HelmRun, Order, Play, play};
+use moos_post::{Batch, Call, List, Name, Names, Pair, Pattern, Reg, Regs, Txt, Value};
 use script_reader::{Script, read_script};
 use std::alloc::Global;
 use std::hint::spin_loop;
@@ -185,7 +187,8 @@ fn round_by_round(rt: HostRuntime) -> Result<(), Fail> {
     let script = script_of(&rt, rt.alloc(), b"0 nav post X=1\n0.25 until\n")?;
     let helm = helm_of(&rt, rt.alloc())?;
     let alloc = rt.alloc();
-    let mut play = Play::make(&rt, alloc, &script, Some(helm), Order::Stamp, &NoGate)?;
+    let none = List::new(alloc);
+    let mut play = Play::make(&rt, alloc, &script, Some(helm), none, Order::Stamp, &NoGate)?;
     let Some(round) = play.round(&rt, alloc, 1, &NoGate)? else {
         return Err(Fail::from("no round"));
     };
@@ -195,5 +198,80 @@ fn round_by_round(rt: HostRuntime) -> Result<(), Fail> {
     play.put_back(held);
     let ran = play.end(alloc);
     assert_eq!(rt; ran.db.entries(), 5);
+    Ok(())
+}
+
+fn name_alone(alloc: Global, name: &[u8]) -> Result<Names, Fail>
+    ensures { IfOk result (λ names. length names ≡ 1) }
+{
+    let mut names = Names::new(alloc);
+    names.push(Name::new(alloc, name)?)?;
+    Ok(names)
+}
+
+// To hear one variable from everybody.
+fn hearing(alloc: Global, var: &[u8]) -> Result<Call, Fail> {
+    let mut regs = Regs::new(alloc);
+    regs.push(Reg {
+        var: Pattern::read(alloc, var)?,
+        source: Pattern::read(alloc, b"*")?,
+        interval: 0,
+    })?;
+    Ok(Call::Register(regs))
+}
+
+// To say something of one variable.
+fn saying(alloc: Global, var: &[u8], text: &[u8]) -> Result<Call, Fail> {
+    let mut batch = Batch::new(alloc);
+    batch.push(Pair {
+        var: Name::new(alloc, var)?,
+        value: Value::Text(Txt::new(alloc, text)?),
+    })?;
+    Ok(Call::Post(batch))
+}
+
+// The client registers for what the helm began with, lets the helm drive, and hears the one post that it registered for.
+fn enter_three<R: Wait + Abort>(
+    rt: &R,
+    alloc: Global,
+    play: &mut Play,
+    client: u32,
+) -> Result<(), Fail>
+    requires between { IsBetween play.old }
+    requires further { IsFurther play.old client }
+    ensures between { OnOk result (IsBetween play.new) }
+{
+    play.enter(rt, alloc, client, 7, hearing(alloc, b"DEPLOY")?)?;
+    let driving = saying(alloc, b"MOOS_MANUAL_OVERRIDE", b"false")?;
+    let nothing = play.enter(rt, alloc, client, 6, driving)?;
+    let mail = play.enter(rt, alloc, client, 5, Call::Fetch)?;
+    assert!(rt; nothing.len() == 0 && mail.len() == 1);
+    assert!(rt; mail.get(0).post.var.bytes() == b"DEPLOY".as_slice());
+    Ok(())
+}
+
+// A further client's entries stand before the next round, in which the helm hears what the client posted: so it drives.
+#[test]
+fn further_client_is_heard(rt: HostRuntime) -> Result<(), Fail> {
+    let alloc = rt.alloc();
+    let script = script_of(&rt, alloc, b"0 nav post X=1\n0.25 until\n")?;
+    assert!(rt; script.names.len() == 1);
+    let helm = helm_of(&rt, alloc)?;
+    let further = name_alone(alloc, b"shore")?;
+    let mut play = Play::make(
+        &rt,
+        alloc,
+        &script,
+        Some(helm),
+        further,
+        Order::Stamp,
+        &NoGate,
+    )?;
+    enter_three(&rt, alloc, &mut play, 2)?;
+    let Some(round) = play.round(&rt, alloc, 1, &NoGate)? else {
+        return Err(Fail::from("no round"));
+    };
+    assert!(rt; round.from == 5 && round.iterations.len() == 1);
+    assert!(rt; !round.iterations.get(0).parked);
     Ok(())
 }
