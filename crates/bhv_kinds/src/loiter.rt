@@ -1,14 +1,13 @@
 // Polygons: which vertex a behaviour makes for.
-ghost use Rattle.std.specs.Prelude.{◌≡◌, ℕ, ◌≤◌, ◌*◌, ◌^◌, pos, neg_ℤ, ◌≤ℤ◌, ◌*ℤ◌, length, unwrap_or, IfSome, IsTrue, true};
-ghost use Rattle.helm_geo.specs.Plane.{is_right_of, is_spot};
+ghost use Rattle.std.specs.Prelude.{◌≡◌, ℕ, ◌≤◌, ◌*◌, length, unwrap_or, IfSome, IsTrue, true};
+ghost use Rattle.helm_geo.specs.Plane.{is_spot};
 ghost use Rattle.helm_geo.specs.Polygons.{are_spots};
 ghost use Rattle.bhv_reader.specs.Ranges.{InRanges};
 ghost use Rattle.bhv_kinds.specs.Targets.{captures_vertex, is_clockwise, is_number, nearer_vertex, nearest_vertex, next_vertex, unless_fresh, vertex_after, vertex_beyond};
 
 use crate::waypoint::{Radii, is_captured, spot_at};
-use crate::ways::{east_of, north_of};
 use bhv_reader::Shape;
-use helm_geo::{Spot, distance_squared};
+use helm_geo::{Spot, distance_squared, is_left_of};
 
 // Of two vertices the first, unless the second is nearer.
 fn nearer_vertex(polygon: &[Spot], here: &Spot, best: usize, other: usize) -> usize
@@ -37,36 +36,14 @@ fn nearest_vertex(polygon: &[Spot], here: &Spot) -> usize
     best
 }
 
-// The product of two such ways.
-fn product(a: i64, b: i64) -> i128
-    requires low_a { neg_ℤ (pos (2 * 10 ^ 12)) ≤ℤ a }
-    requires high_a { a ≤ℤ pos (2 * 10 ^ 12) }
-    requires low_b { neg_ℤ (pos (2 * 10 ^ 12)) ≤ℤ b }
-    requires high_b { b ≤ℤ pos (2 * 10 ^ 12) }
-    ensures { result ≡ a *ℤ b }
-{
-    a as i128 * b as i128
-}
-
-// Whether a place lies right of the line from `a` to `b`.
-fn is_right_of(a: &Spot, b: &Spot, place: &Spot) -> bool
-    requires a { IsTrue (is_spot a.now) }
-    requires b { IsTrue (is_spot b.now) }
-    requires place { IsTrue (is_spot place.now) }
-    ensures { result ≡ is_right_of a.now b.now place.now }
-{
-    let rise = product(north_of(b, a), east_of(b, place));
-    let run = product(east_of(b, a), north_of(b, place));
-    rise < run
-}
-
 // Whether the vertices of a convex polygon run clockwise: the third lies right of the first side.
 fn is_clockwise(polygon: &[Spot]) -> bool
     requires { IsTrue (are_spots polygon.now) }
     ensures { result ≡ is_clockwise polygon.now }
 {
     match polygon {
-        [a, b, c, ..] => is_right_of(a, b, c),
+        // What lies left of the way back lies right of the side.
+        [a, b, c, ..] => is_left_of(b, a, c),
         _ => false,
     }
 }

@@ -1,5 +1,5 @@
-// How far apart two places are, east and north, and what leads from one to the other.
-ghost use Rattle.std.specs.Prelude.{◌≡◌, ◌*◌, ◌^◌, ◌<◌, ◌≤◌, List, codes, pos, neg_ℤ, ◌≤ℤ◌, ◌-ℤ◌, option_map, IfSome, IsTrue};
+// What leads from one place to another.
+ghost use Rattle.std.specs.Prelude.{◌≡◌, ◌^◌, ◌<◌, ◌≤◌, List, codes, ◌-ℤ◌, option_map, IfSome, IsTrue};
 ghost use Rattle.ivp_domain.specs.declared.axis.Axis.{Axis};
 ghost use Rattle.helm_geo.specs.Angles.{bearing};
 ghost use Rattle.helm_geo.specs.Plane.{is_spot};
@@ -8,29 +8,7 @@ ghost use Rattle.bhv_kinds.specs.Giving.{towards};
 ghost use Rattle.bhv_kinds.specs.Wants.{CanMake, utility_of};
 
 use crate::want::Want;
-use helm_geo::{Spot, bearing};
-
-/// How far east of `a` a place lies.
-pub fn east_of(a: &Spot, place: &Spot) -> i64
-    requires a { IsTrue (is_spot a.now) }
-    requires place { IsTrue (is_spot place.now) }
-    ensures way { result ≡ place.now.x -ℤ a.now.x }
-    ensures low { neg_ℤ (pos (2 * 10 ^ 12)) ≤ℤ result }
-    ensures high { result ≤ℤ pos (2 * 10 ^ 12) }
-{
-    place.x - a.x
-}
-
-/// How far north of `a` a place lies.
-pub fn north_of(a: &Spot, place: &Spot) -> i64
-    requires a { IsTrue (is_spot a.now) }
-    requires place { IsTrue (is_spot place.now) }
-    ensures way { result ≡ place.now.y -ℤ a.now.y }
-    ensures low { neg_ℤ (pos (2 * 10 ^ 12)) ≤ℤ result }
-    ensures high { result ≤ℤ pos (2 * 10 ^ 12) }
-{
-    place.y - a.y
-}
+use helm_geo::{Spot, bearing, east_of, north_of};
 
 // The bearing of a place, and none at the very place.
 fn bearing_of(place: &Spot, here: &Spot) -> Option<u16>

@@ -13,6 +13,6 @@ mod polygon;
 mod spot;
 
 pub use angle::{bearing, cos4, sin4};
-pub use plane::{distance_squared, isqrt, within};
+pub use plane::{distance_squared, east_of, is_left_of, isqrt, north_of, within};
 pub use polygon::{convex, inside};
 pub use spot::Spot;
