@@ -8,8 +8,9 @@ ghost use Rattle.ivp_cert.specs.Walks.{behind_node, behind_own, is_line_of};
 use crate::cert::{Cert, Line};
 use crate::claim::Claim;
 use crate::trail::Trail;
-use crate::tree::{bound_of, sum_at};
-use ivp_problem::{Key, Node, Problem, index_of_key, key_of, problem_law, sum_of};
+use ivp_problem::{
+    Key, Node, Problem, bound_of, index_of_key, key_of, problem_law, sum_at, sum_of,
+};
 
 /// Whether a certificate is accepted for what is claimed of a problem: the claim's sum is the one at its point; each line is
 /// that of a node of the tree, with the sum and the index of the node's bound, which is at most the key of the claim; each

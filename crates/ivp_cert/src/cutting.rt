@@ -7,8 +7,7 @@ ghost use Rattle.ivp_cert.specs.Certificates.{certificate_of, topmost};
 use crate::cert::{Cert, Line};
 use crate::path::Path;
 use crate::trail::Trail;
-use crate::tree::bound_of;
-use ivp_problem::{Key, Node, Problem, index_of_key, problem_law, sum_of};
+use ivp_problem::{Key, Node, Problem, bound_of, index_of_key, problem_law, sum_of};
 use moos_post::NoMemory;
 use std::alloc::{AllocError, Global};
 

@@ -5,7 +5,7 @@
 //! stands in the bytes, or the first refusal with its line and its cause; `print_decision` writes a decision, and what it
 //! writes stands for the decision.
 //!
-//! Reading order: `path`, `cert`, `claim`; `tree`, `trail`, `cutting`, `accept`, `law`; `words`, `piece`, `terms`,
+//! Reading order: `path`, `cert`, `claim`; `trail`, `cutting`, `accept`, `law`; `words`, `piece`, `terms`,
 //! `unfinished`, `stage`, `read`; `line`, `phase`, `decision`; `put`, `put_problem`, `print`, `printed`. Of specs/ read
 //! `Certificates`, `SaidLines`, `Problems`, `Decisions`, `Texts` and `Printed`; `Walks` serves the checker alone, and `Stages`
 //! the reader.
@@ -29,7 +29,6 @@ mod read;
 mod stage;
 mod terms;
 mod trail;
-mod tree;
 mod unfinished;
 mod words;
 

@@ -1,4 +1,4 @@
-ghost use Rattle.std.specs.Prelude.{◌≡◌, ◌<◌, ◌≤◌, Some};
+ghost use Rattle.std.specs.Prelude.{◌≡◌, ◌≤◌, Some};
 ghost use Rattle.ivp_domain.specs.Boxes.{has_point};
 ghost use Rattle.ivp_problem.specs.Trees.{bound_of, IsNode};
 ghost use Rattle.best_word.specs.Known.{IsKnownKey};
@@ -6,30 +6,7 @@ ghost use Rattle.ivp_pool.specs.Closing.{AreCovered, Closed};
 
 use crate::tray::Tray;
 use best_word::{Best, Scout};
-use ivp_domain::Steps;
-use ivp_problem::{Key, Node, Problem};
-use std::marker::Brand;
-use std::sync::ledger::{Blank, Ledger};
-
-/// The bound of a node, counted by a ledger of its own.
-fn bound_by<L: Ledger>(problem: &Problem, node: &Node, blank: Blank) -> Key
-    requires node { IsNode problem.now node.now }
-    requires name { blank.name ≡ L.name }
-    requires parts { blank.parts ≡ L.parts }
-    requires some { 0 < blank.parts }
-    ensures { result ≡ bound_of problem.now node.now }
-{
-    let mut steps = Steps::<L>::new(blank);
-    problem.bound(node, &mut steps)
-}
-
-/// The bound of a node.
-fn bound_of(problem: &Problem, node: &Node) -> Key
-    requires { IsNode problem.now node.now }
-    ensures { result ≡ bound_of problem.now node.now }
-{
-    bound_by::<Brand>(problem, node, Blank::new(1))
-}
+use ivp_problem::{Node, Problem, bound_of};
 
 /// Closes a node. It looks at the word first: where the node's bound is at most the key there, nothing below it can be
 /// better, and it is pruned. At full depth its best point is offered. Else each child goes to the tray, pieces in order, and

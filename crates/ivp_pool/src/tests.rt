@@ -1,16 +1,11 @@
 // One problem of twelve points, whose nodes go to trays that take all, none, or every second of them.
-ghost use Rattle.std.specs.Prelude.{◌≡◌, ◌<◌, IsTrue};
-ghost use Rattle.ivp_domain.specs.Domains.{is_point};
-
 use crate::{Tray, close_one, parts_law, tally_law};
 use best_word::Best;
-use ivp_domain::{Axis, AxisName, BoxN, Domain, Point, Steps};
+use ivp_domain::{Axis, AxisName, BoxN, Domain};
 use ivp_func::{Func, Piece, are_pieces_of};
-use ivp_problem::{Key, Node, Problem, Term, key_of};
+use ivp_problem::{Key, Node, Problem, Term, key_of, sum_at};
 use std::alloc::Global;
-use std::marker::Brand;
 use std::process::Abort;
-use std::sync::ledger::{Blank, Ledger};
 use std::test::Fail;
 
 /// A pile of nodes. It takes the first of each two or not, and the second.
@@ -101,29 +96,14 @@ pub(crate) fn two(alloc: Global) -> Result<Problem, Fail> {
     Ok(Problem::make(domain, terms).map_err(|_| "a problem")?)
 }
 
-/// The sum at a point, counted by a ledger of its own.
-fn sum_by<L: Ledger>(problem: &Problem, point: &Point, blank: Blank) -> u64
-    requires point { IsTrue (is_point problem.now.axes point.now) }
-    requires name { blank.name ≡ L.name }
-    requires parts { blank.parts ≡ L.parts }
-    requires some { 0 < blank.parts }
-{
-    let mut steps = Steps::<L>::new(blank);
-    problem.sum_at(point, &mut steps)
-}
-
 /// The key at the point of an index, where the domain has it.
 pub(crate) fn key_at(problem: &Problem, index: u32) -> Option<Key> {
     let domain = problem.domain();
-    if index >= domain.points() || index >= 4_194_304 {
+    if index >= domain.points() {
         return None;
     }
     let point = domain.point_at(index);
-    let sum = sum_by::<Brand>(problem, &point, Blank::new(1));
-    if sum > 64_000_000_000 {
-        return None;
-    }
-    Some(key_of(sum, index))
+    Some(key_of(sum_at(problem, &point), index))
 }
 
 /// The greatest key of the points whose first place is in none of these nodes, by a look at every point.

@@ -1,14 +1,8 @@
 // Problems and their parts, as several tests make them.
-ghost use Rattle.std.specs.Prelude.{◌≡◌, ◌<◌, IsTrue};
-ghost use Rattle.ivp_domain.specs.Domains.{is_point};
-ghost use Rattle.ivp_problem.specs.Sums.{sum_at};
-
-use ivp_domain::{Axis, AxisName, BoxN, Domain, Point, Steps};
+use ivp_domain::{Axis, AxisName, BoxN, Domain};
 use ivp_func::{Func, Piece, are_pieces_of};
-use ivp_problem::{Problem, Term};
+use ivp_problem::{Problem, Term, sum_at};
 use std::alloc::Global;
-use std::marker::Brand;
-use std::sync::ledger::{Blank, Ledger};
 use std::test::Fail;
 
 /// A term of these pieces, where they make a function.
@@ -64,24 +58,12 @@ pub(crate) fn slab(low: u32, high: u32, base: i64, slope: [i64; 4]) -> Piece {
     }
 }
 
-/// The sum at a point, counted by a ledger of its own.
-pub(crate) fn sum_by<L: Ledger>(problem: &Problem, point: &Point, blank: Blank) -> u64
-    requires point { IsTrue (is_point problem.now.axes point.now) }
-    requires name { blank.name ≡ L.name }
-    requires parts { blank.parts ≡ L.parts }
-    requires some { 0 < blank.parts }
-    ensures { result ≡ sum_at problem.now point.now }
-{
-    let mut steps = Steps::<L>::new(blank);
-    problem.sum_at(point, &mut steps)
-}
-
 /// The sum at the point of an index, where the domain has it.
 pub(crate) fn sum(problem: &Problem, index: u32) -> Option<u64> {
     let domain = problem.domain();
     if index < domain.points() {
         let point = domain.point_at(index);
-        Some(sum_by::<Brand>(problem, &point, Blank::new(1)))
+        Some(sum_at(problem, &point))
     } else {
         None
     }

@@ -1,16 +1,14 @@
-ghost use Rattle.std.specs.Prelude.{◌≡◌, ◌<◌, IfSome};
+ghost use Rattle.std.specs.Prelude.{IfSome};
 ghost use Rattle.ivp_problem.specs.Trees.{IsNode};
 
 use crate::made::{axis, course, slab, sum, term, twelve};
-use ivp_domain::{BoxN, Domain, Point, Steps};
+use ivp_domain::{BoxN, Domain, Point};
 use ivp_func::Piece;
 use ivp_problem::{
-    Key, Node, Problem, ProblemFault, Term, best_law, bound_law, children_law, index_of_key,
+    Node, Problem, ProblemFault, Term, best_law, bound_law, bound_of, children_law, index_of_key,
     key_of, keys_law, sum_of,
 };
 use std::alloc::Global;
-use std::marker::Brand;
-use std::sync::ledger::{Blank, Ledger};
 use std::test::Fail;
 
 /// The term of weight 2 that rises along the first axis.
@@ -98,22 +96,11 @@ fn another_name(rt: HostRuntime) -> Result<(), Fail> {
     Ok(())
 }
 
-/// The bound of a node, counted by a ledger of its own.
-fn bound_of_node<L: Ledger>(problem: &Problem, node: &Node, blank: Blank) -> Key
-    requires node { IsNode problem.now node.now }
-    requires name { blank.name ≡ L.name }
-    requires parts { blank.parts ≡ L.parts }
-    requires some { 0 < blank.parts }
-{
-    let mut steps = Steps::<L>::new(blank);
-    problem.bound(node, &mut steps)
-}
-
 /// The sum and the index of a node's bound.
 fn bound(problem: &Problem, node: &Node) -> (u64, u32)
     requires { IsNode problem.now node.now }
 {
-    let key = bound_of_node::<Brand>(problem, node, Blank::new(1));
+    let key = bound_of(problem, node);
     (sum_of(key), index_of_key(key))
 }
 

@@ -1,16 +1,14 @@
 // One word and two scouts, on one thread.
-ghost use Rattle.std.specs.Prelude.{◌≡◌, ◌<◌, IfSome, IsTrue};
+ghost use Rattle.std.specs.Prelude.{◌≡◌, IfSome, IsTrue};
 ghost use Rattle.ivp_domain.specs.Domains.{is_point};
 ghost use Rattle.ivp_problem.specs.Sums.{key_at};
 
-use crate::made::{course, sum_by, term};
+use crate::made::{course, term};
 use best_word::Best;
 use ivp_domain::{BoxN, Point};
 use ivp_func::Piece;
-use ivp_problem::{Key, Problem, index_of_key, key_of, sum_of};
+use ivp_problem::{Key, Problem, index_of_key, key_of, sum_at, sum_of};
 use std::alloc::Global;
-use std::marker::Brand;
-use std::sync::ledger::Blank;
 use std::test::Fail;
 
 /// One function of weight 100 over course:0:359:360, which rises by one at each place.
@@ -43,15 +41,11 @@ fn point_with_key(problem: &Problem, index: u32) -> Option<Keyed>
     ensures key { IfSome result (λ one. key_at problem.now one.point ≡ one.key) }
 {
     let domain = problem.domain();
-    if index >= domain.points() || index >= 4_194_304 {
+    if index >= domain.points() {
         return None;
     }
     let point = domain.point_at(index);
-    let sum = sum_by::<Brand>(problem, &point, Blank::new(1));
-    if sum > 64_000_000_000 {
-        return None;
-    }
-    let key = key_of(sum, index);
+    let key = key_of(sum_at(problem, &point), index);
     Some(Keyed { point, key })
 }
 

@@ -6,14 +6,14 @@ use Rattle.ivp_cert.proofs.cutting.+add_topmost.Goals as goal
 pub returns-then-bound-key-clause-lines : goal.returns-then-bound-key-clause-lines
 returns-then-bound-key-clause-lines t c =
     let problem = c.args.problem.now in
-    own_added problem c.args.key c.args.trail.now c.all.result.now c.args.node.now c.bound_of-bound.result c.args.cert.now c.add_line.new.cert c.bound_of-bound.ensures c.all.ensures.all (omega (arith, c.if-bound-key.true, c.bound_of-bound.ensures)) c.in_ok-add_line.ensures
+    own_added problem c.args.key c.args.trail.now c.all.result.now c.args.node.now c.bound_of-bound.result c.args.cert.now c.add_line.new.cert c.bound_of-bound.ensures.bound c.all.ensures.all (omega (arith, c.if-bound-key.true, c.bound_of-bound.ensures.bound)) c.in_ok-add_line.ensures
 
 pub returns-then-node-len-clause-lines : goal.returns-then-node-len-clause-lines
 returns-then-node-len-clause-lines t c =
     let problem = c.args.problem.now in
     let node = c.args.node.now in
     let full : length problem.terms ≤ node.depth = omega (arith, c.if-node-len.true, c.len.ensures.len) in
-    let none = left_full problem c.args.key c.args.trail.now node full (omega (arith, c.if-bound-key.false, c.bound_of-bound.ensures)) in
+    let none = left_full problem c.args.key c.args.trail.now node full (omega (arith, c.if-bound-key.false, c.bound_of-bound.ensures.bound)) in
     sym (ap (λ ls. c.args.cert.now ++ ls) none ∙ append-nil c.args.cert.now)
 
 pub loop-child-init : goal.loop-child-init
@@ -22,7 +22,7 @@ loop-child-init t c =
     let node = c.args.node.now in
     record {
       few = omega arith;
-      lines = ap (λ ls. c.args.cert.now ++ ls) (left_start problem c.args.key c.args.trail.now node (omega (arith, c.if-node-len.false, c.len.ensures.len)) (omega (arith, c.if-bound-key.false, c.bound_of-bound.ensures)));
+      lines = ap (λ ls. c.args.cert.now ++ ls) (left_start problem c.args.key c.args.trail.now node (omega (arith, c.if-node-len.false, c.len.ensures.len)) (omega (arith, c.if-bound-key.false, c.bound_of-bound.ensures.bound)));
       trail = refl;
     }
 

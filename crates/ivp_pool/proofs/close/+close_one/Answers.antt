@@ -14,7 +14,7 @@ learned start mid last e e' = e' ∙ ap (λ m. (record m.0 { low = last.0.low },
 pub returns-then-bound-known-clause-closed : goal.returns-then-bound-known-clause-closed
 returns-then-bound-known-clause-closed g t c =
     let low = ap (λ m. m.0.low) c.known-known.ensures.scout.1 in
-    pruned c.args.problem.now c.known-known.new.scout.me.0.low (g.T.Tray.took c.args.tray.now) c.args.node (omega (arith, c.bound_of-bound.ensures, c.if-bound-known.true, low))
+    pruned c.args.problem.now c.known-known.new.scout.me.0.low (g.T.Tray.took c.args.tray.now) c.args.node (omega (arith, c.bound_of-bound.ensures.bound, c.if-bound-known.true, low))
 
 pub returns-then-bound-known-clause-covered : goal.returns-then-bound-known-clause-covered
 returns-then-bound-known-clause-covered g t c =
@@ -25,7 +25,7 @@ pub returns-then-node-len-clause-closed : goal.returns-then-node-len-clause-clos
 returns-then-node-len-clause-closed g t c =
     let low = ap (λ m. m.0.low) c.offer.ensures.scout.1 in
     let greater = c.offer.ensures.greater in
-    pruned c.args.problem.now c.offer.new.scout.me.0.low (g.T.Tray.took c.args.tray.now) c.args.node (omega (arith, c.bound_of-bound.ensures, greater.1, low))
+    pruned c.args.problem.now c.offer.new.scout.me.0.low (g.T.Tray.took c.args.tray.now) c.args.node (omega (arith, c.bound_of-bound.ensures.bound, greater.1, low))
 
 pub returns-then-node-len-clause-covered : goal.returns-then-node-len-clause-covered
 returns-then-node-len-clause-covered g t c =
