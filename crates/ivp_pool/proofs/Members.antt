@@ -55,14 +55,18 @@ module _ {K : Type 0} where
   keeps_more old mid new one two = record { deque = two.deque ∙ one.deque; parts = two.parts ∙ one.parts; doors = two.doors ∙ one.doors }
 
   -- a node of its own deque
-  pub popped : (node : Node) (old : Member K) → TookNode node old (record old { deque = took_one old.deque node })
-  popped node old =
+  pub popped : (node : Node) (old : Member K) (deque : EndState) → deque ≡ took_one old.deque node → TookNode node old (record old { deque = deque })
+  popped node old deque is =
       record {
         worker = refl;
-        put = λ weigh. refl;
-        taken = λ weigh. omega (arith, sum_by-append weigh old.deque.hand.taken (node ∷ []));
-        keeps = record { deque = refl; parts = refl; doors = refl };
+        put = λ weigh. omega (arith, ap (λ (end : EndState). sum_by weigh end.hand.put) is);
+        taken = λ weigh. omega (arith, ap (λ (end : EndState). sum_by weigh end.hand.taken) is, sum_by-append weigh old.deque.hand.taken (node ∷ []));
+        keeps = record { deque = ap (λ (end : EndState). end.deque) is; parts = ap (λ (end : EndState). end.hand.parts) is; doors = refl };
       }
+
+  -- a node that it stole where its own deque had none
+  pub stolen_next : (node : Node) (old new : Member K) (deque : EndState) → deque ≡ old.deque → TookNode node (record old { deque = deque }) new → TookNode node old new
+  stolen_next node old new deque same took = subst (λ (end : EndState). TookNode node (record old { deque = end }) new) same took
 
   pub did_none : (problem : WeightedSum) (member : Member K) → Did problem member member
   did_none problem member =

@@ -95,16 +95,13 @@ pub(crate) fn close_next<T: Tray, G: Gate>(
     worker.work.closed = worker.work.closed.wrapping_add(closed);
 }
 
-/// The node that a worker closes next: the last of its own deque, or else the first of another's, where the others are asked
-/// by their numbers, beginning with the next.
-fn next_node<K: About, R: Wait>(rt: &R, number: usize, member: &mut Member<K>) -> Option<Node>
+/// The node that a worker steals: the first of another's deque, where the others are asked by their numbers, beginning with
+/// the next.
+fn stolen_node<K: About, R: Wait>(rt: &R, number: usize, member: &mut Member<K>) -> Option<Node>
     requires number { number < length member.old.doors.items }
     requires few { length member.old.doors.items ≤ 16 }
     ensures { MatchOption result (Same member.old member.new) (λ node. IsNode K.problem node × TookNode node member.old member.new) }
 {
-    if let Some(node) = member.deque.pop() {
-        return Some(node);
-    }
     let workers = member.doors.len();
     for step in 1..workers {
         let other = (number + step) % workers;
@@ -115,7 +112,8 @@ fn next_node<K: About, R: Wait>(rt: &R, number: usize, member: &mut Member<K>) -
     None
 }
 
-/// Closes nodes until no deque has one to take. A node's children go to the worker's own deque.
+/// Closes nodes until no deque has one to take: the last of the worker's own, or else one that it steals. A node's children
+/// go to the worker's own deque.
 pub(crate) fn work<K: About, R: Wait, G: Gate>(
     rt: &R,
     problem: &Problem,
@@ -131,18 +129,22 @@ pub(crate) fn work<K: About, R: Wait, G: Gate>(
     ensures { Did problem.now member.old member.new }
 {
     for _ in rt.forever() {
-        match next_node(rt, number, member) {
-            Some(node) => close_next(
-                problem,
-                best,
-                gate,
-                number as u32,
-                &mut member.worker,
-                node,
-                &mut member.deque,
-            ),
-            None => break,
-        }
+        let node = match member.deque.pop() {
+            Some(own) => own,
+            None => match stolen_node(rt, number, member) {
+                Some(stolen) => stolen,
+                None => break,
+            },
+        };
+        close_next(
+            problem,
+            best,
+            gate,
+            number as u32,
+            &mut member.worker,
+            node,
+            &mut member.deque,
+        );
     }
 }
 

@@ -1,5 +1,5 @@
 use Rattle.ivp_pool.specs.Members.{Same}
-use Rattle.ivp_pool.proofs.team.next_node.Given as goal
+use Rattle.ivp_pool.proofs.team.stolen_node.Given as goal
 
 -- the worker has taken nothing yet
 abbrev pub invariant-loop-step : goal.invariant-loop-step
