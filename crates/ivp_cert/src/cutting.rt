@@ -11,6 +11,9 @@ use ivp_problem::{Key, Node, Problem, bound_of, index_of_key, problem_law, sum_o
 use moos_post::NoMemory;
 use std::alloc::{AllocError, Global};
 
+/// How many lines a certificate has room for at first: that of a small problem seldom has more.
+const ROOM: usize = 16;
+
 /// The certificate of a problem: the lines of the topmost nodes of its tree whose bound is at most the greatest key, depth
 /// first, pieces in order.
 pub fn cut(alloc: Global, problem: &Problem, key: Key) -> Result<Cert, NoMemory>
@@ -18,7 +21,7 @@ pub fn cut(alloc: Global, problem: &Problem, key: Key) -> Result<Cert, NoMemory>
     ensures { IfOk result (λ cert. cert ≡ certificate_of problem.now) }
 {
     problem_law(problem);
-    let mut cert = Cert::new(alloc);
+    let mut cert = Cert::of(Vec::with_capacity(alloc, ROOM)?);
     add_topmost(
         alloc,
         problem,
