@@ -1,5 +1,5 @@
 -- A walk over the declarations comes to the mode.
-use Rattle.std.proofs.Common.{◌≡◌, ℕ, zero, suc, ◌+◌, ◌<◌, ◌≤◌, Bool, true, false, not, ◌&&◌, List, [], ◌∷◌, ◌++◌, length, map, take, Option, Some, None, refl, ap, sym, ◌∙◌, append_assoc, append-nil, arith}
+use Rattle.std.proofs.Common.{◌≡◌, ℕ, zero, suc, ◌+◌, ◌<◌, ◌≤◌, Bool, true, false, not, ◌&&◌, List, [], ◌∷◌, ◌++◌, length, map, take, drop, Option, Some, None, refl, ap, sym, ◌∙◌, append_assoc, append-nil, arith}
 use Rattle.std.proofs.Math.ListN.{set}
 use Rattle.std.specs.Prelude.{nat_eq, nat_lt, is_some, if◌then◌else◌}
 use Rattle.std.specs.Option.{option_eq}
@@ -8,8 +8,8 @@ use Rattle.std.proofs.lemmas.List.{take_more_set, length-set, map-append}
 use Rattle.bhv_reader.specs.declared.decl.Decl.{Decl}
 use Rattle.helm_cond.specs.Learnt.{Knowledge}
 use Rattle.mode_tree.specs.declared.walk.Walk.{Walk}
-use Rattle.mode_tree.specs.Modes.{ModePart, Named, Other, is_met}
-use Rattle.mode_tree.specs.Paths.{parts_by, parts_of_path, are_below, IsPathOf}
+use Rattle.mode_tree.specs.Modes.{ModePart, Named, Other, has_other, is_met}
+use Rattle.mode_tree.specs.Paths.{parts_by, parts_of_path, are_below, ends_with_other, IsPathOf}
 use Rattle.mode_tree.specs.Scans.{other_with, other_part, scan, ComesTo, IsWithin}
 use Rattle.mode_tree.proofs.Scanned.{and_left, and_right}
 
@@ -165,46 +165,72 @@ below_push number (one ∷ rest) last all below =
     ∙ below_push number rest last (and_right (nat_lt one number) (are_below number rest) all) below
 
 -- a walk stays within the declarations that it has seen
-pub within_more : (number : ℕ) (walk : Walk) → IsWithin number walk → IsWithin (number + 1) walk
-within_more number walk within = record {
+pub within_more : (decls : List Decl) (number : ℕ) (walk : Walk) → IsWithin decls number walk → IsWithin decls (number + 1) walk
+within_more decls number walk within = record {
   short = within.short;
   row = within.row;
   below = below_more number (take walk.path.len walk.path.decls) within.below;
-  other = λ one is. let before : one < number = within.other one is in omega arith;
+  plain = within.plain;
+  other = λ one is. (let before : one < number = (within.other one is).0 in omega arith, (within.other one is).1);
 }
 
-pub within_into : (number : ℕ) (walk : Walk) → walk.path.len < 16 → IsWithin number walk → IsWithin (number + 1) (into walk number)
-within_into number walk room within = record {
+pub within_into : (decls : List Decl) (number : ℕ) (walk : Walk) → walk.path.len < 16 → IsWithin decls number walk → IsWithin decls (number + 1) (into walk number)
+within_into decls number walk room within = record {
   short = omega arith;
   row = length-set walk.path.decls walk.path.len number ∙ within.row;
   below =
       ap (are_below (number + 1)) (take_more_set walk.path.decls walk.path.len number (omega (arith, within.row)))
       ∙ below_push (number + 1) (take walk.path.len walk.path.decls) number (below_more number (take walk.path.len walk.path.decls) within.below) (omega arith);
+  plain = within.plain;
   other = λ one is. absurd (let e : None ≡ Some one = is in cc);
 }
 
-pub within_aside : (number : ℕ) (walk : Walk) (decl : Decl) → IsWithin number walk → IsWithin (number + 1) (aside walk number decl)
-within_aside number walk decl within = record {
+pub within_aside : (decls : List Decl) (number : ℕ) (walk : Walk) (decl : Decl) → has_other decls number ≡ is_some decl.other → IsWithin decls number walk → IsWithin decls (number + 1) (aside walk number decl)
+within_aside decls number walk decl own within = record {
   short = within.short;
   row = within.row;
   below = below_more number (take walk.path.len walk.path.decls) within.below;
+  plain = within.plain;
   other = by walk.other within.other;
 }
   where
-    if_has : (has : Bool) (one : ℕ) → (if has then Some number else None) ≡ Some one → one < number + 1
-    if_has true one is = let same : number ≡ one = cc in omega arith
-    if_has false one is = absurd (let e : None ≡ Some one = is in cc)
+    if_has : (has : Bool) → has_other decls number ≡ has → (one : ℕ) → (if has then Some number else None) ≡ Some one → (one < number + 1) × (has_other decls one ≡ true)
+    if_has true is one same = let e : number ≡ one = cc in (omega arith, ap (has_other decls) (sym e) ∙ is)
+    if_has false is one same = absurd (let e : None ≡ Some one = same in cc)
 
-    by : (counts : Option ℕ) → ((one : ℕ) → counts ≡ Some one → one < number) → (one : ℕ) → other_with counts number decl ≡ Some one → one < number + 1
-    by (Some other) before one is = let below : one < number = before one is in omega arith
-    by None before one is = if_has (is_some decl.other) one is
+    by : (counts : Option ℕ) → ((one : ℕ) → counts ≡ Some one → (one < number) × (has_other decls one ≡ true)) →
+        (one : ℕ) → other_with counts number decl ≡ Some one → (one < number + 1) × (has_other decls one ≡ true)
+    by (Some other) before one is = (let below : one < number = (before one is).0 in omega arith, (before one is).1)
+    by None before one is = if_has (is_some decl.other) own one is
+
+-- a declaration further on has an OTHER name where its row says so
+pub other_at : (decls : List Decl) (number : ℕ) (decl : Decl) (more : List Decl) → drop number decls ≡ decl ∷ more → has_other decls number ≡ is_some decl.other
+other_at [] zero decl more is = absurd (let e : [] ≡ decl ∷ more = is in cc)
+other_at [] (suc number) decl more is = absurd (let e : [] ≡ decl ∷ more = is in cc)
+other_at (first ∷ rest) zero decl more is = let same : first ≡ decl = cc in ap (λ (one : Decl). is_some one.other) same
+other_at (first ∷ rest) (suc number) decl more is = other_at rest number decl more is
 
 -- and so does its path
-pub path_within : (decls : List Decl) (walk : Walk) → IsWithin (length decls) walk → IsPathOf decls walk.path
-path_within decls walk within = record { short = within.short; declared = within.below }
+pub path_within : (decls : List Decl) (walk : Walk) → IsWithin decls (length decls) walk → IsPathOf decls walk.path
+path_within decls walk within = record {
+  short = within.short;
+  declared = within.below;
+  other = λ is. absurd (let e : true ≡ false = sym is ∙ within.plain in cc);
+}
 
-pub other_within : (decls : List Decl) (walk : Walk) (other : ℕ) → walk.path.len < 16 → walk.other ≡ Some other → IsWithin (length decls) walk →
+pub other_within : (decls : List Decl) (walk : Walk) (other : ℕ) → walk.path.len < 16 → walk.other ≡ Some other → IsWithin decls (length decls) walk →
     are_below (length decls) (take (walk.path.len + 1) (set walk.path.decls walk.path.len other)) ≡ true
 other_within decls walk other room has within =
     ap (are_below (length decls)) (take_more_set walk.path.decls walk.path.len other (omega (arith, within.row)))
-    ∙ below_push (length decls) (take walk.path.len walk.path.decls) other within.below (within.other other has)
+    ∙ below_push (length decls) (take walk.path.len walk.path.decls) other within.below (within.other other has).0
+
+last_has : (decls : List Decl) (numbers : List ℕ) (last : ℕ) → ends_with_other decls (numbers ++ last ∷ []) ≡ has_other decls last
+last_has decls [] last = refl
+last_has decls (one ∷ []) last = refl
+last_has decls (one ∷ next ∷ rest) last = last_has decls (next ∷ rest) last
+
+pub other_last : (decls : List Decl) (walk : Walk) (other : ℕ) → walk.path.len < 16 → walk.other ≡ Some other → IsWithin decls (length decls) walk →
+    ends_with_other decls (take (walk.path.len + 1) (set walk.path.decls walk.path.len other)) ≡ true
+other_last decls walk other room has within =
+    ap (ends_with_other decls) (take_more_set walk.path.decls walk.path.len other (omega (arith, within.row)))
+    ∙ last_has decls (take walk.path.len walk.path.decls) other ∙ (within.other other has).1

@@ -1,5 +1,5 @@
 -- The mode: a path through the declarations, which are a tree by their parents' numbers.
-use Rattle.std.specs.Prelude.{ℕ, zero, suc, ◌||◌, Bool, List, [], ◌∷◌, map, filter, slice_index_or, Option, Some, None, is_some, unwrap_or, option_map, nat_eq}
+use Rattle.std.specs.Prelude.{ℕ, zero, suc, ◌||◌, Bool, false, List, [], ◌∷◌, map, filter, slice_index_or, Option, Some, None, is_some, unwrap_or, option_map, nat_eq}
 use Rattle.std.specs.List.{enumerate_from, find, join_with_byte, list_all}
 use Rattle.std.specs.Option.{option_eq}
 use Rattle.helm_cond.specs.Conditions.{holds, parent_of}
@@ -48,6 +48,10 @@ name_of_decl decls number = slice_index_or (map (λ decl. decl.name) decls) numb
 -- its OTHER name, empty where it has none
 abbrev pub other_of_decl : List Decl → ℕ → List ℕ
 other_of_decl decls number = slice_index_or (map (λ decl. unwrap_or decl.other []) decls) number []
+
+-- it has an OTHER name
+abbrev pub has_other : List Decl → ℕ → Bool
+has_other decls number = slice_index_or (map (λ decl. is_some decl.other) decls) number false
 
 -- the name of a part
 abbrev pub part_name : List Decl → ModePart → List ℕ

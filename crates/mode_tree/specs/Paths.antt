@@ -2,7 +2,7 @@
 use Rattle.std.specs.Prelude.{◌≡◌, ℕ, ◌≤◌, Bool, true, false, ◌&&◌, nat_lt, if◌then◌else◌, List, [], ◌∷◌, ◌++◌, length, take, unwrap_or}
 use Rattle.bhv_reader.specs.declared.decl.Decl.{Decl}
 use Rattle.mode_tree.specs.declared.path.Path.{Path}
-use Rattle.mode_tree.specs.Modes.{ModePart, Named, Other}
+use Rattle.mode_tree.specs.Modes.{ModePart, Named, Other, has_other}
 
 -- the parts that numbers give, the last one an OTHER name or a declaration as the others
 abbrev pub parts_by : Bool → List ℕ → List ModePart
@@ -28,7 +28,15 @@ abbrev pub part_bytes : Decl → Bool → Bool → List ℕ
 part_bytes decl true other = if other then unwrap_or decl.other [] else decl.name
 part_bytes decl false other = decl.name ++ 58 ∷ []
 
--- a path of these declarations: at most 16 parts, each of which is one of them
+-- the last of these numbers, of which there is one at least, is that of a declaration with an OTHER name
+abbrev pub ends_with_other : List Decl → List ℕ → Bool
+ends_with_other decls [] = false
+ends_with_other decls (number ∷ []) = has_other decls number
+ends_with_other decls (number ∷ next ∷ rest) = ends_with_other decls (next ∷ rest)
+
+-- A path of these declarations: at most 16 parts, each of which is one of them, and where an OTHER name is the last part, the
+-- last of them has one.
 pub record IsPathOf (decls : List Decl) (path : Path) : Type 0 where
   pub short : path.len ≤ 16
   pub declared : are_declared decls (take path.len path.decls) ≡ true
+  pub other : path.other ≡ true → ends_with_other decls (take path.len path.decls) ≡ true

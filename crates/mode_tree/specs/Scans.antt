@@ -4,7 +4,7 @@ use Rattle.std.specs.Option.{option_eq}
 use Rattle.bhv_reader.specs.declared.decl.Decl.{Decl}
 use Rattle.helm_cond.specs.Learnt.{Knowledge}
 use Rattle.mode_tree.specs.declared.walk.Walk.{Walk}
-use Rattle.mode_tree.specs.Modes.{ModePart, Named, Other, is_met}
+use Rattle.mode_tree.specs.Modes.{ModePart, Named, Other, has_other, is_met}
 use Rattle.mode_tree.specs.Paths.{are_below}
 
 -- the parent stands before this number, or there is none
@@ -46,9 +46,10 @@ pub record ComesTo (known : Knowledge) (walk : Walk) (number : ℕ) (decls : Lis
   pub named : walk.path.other ≡ false
   pub is : map Named (take walk.path.len walk.path.decls) ++ scan known parts walk.parent walk.other number decls ≡ all
 
--- a walk that came to this number names only declarations before it
-pub record IsWithin (number : ℕ) (walk : Walk) : Type 0 where
+-- A walk over these declarations that came to this number names only those before it, and no OTHER name but one that is there.
+pub record IsWithin (decls : List Decl) (number : ℕ) (walk : Walk) : Type 0 where
   pub short : walk.path.len ≤ 16
   pub row : length walk.path.decls ≡ 16
   pub below : are_below number (take walk.path.len walk.path.decls) ≡ true
-  pub other : (one : ℕ) → walk.other ≡ Some one → one < number
+  pub plain : walk.path.other ≡ false
+  pub other : (one : ℕ) → walk.other ≡ Some one → (one < number) × (has_other decls one ≡ true)

@@ -1,7 +1,7 @@
-ghost use Rattle.std.specs.Prelude.{◌≡◌, ◌<◌, ◌^◌, true, length, IfOk};
+ghost use Rattle.std.specs.Prelude.{◌≡◌, ◌<◌, ◌≤◌, ◌^◌, true, length, take, IfOk};
 ghost use Rattle.helm_cond.specs.Infos.{knowledge_of};
 ghost use Rattle.mode_tree.specs.Modes.{mode_of, path_text};
-ghost use Rattle.mode_tree.specs.Paths.{parts_of_path, IsPathOf};
+ghost use Rattle.mode_tree.specs.Paths.{are_declared, parts_of_path, IsPathOf};
 ghost use Rattle.mode_tree.specs.Scans.{are_rooted};
 
 use crate::path::Path;
@@ -63,7 +63,8 @@ impl ModeTree {
 
     /// What a path prints as: its parts with `:` between.
     pub fn text(&self, alloc: Global, path: &Path) -> Result<Txt, NoMemory>
-        requires { IsPathOf self.now path.now }
+        requires short { path.now.len ≤ 16 }
+        requires declared { are_declared self.now (take path.now.len path.now.decls) ≡ true }
         ensures { IfOk result (λ text. text ≡ path_text self.now (parts_of_path path.now)) }
     {
         let numbers = &path.decls[..path.len as usize];

@@ -4,7 +4,7 @@ ghost use Rattle.bhv_reader.specs.declared.decl.Decl.{Decl as Declared};
 ghost use Rattle.helm_cond.specs.Conditions.{holds, parent_of};
 ghost use Rattle.helm_cond.specs.Infos.{knowledge_of};
 ghost use Rattle.helm_cond.specs.Learnt.{Knowledge};
-ghost use Rattle.mode_tree.specs.Modes.{ModePart, is_met, mode_of};
+ghost use Rattle.mode_tree.specs.Modes.{ModePart, has_other, is_met, mode_of};
 ghost use Rattle.mode_tree.specs.Paths.{parts_of_path, IsPathOf};
 
 use crate::path::Path;
@@ -28,7 +28,7 @@ impl Walk {
 
     // Before the first declaration.
     fn start() -> Walk
-        ensures within { IsWithin 0 result }
+        ensures within { (decls : List Declared) → IsWithin decls 0 result }
         ensures comes { (known : Knowledge) (decls : List Declared) → are_rooted 0 decls ≡ true → ComesTo known result 0 decls (mode_of decls known) }
     {
         Walk {
@@ -44,7 +44,7 @@ impl Walk {
 
     // The walk behind one declaration more, of this number.
     fn behind(self, number: u32, decl: &Decl, info: &Info) -> Walk
-        ensures within { IsWithin number self → IsWithin (number + 1) result }
+        ensures within { (decls : List Declared) → has_other decls number ≡ is_some decl.now.other → IsWithin decls number self → IsWithin decls (number + 1) result }
         ensures comes { (more : List Declared) (all : List ModePart) → ComesTo (knowledge_of info.now) self number (decl.now ∷ more) all → ComesTo (knowledge_of info.now) result (number + 1) more all }
     {
         if self.path.len >= MOST_PARTS {
@@ -95,7 +95,7 @@ impl Walk {
 
     // The path where no declaration is left: the OTHER name is its last part, where there is one.
     pub fn end(self) -> Path
-        ensures within { (decls : List Declared) → IsWithin (length decls) self → IsPathOf decls result }
+        ensures within { (decls : List Declared) → IsWithin decls (length decls) self → IsPathOf decls result }
         ensures comes { (known : Knowledge) (number : ℕ) (all : List ModePart) → ComesTo known self number [] all → parts_of_path result ≡ all }
     {
         if self.path.len >= MOST_PARTS {
@@ -113,7 +113,7 @@ impl Walk {
     pub fn over(decls: &[Decl], info: &Info) -> Walk
         requires few { length decls.now < 2 ^ 32 }
         requires rooted { are_rooted 0 decls.now ≡ true }
-        ensures within { IsWithin (length decls.now) result }
+        ensures within { IsWithin decls.now (length decls.now) result }
         ensures comes { ComesTo (knowledge_of info.now) result (length decls.now) [] (mode_of decls.now (knowledge_of info.now)) }
     {
         let mut walk = Walk::start();

@@ -30,15 +30,15 @@ returns-clause-comes c more all comes =
     (aside_on (knowledge_of c.args.info.now) c.args.self c.args.number c.args.decl.now more all c.if-self-ge-MOST_PARTS.false here unmet comes)
 
 pub returns-then-self-ge-MOST_PARTS-clause-within : goal.returns-then-self-ge-MOST_PARTS-clause-within
-returns-then-self-ge-MOST_PARTS-clause-within c within = within_more c.args.number c.args.self within
+returns-then-self-ge-MOST_PARTS-clause-within c decls own within = within_more decls c.args.number c.args.self within
 
 pub returns-then-ne-clause-within : goal.returns-then-ne-clause-within
-returns-then-ne-clause-within c within = within_more c.args.number c.args.self within
+returns-then-ne-clause-within c decls own within = within_more decls c.args.number c.args.self within
 
 pub returns-then-is_met-clause-within : goal.returns-then-is_met-clause-within
-returns-then-is_met-clause-within c within =
-    subst (λ walk. IsWithin (c.args.number + 1) walk) (sym c.into_decl.ensures) (within_into c.args.number c.args.self c.if-self-ge-MOST_PARTS.false within)
+returns-then-is_met-clause-within c decls own within =
+    subst (λ walk. IsWithin decls (c.args.number + 1) walk) (sym c.into_decl.ensures) (within_into decls c.args.number c.args.self c.if-self-ge-MOST_PARTS.false within)
 
 pub returns-clause-within : goal.returns-clause-within
-returns-clause-within c within =
-    subst (λ walk. IsWithin (c.args.number + 1) walk) (sym c.with_other.ensures) (within_aside c.args.number c.args.self c.args.decl.now within)
+returns-clause-within c decls own within =
+    subst (λ walk. IsWithin decls (c.args.number + 1) walk) (sym c.with_other.ensures) (within_aside decls c.args.number c.args.self c.args.decl.now own within)

@@ -1,7 +1,7 @@
 use Rattle.std.proofs.Common.{◌≡◌, ◌+◌, ◌∙◌, true, ap, take, length, arith}
 use Rattle.mode_tree.specs.declared.walk.Walk.{Walk}
-use Rattle.mode_tree.specs.Paths.{parts_by, are_below}
-use Rattle.mode_tree.proofs.Walking.{other_end, plain_end, path_within, other_within}
+use Rattle.mode_tree.specs.Paths.{parts_by, are_below, ends_with_other}
+use Rattle.mode_tree.proofs.Walking.{other_end, plain_end, path_within, other_last, other_within}
 use Rattle.mode_tree.proofs.walk.Walk.end.Goals as goal
 
 pub returns-then-self-ge-MOST_PARTS-clause-comes : goal.returns-then-self-ge-MOST_PARTS-clause-comes
@@ -27,4 +27,7 @@ returns-clause-within c decls within = record {
   declared =
       ap (λ (walk : Walk). are_below (length decls) (take walk.path.len walk.path.decls)) c.into_decl.ensures
       ∙ other_within decls c.args.self c.in-Some.number c.if-self-ge-MOST_PARTS.false c.in-Some.is within;
+  other = λ is.
+      ap (λ (walk : Walk). ends_with_other decls (take walk.path.len walk.path.decls)) c.into_decl.ensures
+      ∙ other_last decls c.args.self c.in-Some.number c.if-self-ge-MOST_PARTS.false c.in-Some.is within;
 }
