@@ -79,6 +79,7 @@ impl Behavior {
     }
 
     /// Reads one line more, `param = value`, which has this number.
+    #[inline(always)]
     pub fn read_line(
         &mut self,
         alloc: Global,
@@ -207,6 +208,7 @@ impl Behavior {
     }
 
     // A parameter that all types have, behind these behaviours.
+    #[inline(never)]
     fn set_common(
         &mut self,
         alloc: Global,
@@ -368,6 +370,7 @@ fn is_taken(blocks: &[Block], name: &[u8]) -> bool
 }
 
 // A parameter that the type of its behaviour doesn't have.
+#[inline(never)]
 fn add_unused(alloc: Global, file: &mut BhvFile, line: u32, name: &[u8]) -> Result<(), LineFault>
     requires { is_name name.now ≡ true }
     ensures added { OnOk result (file.new ≡ record file.old { unused = file.old.unused ++ record { line = line; name = name.now } ∷ [] }) }

@@ -1,12 +1,15 @@
 // A value in its field, and one more pair of a behaviour.
-ghost use Rattle.std.specs.Prelude.{◌≡◌, IfOk, OnErr, Some, None, true, false, if◌then◌else◌};
+ghost use Rattle.std.specs.Prelude.{◌≡◌, IfOk, OnErr, Some, None, true, false, if◌then◌else◌, option_map};
 ghost use Rattle.bhv_reader.specs.declared.table.CommonParameter.TheVariants.{Weight};
 ghost use Rattle.bhv_reader.specs.Params.{with_flag, with_number_field, with_param, with_place, with_places, with_repeat, with_field, with_time, with_value_of};
 ghost use Rattle.bhv_reader.specs.Ranges.{KeepsRanges};
+ghost use Rattle.bhv_reader.specs.Values.{setting_of};
 
-use crate::setting::{Setting, read_setting, read_weight};
+use crate::setting::{Setting, read_number, read_setting, read_weight};
 use crate::spec::{Shape, Spec, Spots};
-use crate::table::{CommonParameter, Parameter, is_common_name, parameter_named, value_range};
+use crate::table::{
+    CommonParameter, Parameter, ValueRange, is_common_name, parameter_named, value_range,
+};
 use helm_geo::Spot;
 use moos_post::NoMemory;
 use std::alloc::Global;
@@ -117,7 +120,40 @@ pub fn set_value(
     ensures bad { IfOk result (λ good. good ≡ false → shape.new ≡ shape.old) }
     ensures same { OnErr result (shape.new ≡ shape.old) }
 {
-    match read_setting(alloc, value_range(parameter), value)? {
+    match value_range(parameter) {
+        ValueRange::Number { low, high } => Ok(set_number(shape, parameter, low, high, value)),
+        range => set_in_range(alloc, shape, parameter, range, value),
+    }
+}
+
+// A number from `low` to `high` in its field, which most parameters are.
+fn set_number(shape: &mut Shape, parameter: Parameter, low: i64, high: i64, value: &[u8]) -> bool
+    ensures good { option_map (with_field shape.old parameter) (setting_of (ValueRange.Number low high) value.now) ≡ (if result then Some shape.new else None) }
+    ensures bad { result ≡ false → shape.new ≡ shape.old }
+{
+    match read_number(low, high, value) {
+        Some(n) => {
+            put_number(shape, parameter, n);
+            true
+        },
+        None => false,
+    }
+}
+
+// A value of any range.
+#[inline(never)]
+fn set_in_range(
+    alloc: Global,
+    shape: &mut Shape,
+    parameter: Parameter,
+    range: ValueRange,
+    value: &[u8],
+) -> Result<bool, NoMemory>
+    ensures good { IfOk result (λ good. option_map (with_field shape.old parameter) (setting_of range value.now) ≡ (if good then Some shape.new else None)) }
+    ensures bad { IfOk result (λ good. good ≡ false → shape.new ≡ shape.old) }
+    ensures same { OnErr result (shape.new ≡ shape.old) }
+{
+    match read_setting(alloc, range, value)? {
         Some(setting) => {
             put(shape, parameter, setting);
             Ok(true)

@@ -1,4 +1,5 @@
-// A behaviour file line by line.
+// A behaviour file line by line. Most lines stand in a block and set a number of its type: what such a line goes through is
+// inlined into the loop over the lines, and what fewer of them need isn't.
 ghost use Rattle.std.specs.Prelude.{◌≡◌, ◌<◌, ◌≤◌, ◌^◌, Ok, Err, IfOk, OnOk, IfErr, List, length, true, false, if◌then◌else◌, codes, bytes_eq};
 ghost use Rattle.moos_text.specs.Lines.{behind_word, ends_with, first_word, is_unclosed};
 ghost use Rattle.moos_text.specs.Pairs.{pair_of, sides_of};
@@ -43,6 +44,7 @@ pub enum Position {
 
 /// Reads one line more, which has this number and says this; nothing where it is blank. Behind a refusal it isn't said where
 /// the lines are.
+#[inline(always)]
 pub fn after_line(
     alloc: Global,
     domain: &Domain,
@@ -75,6 +77,7 @@ pub fn after_line(
 }
 
 // The same of a line that says something and leaves no quote open.
+#[inline(always)]
 fn after_statement(
     alloc: Global,
     domain: &Domain,
@@ -92,6 +95,25 @@ fn after_statement(
     if is_within(place, text) {
         return read_within(alloc, file, place, line, text);
     }
+    pass_edge(alloc, domain, file, place, line, text)
+}
+
+// The same of a line that isn't within a block or closes it: where the lines are moves.
+#[inline(never)]
+fn pass_edge(
+    alloc: Global,
+    domain: &Domain,
+    file: &mut BhvFile,
+    place: &mut Position,
+    line: u32,
+    text: &[u8],
+) -> Result<(), LineFault>
+    requires edge { is_within place.old text.now ≡ false }
+    requires few { length file.old.decls ≤ 256 }
+    ensures read { IfOk result (λ _. after_statement (behavior_form domain.now) (standing_at file.old place.old) (record { line = line; text = text.now }) ≡ Ok (standing_at file.new place.new)) }
+    ensures refused { IfErr result (λ fault. IsLineFault fault (after_statement (behavior_form domain.now) (standing_at file.old place.old) (record { line = line; text = text.now }))) }
+    ensures few { OnOk result (length file.new.decls ≤ 256) }
+{
     let before = mem::replace(place, Position::Loose);
     *place = read_at_edge(alloc, domain, file, before, line, text)?;
     Ok(())
@@ -114,6 +136,7 @@ fn begins_by_brace(text: &[u8]) -> bool
 }
 
 // A line that stands in a block and doesn't close it changes the block in its place.
+#[inline(always)]
 fn read_within(
     alloc: Global,
     file: &mut BhvFile,

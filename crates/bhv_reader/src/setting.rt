@@ -41,8 +41,8 @@ pub fn read_setting(
     })
 }
 
-// A number from `low` to `high`, in thousandths.
-fn read_number(low: i64, high: i64, text: &[u8]) -> Option<i64>
+/// A number from `low` to `high`, in thousandths.
+pub fn read_number(low: i64, high: i64, text: &[u8]) -> Option<i64>
     ensures { result ≡ number_value low high text.now }
 {
     let number = read_milli(text)?.get();

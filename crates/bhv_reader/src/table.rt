@@ -1,7 +1,7 @@
 // The table of the parameters of behaviours: under which names each stands in a file, which values it may have, and which
 // types have it. `put` says in which field it is, and `types` what it is where it isn't given.
 ghost use Rattle.std.specs.Prelude.{◌≡◌, find};
-ghost use Rattle.bhv_reader.specs.Table.{common_named, is_called, is_needed, parameter_of, parameters_of, value_range, states_common};
+ghost use Rattle.bhv_reader.specs.Table.{common_named, is_called, is_needed, parameter_of, value_range, states_common};
 
 use crate::spec::Shape;
 use moos_text::is_named;
@@ -68,57 +68,6 @@ pub enum ValueRange {
     Polygon,
     /// One place.
     Place,
-}
-
-/// The parameters of a behaviour's type.
-pub fn parameters(shape: &Shape) -> &'static [Parameter]
-    ensures { result.now ≡ parameters_of shape.now }
-{
-    match shape {
-        Shape::Heading { .. } => &[
-            Parameter::Heading,
-            Parameter::PeakWidth,
-            Parameter::BaseWidth,
-            Parameter::SummitDelta,
-        ],
-        Shape::Speed { .. } => &[
-            Parameter::Speed,
-            Parameter::PeakWidth,
-            Parameter::BaseWidth,
-            Parameter::SummitDelta,
-        ],
-        Shape::Depth { .. } => &[
-            Parameter::Depth,
-            Parameter::PeakWidth,
-            Parameter::BaseWidth,
-            Parameter::SummitDelta,
-        ],
-        Shape::MaxDepth { .. } => &[Parameter::MaxDepth, Parameter::BaseWidth],
-        Shape::Timer => &[],
-        Shape::Waypoint { .. } => &[
-            Parameter::Points,
-            Parameter::Speed,
-            Parameter::CaptureRadius,
-            Parameter::SlipRadius,
-            Parameter::Order,
-            Parameter::Repeat,
-        ],
-        Shape::Loiter { .. } => &[
-            Parameter::Polygon,
-            Parameter::Speed,
-            Parameter::CaptureRadius,
-            Parameter::SlipRadius,
-            Parameter::Clockwise,
-        ],
-        Shape::StationKeep { .. } => &[
-            Parameter::StationPoint,
-            Parameter::CenterActivate,
-            Parameter::InnerRadius,
-            Parameter::OuterRadius,
-            Parameter::OuterSpeed,
-        ],
-        Shape::OpRegion { .. } => &[Parameter::Polygon, Parameter::MaxDepth, Parameter::MaxTime],
-    }
 }
 
 /// Whether a name in a file is that of a parameter.
@@ -188,14 +137,41 @@ pub fn is_needed(parameter: Parameter) -> bool
     )
 }
 
+// The first of these parameters that has this name. The names of a type stand in the code, so that their lengths tell most of
+// them apart at once and no list is walked for a line.
+macro_rules! first_called {
+    ($name:expr; $($parameter:ident),+) => {
+        $(if is_called(Parameter::$parameter, $name) {
+            Some(Parameter::$parameter)
+        } else)+ {
+            None
+        }
+    };
+}
+
 /// The parameter of a behaviour's type that has this name, where one does.
 pub fn parameter_named(shape: &Shape, name: &[u8]) -> Option<Parameter>
     ensures { result ≡ parameter_of shape.now name.now }
 {
-    parameters(shape)
-        .iter()
-        .copied()
-        .find(|parameter| is_called(*parameter, name))
+    match shape {
+        Shape::Heading { .. } => {
+            first_called!(name; Heading, PeakWidth, BaseWidth, SummitDelta)
+        },
+        Shape::Speed { .. } => first_called!(name; Speed, PeakWidth, BaseWidth, SummitDelta),
+        Shape::Depth { .. } => first_called!(name; Depth, PeakWidth, BaseWidth, SummitDelta),
+        Shape::MaxDepth { .. } => first_called!(name; MaxDepth, BaseWidth),
+        Shape::Timer => None,
+        Shape::Waypoint { .. } => {
+            first_called!(name; Points, Speed, CaptureRadius, SlipRadius, Order, Repeat)
+        },
+        Shape::Loiter { .. } => {
+            first_called!(name; Polygon, Speed, CaptureRadius, SlipRadius, Clockwise)
+        },
+        Shape::StationKeep { .. } => {
+            first_called!(name; StationPoint, CenterActivate, InnerRadius, OuterRadius, OuterSpeed)
+        },
+        Shape::OpRegion { .. } => first_called!(name; Polygon, MaxDepth, MaxTime),
+    }
 }
 
 // The common parameters.
