@@ -15,6 +15,7 @@ use Rattle.moos_post.specs.declared.entry.Entry.{Entry}
 use Rattle.bhv_reader.specs.Behaviors.{nothing_said}
 use Rattle.bhv_reader.specs.declared.file.Block.{Block}
 use Rattle.bhv_reader.specs.declared.spec.Shape.TheVariants.{Timer}
+use Rattle.helm_core.specs.Decisions.{best_decision}
 use Rattle.mission_reader.specs.declared.mission.Mission.{Mission}
 use Rattle.moos_client.specs.Calls.{entries_of}
 use Rattle.moos_play.specs.Lawful.{IsLawful}
@@ -28,7 +29,7 @@ use Rattle.moos_top.specs.declared.status.Status.TheVariants.{Done, CheckNo, Usa
 use Rattle.moos_top.specs.Commands.{bounded, check_command, IsPlain, play_command, race_rule, solve_command, workers_rule}
 use Rattle.moos_top.specs.Exit.{code_of}
 use Rattle.moos_top.specs.Jobs.Task.{Checking, Playing, Solving}
-use Rattle.moos_top.specs.Jobs.{decision_on, HasFewWorkers, IsAccepted, IsOutput, Ready, turn_of, Unfit, Wanted, with_few_ticks}
+use Rattle.moos_top.specs.Jobs.{HasFewWorkers, IsAccepted, IsOutput, Ready, turn_of, Unfit, Wanted, with_few_ticks}
 use Rattle.moos_top.specs.Steps.{Ended, sinking, status_of}
 use Rattle.moos_top.proofs.Communities.{all_entries}
 
@@ -62,13 +63,13 @@ problem_bytes = codes "ivp 1\ndomain a:0:1:2\nfunction 1\npiece 0 1 5 1\nend\n"
 abbrev pub decision : Decision
 decision = record { problem = problem; claim = record { point = record { at = 1 ∷ 0 ∷ 0 ∷ 0 ∷ [] }; sum = 6 }; cert = record { path = 0 ∷ []; sum = 6; index = 1 } ∷ [] }
 
-decided : decision_on problem ≡ decision
+decided : best_decision problem ≡ decision
 decided = refl
 
 abbrev pub decision_bytes : List ℕ
 decision_bytes = problem_bytes ++ codes "decision 1 6\ncut 0 : 6 1\ndone\n"
 
-pub printed : decision_lines [] (decision_on problem) ≡ decision_bytes
+pub printed : decision_lines [] (best_decision problem) ≡ decision_bytes
 unfolding digits
 printed = refl
 
@@ -290,7 +291,7 @@ half_done : Ended (Ready (Solving problem)) (sinking (Some []) (Some (take 20 de
 half_done is =
     let good : Ready (Solving problem) ≡ Ready is.task = is.good in
     let task : is.task ≡ Solving problem = cc in
-    let output : is.text ≡ decision_lines [] (decision_on problem) = subst (λ task. IsOutput task Done is.text) task is.output in
+    let output : is.text ≡ decision_lines [] (best_decision problem) = subst (λ task. IsOutput task Done is.text) task is.output in
     let took : Some (take 20 decision_bytes) ≡ Some is.text = is.took in
     let same : take 20 decision_bytes ≡ is.text = cc in
     omega (arith, ap length same, ap length output, ap length printed)

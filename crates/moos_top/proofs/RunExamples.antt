@@ -2,6 +2,7 @@
 use Rattle.std.proofs.Common.{◌≡◌, ℕ, inl, inr, true, false, List, [], ◌∷◌, ◌++◌, length, take, refl, ap, sym, ◌∙◌, subst, arith}
 use Rattle.std.specs.Prelude.{codes, Option, Some, None, Result, Ok, Err}
 use Rattle.std.specs.Fmt.{digits}
+use Rattle.helm_core.specs.Decisions.{best_decision}
 use Rattle.ivp_cert.specs.Texts.{decision_lines}
 use Rattle.moos_io.specs.Faults.{Rose}
 use Rattle.moos_io.specs.Files.{file_content, is_among}
@@ -16,7 +17,7 @@ use Rattle.moos_top.specs.declared.status.FileKind.TheVariants.{Problem as Probl
 use Rattle.moos_top.specs.declared.status.Status.{Status}
 use Rattle.moos_top.specs.declared.status.Status.TheVariants.{Done, CheckNo, Usage, LoadFault, WriteFault, Refused, NoMemory}
 use Rattle.moos_top.specs.Jobs.Task.{Checking, Playing, Solving}
-use Rattle.moos_top.specs.Jobs.{decision_on, Ready, turn_behind, turn_of, Unfit, Wanted}
+use Rattle.moos_top.specs.Jobs.{Ready, turn_behind, turn_of, Unfit, Wanted}
 use Rattle.moos_top.specs.Run.{Completes, DidFrom, DidJob, HasBytes, IsServed, EndsWith, Refuses, Surroundings, surroundings}
 use Rattle.moos_top.specs.Steps.{Ended, IsToPlay, sinking, WroteAll}
 use Rattle.moos_top.proofs.Endings.{completes, ended_with, Good, IsOver, output_of, refuses}
@@ -71,7 +72,7 @@ solving_ended taken status is did over =
 all_written : (taken : List ℕ) → EndsWith solve (solving problem_bytes taken 0) Done → taken ≡ decision_bytes
 all_written taken is =
     let wrote : WroteAll (Ready (Solving problem)) Done (sinking (Some []) (Some taken) 0 0) = solving_ended taken Done is is.ended (Good is.ended.ended.task is.ended.ended.good) in
-    let output : wrote.text ≡ decision_lines [] (decision_on problem) = output_of (Solving problem) Done (sinking (Some []) (Some taken) 0 0) wrote in
+    let output : wrote.text ≡ decision_lines [] (best_decision problem) = output_of (Solving problem) Done (sinking (Some []) (Some taken) 0 0) wrote in
     let took : Some taken ≡ Some wrote.text = wrote.took in
     let same : taken ≡ wrote.text = cc in
     same ∙ output ∙ printed

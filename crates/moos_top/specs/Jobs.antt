@@ -4,14 +4,14 @@ use Rattle.clap.specs.Words.{Row, Text, first_of}
 use Rattle.bhv_reader.specs.declared.file.BhvFile.{BhvFile}
 use Rattle.bhv_reader.specs.declared.file.Block.{Block}
 use Rattle.bhv_reader.specs.Behaviors.{behaviors_of}
+use Rattle.helm_core.specs.Decisions.{best_decision}
 use Rattle.helm_core.specs.Plans.{plan_made}
 use Rattle.helm_core.specs.Posts.{are_declared_modes}
 use Rattle.ivp_cert.specs.declared.claim.Decision.{Decision}
-use Rattle.ivp_cert.specs.Certificates.{Accepts, certificate_of}
+use Rattle.ivp_cert.specs.Certificates.{Accepts}
 use Rattle.ivp_cert.specs.Decisions.{decision_of}
 use Rattle.ivp_cert.specs.Problems.{problem_of}
 use Rattle.ivp_cert.specs.Texts.{decision_lines}
-use Rattle.ivp_problem.specs.Sums.{best_of, sum_at}
 use Rattle.ivp_problem.specs.Problems.{WeightedSum}
 use Rattle.mission_reader.specs.declared.mission.Mission.{Mission}
 use Rattle.mission_reader.specs.Missions.{mission_of}
@@ -193,15 +193,6 @@ pub record IsSummary (number : ℕ) (text : List ℕ) : Type 0 where
   pub printed : text ≡ summary_text number (names_with (generated_script number) (Some files)) history (iterations_on (generated_script number) (Some files) history)
   pub sole : (other : History) → IsLawfulWith Stamp (generated_script number) (Some files) other → other ≡ history
 
--- the decision on a problem: its best point, the sum there, and its certificate
-abbrev pub decision_on : WeightedSum → Decision
-decision_on problem =
-    record {
-      problem = problem;
-      claim = record { point = best_of problem; sum = sum_at problem (best_of problem) };
-      cert = certificate_of problem;
-    }
-
 -- the decision's certificate is accepted for what it claims
 abbrev pub IsAccepted : Decision → Type 0
 IsAccepted decision = Accepts decision.problem decision.claim decision.cert
@@ -210,7 +201,7 @@ IsAccepted decision = Accepts decision.problem decision.claim decision.cert
 -- on it, of a decision whether it is accepted, of a number the summary of its mission; and nothing with another status
 abbrev pub IsOutput : Task → Status → List ℕ → Type 0
 IsOutput (Playing order script helm) Done text = IsReport order script helm text
-IsOutput (Solving problem) Done text = text ≡ decision_lines [] (decision_on problem)
+IsOutput (Solving problem) Done text = text ≡ decision_lines [] (best_decision problem)
 IsOutput (Checking decision) Done text = IsAccepted decision × (text ≡ codes "accepted\n")
 IsOutput (Checking decision) CheckNo text = (IsAccepted decision → ⊥) × (text ≡ codes "not accepted\n")
 IsOutput (Generating number) Done text = IsSummary number text

@@ -4,12 +4,11 @@
 //! what was written. With `Done` that is the report of a lawful history of the script that the words name, or the
 //! decision on the problem with its certificate, or that the decision is accepted, or the counts of a generated mission.
 //!
-//! Reading order: `words`, `commands`, `job` and `status`, `decide`, `telling`, `play_job`, `generate_job`, and `run` last. `main` is the
-//! trusted edge, which hands the real command line, files and standard output to `run`.
+//! Reading order: `words`, `commands`, `job` and `status`, `telling`, `play_job`, `generate_job`, and `run` last. `main` is the trusted
+//! edge, which hands the real command line, files and standard output to `run`.
 #![tactic(auto)]
 
 mod commands;
-mod decide;
 mod generate_job;
 mod job;
 mod play_job;

@@ -7,12 +7,12 @@ ghost use Rattle.moos_top.specs.Run.{Completes, EndsWith, EndsFrom, HasBytes, Re
 ghost use Rattle.moos_top.specs.Steps.{sinking, status_of};
 ghost use Rattle.moos_top.specs.declared.job.Job.TheVariants.{Check, Solve};
 
-use crate::decide::decide;
 use crate::generate_job::generate;
 use crate::job::{Job, job_named};
 use crate::play_job::play_files;
 use crate::status::{FileKind, Refusal, Status};
 use crate::words::Words;
+use helm_core::decide;
 use ivp_cert::{accepts, print_decision, read_decision, read_problem};
 use moos_io::{Failed, Folder, Gate, LoadFault, Sink, put_all};
 use moos_post::Txt;

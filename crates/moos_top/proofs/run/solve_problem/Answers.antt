@@ -34,7 +34,7 @@ returns-in-Ok-decide-clause-ends g c =
     last_ends _ _ _ _ _ (Solve c.args.name.now c.args.workers) [] ProblemFile c.args.name.now _ bytes _ c.written.result refl c.bytes.ensures.value c.in-Ok.ensures.content c.in-Ok.ensures.later
     (ap (turn_behind ProblemFile next) read)
     (put_ends _ (Solving c.in-Ok-read_problem.problem) _ Done c.written.result _ c.print_decision.result (λ all. all) refl
-    (ap (decision_lines []) c.in-Ok-decide.ensures) c.print_decision.ensures.ok c.print_decision.ensures.front c.print_decision.ensures.rose c.written.ensures.all c.written.ensures.fault)
+    (ap (decision_lines []) c.in-Ok-decide.ensures.best) c.print_decision.ensures.ok c.print_decision.ensures.front c.print_decision.ensures.rose c.written.ensures.all c.written.ensures.fault)
 
 pub returns-clause-ends : goal.returns-clause-ends
 returns-clause-ends g c = record { files = []; loaded = tt; ended = nothing_put _ _ _ }
