@@ -36,7 +36,7 @@ place_milli axes point k lawful inside within =
     end_milli (value_on axis (slice_index point.at k)) (value_within axis (slice_index point.at k) good below)
 
 -- on the axis of this name, or 0 where there is none
-number_milli : (axes : List Axis) (name : List ℕ) (point : Point) → is_domain axes ≡ true → is_point axes point ≡ true → IsMilli (number_on axes name point)
+pub number_milli : (axes : List Axis) (name : List ℕ) (point : Point) → is_domain axes ≡ true → is_point axes point ≡ true → IsMilli (number_on axes name point)
 number_milli axes name point lawful inside = by (position (λ axis. bytes_eq axis.name name) axes) refl
   where
     by : (place : Option ℕ) → position (λ (axis : Axis). bytes_eq axis.name name) axes ≡ place → IsMilli (number_at axes point place)

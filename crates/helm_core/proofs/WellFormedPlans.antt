@@ -79,7 +79,7 @@ all_wanted names [] all more = all
 all_wanted names (name ∷ rest) all more = all_wanted (with_wanted names name) rest (wanted_named names name all more.0) more.1
 
 -- a name is a pattern
-name_pattern : (name : List ℕ) → IsNamed name → IsTrue (is_pattern name)
+pub name_pattern : (name : List ℕ) → IsNamed name → IsTrue (is_pattern name)
 name_pattern [] is = absurd cc
 name_pattern (first ∷ rest) is =
     let name = first ∷ rest in

@@ -1,4 +1,5 @@
-ghost use Rattle.std.specs.Prelude.{◌≡◌};
+ghost use Rattle.std.specs.Prelude.{◌≡◌, IsTrue};
+ghost use Rattle.moos_post.specs.Words.{is_text};
 ghost use Rattle.bhv_reader.specs.Params.{has_axis};
 ghost use Rattle.helm_core.specs.Decisions.{some_active};
 ghost use Rattle.helm_core.specs.Helms.{allstop_text};
@@ -37,7 +38,8 @@ impl Allstop {
 
     // What it is posted as.
     pub fn text(&self) -> &'static [u8]
-        ensures { result.now ≡ allstop_text self.now }
+        ensures reason { result.now ≡ allstop_text self.now }
+        ensures text { IsTrue (is_text result.now) }
     {
         match self {
             Allstop::ManualOverride => b"ManualOverride",

@@ -1,7 +1,8 @@
 // What the active behaviours decide together.
-ghost use Rattle.std.specs.Prelude.{◌≡◌, ◌<◌, ◌≤◌, ◌++◌, bytes_eq, length, position, IfOk, IfSome, IsTrue, OnOk};
+ghost use Rattle.std.specs.Prelude.{◌≡◌, ◌<◌, ◌≤◌, ◌++◌, bytes_eq, codes, length, position, IfOk, IfSome, IsTrue, OnOk};
 ghost use Rattle.std.specs.List.{All, filter_map};
 ghost use Rattle.std.specs.Option.{option_to_list};
+ghost use Rattle.moos_post.specs.Words.{IsMilli};
 ghost use Rattle.ivp_domain.specs.Domains.{is_point};
 ghost use Rattle.helm_core.specs.Decisions.{IsFitTerm, active_term, best_decision, decision_made, number_on};
 ghost use Rattle.helm_core.specs.Helms.{allstop_text};
@@ -9,6 +10,7 @@ ghost use Rattle.helm_core.specs.Posts.{desired, desired_speed};
 ghost use Rattle.helm_core.specs.Standings.{IsFit};
 
 use crate::allstop::{Allstop, some_active};
+use crate::own_names::OwnNames;
 use crate::posts::add_number;
 use crate::showing::Showing;
 use ivp_cert::{Claim, Decision, cut};
@@ -16,7 +18,7 @@ use ivp_domain::{Axis, Domain, Point};
 use ivp_pool::solve;
 use ivp_problem::{Problem, Term, best_law, keys_law, sum_of};
 use moos_io::Gate;
-use moos_post::{Batch, NoMemory};
+use moos_post::{Batch, Name, NoMemory};
 use std::alloc::Global;
 use std::sync::Wait;
 use std::thread::Threads;
@@ -115,11 +117,57 @@ fn problem_of(domain: Domain, terms: Vec<Term>) -> Problem
     }
 }
 
-// Adds the decided number of an axis, where an active behaviour's function mentions it.
-pub(crate) fn add_desired(
+// Adds the decided course, where an active behaviour's function mentions it.
+pub(crate) fn add_heading(
     alloc: Global,
     posts: &mut Batch,
-    var: &[u8],
+    own: &OwnNames,
+    mentioned: bool,
+    decision: &Option<Decision>,
+) -> Result<(), NoMemory>
+    requires point { IfSome decision.now (λ made. IsTrue (is_point made.problem.axes made.claim.point)) }
+    ensures { OnOk result (posts.new ≡ posts.old ++ desired (codes "DESIRED_HEADING") (codes "course") mentioned decision.now) }
+{
+    add_desired(alloc, posts, own.heading(), b"course", mentioned, decision)
+}
+
+// Adds the decided depth, likewise.
+pub(crate) fn add_depth(
+    alloc: Global,
+    posts: &mut Batch,
+    own: &OwnNames,
+    mentioned: bool,
+    decision: &Option<Decision>,
+) -> Result<(), NoMemory>
+    requires point { IfSome decision.now (λ made. IsTrue (is_point made.problem.axes made.claim.point)) }
+    ensures { OnOk result (posts.new ≡ posts.old ++ desired (codes "DESIRED_DEPTH") (codes "depth") mentioned decision.now) }
+{
+    add_desired(alloc, posts, own.depth(), b"depth", mentioned, decision)
+}
+
+// Adds the speed: 0 where the vehicle must stop, else the decided one where it is mentioned.
+pub(crate) fn add_speed(
+    alloc: Global,
+    posts: &mut Batch,
+    own: &OwnNames,
+    allstop: Allstop,
+    mentioned: bool,
+    decision: &Option<Decision>,
+) -> Result<(), NoMemory>
+    requires point { IfSome decision.now (λ made. IsTrue (is_point made.problem.axes made.claim.point)) }
+    ensures { OnOk result (posts.new ≡ posts.old ++ desired_speed (allstop_text allstop) mentioned decision.now) }
+{
+    match allstop {
+        Allstop::Clear => add_desired(alloc, posts, own.speed(), b"speed", mentioned, decision),
+        _ => add_number(alloc, posts, own.speed(), 0),
+    }
+}
+
+// Adds the decided number of an axis, where an active behaviour's function mentions it.
+fn add_desired(
+    alloc: Global,
+    posts: &mut Batch,
+    var: &Name,
     name: &[u8],
     mentioned: bool,
     decision: &Option<Decision>,
@@ -130,45 +178,18 @@ pub(crate) fn add_desired(
     match decision {
         Some(made) if mentioned => {
             let domain = made.problem.domain();
-            add_number(
-                alloc,
-                posts,
-                var,
-                number_on(&domain, name, &made.claim.point),
-            )
+            let number = number_on(&domain, name, &made.claim.point);
+            add_number(alloc, posts, var, number)
         },
         _ => Ok(()),
-    }
-}
-
-// Adds the speed: 0 where the vehicle must stop, else the decided one where it is mentioned.
-pub(crate) fn add_speed(
-    alloc: Global,
-    posts: &mut Batch,
-    allstop: Allstop,
-    mentioned: bool,
-    decision: &Option<Decision>,
-) -> Result<(), NoMemory>
-    requires point { IfSome decision.now (λ made. IsTrue (is_point made.problem.axes made.claim.point)) }
-    ensures { OnOk result (posts.new ≡ posts.old ++ desired_speed (allstop_text allstop) mentioned decision.now) }
-{
-    match allstop {
-        Allstop::Clear => add_desired(
-            alloc,
-            posts,
-            b"DESIRED_SPEED",
-            b"speed",
-            mentioned,
-            decision,
-        ),
-        _ => add_number(alloc, posts, b"DESIRED_SPEED", 0),
     }
 }
 
 // The number that a point has on the axis of this name, 0 where there is none.
 fn number_on(domain: &Domain, name: &[u8], point: &Point) -> i64
     requires point { IsTrue (is_point domain.now point.now) }
-    ensures { result ≡ number_on domain.now name.now point.now }
+    ensures number { result ≡ number_on domain.now name.now point.now }
+    ensures within { IsMilli result }
 {
     match axis_named(domain.all(), name) {
         Some(place) => domain.value(place as u32, point.at[place]),

@@ -11,9 +11,10 @@ ghost use Rattle.helm_core.specs.Kept.{first_posts, helm_after, iteration_by, sa
 use crate::allstop::{Allstop, mentions_course, mentions_depth, mentions_speed};
 use crate::behavior::Behavior;
 use crate::crew::Crew;
-use crate::decision::{add_desired, add_speed, decision_made};
+use crate::decision::{add_depth, add_heading, add_speed, decision_made};
 use crate::iteration::Iteration;
 use crate::outlook::Outlook;
+use crate::own_names::OwnNames;
 use crate::posts::add_changed;
 use crate::showing::Showing;
 use crate::telling::{add_flags, faults_of, states_of, updates_of};
@@ -33,6 +34,7 @@ use std::thread::Threads;
 /// a list of them, each with the stamp of the iteration that heard it.
 #[derive(Drop)]
 pub struct Helm {
+    own: OwnNames,
     opening: Batch,
     modes: ModeTree,
     crew: Crew,
@@ -59,10 +61,12 @@ impl Helm {
             blocks,
             ..
         } = file;
+        let own = OwnNames::make(alloc)?;
         let modes = ModeTree::make(decls);
         let outlook = Outlook::blank(alloc, &modes)?;
         let crew = Crew::make(alloc, mission.domain, blocks)?;
         Ok(Helm {
+            own,
             opening,
             modes,
             crew,
@@ -189,31 +193,12 @@ impl Helm {
         );
         let domain = self.crew.domain();
         let decision = decision_made(rt, alloc, domain, showings, workers, gate)?;
-        add_desired(
-            alloc,
-            &mut posts,
-            b"DESIRED_HEADING",
-            b"course",
-            course,
-            &decision,
-        )?;
-        add_speed(alloc, &mut posts, allstop, speed, &decision)?;
-        add_desired(
-            alloc,
-            &mut posts,
-            b"DESIRED_DEPTH",
-            b"depth",
-            depth,
-            &decision,
-        )?;
+        let own = &self.own;
+        add_heading(alloc, &mut posts, own, course, &decision)?;
+        add_speed(alloc, &mut posts, own, allstop, speed, &decision)?;
+        add_depth(alloc, &mut posts, own, depth, &decision)?;
         let before = self.last_allstop();
-        add_changed(
-            alloc,
-            &mut posts,
-            b"IVPHELM_ALLSTOP",
-            before,
-            allstop.text(),
-        )?;
+        add_changed(alloc, &mut posts, own.allstop(), before, allstop.text())?;
         Ok(Iteration {
             stamp,
             parked: now.parked,
@@ -238,9 +223,10 @@ impl Helm {
         let state = self.said(self.outlook.state());
         let mode = self.said(self.outlook.mode.bytes());
         let mut posts = Batch::new(alloc);
-        add_changed(alloc, &mut posts, b"IVPHELM_STATE", state, now.state())?;
+        let own = &self.own;
+        add_changed(alloc, &mut posts, own.state(), state, now.state())?;
         if self.modes.decls().len() > 0 {
-            add_changed(alloc, &mut posts, b"MODE", mode, now.mode.bytes())?;
+            add_changed(alloc, &mut posts, own.mode(), mode, now.mode.bytes())?;
         }
         add_flags(alloc, &mut posts, showings)?;
         Ok(posts)

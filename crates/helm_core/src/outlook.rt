@@ -1,5 +1,6 @@
 // What the helm makes of the letters that it has heard.
-ghost use Rattle.std.specs.Prelude.{◌≡◌, [], IfOk, OnOk};
+ghost use Rattle.std.specs.Prelude.{◌≡◌, [], IfOk, IsTrue, OnOk};
+ghost use Rattle.moos_post.specs.Words.{is_text};
 ghost use Rattle.moos_db.specs.Database.{pair_posted};
 ghost use Rattle.helm_cond.specs.Infos.{knowledge_of};
 ghost use Rattle.mode_tree.specs.Modes.{mode_text};
@@ -58,7 +59,8 @@ impl Outlook {
 
     // Its state, as it is posted.
     pub fn state(&self) -> &'static [u8]
-        ensures { result.now ≡ state_word self.now.parked }
+        ensures state { result.now ≡ state_word self.now.parked }
+        ensures text { IsTrue (is_text result.now) }
     {
         if self.parked { b"PARK" } else { b"DRIVE" }
     }

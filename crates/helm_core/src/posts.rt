@@ -1,5 +1,6 @@
 // The pairs that the helm posts, one by one.
-ghost use Rattle.std.specs.Prelude.{◌≡◌, ◌++◌, ◌∷◌, [], OnOk, option_copied};
+ghost use Rattle.std.specs.Prelude.{◌≡◌, ◌++◌, ◌∷◌, [], OnOk, option_copied, IsTrue};
+ghost use Rattle.moos_post.specs.Words.{is_text, IsMilli};
 ghost use Rattle.helm_core.specs.Posts.{changed, number_pair, text_pair};
 
 use moos_post::{Batch, Copied, Milli, Name, NoMemory, Pair, Txt, Value};
@@ -9,10 +10,11 @@ use std::alloc::{AllocError, Global};
 pub(crate) fn add_changed(
     alloc: Global,
     posts: &mut Batch,
-    var: &[u8],
+    var: &Name,
     before: Option<&[u8]>,
     now: &[u8],
 ) -> Result<(), NoMemory>
+    requires { IsTrue (is_text now.now) }
     ensures { OnOk result (posts.new ≡ posts.old ++ changed var.now (option_copied before.entry) now.now) }
 {
     match before {
@@ -21,9 +23,11 @@ pub(crate) fn add_changed(
     }
 }
 
-fn add_text(alloc: Global, posts: &mut Batch, var: &[u8], text: &[u8]) -> Result<(), NoMemory>
+fn add_text(alloc: Global, posts: &mut Batch, var: &Name, text: &[u8]) -> Result<(), NoMemory>
+    requires { IsTrue (is_text text.now) }
     ensures { OnOk result (posts.new ≡ posts.old ++ text_pair var.now text.now ∷ []) }
 {
+    // It is a text, so nothing but memory is ever missing.
     let Ok(text) = Txt::new(alloc, text) else {
         return Err(AllocError);
     };
@@ -34,23 +38,22 @@ fn add_text(alloc: Global, posts: &mut Batch, var: &[u8], text: &[u8]) -> Result
 pub(crate) fn add_number(
     alloc: Global,
     posts: &mut Batch,
-    var: &[u8],
+    var: &Name,
     thousandths: i64,
 ) -> Result<(), NoMemory>
+    requires { IsMilli thousandths }
     ensures { OnOk result (posts.new ≡ posts.old ++ number_pair var.now thousandths ∷ []) }
 {
-    let Some(number) = Milli::new(thousandths) else {
-        return Err(AllocError);
-    };
-    add(alloc, posts, var, Value::Num(number))
+    match Milli::new(thousandths) {
+        Some(number) => add(alloc, posts, var, Value::Num(number)),
+        None => unreachable!(),
+    }
 }
 
-fn add(alloc: Global, posts: &mut Batch, var: &[u8], value: Value) -> Result<(), NoMemory>
+fn add(alloc: Global, posts: &mut Batch, var: &Name, value: Value) -> Result<(), NoMemory>
     ensures { OnOk result (posts.new ≡ posts.old ++ record { var = var.now; value = value } ∷ []) }
 {
-    let Ok(var) = Name::new(alloc, var) else {
-        return Err(AllocError);
-    };
+    let var = var.copy(alloc)?;
     match posts.push(Pair { var, value }) {
         Ok(()) => Ok(()),
         Err(_) => Err(AllocError),

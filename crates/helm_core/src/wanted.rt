@@ -1,8 +1,10 @@
 // The variables that the helm registers for.
-ghost use Rattle.std.specs.Prelude.{◌≡◌, [], ◌<◌, fold, length, map, slice_get, Some, IfOk, OnOk};
+ghost use Rattle.std.specs.Prelude.{◌≡◌, [], ◌<◌, fold, length, map, slice_get, Some, IfOk, IsTrue, OnOk};
+ghost use Rattle.moos_post.specs.Words.{is_name, is_pattern};
 ghost use Rattle.helm_cond.specs.Conditions.{names_in};
 ghost use Rattle.helm_core.specs.Plans.{always_read, block_names, decl_names, reg_wanted, with_wanted};
 
+use crate::own_names::name_of;
 use bhv_reader::{Block, Decl};
 use helm_cond::Cond;
 use indexmap::IndexSet;
@@ -72,13 +74,12 @@ impl Wanted {
         Ok(())
     }
 
-    // The variable that these bytes name; they are a name, so nothing but memory is ever missing.
-    fn want_bytes(&mut self, alloc: Global, name: &[u8]) -> Result<(), NoMemory>
-        ensures { OnOk result (self.new ≡ with_wanted self.old name.now) }
+    // The variable that these bytes name.
+    fn want_bytes(&mut self, alloc: Global, bytes: &[u8]) -> Result<(), NoMemory>
+        requires { IsTrue (is_name bytes.now) }
+        ensures { OnOk result (self.new ≡ with_wanted self.old bytes.now) }
     {
-        let Ok(name) = Name::new(alloc, name) else {
-            return Err(AllocError);
-        };
+        let name = name_of(alloc, bytes)?;
         self.want(alloc, &name)
     }
 
@@ -111,20 +112,28 @@ impl Wanted {
     }
 }
 
-// A registration for a variable, from everybody and at any time. A name is a pattern of itself, so nothing but memory is
-// ever missing.
+// A registration for a variable, from everybody and at any time.
+#[tactic(auto, using(crate::proofs::WellFormedPlans::name_pattern))]
 fn reg_of(alloc: Global, name: &Name) -> Result<Reg, NoMemory>
     ensures { IfOk result (λ reg. reg ≡ reg_wanted name.now) }
 {
-    let Ok(var) = Pattern::read(alloc, name.bytes()) else {
-        return Err(AllocError);
-    };
-    let Ok(source) = Pattern::read(alloc, b"*") else {
-        return Err(AllocError);
-    };
+    let var = pattern_of(alloc, name.bytes())?;
+    let source = pattern_of(alloc, b"*")?;
     Ok(Reg {
         var,
         source,
         interval: 0,
     })
+}
+
+// The pattern that is spelled so.
+fn pattern_of(alloc: Global, bytes: &[u8]) -> Result<Pattern, NoMemory>
+    requires { IsTrue (is_pattern bytes.now) }
+    ensures { IfOk result (λ pattern. pattern ≡ bytes.now) }
+{
+    // It is a pattern, so nothing but memory is ever missing.
+    let Ok(pattern) = Pattern::read(alloc, bytes) else {
+        return Err(AllocError);
+    };
+    Ok(pattern)
 }

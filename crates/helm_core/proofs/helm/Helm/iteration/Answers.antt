@@ -18,8 +18,9 @@ returns g c =
     (posts_all c.args.self.now c.args.now.now showings c.in_ok-posts.posts c.add_changed.new.posts c.mentions_course-course.result c.mentions_speed-speed.result c.mentions_depth-depth.result (allstop_text c.args.allstop)
     c.in_ok-decision.decision (option_copied c.last_allstop-before.result) (c.in_ok-posts.ensures ∙ ap (first_posts c.args.self.now c.args.now.now) all) (c.mentions_course-course.ensures ∙ ap mentions_course all)
     (c.mentions_speed-speed.ensures ∙ ap mentions_speed all) (c.mentions_depth-depth.ensures ∙ ap mentions_depth all) c.requires.allstop decided c.last_allstop-before.ensures
-    (c.in_ok-add_changed.ensures ∙ ap (λ text. c.add_desired-2.new.posts ++ changed (codes "IVPHELM_ALLSTOP") (option_copied c.last_allstop-before.result) text) c.text.ensures
+    (c.in_ok-add_changed.ensures ∙ ap (λ var. c.add_depth.new.posts ++ changed var (option_copied c.last_allstop-before.result) c.text.result.now) c.allstop.ensures
+    ∙ ap (λ text. c.add_depth.new.posts ++ changed (codes "IVPHELM_ALLSTOP") (option_copied c.last_allstop-before.result) text) c.text.ensures.reason
     ∙ ap (λ posts. posts ++ changed (codes "IVPHELM_ALLSTOP") (option_copied c.last_allstop-before.result) (allstop_text c.args.allstop))
-    (c.in_ok-add_desired-2.ensures
+    (c.in_ok-add_depth.ensures
     ∙ ap (λ posts. posts ++ desired (codes "DESIRED_DEPTH") (codes "depth") c.mentions_depth-depth.result c.in_ok-decision.decision)
-    (c.in_ok-add_speed.ensures ∙ ap (λ posts. posts ++ desired_speed (allstop_text c.args.allstop) c.mentions_speed-speed.result c.in_ok-decision.decision) c.in_ok-add_desired.ensures))))
+    (c.in_ok-add_speed.ensures ∙ ap (λ posts. posts ++ desired_speed (allstop_text c.args.allstop) c.mentions_speed-speed.result c.in_ok-decision.decision) c.in_ok-add_heading.ensures))))

@@ -1,0 +1,95 @@
+ghost use Rattle.std.specs.Prelude.{◌≡◌, codes, IfOk, IsTrue};
+ghost use Rattle.moos_post.specs.Words.{is_name};
+
+use moos_post::{Name, NoMemory};
+use std::alloc::{AllocError, Global};
+use std::marker::Model;
+
+// The variables that the helm itself posts, by their names. These are made once, and each post shares them.
+#[derive(Drop)]
+pub(crate) struct OwnNames {
+    state: Name,
+    mode: Name,
+    heading: Name,
+    speed: Name,
+    depth: Name,
+    allstop: Name,
+}
+
+impl Model for OwnNames {
+    ghost use Rattle.std.specs.Prelude.{◌≡◌, codes};
+
+    ghost Value = { Unit {0} };
+
+    ghost view = { λ _. tt };
+
+    ghost invariant = { λ own. (own.state ≡ codes "IVPHELM_STATE") × (own.mode ≡ codes "MODE") × (own.heading ≡ codes "DESIRED_HEADING")
+        × (own.speed ≡ codes "DESIRED_SPEED") × (own.depth ≡ codes "DESIRED_DEPTH") × (own.allstop ≡ codes "IVPHELM_ALLSTOP") };
+}
+
+// The name that is spelled so.
+pub(crate) fn name_of(alloc: Global, bytes: &[u8]) -> Result<Name, NoMemory>
+    requires { IsTrue (is_name bytes.now) }
+    ensures { IfOk result (λ name. name ≡ bytes.now) }
+{
+    // It is a name, so nothing but memory is ever missing.
+    let Ok(name) = Name::new(alloc, bytes) else {
+        return Err(AllocError);
+    };
+    Ok(name)
+}
+
+impl OwnNames {
+    pub fn make(alloc: Global) -> Result<OwnNames, NoMemory> {
+        let state = name_of(alloc, b"IVPHELM_STATE")?;
+        let mode = name_of(alloc, b"MODE")?;
+        let heading = name_of(alloc, b"DESIRED_HEADING")?;
+        let speed = name_of(alloc, b"DESIRED_SPEED")?;
+        let depth = name_of(alloc, b"DESIRED_DEPTH")?;
+        let allstop = name_of(alloc, b"IVPHELM_ALLSTOP")?;
+        Ok(OwnNames {
+            state,
+            mode,
+            heading,
+            speed,
+            depth,
+            allstop,
+        })
+    }
+
+    pub fn state(&self) -> &Name
+        ensures { result.now ≡ codes "IVPHELM_STATE" }
+    {
+        &self.state
+    }
+
+    pub fn mode(&self) -> &Name
+        ensures { result.now ≡ codes "MODE" }
+    {
+        &self.mode
+    }
+
+    pub fn heading(&self) -> &Name
+        ensures { result.now ≡ codes "DESIRED_HEADING" }
+    {
+        &self.heading
+    }
+
+    pub fn speed(&self) -> &Name
+        ensures { result.now ≡ codes "DESIRED_SPEED" }
+    {
+        &self.speed
+    }
+
+    pub fn depth(&self) -> &Name
+        ensures { result.now ≡ codes "DESIRED_DEPTH" }
+    {
+        &self.depth
+    }
+
+    pub fn allstop(&self) -> &Name
+        ensures { result.now ≡ codes "IVPHELM_ALLSTOP" }
+    {
+        &self.allstop
+    }
+}
