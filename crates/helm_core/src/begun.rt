@@ -6,13 +6,13 @@ ghost use Rattle.helm_core.specs.Behaviors.{BegunTurn, BhvSoFar};
 ghost use Rattle.helm_core.specs.Standings.{BeginsTurn, IsBegun, IsEnded, IsFitBegun, IsFitEnded, IsKept, IsReady, Sees};
 ghost use Rattle.helm_core.specs.Ticks.{Seen, pairs_mailed};
 
-use crate::behavior::Behavior;
+use crate::behavior::{Behavior, BoxedKind};
 use crate::judging::judge_all;
 use crate::outlook::Outlook;
 use crate::posts::add_pairs;
 use crate::showing::Showing;
 use crate::stepping::step_in;
-use bhv_kinds::{Kind, Out};
+use bhv_kinds::Out;
 use bhv_life::{Outcome, Started};
 use bhv_reader::Common;
 use ivp_domain::Domain;
@@ -24,7 +24,7 @@ use std::alloc::Global;
 #[derive(Drop)]
 pub(crate) struct Begun<'a> {
     pub common: &'a Common,
-    pub kind: Kind,
+    pub kind: BoxedKind,
     pub started: Started,
     pub taken: List<bool>,
     pub out: Out,
@@ -54,9 +54,10 @@ pub(crate) fn begin<'a>(
     let started = kept
         .life
         .start(common, &now.info, now.mode.bytes(), now.parked, stamp);
-    let mut kind = kept.kind.copy(alloc)?;
+    let mut kind = kept.kind.lent().copy(alloc)?;
     let taken = judge_all(alloc, started.phase, &common.updates, letters, &mut kind)?;
     let out = step_in(alloc, started.phase, domain, &now.info, stamp, &mut kind)?;
+    let kind = BoxedKind::of(alloc, kind)?;
     Ok(Begun {
         common,
         kind,
@@ -79,7 +80,7 @@ impl<'a> Begun<'a> {
         ensures ends { IfOk result (λ ended. (seen : Seen) (one : BegunTurn) → IsBegun seen one self.entry → IsEnded seen fault one ended) }
         ensures fit { IfOk result (λ ended. (axes : List Axis) → IsFitBegun axes self.entry → IsFitEnded axes ended) }
     {
-        let weight = self.kind.weight();
+        let weight = self.kind.lent().weight();
         let active = is_active(&self.out, weight, fault);
         let (life, outcome) = self.started.finish(active, self.out.done);
         let flags = flags_at(alloc, self.common, outcome)?;

@@ -7,7 +7,7 @@ ghost use Rattle.helm_core.specs.Standings.{HasAllBegun, crew_of, IsCrewOf, IsFi
 ghost use Rattle.helm_core.specs.Ticks.{pairs_mailed};
 
 use crate::begun::{Begun, begin};
-use crate::behavior::Behavior;
+use crate::behavior::{Behavior, BoxedKind};
 use crate::outlook::Outlook;
 use crate::turned::{Turned, finish_all};
 use bhv_kinds::Kind;
@@ -145,8 +145,9 @@ fn kept_first(alloc: Global, domain: &Domain, block: &Block) -> Result<Behavior,
     ensures ready { IfOk result (λ kept. IsReady domain.now kept.kind) }
 {
     let spec = block.spec.copy(alloc)?;
+    let kind = BoxedKind::of(alloc, Kind::make(spec))?;
     Ok(Behavior {
-        kind: Kind::make(spec),
+        kind,
         life: Life::make(),
     })
 }
