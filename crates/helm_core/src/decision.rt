@@ -52,7 +52,7 @@ pub(crate) fn decision_made<R: Threads + Wait + Sync, G: Gate>(
 fn active_terms(alloc: Global, showings: Vec<Showing>) -> Result<Vec<Term>, NoMemory>
     ensures { IfOk result (λ terms. terms.items ≡ filter_map active_term showings.items) }
 {
-    let mut terms = Vec::new(alloc);
+    let mut terms = Vec::with_capacity(alloc, showings.len())?;
     for showing in showings {
         add_term(&mut terms, showing)?;
     }

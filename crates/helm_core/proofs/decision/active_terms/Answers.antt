@@ -9,7 +9,7 @@ use Rattle.helm_core.proofs.decision.active_terms.Goals as goal
 pub loop-showing-init : goal.loop-showing-init
 loop-showing-init c = record {
   counted = search rules;
-  terms = terms_first _ _ _ c.new-terms.ensures.items c.into_iter-showing-iterator.ensures.into_iter_gives.0;
+  terms = terms_first _ _ _ c.in_ok-terms.ensures.items c.into_iter-showing-iterator.ensures.into_iter_gives.0;
 }
 
 pub loop-showing-preserved : goal.loop-showing-preserved
