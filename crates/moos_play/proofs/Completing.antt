@@ -273,24 +273,45 @@ tick_on order script helm names count left history so more behind = record {
     )
     timed Race so = tt
 
--- what a history may go on with to be lawful
-abbrev pub Completion : Order → Script → Option Steering → List (List ℕ) → History → Type 0
-Completion order script helm names history = (rest : History) × IsLawfulBeside order script helm names (history ++ rest)
+-- what a history may go on with to be lawful, none of it a further client's
+pub record Completion (order : Order) (script : Script) (helm : Option Steering) (names : List (List ℕ)) (history : History) : Type 0 where
+  pub rest : History
+  pub known : clients_below (known_clients script helm) rest ≡ true
+  pub lawful : IsLawfulBeside order script helm names (history ++ rest)
 
 -- first these entries, and then the others
-completed : (order : Order) (script : Script) (helm : Option Steering) (names : List (List ℕ)) (history added : History) → Completion order script helm names (history ++ added) → Completion order script helm names history
-completed order script helm names history added then = (added ++ then.0, subst (IsLawfulBeside order script helm names) (append_assoc history added then.0) then.1)
+pub completed : (order : Order) (script : Script) (helm : Option Steering) (names : List (List ℕ)) (history added : History) → clients_below (known_clients script helm) added ≡ true → Completion order script helm names (history ++ added) → Completion order script helm names history
+completed order script helm names history added known then = record {
+  rest = added ++ then.rest;
+  known = both_below (known_clients script helm) added then.rest known then.known;
+  lawful = subst (IsLawfulBeside order script helm names) (append_assoc history added then.rest) then.lawful;
+}
+
+-- the next line is of a client that is known
+line_known : (script : Script) (helm : Option Steering) (line : Entry) (left : List Entry) → list_all (λ line. nat_lt line.client (helm_number script)) (line ∷ left) ≡ true → clients_below (known_clients script helm) (line ∷ []) ≡ true
+line_known script helm line left clients =
+    below_raised (helm_number script) (known_clients script helm) (line ∷ []) (known_more script helm)
+    (and_from (nat_lt line.client (helm_number script)) true (and_parts (nat_lt line.client (helm_number script)) (list_all (λ line. nat_lt line.client (helm_number script)) left) clients).0 refl)
+
+-- and so is the helm
+next_known : (script : Script) (helm : Steering) (names : List (List ℕ)) (count : ℕ) (history : History) → helm.client ≡ helm_number script → clients_below (known_clients script (Some helm)) (next_tick names helm count history) ≡ true
+next_known script helm names count history own =
+    tick_below helm (known_clients script (Some helm)) (heard_of names helm.client (history ++ entry_of helm.client (count * helm.period) Fetch ∷ [])) count (omega (arith, own, known_helm script helm))
 
 -- a history on its way may become lawful
 pub completion : (k : ℕ) (order : Order) (script : Script) (helm : Option Steering) (names : List (List ℕ)) (count : ℕ) (left : List Entry) (history : History) → IsOnItsWay order script helm names count left history
     → length left + ticks_after script.stop helm count ≡ k → Completion order script helm names history
-completion zero order script helm names count left history so none = ([], subst (IsLawfulBeside order script helm names) (sym (append-nil history)) (lawful_then order script helm names count left history so none))
+completion zero order script helm names count left history so none = record {
+  rest = [];
+  known = refl;
+  lawful = subst (IsLawfulBeside order script helm names) (sym (append-nil history)) (lawful_then order script helm names count left history so none);
+}
 completion (suc k) order script None names count [] history so some = absurd (omega (arith, some))
 completion (suc k) order script None names count (line ∷ left) history so some =
-    completed order script None names history (line ∷ [])
+    completed order script None names history (line ∷ []) (line_known script None line left so.clients)
     (completion k order script None names count left (history ++ line ∷ []) (line_on order script None names count line left history so tt) (omega (arith, some)))
 completion (suc k) order script (Some helm) names count [] history so some =
-    completed order script (Some helm) names history (next_tick names helm count history)
+    completed order script (Some helm) names history (next_tick names helm count history) (next_known script helm names count history so.stands.client)
     (completion k order script (Some helm) names (suc count) [] (history ++ next_tick names helm count history)
     (tick_on order script helm names count [] history so (omega (arith, some)) tt) (omega (arith, some)))
 completion (suc k) order script (Some helm) names count (line ∷ left) history so some =
@@ -300,7 +321,7 @@ completion (suc k) order script (Some helm) names count (line ∷ left) history 
   where
     line_first : MayComeFirst script.stop (Some helm) count line.stamp → (IsOnItsWay order script (Some helm) names count left (history ++ line ∷ []) → Completion order script (Some helm) names (history ++ line ∷ []))
         → Completion order script (Some helm) names history
-    line_first first on = completed order script (Some helm) names history (line ∷ []) (on (line_on order script (Some helm) names count line left history so first))
+    line_first first on = completed order script (Some helm) names history (line ∷ []) (line_known script (Some helm) line left so.clients) (on (line_on order script (Some helm) names count line left history so first))
 
     by : (a b : Bool) → nat_lt count (ticks_to script.stop helm) ≡ a → nat_lt (count * helm.period) line.stamp ≡ b
         → (IsOnItsWay order script (Some helm) names count left (history ++ line ∷ []) → Completion order script (Some helm) names (history ++ line ∷ []))
@@ -310,4 +331,5 @@ completion (suc k) order script (Some helm) names count (line ∷ left) history 
     by true false more last line_then tick_then = line_first (λ _. grind (arith, nat_tests, last)) line_then
     by true true more last line_then tick_then =
         let due : count < ticks_to script.stop helm = grind (arith, nat_tests, more) in
-        completed order script (Some helm) names history (next_tick names helm count history) (tick_then (tick_on order script helm names count (line ∷ left) history so due last) (omega (arith, some, due)))
+        completed order script (Some helm) names history (next_tick names helm count history) (next_known script helm names count history so.stands.client)
+        (tick_then (tick_on order script helm names count (line ∷ left) history so due last) (omega (arith, some, due)))

@@ -227,11 +227,12 @@ has_completion play between =
     let whole =
     completion (left_in play) play.order script (helm_of play.steersman) play.lock.base (ticks_made play.steersman) (drop play.from script.lines) play.first.seat.seen
     (under_way play.order script play.lock play.steersman play.from play.first.seat between.valid.lines between.at_play.under between.at_play.period) (left_same script play) in
-    let made = iterations_more play.lock.base (helm_number script) script.stop play.steersman play.first.seat.seen whole.0 between.at_play.under.steered between.at_play.period in
+    let made = iterations_more play.lock.base (helm_number script) script.stop play.steersman play.first.seat.seen whole.rest between.at_play.under.steered between.at_play.period in
     record {
-      rest = whole.0;
-      lawful = whole.1;
-      alone = λ named. lawful_alone play.order script (helm_of play.steersman) play.lock.base (play.first.seat.seen ++ whole.0) named whole.1;
+      rest = whole.rest;
+      known = whole.known;
+      lawful = whole.lawful;
+      alone = λ named. lawful_alone play.order script (helm_of play.steersman) play.lock.base (play.first.seat.seen ++ whole.rest) named whole.lawful;
       more = made.0;
       iterations = made.1;
     }

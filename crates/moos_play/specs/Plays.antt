@@ -149,14 +149,20 @@ pub record IsPlayedOut (play : Play) : Type 0 where
   pub alone : clients_in play ≡ names_with play.script.now (helm_in play) → IsLawful play.order play.script.now (helm_in play) (clients_in play) (history_in play)
   pub iterations : iterations_made play ≡ iterations (helm_in play) play.script.now.stop (heard_of (clients_in play) (helm_number play.script.now) (history_in play))
 
--- A run between two rounds: with some entries more its history is lawful beside the entries of further clients, by itself
--- where there are none, and the iterations of that history are those so far and some more.
-pub record HasCompletion (play : Play) : Type 0 where
+-- A run of this script that may yet be completed: with some entries more, none of them a further client's, its history is
+-- lawful beside the entries of further clients, by itself where there are none, and the iterations of that history are those
+-- so far and some more.
+pub record IsCompletable (script : Script) (play : Play) : Type 0 where
   pub rest : History
-  pub lawful : IsLawfulBeside play.order play.script.now (helm_in play) (clients_in play) (history_in play ++ rest)
-  pub alone : clients_in play ≡ names_with play.script.now (helm_in play) → IsLawful play.order play.script.now (helm_in play) (clients_in play) (history_in play ++ rest)
+  pub known : IsTrue (clients_below (known_clients script (helm_in play)) rest)
+  pub lawful : IsLawfulBeside play.order script (helm_in play) (clients_in play) (history_in play ++ rest)
+  pub alone : clients_in play ≡ names_with script (helm_in play) → IsLawful play.order script (helm_in play) (clients_in play) (history_in play ++ rest)
   pub more : List Iteration
-  pub iterations : iterations (helm_in play) play.script.now.stop (heard_of (clients_in play) (helm_number play.script.now) (history_in play ++ rest)) ≡ iterations_made play ++ more
+  pub iterations : iterations (helm_in play) script.stop (heard_of (clients_in play) (helm_number script) (history_in play ++ rest)) ≡ iterations_made play ++ more
+
+-- a run that stands at a moment of a lawful history
+abbrev pub HasCompletion : Play → Type 0
+HasCompletion play = IsCompletable play.script.now play
 
 -- the run once the database is put back as it was
 abbrev pub returned : Play → Play

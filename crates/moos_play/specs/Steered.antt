@@ -1,4 +1,4 @@
--- The helm at its seat, and a run between two rounds. This serves the functions of this crate alone.
+-- The helm at its seat, and where a run stands between two rounds.
 use Rattle.std.specs.Prelude.{◌≡◌, ◌≢◌, ℕ, ◌+◌, ◌-◌, ◌*◌, ◌/◌, ◌^◌, ◌==◌, ◌≤◌, ◌<◌, Bool, true, false, nat_le, nat_lt, suc, if◌then◌else◌, List, [], ◌∷◌, ◌++◌, length, drop, take, Option, None, Some, option_map, option_to_list, IfSome, IsTrue, OnOk, Result}
 use Rattle.std.specs.List.{list_all}
 use Rattle.moos_post.specs.History.{History}
