@@ -1,5 +1,5 @@
 // How a run begins: its names, a seat for each client, and the helm with its opening.
-ghost use Rattle.std.specs.Prelude.{◌≡◌, ◌<◌, ◌++◌, length, option_map, IfOk, OnOk, IfSome};
+ghost use Rattle.std.specs.Prelude.{◌≡◌, ◌<◌, ◌++◌, codes, length, option_map, IfOk, OnOk, IfSome};
 ghost use Rattle.moos_play.specs.Lawful.{names_with, MayStart};
 ghost use Rattle.moos_play.specs.Rounds.{IsGathered, KnowsNothing};
 ghost use Rattle.moos_play.specs.Steered.{HasOpened, helm_of, IsUnopened, run_as};
@@ -9,7 +9,7 @@ use crate::run::HelmRun;
 use crate::steersman::{Steersman, lead};
 use moos_client::{Lock, Seat};
 use moos_io::Gate;
-use moos_post::{Copied, List, Name, Names, NoMemory};
+use moos_post::{Copied, List, Name, NameFault, Names, NoMemory};
 use script_reader::Script;
 use std::alloc::{AllocError, Global};
 use std::sync::Wait;
@@ -47,14 +47,22 @@ fn known_names(alloc: Global, script: &Script, helm: &Option<HelmRun>) -> Result
 {
     let mut names = script.names.copy(alloc)?;
     if helm.is_some() {
-        let Ok(name) = Name::new(alloc, b"pHelmIvP") else {
-            return Err(AllocError);
-        };
-        let Ok(()) = names.push(name) else {
+        let Ok(()) = names.push(helm_name(alloc)?) else {
             return Err(AllocError);
         };
     }
     Ok(names)
+}
+
+// The helm's name among the clients.
+fn helm_name(alloc: Global) -> Result<Name, NoMemory>
+    ensures { IfOk result (λ name. name ≡ codes "pHelmIvP") }
+{
+    match Name::new(alloc, b"pHelmIvP") {
+        Ok(name) => Ok(name),
+        Err(NameFault::BadName) => unreachable!(),
+        Err(NameFault::NoMemory) => Err(AllocError),
+    }
 }
 
 /// The helm, where there is one, with the number of this many clients and nothing done yet.
