@@ -1,7 +1,7 @@
 -- The first seat and the players from one step of a round to the next.
-use Rattle.std.proofs.Common.{◌≡◌, ◌≢◌, ℕ, ◌+◌, ◌-◌, ◌<◌, ◌≤◌, ◌==◌, Bool, true, false, cond, ◌||◌, List, [], ◌∷◌, ◌++◌, map, length, length-append, append-nil, refl, sym, ap, ◌∙◌, subst, arith, eq-eqb, ne_eqb, nat_lt}
+use Rattle.std.proofs.Common.{◌≡◌, ◌≢◌, ℕ, zero, suc, ◌+◌, ◌-◌, ◌<◌, ◌≤◌, ◌==◌, Bool, true, false, cond, ◌&&◌, ◌||◌, List, [], ◌∷◌, ◌++◌, map, length, length-append, append-nil, refl, sym, ap, ◌∙◌, subst, arith, eq-eqb, ne_eqb, nat_lt}
 use Rattle.std.specs.List.{list_all}
-use Rattle.std.proofs.lemmas.Bool.{and_parts, false≢true}
+use Rattle.std.proofs.lemmas.Bool.{and_from, and_parts, false≢true}
 use Rattle.std.proofs.lemmas.Bool.Decides.{nat_tests}
 use Rattle.std.proofs.lemmas.List.{map-append}
 use Rattle.std.proofs.lemmas.List.Elements.{All-nil, All-push}
@@ -9,7 +9,7 @@ use native.Mathlib.Decide.{ℕ_discrete}
 use Rattle.moos_client.specs.Calls.{MayCall, SeatState, entries_of}
 use Rattle.moos_post.specs.declared.entry.Entry.{Entry}
 use Rattle.moos_play.specs.declared.player.Player.{Player}
-use Rattle.moos_play.specs.Rounds.{AreBusy, AreParted, CommunityLock, has_line, IsApart, IsGathered, met_of, times_met}
+use Rattle.moos_play.specs.Rounds.{AreBusy, AreParted, busy_below, CommunityLock, has_line, IsApart, IsGathered, met_of, times_met}
 use Rattle.moos_play.proofs.Mets.{moved_of, moves_each, moves_known}
 use Rattle.turn_lock.specs.declared.view.Met.{Met}
 use Rattle.turn_lock.specs.Passes.{beside, events_in, first_pass, has_number, met_with, without_number}
@@ -143,6 +143,35 @@ pub is_with : (lock : CommunityLock) (client : ℕ) (before first : SeatState) (
     → 0 < client → client < length lock.base → times_met client first.met ≡ 1
 is_with lock client before first players gathered so fresh above below =
     omega (arith, so.each client, fresh, gathered.each client above below, gathered.once client)
+
+-- one client more that has lines, and one that has none
+pub busier : (lines : List Entry) (client : ℕ) → 0 < client → has_line client lines ≡ true → busy_below lines (client + 1) ≡ busy_below lines client + 1
+busier lines client above some =
+    let here : nat_lt 0 client ≡ true = grind (arith, nat_tests, above) in
+    let count : client + 1 ≡ suc client = omega arith in
+    ap (busy_below lines) count ∙ ap (λ b. cond b (suc (busy_below lines client)) (busy_below lines client)) (and_from (nat_lt 0 client) (has_line client lines) here some) ∙ omega arith
+
+pub as_busy : (lines : List Entry) (client : ℕ) → has_line client lines ≡ false → busy_below lines (client + 1) ≡ busy_below lines client
+as_busy lines client none =
+    let count : client + 1 ≡ suc client = omega arith in
+    ap (busy_below lines) count ∙ ap (λ b. cond (nat_lt 0 client && b) (suc (busy_below lines client)) (busy_below lines client)) none ∙ by (nat_lt 0 client)
+  where
+    by : (b : Bool) → cond (b && false) (suc (busy_below lines client)) (busy_below lines client) ≡ busy_below lines client
+    by true = refl
+    by false = refl
+
+-- and of the clients below a higher number as many have lines, or more
+pub busy_rises : (lines : List Entry) (low high : ℕ) → low ≤ high → busy_below lines low ≤ busy_below lines high
+busy_rises lines low zero more = let none : low ≡ 0 = omega (arith, more) in rw none (omega arith)
+busy_rises lines low (suc high) more = by (ℕ_discrete low (suc high)) (busy_rises lines low high)
+  where
+    on : (b : Bool) → busy_below lines high ≤ cond b (suc (busy_below lines high)) (busy_below lines high)
+    on true = omega arith
+    on false = omega arith
+
+    by : Dec (low ≡ suc high) → (low ≤ high → busy_below lines low ≤ busy_below lines high) → busy_below lines low ≤ busy_below lines (suc high)
+    by (yes e) before = rw e (omega arith)
+    by (no ne) before = omega (arith, before (omega (arith, more, ne)), on (nat_lt 0 high && has_line high lines))
 
 -- nobody is parted yet
 pub parted_none : (lock : CommunityLock) (first : SeatState) → AreParted lock first first []

@@ -1,5 +1,5 @@
--- What the clients' lines of one stamp do to their seats. This serves the functions of this crate alone.
-use Rattle.std.specs.Prelude.{◌≡◌, ℕ, ◌+◌, ◌-◌, ◌==◌, ◌<◌, ◌≤◌, ◌≢◌, Bool, IsTrue, List, [], ◌++◌, length, map, take, drop, OnOk, Result, count_by}
+-- The seats of a run's clients: how the first takes in all others, and what the lines of a step do to them.
+use Rattle.std.specs.Prelude.{◌≡◌, ℕ, zero, suc, ◌+◌, ◌-◌, ◌==◌, ◌&&◌, ◌<◌, ◌≤◌, ◌≢◌, nat_lt, if◌then◌else◌, Bool, IsTrue, List, [], ◌++◌, length, map, take, drop, OnOk, Result, count_by}
 use Rattle.std.specs.List.{All, list_all, list_any}
 use Rattle.moos_client.specs.Calls.{MayCall, SeatState, entries_of}
 use Rattle.moos_post.specs.declared.entry.Entry.{Entry}
@@ -51,6 +51,11 @@ pub record IsApart (lock : CommunityLock) (seat : SeatState) : Type 0 where
 -- whether the client has one of the lines
 abbrev pub has_line : ℕ → List Entry → Bool
 has_line client lines = list_any (λ line. line.client == client) lines
+
+-- how many clients below a number, the first one left out, have some of the lines
+abbrev pub busy_below : List Entry → ℕ → ℕ
+busy_below lines zero = 0
+busy_below lines (suc client) = if nat_lt 0 client && has_line client lines then suc (busy_below lines client) else busy_below lines client
 
 -- what the first seat keeps of a player that it takes in
 abbrev pub met_of : Player → Met Entry

@@ -4,7 +4,7 @@ ghost use Rattle.std.specs.Prelude.{◌≡◌, ◌<◌, ◌≤◌, ◌^◌, leng
 ghost use Rattle.std.specs.List.{All, AllZip, list_all};
 ghost use Rattle.std.specs.Thread.{IsSync};
 ghost use Rattle.moos_client.specs.Calls.{MayCall};
-ghost use Rattle.moos_play.specs.Rounds.{AreBusy, AreParted, GoesOn, HasEnded, HasSeenAll, HasTaken, has_line, IsApart, IsGathered, IsPlayed, IsWhole};
+ghost use Rattle.moos_play.specs.Rounds.{AreBusy, AreParted, busy_below, GoesOn, HasEnded, HasSeenAll, HasTaken, has_line, IsApart, IsGathered, IsPlayed, IsWhole};
 ghost use Rattle.turn_lock.specs.Passes.{HasAll, IsFree, IsOf};
 
 use crate::player::{Player, play_part};
@@ -72,7 +72,21 @@ fn player_at(seat: Seat, calls: &[u64]) -> Player
     }
 }
 
-/// Parts from the first seat those of all other clients that have lines. Where no memory is left none is parted.
+// How many clients below a number, the first one left out, have lines.
+fn count_busy(lines: &[Entry], clients: u32) -> usize
+    requires { 0 < clients }
+    ensures { result ≡ busy_below lines.now clients }
+{
+    let mut busy = 0;
+    for client in 1..clients {
+        if has_lines(lines, client) {
+            busy += 1;
+        }
+    }
+    busy
+}
+
+/// Parts from the first seat those of all other clients that have lines, and makes room for no more of them. Where no memory is left none is parted.
 pub(crate) fn part_busy(
     alloc: Global,
     lock: &Lock,
@@ -86,8 +100,9 @@ pub(crate) fn part_busy(
     ensures busy { IfOk result (λ players. AreBusy lines.now (length calls.now) players.items) }
     ensures same { OnErr result (first.new ≡ first.old) }
 {
-    let mut players = Vec::with_capacity(alloc, calls.len())?;
-    for client in 1..calls.len() as u32 {
+    let clients = calls.len() as u32;
+    let mut players = Vec::with_capacity(alloc, count_busy(lines, clients))?;
+    for client in 1..clients {
         if has_lines(lines, client) {
             let seat = lock.part(first, client);
             players.push_reserved(player_at(seat, calls));

@@ -1,6 +1,6 @@
 use Rattle.std.proofs.Common.{◌∙◌, ◌+◌, ◌<◌, [], ◌∷◌, ◌++◌, length, ap, subst, sym, arith, rules}
 use Rattle.moos_play.specs.Rounds.{AreBusy, AreParted}
-use Rattle.moos_play.proofs.Rounds.{busy_more, busy_skip, is_with, parted_more}
+use Rattle.moos_play.proofs.Rounds.{as_busy, busier, busy_more, busy_rises, busy_skip, is_with, parted_more}
 use Rattle.turn_lock.proofs.Mets.{is_taken}
 use Rattle.moos_play.proofs.round.part_busy.Goals as goal
 use Rattle.moos_play.proofs.round.part_busy.Goals.{then-has_lines, else-has_lines}
@@ -10,6 +10,16 @@ part-seat-requires-clause-first c =
     let within : c.loop-client.client < length c.args.lock.now.base = omega (arith, c.loop-client-test.true, c.requires.clients) in
     let here = is_with _ c.loop-client.client _ c.loop-client.first _ c.requires.gathered c.loop-client.invariant.parted (c.loop-client.invariant.busy.fresh c.loop-client.client (omega arith)) (omega (arith, c.loop-client.auto.client)) within in
     (ap (λ s. s.number) c.loop-client.invariant.parted.same ∙ c.requires.gathered.number, is_taken c.loop-client.client c.loop-client.first.met (omega (arith, here)))
+
+pub push_reserved-requires : goal.push_reserved-requires
+push_reserved-requires c =
+    omega (
+      arith,
+      c.loop-client.invariant.few,
+      c.loop-client.invariant.room,
+      busier c.args.lines.now c.loop-client.client (omega (arith, c.loop-client.auto.client)) (sym c.has_lines.ensures ∙ c.if-has_lines.true),
+      busy_rises c.args.lines.now (c.loop-client.client + 1) (length c.args.calls.now) (omega (arith, c.loop-client-test.true)),
+    )
 
 pub loop-client-preserved : goal.loop-client-preserved
 loop-client-preserved c = elim c.if-has_lines.branch [
@@ -25,7 +35,7 @@ loop-client-preserved c = elim c.if-has_lines.branch [
         busy = subst (AreBusy c.args.lines.now (c.loop-client.client + 1)) (sym items)
             (busy_more c.args.lines.now c.loop-client.client c.loop-client.players.items w.player_at.result c.loop-client.invariant.busy (ap (λ s. s.number) seat));
         room = search rules;
-        few = search rules;
+        few = search rules ∙ sym (busier c.args.lines.now c.loop-client.client (omega (arith, c.loop-client.auto.client)) (sym c.has_lines.ensures ∙ w.if-has_lines.true));
       }
   | else-has_lines w ↦
       let items = ap (λ v. v.items) w.players-is in
@@ -35,7 +45,7 @@ loop-client-preserved c = elim c.if-has_lines.branch [
         busy = subst (AreBusy c.args.lines.now (c.loop-client.client + 1)) (sym items)
             (busy_skip c.args.lines.now c.loop-client.client c.loop-client.players.items c.loop-client.invariant.busy (sym c.has_lines.ensures ∙ w.if-has_lines.false));
         room = search rules;
-        few = search rules;
+        few = search rules ∙ sym (as_busy c.args.lines.now c.loop-client.client (sym c.has_lines.ensures ∙ w.if-has_lines.false));
       }
 ]
 
