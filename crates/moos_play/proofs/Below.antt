@@ -35,7 +35,7 @@ pub known_helm : {A : Type 0} (script : Script) (run : A) → helm_number script
 known_helm script run = omega (arith, names_more script run)
 
 -- what a test keeps passes it
-kept_pass : (p : Entry → Bool) (xs : History) → list_all p (filter p xs) ≡ true
+pub kept_pass : (p : Entry → Bool) (xs : History) → list_all p (filter p xs) ≡ true
 kept_pass p [] = refl
 kept_pass p (x ∷ xs) = by (p x) refl (kept_pass p xs)
   where
@@ -49,7 +49,7 @@ kept_all p [] all = refl
 kept_all p (x ∷ xs) all = let tests = and_parts (p x) (list_all p xs) all in ap (λ b. cond b (x ∷ filter p xs) (filter p xs)) tests.0 ∙ ap (λ rest. x ∷ rest) (kept_all p xs tests.1)
 
 -- nothing is kept of what passes a test that excludes it
-kept_none : (p q : Entry → Bool) (xs : History) → ((x : Entry) → q x ≡ true → p x ≡ false) → list_all q xs ≡ true → filter p xs ≡ []
+pub kept_none : (p q : Entry → Bool) (xs : History) → ((x : Entry) → q x ≡ true → p x ≡ false) → list_all q xs ≡ true → filter p xs ≡ []
 kept_none p q [] other all = refl
 kept_none p q (x ∷ xs) other all =
     let tests = and_parts (q x) (list_all q xs) all in
@@ -64,7 +64,7 @@ below_raised low high (x ∷ xs) more all =
     and_from (nat_lt x.client high) (clients_below high xs) (grind (arith, nat_tests, here, more)) (below_raised low high xs more tests.1)
 
 -- those of one client are below each number above its own
-own_pass : (number n : ℕ) (xs : History) → n < number → clients_below number (entries_of n xs) ≡ true
+pub own_pass : (number n : ℕ) (xs : History) → n < number → clients_below number (entries_of n xs) ≡ true
 own_pass number n [] less = refl
 own_pass number n (x ∷ xs) less = by (x.client == n) refl (own_pass number n xs less)
   where

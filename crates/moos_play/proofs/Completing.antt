@@ -114,7 +114,7 @@ lawful_then order script helm names count [] history so none = record {
         ∙ ap (λ front. front ++ ticks_of helm (heard_of names helm.client history) (ticks_to script.stop helm)) (sym (own_opening helm))))
 
 -- others go on: the helm stands as before
-stands_there : (names : List (List ℕ)) (number stop : ℕ) (helm : Option Steering) (count : ℕ) (history rest : History) → StandsThere names number stop helm count history → entries_of number rest ≡ [] → StandsThere names number stop helm count (history ++ rest)
+pub stands_there : (names : List (List ℕ)) (number stop : ℕ) (helm : Option Steering) (count : ℕ) (history rest : History) → StandsThere names number stop helm count history → entries_of number rest ≡ [] → StandsThere names number stop helm count (history ++ rest)
 stands_there names number stop None count history rest so none = tt
 stands_there names number stop (Some helm) count history rest so none =
     let here : entries_of helm.client rest ≡ [] = subst (λ n. entries_of n rest ≡ []) (sym so.client) none in
@@ -225,10 +225,10 @@ tick_there names number stop helm count history so left = subst (HasComeTo names
     heard : heard_of names helm.client (between ++ posting ∷ []) ≡ start ++ tick ∷ []
     heard = posted ∙ fetched
 
--- the next tick is made, where no line is left of its stamp or before
-tick_on : (order : Order) (script : Script) (helm : Steering) (names : List (List ℕ)) (count : ℕ) (left : List Entry) (history : History) → IsOnItsWay order script (Some helm) names count left history → count < ticks_to script.stop helm
-    → IsBehind (Some (count * helm.period)) left → IsOnItsWay order script (Some helm) names (suc count) left (history ++ next_tick names helm count history)
-tick_on order script helm names count left history so more behind = record {
+-- the next tick is made, where no line is left of its stamp or before: these are its entries
+pub tick_with : (order : Order) (script : Script) (helm : Steering) (names : List (List ℕ)) (count : ℕ) (left : List Entry) (history added : History) (heard : List Tick) → added ≡ tick_entries helm heard count → IsOnItsWay order script (Some helm) names count left history → count < ticks_to script.stop helm
+    → IsBehind (Some (count * helm.period)) left → HasComeTo names (helm_number script) script.stop helm (suc count) (history ++ added) → IsOnItsWay order script (Some helm) names (suc count) left (history ++ added)
+tick_with order script helm names count left history added heard is so more behind stands = record {
   rest = so.rest ++ added;
   opened = ap (λ front. front ++ added) so.opened ∙ append_assoc (opening_of helm) so.rest added;
   own = λ n other.
@@ -236,7 +236,7 @@ tick_on order script helm names count left history so more behind = record {
       ∙ ap (λ front. front ++ entries_of n left) (filter-append (λ entry. entry.client == n) start added ∙ ap (λ end. entries_of n start ++ end) (none n other) ∙ append-nil (entries_of n start))
       ∙ sym (filter-append (λ entry. entry.client == n) start left) ∙ so.own n other;
   clients = so.clients;
-  stands = tick_there names (helm_number script) script.stop helm count history so.stands more;
+  stands = stands;
   timed = subst (MayGoOn order (helm_number script) script.stop (Some helm) (suc count) left) (sym on) (timed order so.timed);
   room = so.room;
   named = both_below (length names) so.rest added so.named (below_raised (known_clients script (Some helm)) (length names) added so.room here);
@@ -245,23 +245,20 @@ tick_on order script helm names count left history so more behind = record {
     start : History
     start = entries_below (known_clients script (Some helm)) so.rest
 
-    added : List Entry
-    added = next_tick names helm count history
-
     fetching : Entry
     fetching = entry_of helm.client (count * helm.period) Fetch
 
     posting : Entry
-    posting = entry_of helm.client (count * helm.period) (Posts (iteration_at helm.plan (heard_of names helm.client (history ++ fetching ∷ [])) count).posts)
+    posting = entry_of helm.client (count * helm.period) (Posts (iteration_at helm.plan heard count).posts)
 
     none : (n : ℕ) → n ≢ helm_number script → entries_of n added ≡ []
-    none n other = ap (λ b. cond b (fetching ∷ cond b (posting ∷ []) []) (cond b (posting ∷ []) [])) (ne_eqb helm.client n (λ e. other (sym e ∙ so.stands.client)))
+    none n other = ap (entries_of n) is ∙ ap (λ b. cond b (fetching ∷ cond b (posting ∷ []) []) (cond b (posting ∷ []) [])) (ne_eqb helm.client n (λ e. other (sym e ∙ so.stands.client)))
 
     one : list_all (λ entry. moment_of (helm_number script) entry == suc (2 * (count * helm.period))) added ≡ true
-    one = tick_moment helm (helm_number script) (heard_of names helm.client (history ++ fetching ∷ [])) count so.stands.client
+    one = ap (list_all (λ entry. moment_of (helm_number script) entry == suc (2 * (count * helm.period)))) is ∙ tick_moment helm (helm_number script) heard count so.stands.client
 
     here : clients_below (known_clients script (Some helm)) added ≡ true
-    here = tick_below helm (known_clients script (Some helm)) (heard_of names helm.client (history ++ fetching ∷ [])) count (omega (arith, so.stands.client, known_helm script helm))
+    here = ap (clients_below (known_clients script (Some helm))) is ∙ tick_below helm (known_clients script (Some helm)) heard count (omega (arith, so.stands.client, known_helm script helm))
 
     on : entries_below (known_clients script (Some helm)) (so.rest ++ added) ≡ start ++ added
     on = below_more (known_clients script (Some helm)) so.rest added here
@@ -272,6 +269,13 @@ tick_on order script helm names count left history so more behind = record {
       λ _. early_tick (helm_number script) (count * helm.period) (suc count * helm.period) start added (omega arith) (early more) one,
     )
     timed Race so = tt
+
+-- the next tick is made whole
+tick_on : (order : Order) (script : Script) (helm : Steering) (names : List (List ℕ)) (count : ℕ) (left : List Entry) (history : History) → IsOnItsWay order script (Some helm) names count left history → count < ticks_to script.stop helm
+    → IsBehind (Some (count * helm.period)) left → IsOnItsWay order script (Some helm) names (suc count) left (history ++ next_tick names helm count history)
+tick_on order script helm names count left history so more behind =
+    tick_with order script helm names count left history (next_tick names helm count history) (heard_of names helm.client (history ++ entry_of helm.client (count * helm.period) Fetch ∷ [])) refl so more behind
+    (tick_there names (helm_number script) script.stop helm count history so.stands more)
 
 -- what a history may go on with to be lawful, none of it a further client's
 pub record Completion (order : Order) (script : Script) (helm : Option Steering) (names : List (List ℕ)) (history : History) : Type 0 where

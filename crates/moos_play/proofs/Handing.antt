@@ -14,11 +14,11 @@ use Rattle.moos_post.specs.History.{History}
 use Rattle.moos_play.specs.declared.playing.Play.{Play}
 use Rattle.moos_play.specs.declared.steersman.Steersman.{Steersman}
 use Rattle.moos_play.specs.Lawful.{entries_below, heard_in, heard_of, helm_number, IsLawfulBeside, iterations, iterations_of, known_clients, Steering, ticks_to}
-use Rattle.moos_play.specs.Plays.{handed, handed_of, HasCompletion, IsBetween, IsPlayedOut, IsStampOver, iterations_made, left_in, made_by, stamp_next, StaysSeated, untold_in}
+use Rattle.moos_play.specs.Plays.{handed, handed_of, HasCompletion, IsBetween, IsCompletable, IsPlayedOut, IsStampOver, iterations_made, left_in, made_by, stamp_next, StaysSeated, untold_in}
 use Rattle.moos_play.specs.Rounds.{CommunityLock}
 use Rattle.moos_play.specs.Steered.{GoesOnWith, helm_of, IsAtPlay, IsUnderWay, iterations_in, KeepsTime, StandsAt, steering_of, Steers, tick_due, ticks_left, told_in}
 use Rattle.moos_play.proofs.Below.{lawful_alone}
-use Rattle.moos_play.proofs.Completing.{completion}
+use Rattle.moos_play.proofs.Completing.{Completion, completion}
 use Rattle.moos_play.proofs.Ending.{lawful_end, left_same, made_over, over_ticks, ticks_made, under_way}
 use Rattle.moos_play.proofs.Hearing.{heard_append, iterations_many, iterations_stay}
 use Rattle.script_reader.specs.declared.script.Order.{Order}
@@ -42,7 +42,7 @@ iterations_front plan heard n (suc m) below = by (nat_le n m) refl (iterations_f
     by false e before = all (grind (arith, nat_tests))
 
 -- and of those over a history that goes on
-iterations_before : (names : List (List ℕ)) (plan : Plan) (client n m : ℕ) (history rest : History) → n ≤ m → length (heard_of names client history) ≡ n
+iterations_before : (names : List (List ℕ)) (plan : Plan) (client n m : ℕ) (history rest : History) → n ≤ m → n ≤ length (heard_of names client history)
     → take n (iterations_of plan (heard_of names client (history ++ rest)) m) ≡ iterations_of plan (heard_of names client history) n
 iterations_before names plan client n m history rest below many =
     iterations_front plan (heard_of names client (history ++ rest)) n m below ∙ ap (λ heard. iterations_of plan heard n) (heard_append names client [] history rest)
@@ -56,7 +56,7 @@ told_on names s t history rest same told kept before after =
     let is : iterations_of (plan_of t.helm) (heard_of names t.number (history ++ rest)) t.ticks ≡ done = ap (λ (helm : Steering). iterations_of helm.plan (heard_of names helm.client (history ++ rest)) t.ticks) same in
     let count : t.told ≡ s.ticks = kept ∙ told in
     let front : take t.told done ≡ iterations_of (plan_of s.helm) (heard_of names s.number history) s.ticks =
-    ap (λ n. take n done) count ∙ iterations_before names (plan_of s.helm) s.number s.ticks t.ticks history rest (omega (arith, count, after.few)) before.many in
+    ap (λ n. take n done) count ∙ iterations_before names (plan_of s.helm) s.number s.ticks t.ticks history rest (omega (arith, count, after.few)) (omega (arith, before.many)) in
     is ∙ sym (take-append-drop t.told done) ∙ ap (λ first. first ++ drop t.told done) front
     ∙ ap (λ last. iterations_of (plan_of s.helm) (heard_of names s.number history) s.ticks ++ last) (ap (drop t.told) (sym is) ∙ sym after.same)
 
@@ -209,25 +209,31 @@ over_now play last between none is = subst IsPlayedOut (sym is) (record {
     lawful : IsLawfulBeside play.order play.script.now (helm_of play.steersman) play.lock.base play.first.seat.seen
     lawful = lawful_end play.order play.script.now play (helm_of play.steersman) play.lock.base play.first.seat.seen between.valid.lines between.at_play none refl refl refl refl
 
+-- a helm, where there is one, has made no more ticks than it has heard, nor than there are up to a stamp
+abbrev pub HasHeard : List (List ℕ) → ℕ → ℕ → Option Steersman → History → Type 0
+HasHeard names number stop None history = Unit {0}
+HasHeard names number stop (Some s) history = (s.number ≡ number) × (s.ticks ≤ length (heard_of names s.number history)) × (s.ticks ≤ ticks_to stop (steering_of s))
+
+pub has_heard : (names : List (List ℕ)) (number stop : ℕ) (steersman : Option Steersman) (history : History) → StandsAt names number steersman history → IfSome steersman (λ helm. (1 ≤ helm.period) × (helm.ticks ≤ ticks_to stop (steering_of helm)))
+    → HasHeard names number stop steersman history
+has_heard names number stop None history so period = tt
+has_heard names number stop (Some s) history so period = (so.0, omega (arith, so.2.many), period.1)
+
 -- the iterations of a history that goes on begin with those so far
-iterations_more : (names : List (List ℕ)) (number stop : ℕ) (steersman : Option Steersman) (history rest : History) → StandsAt names number steersman history → IfSome steersman (λ helm. (1 ≤ helm.period) × (helm.ticks ≤ ticks_to stop (steering_of helm)))
+iterations_more : (names : List (List ℕ)) (number stop : ℕ) (steersman : Option Steersman) (history rest : History) → HasHeard names number stop steersman history
     → (more : List Iteration) × (iterations (helm_of steersman) stop (heard_of names number (history ++ rest)) ≡ made_by names history steersman ++ more)
-iterations_more names number stop None history rest so period = ([], refl)
-iterations_more names number stop (Some s) history rest so period =
+iterations_more names number stop None history rest heard = ([], refl)
+iterations_more names number stop (Some s) history rest heard =
     let all = iterations_of (plan_of s.helm) (heard_of names s.number (history ++ rest)) (ticks_to stop (steering_of s)) in (
       drop s.ticks all,
-      ap (λ n. iterations_of (plan_of s.helm) (heard_of names n (history ++ rest)) (ticks_to stop (steering_of s))) (sym so.0) ∙ sym (take-append-drop s.ticks all)
-          ∙ ap (λ front. front ++ drop s.ticks all) (iterations_before names (plan_of s.helm) s.number s.ticks (ticks_to stop (steering_of s)) history rest period.1 so.2.many),
+      ap (λ n. iterations_of (plan_of s.helm) (heard_of names n (history ++ rest)) (ticks_to stop (steering_of s))) (sym heard.0) ∙ sym (take-append-drop s.ticks all)
+          ∙ ap (λ front. front ++ drop s.ticks all) (iterations_before names (plan_of s.helm) s.number s.ticks (ticks_to stop (steering_of s)) history rest heard.2 heard.1),
     )
 
--- the history between two rounds is the front of a lawful one
-pub has_completion : (play : Play) → IsBetween play → HasCompletion play
-has_completion play between =
-    let script = play.script.now in
-    let whole =
-    completion (left_in play) play.order script (helm_of play.steersman) play.lock.base (ticks_made play.steersman) (drop play.from script.lines) play.first.seat.seen
-    (under_way play.order script play.lock play.steersman play.from play.first.seat between.valid.lines between.at_play.under between.at_play.period) (left_same script play) in
-    let made = iterations_more play.lock.base (helm_number script) script.stop play.steersman play.first.seat.seen whole.rest between.at_play.under.steered between.at_play.period in
+-- a run whose history may become lawful
+pub completable : (script : Script) (play : Play) → Completion play.order script (helm_of play.steersman) play.lock.base play.first.seat.seen → HasHeard play.lock.base (helm_number script) script.stop play.steersman play.first.seat.seen → IsCompletable script play
+completable script play whole heard =
+    let made = iterations_more play.lock.base (helm_number script) script.stop play.steersman play.first.seat.seen whole.rest heard in
     record {
       rest = whole.rest;
       known = whole.known;
@@ -236,3 +242,12 @@ has_completion play between =
       more = made.0;
       iterations = made.1;
     }
+
+-- the history between two rounds is the front of a lawful one
+pub has_completion : (play : Play) → IsBetween play → HasCompletion play
+has_completion play between =
+    let script = play.script.now in
+    completable script play
+    (completion (left_in play) play.order script (helm_of play.steersman) play.lock.base (ticks_made play.steersman) (drop play.from script.lines) play.first.seat.seen
+    (under_way play.order script play.lock play.steersman play.from play.first.seat between.valid.lines between.at_play.under between.at_play.period) (left_same script play))
+    (has_heard play.lock.base (helm_number script) script.stop play.steersman play.first.seat.seen between.at_play.under.steered between.at_play.period)

@@ -1,5 +1,8 @@
 -- What a client hears in a history that goes on, and the helm's entries and iterations over that.
 use Rattle.std.proofs.Common.{◌≡◌, ℕ, zero, suc, ◌≤◌, ◌==◌, ◌&&◌, Bool, true, false, cond, List, [], ◌∷◌, ◌++◌, length, length-append, refl, sym, ap, ◌∙◌, arith, append-nil, append_assoc, eq-eqb, ◌*◌}
+use Rattle.std.specs.Prelude.{not}
+use Rattle.std.specs.List.{list_all}
+use Rattle.std.proofs.lemmas.Bool.{and_parts, false≢true}
 use Rattle.std.proofs.lemmas.List.Elements.{filter-append}
 use Rattle.helm_core.proofs.Growing.{iteration_same}
 use Rattle.helm_core.specs.declared.iteration.Iteration.{Iteration}
@@ -44,6 +47,21 @@ heard_none names client past (entry ∷ some) none = by (entry.client == client)
         → cond (b && c) (one ∷ heard_in names client (past ++ entry ∷ []) some) (heard_in names client (past ++ entry ∷ []) some) ≡ []
     by true c none rest = absurd (omega (arith, ap length none))
     by false c none rest = rest none
+
+-- nor in what has no fetch
+pub heard_deaf : (names : List (List ℕ)) (client : ℕ) (past some : History) → list_all (λ entry. not (is_fetch entry.call)) some ≡ true → heard_in names client past some ≡ []
+heard_deaf names client past [] deaf = refl
+heard_deaf names client past (entry ∷ some) deaf =
+    let tests = and_parts (not (is_fetch entry.call)) (list_all (λ entry. not (is_fetch entry.call)) some) deaf in
+    by (entry.client == client) (is_fetch entry.call) tests.0 ∙ heard_deaf names client (past ++ entry ∷ []) some tests.1
+  where
+    one : Tick
+    one = tick_of entry.stamp (letters_after names client past)
+
+    by : (b c : Bool) → not c ≡ true → cond (b && c) (one ∷ heard_in names client (past ++ entry ∷ []) some) (heard_in names client (past ++ entry ∷ []) some) ≡ heard_in names client (past ++ entry ∷ []) some
+    by true true none = absurd (false≢true none)
+    by true false none = refl
+    by false c none = refl
 
 -- a call that is the client's next: none of its entries stands between it and what was there before
 pub record IsNext (client : ℕ) (old new : History) (entry : Entry) : Type 0 where

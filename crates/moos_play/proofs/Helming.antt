@@ -26,7 +26,7 @@ call_next : (client : ℕ) (seat after : SeatState) (stamp : ℕ) (call : Call) 
 call_next client seat after stamp call is own called = subst (λ n. IsNext n seat.seen after.seen (entry_of n stamp call)) is (called_next seat after stamp call own called)
 
 -- a fetch of the client with a number, and its mail
-fetch_next : (client : ℕ) (seat after : SeatState) (names : List (List ℕ)) (stamp : ℕ) (mail : List Letter) → seat.number ≡ client → HasOwn seat → IsFetched seat after names stamp mail
+pub fetch_next : (client : ℕ) (seat after : SeatState) (names : List (List ℕ)) (stamp : ℕ) (mail : List Letter) → seat.number ≡ client → HasOwn seat → IsFetched seat after names stamp mail
     → (next : IsNext client seat.seen after.seen (entry_of client stamp Fetch)) × (mail ≡ letters_after names client (seat.seen ++ next.between))
 fetch_next client seat after names stamp mail is own fetched =
     subst (λ n. (next : IsNext n seat.seen after.seen (entry_of n stamp Fetch)) × (mail ≡ letters_after names n (seat.seen ++ next.between))) is

@@ -9,6 +9,7 @@ pub mod Steering
 pub mod Helming
 pub mod Leading
 pub mod Lending
+pub mod Stopping
 pub mod Racing
 pub mod Histories
 pub mod Below
@@ -19,4 +20,6 @@ pub mod Calling
 pub mod Beginning
 pub mod Rounding
 pub mod Stamping
+pub mod Remaining
+pub mod Unfinished
 pub mod Examples

@@ -1,5 +1,6 @@
 -- A seat that has made no entry, one that goes on, and lines of one stamp.
 use Rattle.std.proofs.Common.{◌≡◌, ℕ, ◌+◌, ◌-◌, ◌<◌, ◌≤◌, ◌==◌, Bool, true, List, [], ◌++◌, length, take, drop, get_or, length-drop, Ok, Err, OnOk, Result, refl, sym, ap, ◌∙◌, subst, arith, append-nil, append_assoc, eq-eqb}
+use Rattle.std.specs.Prelude.{OnErr}
 use Rattle.std.specs.List.{list_all}
 use Rattle.std.proofs.lemmas.Bool.{and_from}
 use Rattle.std.proofs.lemmas.List.{get_or-drop, take-append-drop}
@@ -14,6 +15,10 @@ use Rattle.turn_lock.proofs.Fronts.{begins_itself, begins_on}
 pub on_any : {A E : Type 0} (result : Result A E) {P : Type 0} → P → OnOk result P
 on_any (Ok _) h = h
 on_any (Err _) h = tt
+
+pub err_any : {A E : Type 0} (result : Result A E) {P : Type 0} → P → OnErr result P
+err_any (Ok _) h = tt
+err_any (Err _) h = h
 
 -- nothing is made yet
 pub made_none : (seat : SeatState) → HasMade [] seat seat

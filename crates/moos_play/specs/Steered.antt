@@ -1,6 +1,7 @@
 -- The helm at its seat, and where a run stands between two rounds.
-use Rattle.std.specs.Prelude.{◌≡◌, ◌≢◌, ℕ, ◌+◌, ◌-◌, ◌*◌, ◌/◌, ◌^◌, ◌==◌, ◌≤◌, ◌<◌, Bool, true, false, nat_le, nat_lt, suc, if◌then◌else◌, List, [], ◌∷◌, ◌++◌, length, drop, take, Option, None, Some, option_map, option_to_list, IfSome, IsTrue, OnOk, Result}
+use Rattle.std.specs.Prelude.{◌≡◌, ◌≢◌, ℕ, ◌+◌, ◌-◌, ◌*◌, ◌/◌, ◌^◌, ◌==◌, ◌≤◌, ◌<◌, Bool, true, false, not, nat_le, nat_lt, suc, if◌then◌else◌, List, [], ◌∷◌, ◌++◌, length, drop, take, Option, None, Some, option_map, option_to_list, IfSome, IsTrue, OnErr, OnOk, Result}
 use Rattle.std.specs.List.{list_all}
+use Rattle.moos_post.specs.Delivery.{is_fetch}
 use Rattle.moos_post.specs.History.{History}
 use Rattle.moos_post.specs.declared.entry.Entry.{Entry}
 use Rattle.moos_client.specs.Calls.{MayCall, SeatState, entries_of}
@@ -15,6 +16,7 @@ use Rattle.moos_play.specs.Rounds.{Anything, CommunityLock, IsGathered, IsWhole,
 use Rattle.script_reader.specs.declared.script.Order.{Order}
 use Rattle.script_reader.specs.declared.script.Order.TheVariants.{Stamp, Race}
 use Rattle.script_reader.specs.declared.script.Script.{Script}
+use Rattle.turn_lock.specs.Passes.{Begins}
 
 -- how a steersman runs its helm
 abbrev pub steering_of : Steersman → Steering
@@ -54,7 +56,25 @@ pub record MaySteer (lock : CommunityLock) (seat : SeatState) (steersman : Steer
   pub early : ticks * steersman.period < 2 ^ 64 + steersman.period
   pub few : (1 ≤ workers) × (workers ≤ 16)
 
--- The helm has made its ticks at the seat up to so many, or less where it found no memory.
+-- A helm that found no memory behind so many whole ticks, between two ticks or within one. With what is left of that tick,
+-- which isn't a fetch, its entries in a history are its opening and those of as many ticks as it has heard there, which are
+-- no more than so many.
+pub record IsStopped (names : List (List ℕ)) (helm : Steering) (whole most : ℕ) (history : History) : Type 0 where
+  pub left : List Entry
+  pub deaf : IsTrue (list_all (λ entry. not (is_fetch entry.call)) left)
+  pub mine : entries_of helm.client left ≡ left
+  pub own : entries_of helm.client history ++ left ≡ opening_of helm ++ ticks_of helm (heard_of names helm.client history) (length (heard_of names helm.client history))
+  pub made : whole ≤ length (heard_of names helm.client history)
+  pub few : length (heard_of names helm.client history) ≤ most
+
+-- the same of the helm at its seat, in what the seat had seen when its last call was made
+pub record HasStopped (names : List (List ℕ)) (helm : Steering) (whole most : ℕ) (seat : SeatState) : Type 0 where
+  pub before : History
+  pub later : Begins seat.seen before
+  pub own : entries_of seat.number before ≡ seat.mine
+  pub stopped : IsStopped names helm whole most before
+
+-- The helm has made its ticks at the seat up to so many, or has stopped on the way where it found no memory.
 pub record HasSteered {E : Type 0} (lock : CommunityLock) (ticks : ℕ) (before after : SeatState) (old new : Steersman) (result : Result (Unit {0}) E) : Type 0 where
   pub made : Makes Anything before after
   pub same : steering_of new ≡ steering_of old
@@ -62,6 +82,7 @@ pub record HasSteered {E : Type 0} (lock : CommunityLock) (ticks : ℕ) (before 
   pub own : OnOk result (HasOwn after)
   pub steered : OnOk result (Steers lock.base new after.seen)
   pub reached : OnOk result ((new.opened ≡ true) × (new.ticks ≡ ticks))
+  pub stopped : old.opened ≡ true → OnErr result (HasStopped lock.base (steering_of old) new.ticks ticks after)
 
 -- the helm that is run, where one is
 abbrev pub helm_of : Option Steersman → Option Steering

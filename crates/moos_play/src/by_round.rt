@@ -1,6 +1,6 @@
 // A run in the open: from round to round, with the database lent in between.
-ghost use Rattle.std.specs.Prelude.{◌≡◌, ◌<◌, ◌≤◌, length, option_map, slice_get, IfOk, IfNone, IfSome, OnOk};
-ghost use Rattle.moos_play.specs.Plays.{AddsAt, earliest, handed, HasCompletion, history_in, IsBetween, IsStampOver, IsLentAs, IsPlayedOut, IsRound, IsSeated, known_clients_in, left_in, clients_in, next_stamp, returned, StaysSeated, untold_in};
+ghost use Rattle.std.specs.Prelude.{◌≡◌, ◌<◌, ◌≤◌, length, option_map, slice_get, IfOk, IfNone, IfSome, OnErr, OnOk};
+ghost use Rattle.moos_play.specs.Plays.{AddsAt, earliest, handed, HasCompletion, history_in, IsBetween, IsCompletable, IsStampOver, IsLentAs, IsPlayedOut, IsRound, IsSeated, known_clients_in, left_in, clients_in, next_stamp, returned, StaysSeated, untold_in};
 ghost use Rattle.moos_play.specs.Steered.{GoesOnWith, IsAtPlay, told_in};
 ghost use Rattle.script_reader.specs.Validity.{IsValid};
 
@@ -20,7 +20,8 @@ use turn_lock::Held;
 
 impl<'a> Play<'a> {
     /// Plays the next round: in order Stamp the lines and the tick of the next stamp, and in order Race everything. None
-    /// where nothing is left. After want of memory only `hold`, `put_back` and `end` may be called.
+    /// where nothing is left. After want of memory the run stands at a moment of a lawful history still, perhaps within a round,
+    /// and only `hold`, `put_back` and `end` may be called.
     pub fn round<R: Threads + Wait + Sync, G: Gate>(
         &mut self,
         rt: &R,
@@ -31,8 +32,9 @@ impl<'a> Play<'a> {
         requires between { IsBetween self.old }
         requires workers { (1 ≤ workers) × (workers ≤ 16) }
         ensures seated { StaysSeated self.old self.new }
+        ensures same { GoesOnWith self.old self.new }
         ensures between { OnOk result (IsBetween self.new) }
-        ensures same { OnOk result (GoesOnWith self.old self.new) }
+        ensures front { OnErr result (HasCompletion self.new) }
         ensures round { IfOk result (λ round. IfSome round (IsRound self.old self.new)) }
         ensures more { IfOk result (λ round. IfSome round (λ _. left_in self.new < left_in self.old)) }
         ensures none { IfOk result (λ round. IfNone round ((left_in self.old ≡ 0) × (self.new ≡ self.old))) }
@@ -95,8 +97,9 @@ impl<'a> Play<'a> {
         requires at_play { IsAtPlay self.old.script.now self.old }
         requires workers { (1 ≤ workers) × (workers ≤ 16) }
         ensures seated { StaysSeated self.old self.new }
+        ensures same { GoesOnWith self.old self.new }
+        ensures front { OnErr result (IsCompletable self.old.script.now self.new) }
         ensures at_play { OnOk result (IsAtPlay self.new.script.now self.new) }
-        ensures same { OnOk result (GoesOnWith self.old self.new) }
         ensures told { OnOk result (told_in self.new.steersman ≡ told_in self.old.steersman) }
         ensures less { OnOk result (left_in self.new ≤ left_in self.old) }
         ensures stamped { OnOk result (AddsAt self.old.order stamp (known_clients_in self.old) (history_in self.old) (history_in self.new)) }

@@ -1,7 +1,7 @@
 // A run from one step to the next: the clients' lines and the helm's ticks, in the order that was asked for.
-ghost use Rattle.std.specs.Prelude.{◌≡◌, ◌≢◌, ◌<◌, ◌≤◌, ◌++◌, ◌^◌, None, Ok, true, false, drop, length, option_map, IfOk, OnOk, IfSome};
+ghost use Rattle.std.specs.Prelude.{◌≡◌, ◌≢◌, ◌<◌, ◌≤◌, ◌++◌, ◌^◌, None, Ok, true, false, [], drop, length, option_map, IfOk, OnErr, OnOk, IfSome};
 ghost use Rattle.moos_play.specs.Lawful.{known_clients, names_with, opening, steering_with, MayStart};
-ghost use Rattle.moos_play.specs.Plays.{AddsAt, helm_in, history_in, IsBetween, IsSeated, clients_in, stamp_due, StaysSeated, untold_in};
+ghost use Rattle.moos_play.specs.Plays.{AddsAt, helm_in, history_in, IsBetween, IsCompletable, IsSeated, clients_in, stamp_due, StaysSeated, untold_in};
 ghost use Rattle.moos_play.specs.Steered.{GoesOnWith, IsAtPlay, IsBehind, IsDue, left_of, tick_due, told_in};
 ghost use Rattle.script_reader.specs.Validity.{IsValid};
 
@@ -98,9 +98,10 @@ impl<'a> Play<'a> {
         requires at_play { IsAtPlay script.now self.old }
         requires workers { (1 ≤ workers) × (workers ≤ 16) }
         ensures at_play { OnOk result (IsAtPlay script.now self.new) }
-        ensures same { OnOk result (GoesOnWith self.old self.new) }
+        ensures same { GoesOnWith self.old self.new }
         ensures told { OnOk result (told_in self.new.steersman ≡ told_in self.old.steersman) }
         ensures seated { StaysSeated self.old self.new }
+        ensures front { OnErr result (IsCompletable script.now self.new) }
         ensures stamped { result ≡ Ok true → AddsAt self.old.order (stamp_due script.now self.old) (known_clients script.now (helm_in self.old)) (history_in self.old) (history_in self.new) }
         ensures more { result ≡ Ok true → left_of script.now self.new < left_of script.now self.old }
         ensures over { result ≡ Ok false → (left_of script.now self.old ≡ 0) × (self.new ≡ self.old) }
@@ -133,9 +134,10 @@ impl<'a> Play<'a> {
         requires due { IsDue script.now.lines (tick_due script.now.stop self.old.steersman) self.old.from to }
         requires some { (self.old.from ≡ to) → (tick_due script.now.stop self.old.steersman ≢ None) }
         ensures at_play { OnOk result (IsAtPlay script.now self.new) }
-        ensures same { OnOk result (GoesOnWith self.old self.new) }
+        ensures same { GoesOnWith self.old self.new }
         ensures told { OnOk result (told_in self.new.steersman ≡ told_in self.old.steersman) }
         ensures seated { StaysSeated self.old self.new }
+        ensures front { OnErr result (IsCompletable script.now self.new) }
         ensures stamped { OnOk result (AddsAt self.old.order (stamp_due script.now self.old) (known_clients script.now (helm_in self.old)) (history_in self.old) (history_in self.new)) }
         ensures more { OnOk result (left_of script.now self.new < left_of script.now self.old) }
     {
@@ -160,9 +162,10 @@ impl<'a> Play<'a> {
         requires due { IsDue script.now.lines (tick_due script.now.stop self.old.steersman) self.old.from to }
         requires some { self.old.from < to }
         ensures at_play { OnOk result (IsAtPlay script.now self.new) }
-        ensures same { OnOk result (GoesOnWith self.old self.new) }
+        ensures same { GoesOnWith self.old self.new }
         ensures told { OnOk result (told_in self.new.steersman ≡ told_in self.old.steersman) }
         ensures seated { StaysSeated self.old self.new }
+        ensures front { OnErr result (IsCompletable script.now self.new) }
         ensures stamped { OnOk result (AddsAt self.old.order (stamp_due script.now self.old) (known_clients script.now (helm_in self.old)) (history_in self.old) (history_in self.new)) }
         ensures more { OnOk result (left_of script.now self.new < left_of script.now self.old) }
     {
@@ -188,9 +191,10 @@ impl<'a> Play<'a> {
         requires some { tick_due script.now.stop self.old.steersman ≢ None }
         requires behind { IsBehind (tick_due script.now.stop self.old.steersman) (drop self.old.from script.now.lines) }
         ensures at_play { OnOk result (IsAtPlay script.now self.new) }
-        ensures same { OnOk result (GoesOnWith self.old self.new) }
+        ensures same { GoesOnWith self.old self.new }
         ensures told { OnOk result (told_in self.new.steersman ≡ told_in self.old.steersman) }
         ensures seated { StaysSeated self.old self.new }
+        ensures front { OnErr result (IsCompletable script.now self.new) }
         ensures stamped { OnOk result (AddsAt self.old.order (stamp_due script.now self.old) (known_clients script.now (helm_in self.old)) (history_in self.old) (history_in self.new)) }
         ensures more { OnOk result (left_of script.now self.new < left_of script.now self.old) }
     {
@@ -219,9 +223,10 @@ impl<'a> Play<'a> {
         requires race { self.old.order ≡ Order.Race }
         requires left { (self.old.steersman ≡ None) → self.old.from < length script.now.lines }
         ensures at_play { OnOk result (IsAtPlay script.now self.new) }
-        ensures same { OnOk result (GoesOnWith self.old self.new) }
+        ensures same { GoesOnWith self.old self.new }
         ensures told { OnOk result (told_in self.new.steersman ≡ told_in self.old.steersman) }
         ensures seated { StaysSeated self.old self.new }
+        ensures front { OnErr result (IsCompletable script.now self.new) }
         ensures stamped { OnOk result (AddsAt self.old.order (stamp_due script.now self.old) (known_clients script.now (helm_in self.old)) (history_in self.old) (history_in self.new)) }
         ensures over { OnOk result (left_of script.now self.new ≡ 0) }
     {
@@ -246,9 +251,10 @@ impl<'a> Play<'a> {
         requires none { self.old.steersman ≡ None }
         requires left { self.old.from < length script.now.lines }
         ensures at_play { OnOk result (IsAtPlay script.now self.new) }
-        ensures same { OnOk result (GoesOnWith self.old self.new) }
+        ensures same { GoesOnWith self.old self.new }
         ensures told { OnOk result (told_in self.new.steersman ≡ told_in self.old.steersman) }
         ensures seated { StaysSeated self.old self.new }
+        ensures front { OnErr result (IsCompletable script.now self.new) }
         ensures stamped { OnOk result (AddsAt self.old.order (stamp_due script.now self.old) (known_clients script.now (helm_in self.old)) (history_in self.old) (history_in self.new)) }
         ensures over { OnOk result (left_of script.now self.new ≡ 0) }
     {
@@ -275,9 +281,10 @@ impl<'a> Play<'a> {
         requires race { self.old.order ≡ Order.Race }
         requires some { self.old.steersman ≢ None }
         ensures at_play { OnOk result (IsAtPlay script.now self.new) }
-        ensures same { OnOk result (GoesOnWith self.old self.new) }
+        ensures same { GoesOnWith self.old self.new }
         ensures told { OnOk result (told_in self.new.steersman ≡ told_in self.old.steersman) }
         ensures seated { StaysSeated self.old self.new }
+        ensures front { OnErr result (IsCompletable script.now self.new) }
         ensures stamped { OnOk result (AddsAt self.old.order (stamp_due script.now self.old) (known_clients script.now (helm_in self.old)) (history_in self.old) (history_in self.new)) }
         ensures over { OnOk result (left_of script.now self.new ≡ 0) }
     {
@@ -296,8 +303,21 @@ impl<'a> Play<'a> {
         Ok(())
     }
 
-    /// Ends the run: its database with the history so far, and those of the helm's iterations that no round has handed out.
+    /// Ends the run: its database with the history so far. It hands out no iterations: those of a round are the round's, and
+    /// those of one that found no memory are nobody's.
     pub fn end(self, alloc: Global) -> Ran
+        requires { IsSeated self }
+        ensures names { result.db.names ≡ clients_in self.entry }
+        ensures history { result.db.history ≡ history_in self.entry }
+        ensures iterations { result.iterations ≡ [] }
+    {
+        let Ran { db, iterations: _ } = self.close(alloc);
+        let iterations = List::new(alloc);
+        Ran { db, iterations }
+    }
+
+    /// Ends the run: its database with the history so far, and those of the helm's iterations that no round has handed out.
+    pub(crate) fn close(self, alloc: Global) -> Ran
         requires { IsSeated self }
         ensures names { result.db.names ≡ clients_in self.entry }
         ensures history { result.db.history ≡ history_in self.entry }

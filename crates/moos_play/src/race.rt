@@ -1,10 +1,10 @@
 // A race: the clients play all their lines, and the helm makes all its ticks on a thread of its own beside them.
-ghost use Rattle.std.specs.Prelude.{◌≡◌, ◌≤◌, ◌<◌, ◌+◌, ◌*◌, ◌^◌, true, false, length, nat_lt, IsTrue, OnOk};
+ghost use Rattle.std.specs.Prelude.{◌≡◌, ◌≤◌, ◌<◌, ◌+◌, ◌*◌, ◌^◌, true, false, length, nat_lt, IsTrue, OnErr, OnOk};
 ghost use Rattle.std.specs.List.{All, AllZip, list_all};
 ghost use Rattle.std.specs.Thread.{IsSync};
 ghost use Rattle.moos_client.specs.Calls.{MayCall};
 ghost use Rattle.moos_play.specs.Rounds.{GoesOn, HasEnded, IsApart, IsGathered, IsPlayedBeside, IsWhole};
-ghost use Rattle.moos_play.specs.Steered.{HasSteered, MaySteer, Steers, steering_of};
+ghost use Rattle.moos_play.specs.Steered.{HasSteered, IsStopped, MaySteer, Steers, steering_of};
 
 use crate::player::Player;
 use crate::round::{both, part_busy, play_beside, see_all, take_in};
@@ -47,6 +47,7 @@ pub(crate) fn race<R: Threads + Wait + Sync, G: Gate>(
     ensures told { steersman.new.told ≡ steersman.old.told }
     ensures steered { OnOk result (Steers lock.now.base steersman.new first.new.seat.seen) }
     ensures reached { OnOk result ((steersman.new.opened ≡ true) × (steersman.new.ticks ≡ ticks)) }
+    ensures stopped { steersman.old.opened ≡ true → OnErr result (IsStopped lock.now.base (steering_of steersman.old) steersman.new.ticks ticks first.new.seat.seen) }
 {
     if steersman.number == 0 {
         let seat = &mut first.seat;

@@ -67,5 +67,5 @@ pub fn play<R: Threads + Wait + Sync, G: Gate>(
     }
     let mut play = Play::make(rt, alloc, script, helm, List::new(alloc), order, gate)?;
     while play.go_on(rt, alloc, script, workers, gate)? {}
-    Ok(play.end(alloc))
+    Ok(play.close(alloc))
 }

@@ -1,8 +1,8 @@
 // The helm at its seat: its opening, and its ticks as calls.
-ghost use Rattle.std.specs.Prelude.{◌≡◌, ◌≤◌, ◌<◌, ◌*◌, ◌+◌, ◌^◌, true, false, length, OnOk};
+ghost use Rattle.std.specs.Prelude.{◌≡◌, ◌≤◌, ◌<◌, ◌*◌, ◌+◌, ◌^◌, true, false, length, OnErr, OnOk};
 ghost use Rattle.moos_client.specs.Calls.{MayCall};
 ghost use Rattle.moos_play.specs.Rounds.{Anything, GoesOn, IsAlone, IsGathered, IsWhole, Makes};
-ghost use Rattle.moos_play.specs.Steered.{HasOwn, Steers, steering_of};
+ghost use Rattle.moos_play.specs.Steered.{HasOwn, HasStopped, IsStopped, Steers, steering_of};
 
 use crate::round::see_all;
 use helm_core::{Helm, Iteration};
@@ -55,6 +55,7 @@ pub(crate) fn steer<R: Threads + Wait + Sync, G: Gate>(
     ensures own { OnOk result (HasOwn seat.new) }
     ensures steered { OnOk result (Steers lock.now.base steersman.new seat.new.seen) }
     ensures reached { OnOk result ((steersman.new.opened ≡ true) × (steersman.new.ticks ≡ ticks)) }
+    ensures stopped { steersman.old.opened ≡ true → OnErr result (HasStopped lock.now.base (steering_of steersman.old) steersman.new.ticks ticks seat.new) }
 {
     open(rt, alloc, lock, seat, steersman, gate)?;
     while steersman.ticks < ticks {
@@ -92,6 +93,7 @@ fn open<R: Wait, G: Gate>(
     ensures own { OnOk result (HasOwn seat.new) }
     ensures steered { OnOk result (Steers lock.now.base steersman.new seat.new.seen) }
     ensures opened { OnOk result ((steersman.new.opened ≡ true) × (steersman.new.ticks ≡ steersman.old.ticks)) }
+    ensures unopened { OnErr result (steersman.old.opened ≡ false) }
 {
     if steersman.opened {
         return Ok(());
@@ -129,6 +131,8 @@ fn tick<R: Threads + Wait + Sync, G: Gate>(
     ensures own { OnOk result (HasOwn seat.new) }
     ensures steered { OnOk result (Steers lock.now.base steersman.new seat.new.seen) }
     ensures on { OnOk result ((steersman.new.opened ≡ steersman.old.opened) × (steersman.new.ticks ≡ steersman.old.ticks + 1)) }
+    ensures kept { OnErr result (steersman.new.ticks ≡ steersman.old.ticks) }
+    ensures stopped { steersman.old.opened ≡ true → OnErr result (HasStopped lock.now.base (steering_of steersman.old) steersman.old.ticks (steersman.old.ticks + 1) seat.new) }
 {
     let stamp = steersman.ticks * steersman.period;
     count_call(steersman, gate);
@@ -169,6 +173,7 @@ pub(crate) fn lead<R: Threads + Wait + Sync, G: Gate>(
     ensures told { steersman.new.told ≡ steersman.old.told }
     ensures steered { OnOk result (Steers lock.now.base steersman.new first.new.seen) }
     ensures reached { OnOk result ((steersman.new.opened ≡ true) × (steersman.new.ticks ≡ ticks)) }
+    ensures stopped { steersman.old.opened ≡ true → OnErr result (IsStopped lock.now.base (steering_of steersman.old) steersman.new.ticks ticks first.new.seen) }
 {
     let answer = if steersman.number == 0 {
         steer(rt, alloc, lock, first, steersman, ticks, workers, gate)

@@ -2,13 +2,15 @@ use Rattle.std.proofs.Common.{◌≡◌, ◌∙◌, [], Err, append-nil, ap, ari
 use Rattle.std.specs.List.{list_all}
 use Rattle.moos_post.specs.declared.entry.Entry.{Entry}
 use Rattle.moos_play.specs.Lawful.{Steering}
-use Rattle.moos_client.specs.Calls.{entries_of}
+use Rattle.moos_client.specs.Calls.{entries_of, SeatState}
 use Rattle.moos_play.specs.Rounds.{AreBusy, GoesOn, IsPlayedBeside, times_met}
-use Rattle.moos_play.specs.Steered.{HasOwn, Steers}
+use Rattle.moos_play.specs.Steered.{HasOwn, IsSteered, IsStopped, steering_of, Steers}
 use Rattle.moos_play.proofs.Leading.{known_met, led_steered}
 use Rattle.moos_play.proofs.Played.{ok_part}
 use Rattle.moos_play.proofs.Racing.{alone_beside, helm_absent, helm_with, may_steer, race_round}
+use Rattle.moos_play.proofs.Lines.{err_any}
 use Rattle.moos_play.proofs.Rounds.{none_past}
+use Rattle.moos_play.proofs.Stopping.{beside_stopped, led_stopped, steered_stops}
 use Rattle.moos_play.proofs.Taking.{at_ok, ended_apart, round_gathered, round_goes_on, seen_gathered}
 use Rattle.turn_lock.proofs.Fronts.{begins_itself}
 use Rattle.turn_lock.proofs.Mets.{is_taken}
@@ -88,3 +90,27 @@ returns-clause-steered g c =
 
 pub returns-clause-reached : goal.returns-clause-reached
 returns-clause-reached g c = ok_part c.both-2.result c.both-2.ensures (λ b. at_ok c.steer_beside-steered.result _ b.0 c.steer_beside-steered.ensures.steered.reached)
+
+pub returns-in_err-players-clause-stopped : goal.returns-in_err-players-clause-stopped
+returns-in_err-players-clause-stopped g c = λ opened.
+    let s = c.args.steersman.now in
+    err_any _ (subst (λ (seat : SeatState). IsStopped c.args.lock.now.base (steering_of s) s.ticks c.args.ticks seat.seen) (sym c.in_err-players.ensures.same)
+    (steered_stops c.args.lock.now.base (steering_of s) s.helm s.ticks s.told s.ticks c.args.ticks s.iterations c.args.first.now.seat.seen
+    (subst (λ b. IsSteered c.args.lock.now.base (steering_of s) s.helm b s.ticks s.told s.iterations c.args.first.now.seat.seen) opened c.requires.steered) (omega arith) c.requires.ticks))
+
+pub returns-clause-stopped : goal.returns-clause-stopped
+returns-clause-stopped g c = λ opened.
+    let seat = c.steer_beside-steered.new.seat in
+    let steered = c.steer_beside-steered.ensures.steered in
+    let helm = c.steer_beside-steered.new.steersman in
+    let busy = subst (λ n. AreBusy c.args.lines.now n c.in_ok-players.players.items) (sym c.requires.number) c.in_ok-players.ensures.busy in
+    let number : seat.number ≡ c.args.steersman.now.number = ap (λ s. s.number) steered.made.made.same ∙ ap (λ s. s.number) c.part-seat.ensures.part in
+    led_stopped c.args.lock.now.base (steering_of c.args.steersman.now) c.both-2.result c.both-2.result helm.ticks helm.ticks c.args.ticks seat c.meet.new.pass c.meet.new.pass c.see_all.new.first refl refl refl
+    (err_any c.both-2.result (beside_stopped c.args.lock.now.base (steering_of c.args.steersman.now) c.steer_beside-steered.result helm c.args.ticks seat steered.same steered.own steered.steered steered.reached (steered.stopped opened)))
+    number c.meet.ensures.seen.1
+    (known_met c.take_in-others.new.first c.meet.new.pass seat c.meet.ensures.pass (ap (λ s. s.met) steered.made.made.same ∙ ap (λ s. s.met) c.part-seat.ensures.part)
+    (λ e. omega (arith, e, number, ap (λ s. s.number) c.take_in-others.ensures.taken.same, ap (λ s. s.number) c.steer_beside-steered.ensures.first.made.same, ap (λ s. s.number) c.part-seat.ensures.pass, ap (λ s. s.number) c.in_ok-players.ensures.parted.same, c.requires.gathered.number, c.if-steersman-eq0.false))
+    (subst (λ n. times_met n c.take_in-others.new.first.met ≡ 0) (sym number)
+    (helm_absent c.args.lines.now c.args.steersman.now.number c.part_busy.new.first c.part-seat.new.pass c.steer_beside-steered.new.first.seat c.take_in-others.new.first _ c.in_ok-players.players.items c.steer_beside-steered.new.players.items busy c.part-seat.ensures.pass
+    c.steer_beside-steered.ensures.first.made c.steer_beside-steered.ensures.players c.take_in-others.ensures.taken)))
+    c.see_all.ensures

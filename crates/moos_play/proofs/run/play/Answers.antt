@@ -14,11 +14,11 @@ returns-then-is_none-clause-lawful g c =
 pub returns-clause-lawful : goal.returns-clause-lawful
 returns-clause-lawful g c =
     let over = c.in_ok-go_on.ensures.over (ap Ok c.if-branch.false) in
-    lawful_whole c.args.order c.args.script.now c.go_on.new.self c.args.helm c.end.result.db.names c.end.result.db.history c.requires.valid.lines c.in_ok-go_on.ensures.at_play (ap (left_of c.args.script.now) over.1 ∙ over.0)
-    (c.in_ok-go_on.ensures.same.order ∙ c.loop-play.invariant.order) (c.in_ok-go_on.ensures.same.helm ∙ c.loop-play.invariant.helm) c.end.ensures.names c.end.ensures.history (search rules)
+    lawful_whole c.args.order c.args.script.now c.go_on.new.self c.args.helm c.close.result.db.names c.close.result.db.history c.requires.valid.lines c.in_ok-go_on.ensures.at_play (ap (left_of c.args.script.now) over.1 ∙ over.0)
+    (c.in_ok-go_on.ensures.same.order ∙ c.loop-play.invariant.order) (c.in_ok-go_on.ensures.same.helm ∙ c.loop-play.invariant.helm) c.close.ensures.names c.close.ensures.history (search rules)
 
 pub returns-clause-iterations : goal.returns-clause-iterations
 returns-clause-iterations g c =
     let over = c.in_ok-go_on.ensures.over (ap Ok c.if-branch.false) in
-    iterations_end c.args.script.now c.go_on.new.self _ c.end.result.db.names c.end.result.db.history c.end.result.iterations c.in_ok-go_on.ensures.at_play (ap (left_of c.args.script.now) over.1 ∙ over.0) (c.in_ok-go_on.ensures.told ∙ c.loop-play.invariant.told)
-    (c.in_ok-go_on.ensures.same.helm ∙ c.loop-play.invariant.helm) c.end.ensures.names c.end.ensures.history c.end.ensures.iterations
+    iterations_end c.args.script.now c.go_on.new.self _ c.close.result.db.names c.close.result.db.history c.close.result.iterations c.in_ok-go_on.ensures.at_play (ap (left_of c.args.script.now) over.1 ∙ over.0) (c.in_ok-go_on.ensures.told ∙ c.loop-play.invariant.told)
+    (c.in_ok-go_on.ensures.same.helm ∙ c.loop-play.invariant.helm) c.close.ensures.names c.close.ensures.history c.close.ensures.iterations

@@ -1,12 +1,16 @@
-use Rattle.std.proofs.Common.{◌≡◌, ◌∙◌, Ok, ap, drop, length, nat_lt, refl, subst, sym, take, ◌-◌, true, rules}
+use Rattle.std.proofs.Common.{◌≡◌, ◌∙◌, Ok, ap, arith, drop, length, nat_lt, refl, subst, sym, take, ◌-◌, true, rules}
 use Rattle.std.specs.List.{list_all}
 use Rattle.moos_post.specs.declared.entry.Entry.{Entry}
 use Rattle.moos_play.specs.Lawful.{known_clients}
 use Rattle.moos_play.specs.Plays.{helm_in, stamp_due}
 use Rattle.moos_play.specs.Rounds.{GoesOn, IsPlayed}
 use Rattle.moos_play.proofs.Coming.{all_part, lines_clients, lines_left}
+use Rattle.moos_play.proofs.Ending.{ticks_made}
+use Rattle.moos_play.proofs.Handing.{completable}
+use Rattle.moos_play.proofs.Lines.{err_any}
 use Rattle.moos_play.proofs.Rounding.{as_many}
 use Rattle.moos_play.proofs.Stamping.{lines_known, race_adds}
+use Rattle.moos_play.proofs.Unfinished.{lines_unfinished, race_come}
 use Rattle.moos_play.proofs.playing.Play.play_left.Goals as goal
 
 pub play_round-requires-clause-lines : goal.play_round-requires-clause-lines
@@ -24,6 +28,15 @@ returns-clause-at_play g c = record {
   calls = as_many c.args.self.now.calls.len c.args.self.now.calls.items c.play_round.new.calls (c.play_round.auto.calls ∙ ap length c.as_mut_slice-calls.ensures.value) (search rules) ∙ (search rules);
   period = c.requires.at_play.period;
 }
+
+pub returns-in_err-play_round-clause-front : goal.returns-in_err-play_round-clause-front
+returns-in_err-play_round-clause-front g c =
+    let play = c.args.self.now in
+    let script = c.args.script.now in
+    let left =
+    lines_unfinished play.order script play.lock play.steersman play.from c.len-to.result 0 c.all.result.now play.first.seat c.play_round.new.first.seat c.requires.valid.lines c.requires.at_play.under c.requires.at_play.period c.all.ensures
+    c.in_err-play_round.ensures.goes_on (omega (arith, c.len-to.ensures, c.requires.left)) (race_come play.order script.stop (helm_in play) (ticks_made play.steersman) 0 _ c.requires.race) in
+    err_any _ (completable script _ left.0 left.1)
 
 pub returns-clause-stamped : goal.returns-clause-stamped
 returns-clause-stamped g c =

@@ -5,8 +5,11 @@ use Rattle.moos_play.specs.Plays.{helm_in}
 use Rattle.moos_play.specs.Rounds.{GoesOn, IsPlayed}
 use Rattle.moos_play.proofs.Coming.{all_part, lines_clients, lines_next}
 use Rattle.moos_play.specs.Steered.{tick_due}
+use Rattle.moos_play.proofs.Handing.{completable}
+use Rattle.moos_play.proofs.Lines.{err_any}
 use Rattle.moos_play.proofs.Rounding.{as_many, some_client}
 use Rattle.moos_play.proofs.Stamping.{lines_add}
+use Rattle.moos_play.proofs.Unfinished.{due_come, lines_unfinished}
 use Rattle.moos_play.proofs.playing.Play.play_lines.Goals as goal
 
 pub play_round-requires-clause-clients : goal.play_round-requires-clause-clients
@@ -32,6 +35,15 @@ returns-clause-at_play g c = record {
   calls = as_many c.args.self.now.calls.len c.args.self.now.calls.items c.play_round.new.calls (c.play_round.auto.calls ∙ ap length c.as_mut_slice-calls.ensures.value) (search rules) ∙ (search rules);
   period = c.requires.at_play.period;
 }
+
+pub returns-in_err-play_round-clause-front : goal.returns-in_err-play_round-clause-front
+returns-in_err-play_round-clause-front g c =
+    let play = c.args.self.now in
+    let script = c.args.script.now in
+    let left =
+    lines_unfinished play.order script play.lock play.steersman play.from c.args.to c.requires.due.stamp c.all.result.now play.first.seat c.play_round.new.first.seat c.requires.valid.lines c.requires.at_play.under c.requires.at_play.period c.all.ensures
+    c.in_err-play_round.ensures.goes_on c.requires.due.more (due_come play.order script play.steersman play.from c.args.to c.requires.due c.requires.some) in
+    err_any _ (completable script _ left.0 left.1)
 
 pub returns-clause-stamped : goal.returns-clause-stamped
 returns-clause-stamped g c =

@@ -8,8 +8,11 @@ use Rattle.moos_play.specs.Lawful.{clients_below, helm_number, known_clients, St
 use Rattle.moos_play.specs.Plays.{helm_in, stamp_due}
 use Rattle.moos_play.specs.Steered.{helm_of, StandsAt, steering_of}
 use Rattle.moos_play.proofs.Coming.{all_part, lines_clients, race_left}
+use Rattle.moos_play.proofs.Handing.{completable}
+use Rattle.moos_play.proofs.Lines.{err_any}
 use Rattle.moos_play.proofs.Rounding.{as_many}
 use Rattle.moos_play.proofs.Stamping.{race_adds, race_known}
+use Rattle.moos_play.proofs.Unfinished.{race_unfinished}
 use Rattle.moos_play.proofs.playing.Play.race_left.Goals as goal
 
 pub race-requires-clause-lines : goal.race-requires-clause-lines
@@ -32,6 +35,15 @@ returns-clause-at_play g c =
       calls = as_many c.args.self.now.calls.len c.args.self.now.calls.items c.race.new.calls (c.race.auto.calls ∙ ap length c.as_mut_slice-calls.ensures.value) (search rules) ∙ (search rules);
       period = (subst (λ (helm : Steering). 1 ≤ helm.period) (sym c.in_ok-race.ensures.same) period.0, omega (arith, c.in_ok-race.ensures.reached.1, ap (λ (helm : Steering). ticks_to c.args.script.now.stop helm) c.in_ok-race.ensures.same));
     }
+
+pub returns-in_err-race-clause-front : goal.returns-in_err-race-clause-front
+returns-in_err-race-clause-front g c =
+    let play = c.args.self.now in
+    let script = c.args.script.now in
+    let left =
+    race_unfinished script play c.race.new.first.seat c.in-Some.steersman c.race.new.steersman c.len-to.result _ c.all.result.now c.requires.race c.requires.valid.lines c.requires.at_play c.in-Some.is c.all.ensures (omega (arith, c.len-to.ensures, c.requires.at_play.under.within))
+    c.in_err-race.ensures.goes_on c.in_err-race.ensures.same c.in_err-race.ensures.stopped (omega arith) in
+    err_any _ (completable script _ left.0 left.1)
 
 pub returns-clause-stamped : goal.returns-clause-stamped
 returns-clause-stamped g c =

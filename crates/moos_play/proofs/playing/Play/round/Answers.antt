@@ -1,8 +1,9 @@
-use Rattle.std.proofs.Common.{◌∙◌, ◌++◌, ap, rules, subst, sym}
+use Rattle.std.proofs.Common.{◌∙◌, ◌++◌, ap, refl, rules, subst, sym}
 use Rattle.moos_play.specs.declared.playing.Play.{Play}
-use Rattle.moos_play.specs.Plays.{history_in, IsBetween, IsStampOver, handed, iterations_made, known_clients_in, StaysSeated, untold_in}
+use Rattle.moos_play.specs.Plays.{history_in, IsBetween, IsCompletable, IsStampOver, handed, iterations_made, known_clients_in, StaysSeated, untold_in}
 use Rattle.moos_play.specs.Steered.{GoesOnWith, left_of}
 use Rattle.moos_play.proofs.Handing.{at_ends, finished_handed, goes_on_handed, goes_on_twice, handed_between, over_now, round_iterations, stays_handed, stays_twice}
+use Rattle.moos_play.proofs.Lines.{err_any}
 use Rattle.moos_play.proofs.Stamping.{all_stamped, none_further, round_adds}
 use Rattle.script_reader.specs.Validity.{IsValid}
 use Rattle.moos_play.proofs.playing.Play.round.Goals as goal
@@ -60,3 +61,18 @@ returns-then-not-branch-clause-over g c =
     let ended = c.in_ok-go_on.ensures.over (search rules) in
     let same = c.count_entries-from.ensures.same in
     over_now c.args.self.now c.go_on.new.self c.requires.between (ap (left_of c.args.self.now.script.now) (sym same) ∙ ended.0) (ended.1 ∙ same)
+
+pub returns-in_err-go_on-clause-same : goal.returns-in_err-go_on-clause-same
+returns-in_err-go_on-clause-same g c = at_ends GoesOnWith c.count_entries-from.new.self c.args.self.now c.go_on.new.self c.go_on.new.self c.count_entries-from.ensures.same refl c.in_err-go_on.ensures.same
+
+pub returns-in_err-go_on-clause-front : goal.returns-in_err-go_on-clause-front
+returns-in_err-go_on-clause-front g c =
+    err_any _ (subst (λ script. IsCompletable script c.go_on.new.self) (sym (c.in_err-go_on.ensures.same.script ∙ ap (λ (play : Play). play.script.now) c.count_entries-from.ensures.same)) c.in_err-go_on.ensures.front)
+
+pub returns-in_err-finish_stamp-clause-same : goal.returns-in_err-finish_stamp-clause-same
+returns-in_err-finish_stamp-clause-same g c =
+    at_ends GoesOnWith c.count_entries-from.new.self c.args.self.now c.finish_stamp.new.self c.finish_stamp.new.self c.count_entries-from.ensures.same refl
+    (goes_on_twice c.count_entries-from.new.self c.go_on.new.self c.finish_stamp.new.self c.in_ok-go_on.ensures.same c.in_err-finish_stamp.ensures.same)
+
+pub returns-in_err-finish_stamp-clause-front : goal.returns-in_err-finish_stamp-clause-front
+returns-in_err-finish_stamp-clause-front g c = err_any _ (subst (λ script. IsCompletable script c.finish_stamp.new.self) (sym c.in_err-finish_stamp.ensures.same.script) c.in_err-finish_stamp.ensures.front)
