@@ -10,6 +10,7 @@ use Rattle.moos_post.specs.declared.entry.Call.TheVariants.{Post as Posts, Fetch
 use Rattle.moos_post.specs.declared.entry.Entry.{Entry}
 use Rattle.moos_post.specs.History.{History}
 use Rattle.moos_play.specs.Lawful.{heard_of, IsLawful, KeepsOrder, moment_of, never_falls, opening, opening_of, Steering, tick_entries, ticks, ticks_to}
+use Rattle.moos_play.specs.Steered.{IsStopped}
 use Rattle.script_reader.specs.declared.script.Order.TheVariants.{Stamp, Race}
 use Rattle.script_reader.specs.declared.script.Script.{Script}
 
@@ -89,3 +90,18 @@ opens_later later same = omega (arith, ap first_client same)
     first_client : History → ℕ
     first_client [] = 2
     first_client (entry ∷ later) = entry.client
+
+-- a helm that found no memory behind its fetch: the post is left
+stopped : IsStopped names helm 0 1 (opening_of helm ++ entry_of 0 0 Fetch ∷ entry_of 1 0 Fetch ∷ [])
+stopped = record {
+  left = entry_of 1 0 (Posts (iteration_at plan heard 0).posts) ∷ [];
+  deaf = refl;
+  mine = refl;
+  own = refl;
+  made = omega arith;
+  few = omega arith;
+}
+
+-- no helm that has stopped has made a post more
+posted_again : IsStopped names helm 0 1 (opening_of helm ++ entry_of 0 0 Fetch ∷ entry_of 1 0 Fetch ∷ entry_of 1 0 (Posts []) ∷ entry_of 1 0 (Posts []) ∷ []) → ⊥
+posted_again so = omega (arith, ap length so.own)

@@ -1,5 +1,5 @@
 -- What is left of some lines when each client has played a front of its own.
-use Rattle.std.proofs.Common.{◌≡◌, ◌≢◌, ℕ, ◌==◌, Bool, true, false, cond, List, [], ◌∷◌, ◌++◌, length, refl, sym, ap, ◌∙◌, subst, arith, eq-eqb, ne_eqb}
+use Rattle.std.proofs.Common.{◌≡◌, ◌≢◌, ℕ, ◌<◌, ◌==◌, Bool, true, false, cond, List, [], ◌∷◌, ◌++◌, length, refl, sym, ap, ◌∙◌, subst, arith, eq-eqb, nat_lt, ne_eqb}
 use Rattle.std.specs.List.{list_all}
 use Rattle.std.proofs.lemmas.Bool.{and_from, and_parts}
 use Rattle.std.proofs.lemmas.List.Elements.{filter-append}
@@ -7,6 +7,8 @@ use Rattle.std.proofs.lemmas.List.Folds.{list_all-append}
 use native.Mathlib.Decide.{ℕ_discrete}
 use Rattle.moos_client.specs.Calls.{entries_of}
 use Rattle.moos_post.specs.declared.entry.Entry.{Entry}
+use Rattle.moos_play.specs.Lawful.{clients_below}
+use Rattle.moos_play.proofs.Below.{own_pass}
 use Rattle.moos_play.proofs.Histories.{all_kept, all_own}
 use Rattle.turn_lock.specs.Passes.{Begins}
 
@@ -97,3 +99,11 @@ front_pass p xs ys begins all = (and_parts (list_all p ys) (list_all p begins.0)
 
 pub fronts_pass : (p : Entry → Bool) (lines added : List Entry) → ((n : ℕ) → Begins (entries_of n lines) (entries_of n added)) → list_all p lines ≡ true → list_all p added ≡ true
 fronts_pass p lines added fronts all = all_own p added (λ n. front_pass p (entries_of n lines) (entries_of n added) (fronts n) (all_kept p (λ entry. entry.client == n) lines all))
+
+-- the clients of some lines play fronts of their own, and one client beside them whatever it does
+pub beside_pass : (number helm : ℕ) (lines added : List Entry) → helm < number → clients_below number lines ≡ true → ((n : ℕ) → n ≢ helm → Begins (entries_of n lines) (entries_of n added)) → clients_below number added ≡ true
+beside_pass number helm lines added less clients fronts = all_own (λ entry. nat_lt entry.client number) added (λ n. by n (ℕ_discrete n helm))
+  where
+    by : (n : ℕ) → Dec (n ≡ helm) → clients_below number (entries_of n added) ≡ true
+    by n (yes e) = own_pass number n added (omega (arith, e, less))
+    by n (no other) = front_pass (λ entry. nat_lt entry.client number) (entries_of n lines) (entries_of n added) (fronts n other) (all_kept (λ entry. nat_lt entry.client number) (λ entry. entry.client == n) lines clients)

@@ -1,6 +1,6 @@
 -- What each part of a round adds to the history has the stamp of the round.
 use Rattle.std.proofs.Common.{◌≡◌, ◌≢◌, ℕ, suc, ◌-◌, ◌+◌, ◌*◌, ◌<◌, ◌==◌, ◌&&◌, true, false, cond, List, [], ◌∷◌, ◌++◌, drop, get_or, length, nat_lt, take, Option, None, Some, Ok, Err, OnOk, Result, sym, ap, ◌∙◌, refl, subst, arith, append-nil, append_assoc, eq-eqb}
-use Rattle.std.specs.Prelude.{option_map, slice_get}
+use Rattle.std.specs.Prelude.{OnErr, option_map, slice_get}
 use Rattle.std.specs.List.{list_all}
 use Rattle.std.specs.declared.alloc.AllocError.{AllocError}
 use Rattle.std.proofs.lemmas.Bool.{and_from, and_parts}
@@ -9,19 +9,22 @@ use Rattle.std.proofs.Math.Seq.{drop-append_seam}
 use Rattle.std.proofs.lemmas.List.{get_or-drop, length-drop}
 use Rattle.std.proofs.lemmas.List.Folds.{list_all-append}
 use Rattle.std.proofs.lemmas.Option.{slice_get-get_or, slice_get_past}
-use Rattle.moos_client.specs.Calls.{SeatState}
+use Rattle.helm_core.specs.Ticks.{Tick}
+use Rattle.moos_client.specs.Calls.{entries_of, SeatState}
 use Rattle.moos_post.specs.declared.entry.Entry.{Entry}
 use Rattle.moos_post.specs.History.{History}
 use Rattle.moos_play.specs.declared.playing.Play.{Play}
 use Rattle.moos_play.specs.declared.steersman.Steersman.{Steersman}
-use Rattle.moos_play.specs.Lawful.{clients_below, entries_from, heard_of, helm_number, KeepsStamp, known_clients, Steering, tick_entries}
+use Rattle.moos_play.specs.Lawful.{clients_below, entries_from, heard_of, helm_number, KeepsStamp, known_clients, Steering, tick_entries, ticks_of}
 use Rattle.moos_play.specs.Plays.{AddsAt, earliest, further_in, helm_in, history_in, known_clients_in, next_stamp, stamp_due, stamp_next}
 use Rattle.moos_play.specs.Rounds.{GoesOn, IsAlone, IsPlayed, IsPlayedBeside, IsWhole}
-use Rattle.moos_play.specs.Steered.{comes_before, GoesOnWith, helm_of, IsBehind, IsDue, IsUnderWay, StandsAt, steering_of, Steers, tick_due}
-use Rattle.moos_play.proofs.Below.{below_raised, beside_below, both_below, from_more, known_helm, known_more, tick_below}
-use Rattle.moos_play.proofs.Coming.{all_part, grown_beside, grown_lines, lines_clients, tick_alone}
-use Rattle.moos_play.proofs.Histories.{all_same}
+use Rattle.moos_play.specs.Steered.{comes_before, GoesOnWith, helm_of, IsBehind, IsDue, IsStopped, IsUnderWay, opened_by, steering_of, Steers, tick_due}
+use Rattle.moos_play.proofs.Below.{below_raised, both_below, from_more, known_helm, known_more, tick_below}
+use Rattle.moos_play.proofs.Coming.{all_part, grown, lines_clients, tick_alone}
+use Rattle.moos_play.proofs.Histories.{only_own}
+use Rattle.moos_play.proofs.Remaining.{beside_pass, front_pass, fronts_pass}
 use Rattle.moos_play.proofs.Rounding.{due_is}
+use Rattle.moos_play.proofs.Unfinished.{begun_front, has_begun}
 use Rattle.script_reader.specs.declared.script.Order.{Order}
 use Rattle.script_reader.specs.declared.script.Order.TheVariants.{Stamp, Race}
 use Rattle.script_reader.specs.declared.script.Script.{Script}
@@ -71,21 +74,12 @@ round_adds play before middle after last stamp same stamp_is first on others las
     (subst (λ number. AddsAt middle.order stamp number (history_in middle) (history_in after)) (λ i. known_clients (on.script i) (on.helm i)) others))))
 
 -- lines are entries of the script's clients
-pub lines_known : (script : Script) (helm : Option Steering) (from n : ℕ) (result : Result (Unit {0}) AllocError) (first after : SeatState) → are_lines (length script.names) 0 script.stop script.lines ≡ true → IsWhole first
-    → (on : GoesOn (IsPlayed (take n (drop from script.lines)) result) first after) → result ≡ Ok tt → clients_below (known_clients script helm) on.later.0 ≡ true
-lines_known script helm from n result first after valid whole on ok =
-    all_same (λ entry. nat_lt entry.client (known_clients script helm)) on.later.0 (take n (drop from script.lines)) (grown_lines (take n (drop from script.lines)) result first after whole on ok)
+lines_known : {E : Type 0} (script : Script) (helm : Option Steering) (from n : ℕ) (result : Result (Unit {0}) E) (first after : SeatState) → are_lines (length script.names) 0 script.stop script.lines ≡ true → IsWhole first
+    → (on : GoesOn (IsPlayed (take n (drop from script.lines)) result) first after) → clients_below (known_clients script helm) on.later.0 ≡ true
+lines_known script helm from n result first after valid whole on =
+    fronts_pass (λ entry. nat_lt entry.client (known_clients script helm)) (take n (drop from script.lines)) on.later.0 (λ m. (grown (IsPlayed (take n (drop from script.lines)) result) first after whole on m).front)
     (below_raised (helm_number script) (known_clients script helm) (take n (drop from script.lines)) (known_more script helm)
     (all_part (λ line. nat_lt line.client (helm_number script)) script.lines from n (lines_clients (length script.names) 0 script.stop script.lines valid)))
-
--- and ticks are entries of the helm
-pub race_known : (script : Script) (s : Steersman) (from n : ℕ) (result : Result (Unit {0}) AllocError) (first after : SeatState) → are_lines (length script.names) 0 script.stop script.lines ≡ true → IsWhole first → s.number ≡ helm_number script
-    → (on : GoesOn (IsPlayedBeside s.number (take n (drop from script.lines)) result) first after) → result ≡ Ok tt → clients_below (known_clients script (Some s)) on.later.0 ≡ true
-race_known script s from n result first after valid whole number on ok =
-    beside_below (known_clients script (Some s)) s.number (take n (drop from script.lines)) on.later.0 (omega (arith, number, known_helm script s))
-    (below_raised (helm_number script) (known_clients script (Some s)) (take n (drop from script.lines)) (known_more script (Some s))
-    (all_part (λ line. nat_lt line.client (helm_number script)) script.lines from n (lines_clients (length script.names) 0 script.stop script.lines valid)))
-    (grown_beside s.number (take n (drop from script.lines)) result first after whole on ok)
 
 -- the first of the lines that are left is the next one
 next_line : (lines : List Entry) (from : ℕ) (line : Entry) (left : List Entry) → drop from lines ≡ line ∷ left → slice_get lines from ≡ Some line
@@ -123,45 +117,112 @@ tick_stamp lines tick stop from behind = by (drop from lines) refl behind
     by [] is behind = ap (λ next. earliest stop (Some tick) (option_map (λ (line : Entry). line.stamp) next)) (no_line lines from is)
     by (line ∷ left) is behind = ap (λ next. earliest stop (Some tick) (option_map (λ (line : Entry). line.stamp) next)) (next_line lines from line left is) ∙ ap (λ b. cond b tick line.stamp) behind
 
--- the lines that are due are played
-pub lines_add : (order : Order) (script : Script) (helm : Option Steering) (tick : Option ℕ) (from to : ℕ) (result : Result (Unit {0}) AllocError) (first after : SeatState) → are_lines (length script.names) 0 script.stop script.lines ≡ true → IsWhole first
-    → GoesOn (IsPlayed (take (to - from) (drop from script.lines)) result) first after → result ≡ Ok tt → IsDue script.lines tick from to → from < to
+-- lines that are due are played
+pub lines_add : {E : Type 0} {result : Result (Unit {0}) E} (order : Order) (script : Script) (helm : Option Steering) (tick : Option ℕ) (from to : ℕ) (all : List Entry) (first after : SeatState) → are_lines (length script.names) 0 script.stop script.lines ≡ true → IsWhole first
+    → all ≡ script.lines → GoesOn (IsPlayed (take (to - from) (drop from all)) result) first after → IsDue script.lines tick from to → from < to
     → AddsAt order (stamp_next order script.stop tick (option_map (λ line. line.stamp) (slice_get script.lines from))) (known_clients script helm) first.seen after.seen
-lines_add order script helm tick from to result first after valid whole on ok due some = record { later = on.later; stamped = stamped order; known = lines_known script helm from (to - from) result first after valid whole on ok }
+lines_add {result = result} order script helm tick from to all first after valid whole same went due some = record { later = on.later; stamped = stamped order; known = lines_known script helm from (to - from) result first after valid whole on }
   where
+    lines : List Entry
+    lines = take (to - from) (drop from script.lines)
+
+    on : GoesOn (IsPlayed lines result) first after
+    on = subst (λ all. GoesOn (IsPlayed (take (to - from) (drop from all)) result) first after) same went
+
     stamped : (order : Order) → KeepsStamp order (stamp_next order script.stop tick (option_map (λ line. line.stamp) (slice_get script.lines from))) on.later.0
     stamped Race = tt
     stamped Stamp =
         subst (λ stamp. list_all (λ (entry : Entry). entry.stamp == stamp) on.later.0 ≡ true) (sym (due_stamp script.lines tick script.stop from to due some))
-        (all_same (λ entry. entry.stamp == due.stamp) on.later.0 (take (to - from) (drop from script.lines)) (grown_lines (take (to - from) (drop from script.lines)) result first after whole on ok) due.one)
+        (fronts_pass (λ entry. entry.stamp == due.stamp) lines on.later.0 (λ n. (grown (IsPlayed lines result) first after whole on n).front) due.one)
 
--- in a race the lines that are left are played, and the helm may make ticks beside them
-pub race_adds : (order : Order) (stamp number : ℕ) (before after : History) (later : Begins after before) → order ≡ Race → clients_below number later.0 ≡ true → AddsAt order stamp number before after
-race_adds order stamp number before after later race known = record { later = later; stamped = subst (λ order. KeepsStamp order stamp later.0) (sym race) tt; known = known }
+-- in a race the entries may have any stamp
+any_stamp : (order : Order) (stamp : ℕ) (entries : History) → order ≡ Race → KeepsStamp order stamp entries
+any_stamp order stamp entries race = subst (λ order. KeepsStamp order stamp entries) (sym race) tt
 
--- the tick that is due is made
+-- in a race the lines that are left are played
+pub left_add : {E : Type 0} {result : Result (Unit {0}) E} (order : Order) (script : Script) (helm : Option Steering) (stamp from to : ℕ) (all : List Entry) (first after : SeatState) → order ≡ Race → are_lines (length script.names) 0 script.stop script.lines ≡ true → IsWhole first
+    → all ≡ script.lines → GoesOn (IsPlayed (take (to - from) (drop from all)) result) first after → AddsAt order stamp (known_clients script helm) first.seen after.seen
+left_add {result = result} order script helm stamp from to all first after race valid whole same went =
+    let on = subst (λ all. GoesOn (IsPlayed (take (to - from) (drop from all)) result) first after) same went in
+    record { later = on.later; stamped = any_stamp order stamp on.later.0 race; known = lines_known script helm from (to - from) result first after valid whole on }
+
+-- and the helm may make ticks beside them
+pub race_add : {E : Type 0} {result : Result (Unit {0}) E} (order : Order) (script : Script) (s : Steersman) (stamp from to : ℕ) (all : List Entry) (first after : SeatState) → order ≡ Race → are_lines (length script.names) 0 script.stop script.lines ≡ true → IsWhole first
+    → s.number ≡ helm_number script → all ≡ script.lines → GoesOn (IsPlayedBeside s.number (take (to - from) (drop from all)) result) first after → AddsAt order stamp (known_clients script (Some s)) first.seen after.seen
+race_add {result = result} order script s stamp from to all first after race valid whole number same went =
+    let lines : List Entry = take (to - from) (drop from script.lines) in
+    let on = subst (λ all. GoesOn (IsPlayedBeside s.number (take (to - from) (drop from all)) result) first after) same went in
+    record {
+      later = on.later;
+      stamped = any_stamp order stamp on.later.0 race;
+      known =
+          beside_pass (known_clients script (Some s)) s.number lines on.later.0 (omega (arith, number, known_helm script s))
+          (below_raised (helm_number script) (known_clients script (Some s)) lines (known_more script (Some s))
+          (all_part (λ line. nat_lt line.client (helm_number script)) script.lines from (to - from) (lines_clients (length script.names) 0 script.stop script.lines valid)))
+          (λ n other. (grown (IsPlayedBeside s.number lines result) first after whole on n other).front);
+    }
+
+-- a front of the tick that is due
+tick_begins : (script : Script) (play : Play) (old : Steersman) (after heard : History) → IsUnderWay play.order script play.lock (Some old) play.from play.first.seat → tick_due script.stop play.steersman ≡ Some (old.ticks * old.period) → play.steersman ≡ Some old
+    → IsBehind (Some (old.ticks * old.period)) (drop play.from script.lines) → (later : Begins after play.first.seat.seen) → Begins heard later.0 → list_all (λ entry. entry.stamp == old.ticks * old.period) heard ≡ true → clients_below (known_clients script (Some old)) heard ≡ true
+    → AddsAt play.order (stamp_due script play) (known_clients script (helm_in play)) play.first.seat.seen after
+tick_begins script play old after tick under due is behind later begins one known = record {
+  later = later;
+  stamped = subst (λ tick. KeepsStamp play.order (stamp_next play.order script.stop tick line) later.0) (sym due) (stamped play.order);
+  known = subst (λ (s : Option Steersman). clients_below (known_clients script (helm_of s)) later.0 ≡ true) (sym is) (front_pass (λ entry. nat_lt entry.client (known_clients script (Some old))) tick later.0 begins known);
+}
+  where
+    line : Option ℕ
+    line = option_map (λ line. line.stamp) (slice_get script.lines play.from)
+
+    stamped : (order : Order) → KeepsStamp order (stamp_next order script.stop (Some (old.ticks * old.period)) line) later.0
+    stamped Race = tt
+    stamped Stamp =
+        subst (λ stamp. list_all (λ (entry : Entry). entry.stamp == stamp) later.0 ≡ true) (sym (tick_stamp script.lines (old.ticks * old.period) script.stop play.from behind))
+        (front_pass (λ entry. entry.stamp == old.ticks * old.period) tick later.0 begins one)
+
+-- the tick that is due is made, or a front of it
 pub tick_adds : (script : Script) (play : Play) (old new : Steersman) (after : SeatState) (result : Result (Unit {0}) AllocError) → IsUnderWay play.order script play.lock play.steersman play.from play.first.seat → play.steersman ≡ Some old
     → tick_due script.stop play.steersman ≢ None → IsBehind (tick_due script.stop play.steersman) (drop play.from script.lines) → GoesOn (IsAlone old.number) play.first.seat after → steering_of new ≡ steering_of old
-    → OnOk result (Steers play.lock.base new after.seen) → OnOk result ((new.opened ≡ true) × (new.ticks ≡ old.ticks + 1)) → OnOk result (AddsAt play.order (stamp_due script play) (known_clients script (helm_in play)) play.first.seat.seen after.seen)
-tick_adds script play old new after (Err _) under is due behind on steering steers reached = tt
-tick_adds script play old new after (Ok _) under is due behind on steering steers reached =
-    subst (λ tick. AddsAt play.order (stamp_next play.order script.stop tick (option_map (λ line. line.stamp) (slice_get script.lines play.from))) (known_clients script (helm_in play)) play.first.seat.seen after.seen) (sym tick)
-    (record { later = on.later; stamped = stamped play.order; known = subst (λ (s : Option Steersman). clients_below (known_clients script (helm_of s)) on.later.0 ≡ true) (sym is) known })
+    → OnOk result (Steers play.lock.base new after.seen) → OnOk result ((new.opened ≡ true) × (new.ticks ≡ old.ticks + 1)) → (old.opened ≡ true → OnErr result (IsStopped play.lock.base (steering_of old) new.ticks (old.ticks + 1) after.seen))
+    → AddsAt play.order (stamp_due script play) (known_clients script (helm_in play)) play.first.seat.seen after.seen
+tick_adds script play old new after result under is due behind on steering steers reached stops =
+    tick_begins script play old after.seen (tick_entries helm heard old.ticks) here tick is (subst (λ tick. IsBehind tick (drop play.from script.lines)) tick behind) on.later (begins result steers reached stops)
+    (and_from (old.ticks * old.period == old.ticks * old.period) ((old.ticks * old.period == old.ticks * old.period) && true) same (and_from (old.ticks * old.period == old.ticks * old.period) true same refl))
+    (tick_below helm (known_clients script (Some old)) heard old.ticks (omega (arith, here.steered.0, known_helm script old)))
   where
+    helm : Steering
+    helm = steering_of old
+
+    here : IsUnderWay play.order script play.lock (Some old) play.from play.first.seat
+    here = subst (λ s. IsUnderWay play.order script play.lock s play.from play.first.seat) is under
+
+    heard : List Tick
+    heard = heard_of play.lock.base old.number (play.first.seat.seen ++ on.later.0)
+
+    same : (old.ticks * old.period == old.ticks * old.period) ≡ true
+    same = eq-eqb (old.ticks * old.period) (old.ticks * old.period) refl
+
     tick : tick_due script.stop play.steersman ≡ Some (old.ticks * old.period)
     tick = ap (tick_due script.stop) is ∙ due_is script.stop old (subst (λ (s : Option Steersman). tick_due script.stop s ≢ None) is due)
 
-    added : on.later.0 ≡ tick_entries (steering_of old) (heard_of play.lock.base old.number (play.first.seat.seen ++ on.later.0)) old.ticks
-    added = tick_alone play.order script play.lock old new play.from play.first.seat after (subst (λ s. IsUnderWay play.order script play.lock s play.from play.first.seat) is under) on steering reached.0 reached.1 steers
+    alone : on.later.0 ≡ entries_of old.number on.later.0
+    alone = only_own old.number on.later.0 (λ n other. grown (IsAlone old.number) play.first.seat after under.whole on n other)
 
-    known : clients_below (known_clients script (Some old)) on.later.0 ≡ true
-    known = subst (λ entries. clients_below (known_clients script (Some old)) entries ≡ true) (sym added)
-        (tick_below (steering_of old) (known_clients script (Some old)) (heard_of play.lock.base old.number (play.first.seat.seen ++ on.later.0)) old.ticks
-        (omega (arith, (subst (λ s. StandsAt play.lock.base (helm_number script) s play.first.seat.seen) is under.steered).0, known_helm script old)))
+    begins : (r : Result (Unit {0}) AllocError) → OnOk r (Steers play.lock.base new after.seen) → OnOk r ((new.opened ≡ true) × (new.ticks ≡ old.ticks + 1))
+        → (old.opened ≡ true → OnErr r (IsStopped play.lock.base helm new.ticks (old.ticks + 1) after.seen)) → Begins (tick_entries helm heard old.ticks) on.later.0
+    begins (Ok _) steers reached stops = ([], sym (append-nil on.later.0 ∙ tick_alone play.order script play.lock old new play.from play.first.seat after here on steering reached.0 reached.1 steers))
+    begins (Err _) steers reached stops =
+        let stopped : IsStopped play.lock.base helm new.ticks (old.ticks + 1) (play.first.seat.seen ++ on.later.0) = subst (IsStopped play.lock.base helm new.ticks (old.ticks + 1)) on.later.1 (stops here.steered.1) in
+        begun_front play.lock.base helm old.ticks play.first.seat.seen on.later.0 stopped.left
+        (has_begun play.lock.base helm old.ticks new.ticks play.first.seat.seen on.later.0 here.steered.2.many
+        (subst (λ b. entries_of old.number play.first.seat.seen ≡ opened_by b helm ++ ticks_of helm (heard_of play.lock.base old.number play.first.seat.seen) old.ticks) here.steered.1 here.steered.2.own) alone stopped)
 
-    stamped : (order : Order) → KeepsStamp order (stamp_next order script.stop (Some (old.ticks * old.period)) (option_map (λ line. line.stamp) (slice_get script.lines play.from))) on.later.0
-    stamped Race = tt
-    stamped Stamp =
-        let stamp : ℕ = earliest script.stop (Some (old.ticks * old.period)) (option_map (λ line. line.stamp) (slice_get script.lines play.from)) in
-        let same = eq-eqb (old.ticks * old.period) stamp (sym (tick_stamp script.lines (old.ticks * old.period) script.stop play.from (subst (λ tick. IsBehind tick (drop play.from script.lines)) tick behind))) in
-        ap (list_all (λ entry. entry.stamp == stamp)) added ∙ and_from (old.ticks * old.period == stamp) ((old.ticks * old.period == stamp) && true) same (and_from (old.ticks * old.period == stamp) true same refl)
+-- one part more of a round
+pub adds_on : (play before after : Play) (stamp : ℕ) → GoesOnWith play before → stamp_due play.script.now before ≡ stamp → AddsAt play.order stamp (known_clients_in play) (history_in play) (history_in before)
+    → AddsAt before.order (stamp_due play.script.now before) (known_clients play.script.now (helm_in before)) (history_in before) (history_in after) → AddsAt play.order stamp (known_clients_in play) (history_in play) (history_in after)
+adds_on play before after stamp same due one other =
+    adds_twice play.order stamp (known_clients_in play) (history_in play) (history_in before) (history_in after) one
+    (subst (λ number. AddsAt play.order stamp number (history_in before) (history_in after)) (ap (λ helm. known_clients play.script.now helm) same.helm)
+    (subst (λ order. AddsAt order stamp (known_clients play.script.now (helm_in before)) (history_in before) (history_in after)) same.order
+    (subst (λ stamp. AddsAt before.order stamp (known_clients play.script.now (helm_in before)) (history_in before) (history_in after)) due other)))

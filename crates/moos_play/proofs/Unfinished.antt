@@ -26,8 +26,8 @@ use Rattle.moos_play.proofs.Completing.{completed, Completion, completion, HasCo
 use Rattle.moos_play.proofs.Ending.{ticks_made, under_way}
 use Rattle.moos_play.proofs.Handing.{completable, has_heard, HasHeard}
 use Rattle.moos_play.proofs.Hearing.{heard_append, heard_deaf, ticks_stay}
-use Rattle.moos_play.proofs.Histories.{all_kept, all_own, only_own, same_rise}
-use Rattle.moos_play.proofs.Remaining.{front_pass, fronts_pass, Remains, remains}
+use Rattle.moos_play.proofs.Histories.{only_own, same_rise}
+use Rattle.moos_play.proofs.Remaining.{beside_pass, fronts_pass, Remains, remains}
 use Rattle.moos_play.proofs.Rounding.{due_is, due_left}
 use Rattle.moos_play.proofs.Rounds.{none_past}
 use Rattle.script_reader.specs.declared.script.Order.{Order}
@@ -188,22 +188,30 @@ race_stop script helm names count whole most lines left history later so fronts 
     theirs = below_raised (helm_number script) (known_clients script (Some helm)) lines (known_more script (Some helm))
         (and_parts (clients_below (helm_number script) lines) (clients_below (helm_number script) left) (sym (list_all-append (λ line. nat_lt line.client (helm_number script)) lines left) ∙ so.clients)).0
 
-    each : (n : ℕ) → Dec (n ≡ helm_number script) → clients_below (known_clients script (Some helm)) (entries_of n added) ≡ true
-    each n (yes e) = own_pass (known_clients script (Some helm)) n added (omega (arith, e, known_helm script helm))
-    each n (no other) = front_pass (λ entry. nat_lt entry.client (known_clients script (Some helm))) (entries_of n lines) (entries_of n added) (ahead n other) (all_kept (λ entry. nat_lt entry.client (known_clients script (Some helm))) (λ entry. entry.client == n) lines theirs)
-
     known : clients_below (known_clients script (Some helm)) added ≡ true
-    known = all_own (λ entry. nat_lt entry.client (known_clients script (Some helm))) added (λ n. each n (ℕ_discrete n (helm_number script)))
+    known = beside_pass (known_clients script (Some helm)) (helm_number script) lines added (known_helm script helm) theirs ahead
 
 -- a list that is empty with what stands behind it
 front_none : (xs ys : List Entry) → xs ++ ys ≡ [] → xs ≡ []
 front_none [] ys none = refl
 front_none (x ∷ xs) ys none = absurd (omega (arith, ap length none))
 
--- a helm that is alone has stopped in its next tick, or before it
-tick_stop : (order : Order) (script : Script) (helm : Steering) (names : List (List ℕ)) (count whole : ℕ) (left : List Entry) (history later : History) → IsOnItsWay order script (Some helm) names count left history → later ≡ entries_of helm.client later
-    → IsStopped names helm whole (count + 1) (history ++ later) → count < ticks_to script.stop helm → IsBehind (Some (count * helm.period)) left → Completion order script (Some helm) names (history ++ later)
-tick_stop order script helm names count whole left history later so alone stopped more behind = by (ℕ_discrete (length now) count)
+-- What a helm that was alone has made of its next tick: nothing, or all but what is left of it.
+pub record HasBegun (names : List (List ℕ)) (helm : Steering) (count : ℕ) (history later left : History) : Type 0 where
+  pub nothing : length (heard_of names helm.client (history ++ later)) ≡ count → later ++ left ≡ []
+  pub begun : length (heard_of names helm.client (history ++ later)) ≢ count → (length (heard_of names helm.client (history ++ later)) ≡ suc count) × (later ++ left ≡ tick_entries helm (heard_of names helm.client (history ++ later)) count)
+
+pub has_begun : (names : List (List ℕ)) (helm : Steering) (count whole : ℕ) (history later : History) → length (heard_of names helm.client history) ≡ count → entries_of helm.client history ≡ opening_of helm ++ ticks_of helm (heard_of names helm.client history) count
+    → later ≡ entries_of helm.client later → (stopped : IsStopped names helm whole (count + 1) (history ++ later)) → HasBegun names helm count history later stopped.left
+has_begun names helm count whole history later many own alone stopped = record {
+  nothing = λ is. append_cancel_left front (later ++ stopped.left) [] (made ∙ ap (λ n. opening_of helm ++ ticks_of helm now n) is ∙ sym (append-nil front));
+  begun = λ other.
+      let all : length now ≡ suc count = omega (arith, other, stopped.few, ap length gone_on, length-append start (heard_in names helm.client history later), many) in (
+        all,
+        append_cancel_left front (later ++ stopped.left) (tick_entries helm now count)
+            (made ∙ ap (λ n. opening_of helm ++ ticks_of helm now n) all ∙ sym (append_assoc (opening_of helm) (ticks_of helm now count) (tick_entries helm now count))),
+      );
+}
   where
     start : List Tick
     start = heard_of names helm.client history
@@ -211,32 +219,52 @@ tick_stop order script helm names count whole left history later so alone stoppe
     now : List Tick
     now = heard_of names helm.client (history ++ later)
 
+    front : List Entry
+    front = opening_of helm ++ ticks_of helm now count
+
     gone_on : now ≡ start ++ heard_in names helm.client history later
     gone_on = heard_append names helm.client [] history later
 
     earlier : ticks_of helm now count ≡ ticks_of helm start count
-    earlier = ap (λ heard. ticks_of helm heard count) gone_on ∙ ticks_stay helm start (heard_in names helm.client history later) count (omega (arith, so.stands.many))
+    earlier = ap (λ heard. ticks_of helm heard count) gone_on ∙ ticks_stay helm start (heard_in names helm.client history later) count (omega (arith, many))
 
-    made : (opening_of helm ++ ticks_of helm now count) ++ (later ++ stopped.left) ≡ opening_of helm ++ ticks_of helm now (length now)
-    made = ap (λ ticks. (opening_of helm ++ ticks) ++ (later ++ stopped.left)) earlier ∙ ap (λ front. front ++ (later ++ stopped.left)) (sym so.stands.own)
+    made : front ++ (later ++ stopped.left) ≡ opening_of helm ++ ticks_of helm now (length now)
+    made = ap (λ ticks. (opening_of helm ++ ticks) ++ (later ++ stopped.left)) earlier ∙ ap (λ front. front ++ (later ++ stopped.left)) (sym own)
         ∙ sym (append_assoc (entries_of helm.client history) later stopped.left) ∙ ap (λ own. (entries_of helm.client history ++ own) ++ stopped.left) alone
         ∙ ap (λ front. front ++ stopped.left) (sym (filter-append (λ entry. entry.client == helm.client) history later)) ∙ stopped.own
 
+-- so its entries are a front of the tick's
+pub begun_front : (names : List (List ℕ)) (helm : Steering) (count : ℕ) (history later left : History) → HasBegun names helm count history later left → Begins (tick_entries helm (heard_of names helm.client (history ++ later)) count) later
+begun_front names helm count history later left so = by (ℕ_discrete (length (heard_of names helm.client (history ++ later))) count)
+  where
+    tick : List Entry
+    tick = tick_entries helm (heard_of names helm.client (history ++ later)) count
+
+    by : Dec (length (heard_of names helm.client (history ++ later)) ≡ count) → Begins tick later
+    by (yes is) = (tick, ap (λ front. front ++ tick) (sym (front_none later left (so.nothing is))))
+    by (no other) = (left, sym (so.begun other).1)
+
+-- a helm that is alone has stopped in its next tick, or before it
+tick_stop : (order : Order) (script : Script) (helm : Steering) (names : List (List ℕ)) (count whole : ℕ) (left : List Entry) (history later : History) → IsOnItsWay order script (Some helm) names count left history → later ≡ entries_of helm.client later
+    → IsStopped names helm whole (count + 1) (history ++ later) → count < ticks_to script.stop helm → IsBehind (Some (count * helm.period)) left → Completion order script (Some helm) names (history ++ later)
+tick_stop order script helm names count whole left history later so alone stopped more behind = by (ℕ_discrete (length now) count)
+  where
+    now : List Tick
+    now = heard_of names helm.client (history ++ later)
+
+    begun : HasBegun names helm count history later stopped.left
+    begun = has_begun names helm count whole history later so.stands.many so.stands.own alone stopped
+
     by : Dec (length now ≡ count) → Completion order script (Some helm) names (history ++ later)
     by (yes is) =
-        let none : later ++ stopped.left ≡ [] = append_cancel_left (opening_of helm ++ ticks_of helm now count) (later ++ stopped.left) [] (made ∙ ap (λ n. opening_of helm ++ ticks_of helm now n) is ∙ sym (append-nil (opening_of helm ++ ticks_of helm now count))) in
-        subst (Completion order script (Some helm) names) (sym (ap (λ later. history ++ later) (front_none later stopped.left none) ∙ append-nil history))
+        subst (Completion order script (Some helm) names) (sym (ap (λ later. history ++ later) (front_none later stopped.left (begun.nothing is)) ∙ append-nil history))
         (completion (length left + ticks_after script.stop (Some helm) count) order script (Some helm) names count left history so refl)
     by (no other) =
-        let all : length now ≡ suc count = omega (arith, other, stopped.few, ap length gone_on, length-append start (heard_in names helm.client history later), so.stands.many) in
-        let added : later ++ stopped.left ≡ tick_entries helm now count =
-        append_cancel_left (opening_of helm ++ ticks_of helm now count) (later ++ stopped.left) (tick_entries helm now count)
-        (made ∙ ap (λ n. opening_of helm ++ ticks_of helm now n) all ∙ sym (append_assoc (opening_of helm) (ticks_of helm now count) (tick_entries helm now count))) in
         left_first order script helm names whole (count + 1) history later stopped so.stands.client
         (completion (length left + ticks_after script.stop (Some helm) (suc count)) order script (Some helm) names (suc count) left (history ++ (later ++ stopped.left))
-        (tick_with order script helm names count left history (later ++ stopped.left) now added so more behind
+        (tick_with order script helm names count left history (later ++ stopped.left) now (begun.begun other).1 so more behind
         (subst (HasComeTo names (helm_number script) script.stop helm (suc count)) (append_assoc history later stopped.left)
-        (subst (λ n. HasComeTo names (helm_number script) script.stop helm n ((history ++ later) ++ stopped.left)) all
+        (subst (λ n. HasComeTo names (helm_number script) script.stop helm n ((history ++ later) ++ stopped.left)) (begun.begun other).0
         (left_made names (helm_number script) script.stop helm whole (count + 1) (history ++ later) stopped so.stands.client (omega (arith, more)))))) refl)
 
 -- lines that are due may come

@@ -35,6 +35,7 @@ impl<'a> Play<'a> {
         ensures same { GoesOnWith self.old self.new }
         ensures between { OnOk result (IsBetween self.new) }
         ensures front { OnErr result (HasCompletion self.new) }
+        ensures stamped { OnErr result (AddsAt self.old.order (next_stamp self.old) (known_clients_in self.old) (history_in self.old) (history_in self.new)) }
         ensures round { IfOk result (λ round. IfSome round (IsRound self.old self.new)) }
         ensures more { IfOk result (λ round. IfSome round (λ _. left_in self.new < left_in self.old)) }
         ensures none { IfOk result (λ round. IfNone round ((left_in self.old ≡ 0) × (self.new ≡ self.old))) }
@@ -102,7 +103,7 @@ impl<'a> Play<'a> {
         ensures at_play { OnOk result (IsAtPlay self.new.script.now self.new) }
         ensures told { OnOk result (told_in self.new.steersman ≡ told_in self.old.steersman) }
         ensures less { OnOk result (left_in self.new ≤ left_in self.old) }
-        ensures stamped { OnOk result (AddsAt self.old.order stamp (known_clients_in self.old) (history_in self.old) (history_in self.new)) }
+        ensures stamped { AddsAt self.old.order stamp (known_clients_in self.old) (history_in self.old) (history_in self.new) }
         ensures all { OnOk result (IsStampOver self.new stamp) }
     {
         let script = self.script;

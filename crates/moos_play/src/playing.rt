@@ -102,7 +102,7 @@ impl<'a> Play<'a> {
         ensures told { OnOk result (told_in self.new.steersman ≡ told_in self.old.steersman) }
         ensures seated { StaysSeated self.old self.new }
         ensures front { OnErr result (IsCompletable script.now self.new) }
-        ensures stamped { result ≡ Ok true → AddsAt self.old.order (stamp_due script.now self.old) (known_clients script.now (helm_in self.old)) (history_in self.old) (history_in self.new) }
+        ensures stamped { AddsAt self.old.order (stamp_due script.now self.old) (known_clients script.now (helm_in self.old)) (history_in self.old) (history_in self.new) }
         ensures more { result ≡ Ok true → left_of script.now self.new < left_of script.now self.old }
         ensures over { result ≡ Ok false → (left_of script.now self.old ≡ 0) × (self.new ≡ self.old) }
     {
@@ -138,7 +138,7 @@ impl<'a> Play<'a> {
         ensures told { OnOk result (told_in self.new.steersman ≡ told_in self.old.steersman) }
         ensures seated { StaysSeated self.old self.new }
         ensures front { OnErr result (IsCompletable script.now self.new) }
-        ensures stamped { OnOk result (AddsAt self.old.order (stamp_due script.now self.old) (known_clients script.now (helm_in self.old)) (history_in self.old) (history_in self.new)) }
+        ensures stamped { AddsAt self.old.order (stamp_due script.now self.old) (known_clients script.now (helm_in self.old)) (history_in self.old) (history_in self.new) }
         ensures more { OnOk result (left_of script.now self.new < left_of script.now self.old) }
     {
         if self.from < to {
@@ -166,7 +166,7 @@ impl<'a> Play<'a> {
         ensures told { OnOk result (told_in self.new.steersman ≡ told_in self.old.steersman) }
         ensures seated { StaysSeated self.old self.new }
         ensures front { OnErr result (IsCompletable script.now self.new) }
-        ensures stamped { OnOk result (AddsAt self.old.order (stamp_due script.now self.old) (known_clients script.now (helm_in self.old)) (history_in self.old) (history_in self.new)) }
+        ensures stamped { AddsAt self.old.order (stamp_due script.now self.old) (known_clients script.now (helm_in self.old)) (history_in self.old) (history_in self.new) }
         ensures more { OnOk result (left_of script.now self.new < left_of script.now self.old) }
     {
         let lines = &script.lines.all()[self.from..to];
@@ -195,7 +195,7 @@ impl<'a> Play<'a> {
         ensures told { OnOk result (told_in self.new.steersman ≡ told_in self.old.steersman) }
         ensures seated { StaysSeated self.old self.new }
         ensures front { OnErr result (IsCompletable script.now self.new) }
-        ensures stamped { OnOk result (AddsAt self.old.order (stamp_due script.now self.old) (known_clients script.now (helm_in self.old)) (history_in self.old) (history_in self.new)) }
+        ensures stamped { AddsAt self.old.order (stamp_due script.now self.old) (known_clients script.now (helm_in self.old)) (history_in self.old) (history_in self.new) }
         ensures more { OnOk result (left_of script.now self.new < left_of script.now self.old) }
     {
         let Some(steersman) = &mut self.steersman else {
@@ -227,7 +227,7 @@ impl<'a> Play<'a> {
         ensures told { OnOk result (told_in self.new.steersman ≡ told_in self.old.steersman) }
         ensures seated { StaysSeated self.old self.new }
         ensures front { OnErr result (IsCompletable script.now self.new) }
-        ensures stamped { OnOk result (AddsAt self.old.order (stamp_due script.now self.old) (known_clients script.now (helm_in self.old)) (history_in self.old) (history_in self.new)) }
+        ensures stamped { AddsAt self.old.order (stamp_due script.now self.old) (known_clients script.now (helm_in self.old)) (history_in self.old) (history_in self.new) }
         ensures over { OnOk result (left_of script.now self.new ≡ 0) }
     {
         if self.steersman.is_none() {
@@ -255,7 +255,7 @@ impl<'a> Play<'a> {
         ensures told { OnOk result (told_in self.new.steersman ≡ told_in self.old.steersman) }
         ensures seated { StaysSeated self.old self.new }
         ensures front { OnErr result (IsCompletable script.now self.new) }
-        ensures stamped { OnOk result (AddsAt self.old.order (stamp_due script.now self.old) (known_clients script.now (helm_in self.old)) (history_in self.old) (history_in self.new)) }
+        ensures stamped { AddsAt self.old.order (stamp_due script.now self.old) (known_clients script.now (helm_in self.old)) (history_in self.old) (history_in self.new) }
         ensures over { OnOk result (left_of script.now self.new ≡ 0) }
     {
         let to = script.lines.len();
@@ -285,7 +285,7 @@ impl<'a> Play<'a> {
         ensures told { OnOk result (told_in self.new.steersman ≡ told_in self.old.steersman) }
         ensures seated { StaysSeated self.old self.new }
         ensures front { OnErr result (IsCompletable script.now self.new) }
-        ensures stamped { OnOk result (AddsAt self.old.order (stamp_due script.now self.old) (known_clients script.now (helm_in self.old)) (history_in self.old) (history_in self.new)) }
+        ensures stamped { AddsAt self.old.order (stamp_due script.now self.old) (known_clients script.now (helm_in self.old)) (history_in self.old) (history_in self.new) }
         ensures over { OnOk result (left_of script.now self.new ≡ 0) }
     {
         let Some(steersman) = &mut self.steersman else {

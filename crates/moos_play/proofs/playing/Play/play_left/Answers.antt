@@ -1,7 +1,6 @@
 use Rattle.std.proofs.Common.{◌≡◌, ◌∙◌, Ok, ap, arith, drop, length, nat_lt, refl, subst, sym, take, ◌-◌, true, rules}
 use Rattle.std.specs.List.{list_all}
 use Rattle.moos_post.specs.declared.entry.Entry.{Entry}
-use Rattle.moos_play.specs.Lawful.{known_clients}
 use Rattle.moos_play.specs.Plays.{helm_in, stamp_due}
 use Rattle.moos_play.specs.Rounds.{GoesOn, IsPlayed}
 use Rattle.moos_play.proofs.Coming.{all_part, lines_clients, lines_left}
@@ -9,7 +8,7 @@ use Rattle.moos_play.proofs.Ending.{ticks_made}
 use Rattle.moos_play.proofs.Handing.{completable}
 use Rattle.moos_play.proofs.Lines.{err_any}
 use Rattle.moos_play.proofs.Rounding.{as_many}
-use Rattle.moos_play.proofs.Stamping.{lines_known, race_adds}
+use Rattle.moos_play.proofs.Stamping.{left_add}
 use Rattle.moos_play.proofs.Unfinished.{lines_unfinished, race_come}
 use Rattle.moos_play.proofs.playing.Play.play_left.Goals as goal
 
@@ -40,6 +39,10 @@ returns-in_err-play_round-clause-front g c =
 
 pub returns-clause-stamped : goal.returns-clause-stamped
 returns-clause-stamped g c =
-    let on = subst (λ lines. GoesOn (IsPlayed (take (c.len-to.result - c.args.self.now.from) (drop c.args.self.now.from lines)) (Ok c.in_ok-play_round.field-0)) c.args.self.now.first.seat c.play_round.new.first.seat) c.all.ensures c.in_ok-play_round.ensures.goes_on in
-    race_adds c.args.self.now.order (stamp_due c.args.script.now c.args.self.now) (known_clients c.args.script.now (helm_in c.args.self.now)) c.args.self.now.first.seat.seen c.play_round.new.first.seat.seen on.later c.requires.race
-    (lines_known c.args.script.now (helm_in c.args.self.now) c.args.self.now.from (c.len-to.result - c.args.self.now.from) (Ok c.in_ok-play_round.field-0) c.args.self.now.first.seat c.play_round.new.first.seat c.requires.valid.lines c.requires.at_play.under.whole on refl)
+    left_add c.args.self.now.order c.args.script.now (helm_in c.args.self.now) (stamp_due c.args.script.now c.args.self.now) c.args.self.now.from c.len-to.result c.all.result.now c.args.self.now.first.seat c.play_round.new.first.seat c.requires.race c.requires.valid.lines c.requires.at_play.under.whole
+    c.all.ensures c.in_ok-play_round.ensures.goes_on
+
+pub returns-in_err-play_round-clause-stamped : goal.returns-in_err-play_round-clause-stamped
+returns-in_err-play_round-clause-stamped g c =
+    left_add c.args.self.now.order c.args.script.now (helm_in c.args.self.now) (stamp_due c.args.script.now c.args.self.now) c.args.self.now.from c.len-to.result c.all.result.now c.args.self.now.first.seat c.play_round.new.first.seat c.requires.race c.requires.valid.lines c.requires.at_play.under.whole
+    c.all.ensures c.in_err-play_round.ensures.goes_on

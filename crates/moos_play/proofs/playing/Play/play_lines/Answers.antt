@@ -47,6 +47,10 @@ returns-in_err-play_round-clause-front g c =
 
 pub returns-clause-stamped : goal.returns-clause-stamped
 returns-clause-stamped g c =
-    lines_add c.args.self.now.order c.args.script.now (helm_in c.args.self.now) (tick_due c.args.script.now.stop c.args.self.now.steersman) c.args.self.now.from c.args.to (Ok c.in_ok-play_round.field-0) c.args.self.now.first.seat c.play_round.new.first.seat c.requires.valid.lines c.requires.at_play.under.whole
-    (subst (λ lines. GoesOn (IsPlayed (take (c.args.to - c.args.self.now.from) (drop c.args.self.now.from lines)) (Ok c.in_ok-play_round.field-0)) c.args.self.now.first.seat c.play_round.new.first.seat) c.all.ensures c.in_ok-play_round.ensures.goes_on)
-    refl c.requires.due c.requires.some
+    lines_add c.args.self.now.order c.args.script.now (helm_in c.args.self.now) (tick_due c.args.script.now.stop c.args.self.now.steersman) c.args.self.now.from c.args.to c.all.result.now c.args.self.now.first.seat c.play_round.new.first.seat c.requires.valid.lines c.requires.at_play.under.whole
+    c.all.ensures c.in_ok-play_round.ensures.goes_on c.requires.due c.requires.some
+
+pub returns-in_err-play_round-clause-stamped : goal.returns-in_err-play_round-clause-stamped
+returns-in_err-play_round-clause-stamped g c =
+    lines_add c.args.self.now.order c.args.script.now (helm_in c.args.self.now) (tick_due c.args.script.now.stop c.args.self.now.steersman) c.args.self.now.from c.args.to c.all.result.now c.args.self.now.first.seat c.play_round.new.first.seat c.requires.valid.lines c.requires.at_play.under.whole
+    c.all.ensures c.in_err-play_round.ensures.goes_on c.requires.due c.requires.some

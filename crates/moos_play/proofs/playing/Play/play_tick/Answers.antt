@@ -16,4 +16,4 @@ returns-clause-front g c =
 pub returns-clause-stamped : goal.returns-clause-stamped
 returns-clause-stamped g c =
     tick_adds c.args.script.now c.args.self.now c.in-Some.steersman c.lead.new.steersman c.lead.new.first c.lead.result c.requires.at_play.under c.in-Some.is c.requires.some c.requires.behind c.lead.ensures.goes_on c.lead.ensures.same
-    c.lead.ensures.steered c.lead.ensures.reached
+    c.lead.ensures.steered c.lead.ensures.reached c.lead.ensures.stopped

@@ -4,14 +4,14 @@ use Rattle.std.specs.List.{list_all}
 use Rattle.moos_post.specs.declared.entry.Entry.{Entry}
 use Rattle.moos_play.specs.Rounds.{GoesOn, IsPlayedBeside}
 use Rattle.moos_play.specs.declared.steersman.Steersman.{Steersman}
-use Rattle.moos_play.specs.Lawful.{clients_below, helm_number, known_clients, Steering, ticks_to}
-use Rattle.moos_play.specs.Plays.{helm_in, stamp_due}
+use Rattle.moos_play.specs.Lawful.{helm_number, known_clients, Steering, ticks_to}
+use Rattle.moos_play.specs.Plays.{AddsAt, stamp_due}
 use Rattle.moos_play.specs.Steered.{helm_of, StandsAt, steering_of}
 use Rattle.moos_play.proofs.Coming.{all_part, lines_clients, race_left}
 use Rattle.moos_play.proofs.Handing.{completable}
 use Rattle.moos_play.proofs.Lines.{err_any}
 use Rattle.moos_play.proofs.Rounding.{as_many}
-use Rattle.moos_play.proofs.Stamping.{race_adds, race_known}
+use Rattle.moos_play.proofs.Stamping.{race_add}
 use Rattle.moos_play.proofs.Unfinished.{race_unfinished}
 use Rattle.moos_play.proofs.playing.Play.race_left.Goals as goal
 
@@ -47,12 +47,18 @@ returns-in_err-race-clause-front g c =
 
 pub returns-clause-stamped : goal.returns-clause-stamped
 returns-clause-stamped g c =
-    let old = c.in-Some.steersman in
     let script = c.args.script.now in
     let before = c.args.self.now.first.seat in
     let after = c.race.new.first.seat in
-    let on = subst (λ lines. GoesOn (IsPlayedBeside old.number (take (c.len-to.result - c.args.self.now.from) (drop c.args.self.now.from lines)) (Ok c.in_ok-race.field-0)) before after) c.all.ensures c.in_ok-race.ensures.goes_on in
     let number = (subst (λ s. StandsAt c.args.self.now.lock.base (helm_number script) s before.seen) c.in-Some.is c.requires.at_play.under.steered).0 in
-    race_adds c.args.self.now.order (stamp_due script c.args.self.now) (known_clients script (helm_in c.args.self.now)) before.seen after.seen on.later c.requires.race
-    (subst (λ (s : Option Steersman). clients_below (known_clients script (helm_of s)) on.later.0 ≡ true) (sym c.in-Some.is)
-    (race_known script old c.args.self.now.from (c.len-to.result - c.args.self.now.from) (Ok c.in_ok-race.field-0) before after c.requires.valid.lines c.requires.at_play.under.whole number on refl))
+    subst (λ (s : Option Steersman). AddsAt c.args.self.now.order (stamp_due script c.args.self.now) (known_clients script (helm_of s)) before.seen after.seen) (sym c.in-Some.is)
+    (race_add c.args.self.now.order script c.in-Some.steersman (stamp_due script c.args.self.now) c.args.self.now.from c.len-to.result c.all.result.now before after c.requires.race c.requires.valid.lines c.requires.at_play.under.whole number c.all.ensures c.in_ok-race.ensures.goes_on)
+
+pub returns-in_err-race-clause-stamped : goal.returns-in_err-race-clause-stamped
+returns-in_err-race-clause-stamped g c =
+    let script = c.args.script.now in
+    let before = c.args.self.now.first.seat in
+    let after = c.race.new.first.seat in
+    let number = (subst (λ s. StandsAt c.args.self.now.lock.base (helm_number script) s before.seen) c.in-Some.is c.requires.at_play.under.steered).0 in
+    subst (λ (s : Option Steersman). AddsAt c.args.self.now.order (stamp_due script c.args.self.now) (known_clients script (helm_of s)) before.seen after.seen) (sym c.in-Some.is)
+    (race_add c.args.self.now.order script c.in-Some.steersman (stamp_due script c.args.self.now) c.args.self.now.from c.len-to.result c.all.result.now before after c.requires.race c.requires.valid.lines c.requires.at_play.under.whole number c.all.ensures c.in_err-race.ensures.goes_on)

@@ -1,6 +1,7 @@
 use Rattle.std.proofs.Common.{◌∙◌, ◌++◌, ap, refl, rules, subst, sym}
 use Rattle.moos_play.specs.declared.playing.Play.{Play}
-use Rattle.moos_play.specs.Plays.{history_in, IsBetween, IsCompletable, IsStampOver, handed, iterations_made, known_clients_in, StaysSeated, untold_in}
+use Rattle.moos_play.specs.Lawful.{known_clients}
+use Rattle.moos_play.specs.Plays.{AddsAt, helm_in, history_in, IsBetween, IsCompletable, IsStampOver, handed, iterations_made, known_clients_in, stamp_due, StaysSeated, untold_in}
 use Rattle.moos_play.specs.Steered.{GoesOnWith, left_of}
 use Rattle.moos_play.proofs.Handing.{at_ends, finished_handed, goes_on_handed, goes_on_twice, handed_between, over_now, round_iterations, stays_handed, stays_twice}
 use Rattle.moos_play.proofs.Lines.{err_any}
@@ -38,7 +39,7 @@ returns-clause-round g c =
     at_ends GoesOnWith before c.args.self.now (handed after) last same told
     (goes_on_handed before after (goes_on_twice before c.go_on.new.self after c.in_ok-go_on.ensures.same c.in_ok-finish_stamp.ensures.same)) in
     let adds =
-    round_adds c.args.self.now before c.go_on.new.self after last stamp same c.next_stamp-stamp.ensures (c.in_ok-go_on.ensures.stamped (search rules)) c.in_ok-go_on.ensures.same c.in_ok-finish_stamp.ensures.stamped
+    round_adds c.args.self.now before c.go_on.new.self after last stamp same c.next_stamp-stamp.ensures c.in_ok-go_on.ensures.stamped c.in_ok-go_on.ensures.same c.in_ok-finish_stamp.ensures.stamped
     (ap (λ (play : Play). play.first.seat.seen) told) in
     record {
       from = c.count_entries-from.ensures.count;
@@ -76,3 +77,16 @@ returns-in_err-finish_stamp-clause-same g c =
 
 pub returns-in_err-finish_stamp-clause-front : goal.returns-in_err-finish_stamp-clause-front
 returns-in_err-finish_stamp-clause-front g c = err_any _ (subst (λ script. IsCompletable script c.finish_stamp.new.self) (sym c.in_err-finish_stamp.ensures.same.script) c.in_err-finish_stamp.ensures.front)
+
+pub returns-in_err-go_on-clause-stamped : goal.returns-in_err-go_on-clause-stamped
+returns-in_err-go_on-clause-stamped g c =
+    let script = c.args.self.now.script.now in
+    err_any _ (subst (λ (before : Play). AddsAt before.order (stamp_due script before) (known_clients script (helm_in before)) (history_in before) (history_in c.go_on.new.self)) c.count_entries-from.ensures.same c.in_err-go_on.ensures.stamped)
+
+pub returns-in_err-finish_stamp-clause-stamped : goal.returns-in_err-finish_stamp-clause-stamped
+returns-in_err-finish_stamp-clause-stamped g c =
+    let play = c.args.self.now in
+    let after = c.finish_stamp.new.self in
+    err_any _ (subst (λ stamp. AddsAt play.order stamp (known_clients_in play) (history_in play) (history_in after)) c.next_stamp-stamp.ensures
+    (round_adds play c.count_entries-from.new.self c.go_on.new.self after after c.next_stamp-stamp.result c.count_entries-from.ensures.same c.next_stamp-stamp.ensures c.in_ok-go_on.ensures.stamped c.in_ok-go_on.ensures.same
+    c.in_err-finish_stamp.ensures.stamped refl))
