@@ -21,6 +21,14 @@ use Rattle.script_reader.specs.declared.script.Script.{Script}
 use Rattle.script_reader.specs.Validity.{IsValid}
 use Rattle.turn_lock.specs.Passes.{Begins, WasLent}
 
+-- the script that is played
+abbrev pub script_played : Play → Script
+script_played play = play.script.now
+
+-- the order in which it is played
+abbrev pub order_played : Play → Order
+order_played play = play.order
+
 -- the names of the clients
 abbrev pub clients_in : Play → List (List ℕ)
 clients_in play = play.lock.base

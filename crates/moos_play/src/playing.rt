@@ -1,7 +1,7 @@
 // A run from one step to the next: the clients' lines and the helm's ticks, in the order that was asked for.
 ghost use Rattle.std.specs.Prelude.{◌≡◌, ◌≢◌, ◌<◌, ◌≤◌, ◌++◌, ◌^◌, None, Ok, true, false, [], drop, length, option_map, IfOk, OnErr, OnOk, IfSome};
 ghost use Rattle.moos_play.specs.Lawful.{known_clients, names_with, opening, steering_with, MayStart};
-ghost use Rattle.moos_play.specs.Plays.{AddsAt, helm_in, history_in, IsBetween, IsCompletable, IsSeated, clients_in, stamp_due, StaysSeated, untold_in};
+ghost use Rattle.moos_play.specs.Plays.{AddsAt, helm_in, history_in, IsBetween, IsCompletable, IsSeated, clients_in, order_played, script_played, stamp_due, StaysSeated, untold_in};
 ghost use Rattle.moos_play.specs.Steered.{GoesOnWith, IsAtPlay, IsBehind, IsDue, left_of, tick_due, told_in};
 ghost use Rattle.script_reader.specs.Validity.{IsValid};
 
@@ -50,8 +50,8 @@ impl<'a> Play<'a> {
         requires helm { IfSome helm MayStart }
         requires some { 0 < length (names_with script.now helm ++ further) }
         requires few { length (names_with script.now helm ++ further) < 2 ^ 32 }
-        ensures script { IfOk result (λ play. play.script.now ≡ script.now) }
-        ensures order { IfOk result (λ play. play.order ≡ order) }
+        ensures script { IfOk result (λ play. script_played play ≡ script.now) }
+        ensures order { IfOk result (λ play. order_played play ≡ order) }
         ensures names { IfOk result (λ play. clients_in play ≡ names_with script.now helm ++ further) }
         ensures helm { IfOk result (λ play. helm_in play ≡ option_map (steering_with script.now) helm) }
         ensures begun { IfOk result (λ play. history_in play ≡ opening (helm_in play)) }

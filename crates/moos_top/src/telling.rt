@@ -3,7 +3,7 @@ ghost use Rattle.std.specs.Prelude.{◌≡◌, ◌+◌, ◌<◌, ◌≤◌, [], 
 ghost use Rattle.moos_io.specs.Faults.{Rose};
 ghost use Rattle.moos_io.specs.Pieces.{Took, TookFront};
 ghost use Rattle.moos_play.specs.Lawful.{MayStart, names_with, opening, steering_with};
-ghost use Rattle.moos_play.specs.Plays.{clients_in, HasCompletion, helm_in, history_in, IsBetween, IsPlayedOut, IsSeated, iterations_made, left_in};
+ghost use Rattle.moos_play.specs.Plays.{clients_in, HasCompletion, helm_in, history_in, IsBetween, IsPlayedOut, IsSeated, iterations_made, left_in, order_played, script_played};
 ghost use Rattle.moos_play.specs.Steered.{GoesOnWith};
 ghost use Rattle.moos_report.specs.IterationLines.{helm_fetches};
 ghost use Rattle.moos_report.specs.Parts.{front_text};
@@ -61,10 +61,10 @@ fn tell<R: Threads + Wait + Sync, K: Sink, G: Gate>(
     gate: &G,
 ) -> Status
     requires between { IsBetween play.old }
-    requires named { clients_in play.old ≡ names_with play.old.script.now (helm_in play.old) }
+    requires named { clients_in play.old ≡ names_with (script_played play.old) (helm_in play.old) }
     requires begun { history_in play.old ≡ opening (helm_in play.old) }
     requires few { (1 ≤ workers) × (workers ≤ 16) }
-    ensures { Tells play.old.order play.old.script.now (helm_in play.old) setup.now
+    ensures { Tells (order_played play.old) (script_played play.old) (helm_in play.old) setup.now
         (sinking (K.taken out.old) (K.taken out.new) (K.faults out.old) (K.faults out.new)) result }
 {
     play.front_law();
@@ -95,7 +95,7 @@ fn tell_round<R: Threads + Wait + Sync, K: Sink, G: Gate>(
     gate: &G,
 ) -> Result<Option<u64>, Status>
     requires between { IsBetween play.old }
-    requires named { clients_in play.old ≡ names_with play.old.script.now (helm_in play.old) }
+    requires named { clients_in play.old ≡ names_with (script_played play.old) (helm_in play.old) }
     requires made { made ≡ length (iterations_made play.old) }
     requires few { (1 ≤ workers) × (workers ≤ 16) }
     ensures between { OnOk result (IsBetween play.new) }
@@ -110,7 +110,7 @@ fn tell_round<R: Threads + Wait + Sync, K: Sink, G: Gate>(
     ensures over { IfOk result (λ more. IfNone more (IsPlayedOut play.new × (play.new ≡ play.old) × (K.taken out.new ≡ K.taken out.old))) }
     ensures stopped { IfErr result (λ status. (before : Option (List ℕ)) (faults : ℕ) → faults ≤ K.faults out.old → HasCompletion play.old
         → IsToldSoFar setup.now before (K.taken out.old) play.old
-        → Tells play.old.order play.old.script.now (helm_in play.old) setup.now (sinking before (K.taken out.new) faults (K.faults out.new)) status) }
+        → Tells (order_played play.old) (script_played play.old) (helm_in play.old) setup.now (sinking before (K.taken out.new) faults (K.faults out.new)) status) }
 {
     parts_law();
     let Ok(next) = play.round(rt, alloc, workers, gate) else {

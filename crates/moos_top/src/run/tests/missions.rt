@@ -1,6 +1,6 @@
 // Runs with a mission: what is printed of a helm with modes, and which of the three files is told where one isn't good.
 use super::behaviors::ALPHA;
-use super::command_line;
+use super::{command_line, ends_so};
 use crate::run::run;
 use crate::status::{FileKind, Refusal, Status};
 use moos_io::{MemFolder, MemSink, NoGate};
@@ -222,6 +222,23 @@ fn a_changed_survey_is_refused(rt: HostRuntime) -> Result<(), Fail> {
         ),
     ] {
         survey_ends(&rt, rt.alloc(), old, new, refused(file, line, cause))?;
+    }
+    Ok(())
+}
+
+#[test]
+fn a_number_counts_the_same_each_time(rt: HostRuntime) -> Result<(), Fail> {
+    let counts =
+        "generated 7\nentries 9062\nposts 9610\nmailed 31020\niterations 1201\ndecisions 1199\ntotal 23970000000\n";
+    for _ in 0..2 {
+        ends_so(
+            &rt,
+            rt.alloc(),
+            &["generate", "7"],
+            "",
+            Status::Done,
+            counts,
+        )?;
     }
     Ok(())
 }
