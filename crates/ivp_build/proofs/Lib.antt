@@ -10,6 +10,7 @@ pub mod Steps
 pub mod Bands
 pub mod Lawful
 pub mod Searches
+pub mod Circles
 pub mod Nearest
 pub mod Meets
 pub mod Totals

@@ -1,19 +1,19 @@
 -- The nearest place is one of three: the first, the first of those below the number with the greatest number, the first of the others.
-use Rattle.std.proofs.Common.{◌≡◌, ℕ, Bool, zero, suc, true, false, ◌+◌, ◌-◌, ◌*◌, ◌/◌, ◌%◌, ◌^◌, ◌<◌, ◌≤◌, ◌⊎◌, inl, inr, ℤ, pos, negsuc, neg_ℤ, ◌-ℤ◌, ◌*ℤ◌, ◌<ℤ◌, ◌≤ℤ◌, nat_abs, to_z, of_z, w64, refl, sym, ◌∙◌, ap, subst, arith}
-use Rattle.std.proofs.Math.Nat.{div-le_of_le-mul, div-mul-le_self, le-div_iff_mul-le, mod-eq_of_lt, mul-le-mul}
+use Rattle.std.proofs.Common.{◌≡◌, ℕ, Bool, zero, suc, true, ◌+◌, ◌-◌, ◌*◌, ◌/◌, ◌^◌, ◌<◌, ◌≤◌, ◌⊎◌, inl, inr, ℤ, pos, negsuc, neg_ℤ, ◌-ℤ◌, ◌*ℤ◌, ◌<ℤ◌, ◌≤ℤ◌, nat_abs, to_z, of_z, w64, refl, sym, ◌∙◌, ap, subst, arith}
+use Rattle.std.proofs.Math.Nat.{div-le_of_le-mul, div-mul-le_self, le-div_iff_mul-le, mul-le-mul}
 use Rattle.std.proofs.lemmas.Bool.{and_parts, cases_lt, cases_Bool, lt-ltb, le-ltb}
 use Rattle.std.proofs.lemmas.Bool.Decides.{nat_tests, Decides-int_eq}
 use Rattle.std.proofs.lemmas.Int.{ints}
-use Rattle.std.proofs.lemmas.Nat.{div-add-mod', mod-mul-add}
 use Rattle.std.specs.Int.{abs_diff}
 use Rattle.std.specs.List.{fold}
 use Rattle.std.specs.Ordering.{int_eq}
-use Rattle.std.specs.Prelude.{codes, int_lt, min, if◌then◌else◌, ◌&&◌}
+use Rattle.std.specs.Prelude.{codes, min, if◌then◌else◌, ◌&&◌}
 use Rattle.std.specs.Str.{bytes_eq}
 use Rattle.ivp_domain.specs.declared.axis.Axis.{Axis}
 use Rattle.ivp_domain.specs.Axes.{is_end, is_good_axis, value_on}
 use Rattle.ivp_domain.specs.Boxes.{numbers_from}
 use Rattle.ivp_build.specs.Places.{course_of, last_place, miss, near, nearer, shorter_way, wraps}
+use Rattle.ivp_build.proofs.Circles.{circle_way, course_within}
 
 -- the least of a list by a measure, the first of several
 first_kept : (m : ℕ → ℕ) (a b : ℕ) → m a ≤ m b → nearer m a b ≡ a
@@ -223,75 +223,6 @@ on_line axis number below above o = record {
     | inr over ↦ inl (farther_above (value_on axis above) (value_on axis j) number over.0 over.1)
   ];
 }
-
--- round a circle
-way_is : (w x d : ℕ) → w % 360000 ≡ x → (x ≡ d) ⊎ (x + d ≡ 360000) → shorter_way 360000 w ≡ min d (360000 - d)
-way_is w x d e (inl same) = ap (λ y. min y (360000 - y)) (e ∙ same)
-way_is w x d e (inr other) = ap (λ y. min y (360000 - y)) e ∙ omega arith
-
-not_negative : (a : ℕ) → int_lt (pos a) (pos 0) ≡ false
-not_negative a = grind (arith, nat_tests, ints)
-
-course_up : (a : ℕ) → course_of (pos a) ≡ a % 360000
-course_up a = rw (not_negative a) refl
-
-course_down : (a : ℕ) → 0 < suc a % 360000 → course_of (negsuc a) ≡ 360000 - suc a % 360000
-course_down a h = rw (lt-ltb 0 (suc a % 360000) h) refl
-
-course_none : (a : ℕ) → suc a % 360000 ≤ 0 → course_of (negsuc a) ≡ suc a % 360000
-course_none a h = rw (le-ltb 0 (suc a % 360000) h) refl
-
-gap_up : (v a : ℕ) → nat_abs (pos v -ℤ pos a) ≡ abs_diff v a
-gap_up v a = grind (arith, ints)
-
-gap_down : (v a : ℕ) → nat_abs (pos v -ℤ negsuc a) ≡ v + suc a
-gap_down v a = grind (arith, ints)
-
-way_up : (v a r : ℕ) → v < 360000 → a % 360000 ≡ r → shorter_way 360000 (abs_diff v a) ≡ min (abs_diff v r) (360000 - abs_diff v r)
-way_up v a r h e =
-    let whole = div-add-mod' a 360000 in
-    let below : a % 360000 < 360000 = omega arith in
-    elim (cases_lt v a) [
-      | inr up ↦
-          let same : a % 360000 ≡ a = mod-eq_of_lt (omega arith) in
-          way_is (abs_diff v a) (v - a) (abs_diff v r) (ap (λ w. w % 360000) (omega arith) ∙ mod-eq_of_lt (omega arith)) (inl (omega arith))
-      | inl down ↦ elim (cases_lt r v) [
-        | inr before ↦ way_is (abs_diff v a) (r - v) (abs_diff v r) (ap (λ w. w % 360000) (omega arith) ∙ mod-mul-add (a / 360000) 360000 (r - v) (omega arith)) (inl (omega arith))
-        | inl past ↦ way_is (abs_diff v a) (360000 - (v - r)) (abs_diff v r) (ap (λ w. w % 360000) (omega arith) ∙ mod-mul-add (a / 360000 - 1) 360000 (360000 - (v - r)) (omega arith)) (inr (omega arith))
-      ]
-    ]
-
-way_down : (v n r : ℕ) → v < 360000 → ((n % 360000 ≡ 0) × (r ≡ 0)) ⊎ ((0 < n % 360000) × (r ≡ 360000 - n % 360000)) → shorter_way 360000 (v + n) ≡ min (abs_diff v r) (360000 - abs_diff v r)
-way_down v n r h (inl none) =
-    let whole = div-add-mod' n 360000 in
-    let part = none.0 in
-    let zero' = none.1 in
-    way_is (v + n) v (abs_diff v r) (ap (λ w. w % 360000) (omega arith) ∙ mod-mul-add (n / 360000) 360000 v h) (inl (omega arith))
-way_down v n r h (inr some) =
-    let whole = div-add-mod' n 360000 in
-    let part = some.0 in
-    let rest = some.1 in
-    let below : n % 360000 < 360000 = omega arith in
-    elim (cases_lt (v + n % 360000) 360000) [
-      | inl within ↦ way_is (v + n) (v + n % 360000) (abs_diff v r) (ap (λ w. w % 360000) (omega arith) ∙ mod-mul-add (n / 360000) 360000 (v + n % 360000) within) (inr (omega arith))
-      | inr past ↦ way_is (v + n) (v + n % 360000 - 360000) (abs_diff v r)
-          (ap (λ w. w % 360000) (omega arith) ∙ mod-mul-add (n / 360000 + 1) 360000 (v + n % 360000 - 360000) (omega arith)) (inl (omega arith))
-    ]
-
-circle_way : (v : ℕ) (number : ℤ) → v < 360000 → shorter_way 360000 (nat_abs (pos v -ℤ number)) ≡ min (abs_diff v (course_of number)) (360000 - abs_diff v (course_of number))
-circle_way v (pos a) h = ap (shorter_way 360000) (gap_up v a) ∙ way_up v a (course_of (pos a)) h (sym (course_up a))
-circle_way v (negsuc a) h =
-    ap (shorter_way 360000) (gap_down v a) ∙ way_down v (suc a) (course_of (negsuc a)) h (elim (cases_lt 0 (suc a % 360000)) [
-      | inl some ↦ inr (some, course_down a some)
-      | inr none ↦ let zero' : suc a % 360000 ≡ 0 = omega arith in inl (zero', course_none a none ∙ zero')
-    ])
-
-course_within : (number : ℤ) → course_of number < 360000
-course_within (pos a) = let e = course_up a in omega arith
-course_within (negsuc a) = elim (cases_lt 0 (suc a % 360000)) [
-  | inl some ↦ let e = course_down a some in omega arith
-  | inr none ↦ let e = course_none a none in omega arith
-]
 
 circle_low : (j b z r : ℕ) → j < b → b < r → r < 360000 → z ≡ 0
     → (min (abs_diff b r) (360000 - abs_diff b r) < min (abs_diff j r) (360000 - abs_diff j r)) ⊎ (min (abs_diff z r) (360000 - abs_diff z r) ≤ min (abs_diff j r) (360000 - abs_diff j r))

@@ -17,7 +17,8 @@ use Rattle.moos_post.specs.History.{History}
 use Rattle.moos_play.specs.Lawful.{clients_below, entries_below, heard_of, helm_number, IsLawfulBeside, KeepsOrder, known_clients, moment_of, never_falls, opening, opening_of, Steering, tick_entries, ticks, ticks_of, ticks_to}
 use Rattle.moos_play.specs.Steered.{IsBehind}
 use Rattle.moos_play.proofs.Below.{below_more, below_raised, both_below, known_helm, known_more, none_below, own_below, tick_below}
-use Rattle.moos_play.proofs.Coming.{early_tick, line_moment, rise_tick, tick_moment}
+use Rattle.moos_play.proofs.Coming.{early_tick, rise_tick, tick_moment}
+use Rattle.moos_play.proofs.Moments.{line_moment}
 use Rattle.moos_play.proofs.Hearing.{entries_next, heard_fetch, heard_next, heard_on, IsNext, ticks_stay}
 use Rattle.moos_play.proofs.Histories.{own_rest}
 use Rattle.script_reader.specs.declared.script.Order.{Order}

@@ -13,6 +13,7 @@ pub mod Stopping
 pub mod Racing
 pub mod Histories
 pub mod Below
+pub mod Moments
 pub mod Coming
 pub mod Completing
 pub mod Ending

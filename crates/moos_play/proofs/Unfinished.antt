@@ -21,7 +21,8 @@ use Rattle.moos_play.specs.Plays.{IsCompletable}
 use Rattle.moos_play.specs.Rounds.{CommunityLock, GoesOn, IsAlone, IsPlayed, IsPlayedBeside}
 use Rattle.moos_play.specs.Steered.{comes_before, helm_of, IsAtPlay, IsBehind, IsDue, IsStopped, IsUnderWay, StandsAt, steering_of, tick_due}
 use Rattle.moos_play.proofs.Below.{below_more, below_raised, both_below, kept_none, kept_pass, known_helm, known_more, own_pass}
-use Rattle.moos_play.proofs.Coming.{all_below, all_part, ends, grown, lines_clients, lines_moment, stands_on}
+use Rattle.moos_play.proofs.Coming.{all_part, ends, grown, lines_clients, stands_on}
+use Rattle.moos_play.proofs.Moments.{all_below, lines_moment}
 use Rattle.moos_play.proofs.Completing.{completed, Completion, completion, HasComeTo, IsInTime, IsOnItsWay, MayComeFirst, MayGoOn, stands_there, StandsThere, tick_with, ticks_after}
 use Rattle.moos_play.proofs.Ending.{ticks_made, under_way}
 use Rattle.moos_play.proofs.Handing.{completable, has_heard, HasHeard}
