@@ -34,7 +34,7 @@ use std::thread::Threads;
 /// a list of them, each with the stamp of the iteration that heard it.
 #[derive(Drop)]
 pub struct Helm {
-    own: OwnNames,
+    own: Box<OwnNames>,
     opening: Batch,
     modes: ModeTree,
     crew: Crew,
@@ -61,7 +61,7 @@ impl Helm {
             blocks,
             ..
         } = file;
-        let own = OwnNames::make(alloc)?;
+        let own = Box::new(alloc, OwnNames::make(alloc)?)?;
         let modes = ModeTree::make(decls);
         let outlook = Outlook::blank(alloc, &modes)?;
         let crew = Crew::make(alloc, mission.domain, blocks)?;

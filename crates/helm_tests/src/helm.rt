@@ -126,86 +126,108 @@ fn shown(alloc: Global, iteration: &Iteration) -> Result<Vec<u8>, AllocError> {
     Ok(text)
 }
 
-// At a stamp, in milliseconds, the helm answers this to a mail of these pairs.
+// A tick: its stamp, in milliseconds, the pairs of its mail, and what the helm answers.
+#[derive(Clone, Copy)]
+struct Tick {
+    stamp: u64,
+    pairs: &'static [&'static [u8]],
+    answer: &'static [u8],
+}
+
+const fn at(stamp: u64, pairs: &'static [&'static [u8]], answer: &'static [u8]) -> Tick {
+    Tick {
+        stamp,
+        pairs,
+        answer,
+    }
+}
+
 fn answers<R: Abort + Threads + Wait + Sync>(
     rt: &R,
     alloc: Global,
     helm: &mut Helm,
-    stamp: u64,
-    pairs: &[&[u8]],
-    wanted: &[u8],
+    tick: &Tick,
 ) -> Result<(), Fail>
-    requires { clock_of helm.old ≤ stamp }
-    ensures { OnOk result (clock_of helm.new ≡ stamp) }
+    requires { clock_of helm.old ≤ tick.now.stamp }
+    ensures { OnOk result (clock_of helm.new ≡ tick.now.stamp) }
 {
-    let mail = mail_of(alloc, pairs)?;
-    let iteration = helm.tick(rt, alloc, stamp, &mail, 1, &NoGate)?;
+    let mail = mail_of(alloc, tick.pairs)?;
+    let iteration = helm.tick(rt, alloc, tick.stamp, &mail, 1, &NoGate)?;
     let text = shown(alloc, &iteration)?;
-    assert_eq!(rt; text.as_slice(), wanted);
+    assert_eq!(rt; text.as_slice(), tick.answer);
+    Ok(())
+}
+
+// The helm of this behaviour file answers so to these ticks.
+fn check<R: Abort + Threads + Wait + Sync>(
+    rt: &R,
+    alloc: Global,
+    file: &[u8],
+    ticks: &[Tick],
+) -> Result<(), Fail> {
+    let mut helm = helm_of(rt, alloc, file)?;
+    let mut clock = 0;
+    for tick in ticks {
+        assert!(rt; clock <= tick.stamp);
+        answers(rt, alloc, &mut helm, tick)?;
+        clock = tick.stamp;
+    }
     Ok(())
 }
 
 #[test]
 fn deployed_at_once(rt: HostRuntime) -> Result<(), Fail> {
-    let alloc = rt.alloc();
-    let mut helm = helm_of(&rt, alloc, MODES)?;
-    let pairs = [b"DEPLOY=true".as_slice(), b"MOOS_MANUAL_OVERRIDE=false"];
-    let first =
-        b"0 DRIVE ACTIVE: IVPHELM_STATE=<DRIVE> MODE=<ACTIVE> DESIRED_SPEED=0 IVPHELM_ALLSTOP=<NothingToDo>";
-    answers(&rt, alloc, &mut helm, 0, &pairs, first)?;
-    answers(
-        &rt,
-        alloc,
-        &mut helm,
-        250,
-        &[],
-        b"0.25 DRIVE ACTIVE: DESIRED_SPEED=0",
-    )
+    let ticks = [
+        at(
+            0,
+            &[b"DEPLOY=true", b"MOOS_MANUAL_OVERRIDE=false"],
+            b"0 DRIVE ACTIVE: IVPHELM_STATE=<DRIVE> MODE=<ACTIVE> DESIRED_SPEED=0 IVPHELM_ALLSTOP=<NothingToDo>",
+        ),
+        at(250, &[], b"0.25 DRIVE ACTIVE: DESIRED_SPEED=0"),
+    ];
+    check(&rt, rt.alloc(), MODES, &ticks)
 }
 
 #[test]
 fn parked_and_given_back(rt: HostRuntime) -> Result<(), Fail> {
-    let alloc = rt.alloc();
-    let mut helm = helm_of(&rt, alloc, MODES)?;
-    let parked =
-        b"0 PARK ACTIVE: IVPHELM_STATE=<PARK> MODE=<ACTIVE> DESIRED_SPEED=0 IVPHELM_ALLSTOP=<ManualOverride>";
-    answers(&rt, alloc, &mut helm, 0, &[b"DEPLOY=true"], parked)?;
-    let given =
-        b"0.25 DRIVE ACTIVE: IVPHELM_STATE=<DRIVE> DESIRED_SPEED=0 IVPHELM_ALLSTOP=<NothingToDo>";
-    answers(
-        &rt,
-        alloc,
-        &mut helm,
-        250,
-        &[b"MOOS_MANUAL_OVERIDE=False"],
-        given,
-    )?;
-    let taken =
-        b"0.25 PARK INACTIVE: IVPHELM_STATE=<PARK> MODE=<INACTIVE> DESIRED_SPEED=0 IVPHELM_ALLSTOP=<ManualOverride>";
-    let pairs = [b"MOOS_MANUAL_OVERRIDE=true".as_slice(), b"DEPLOY=false"];
-    answers(&rt, alloc, &mut helm, 250, &pairs, taken)?;
-    let back =
-        b"1 DRIVE INACTIVE: IVPHELM_STATE=<DRIVE> DESIRED_SPEED=0 IVPHELM_ALLSTOP=<NothingToDo>";
-    let pairs = [
-        b"MOOS_MANUAL_OVERIDE=true".as_slice(),
-        b"MOOS_MANUAL_OVERRIDE=false",
+    let ticks = [
+        at(
+            0,
+            &[b"DEPLOY=true"],
+            b"0 PARK ACTIVE: IVPHELM_STATE=<PARK> MODE=<ACTIVE> DESIRED_SPEED=0 IVPHELM_ALLSTOP=<ManualOverride>",
+        ),
+        at(
+            250,
+            &[b"MOOS_MANUAL_OVERIDE=False"],
+            b"0.25 DRIVE ACTIVE: IVPHELM_STATE=<DRIVE> DESIRED_SPEED=0 IVPHELM_ALLSTOP=<NothingToDo>",
+        ),
+        at(
+            250,
+            &[b"MOOS_MANUAL_OVERRIDE=true", b"DEPLOY=false"],
+            b"0.25 PARK INACTIVE: IVPHELM_STATE=<PARK> MODE=<INACTIVE> DESIRED_SPEED=0 IVPHELM_ALLSTOP=<ManualOverride>",
+        ),
+        at(
+            1000,
+            &[b"MOOS_MANUAL_OVERIDE=true", b"MOOS_MANUAL_OVERRIDE=false"],
+            b"1 DRIVE INACTIVE: IVPHELM_STATE=<DRIVE> DESIRED_SPEED=0 IVPHELM_ALLSTOP=<NothingToDo>",
+        ),
+        at(
+            1250,
+            &[b"MOOS_MANUAL_OVERRIDE=false", b"MOOS_MANUAL_OVERIDE=true"],
+            b"1.25 PARK INACTIVE: IVPHELM_STATE=<PARK> DESIRED_SPEED=0 IVPHELM_ALLSTOP=<ManualOverride>",
+        ),
     ];
-    answers(&rt, alloc, &mut helm, 1000, &pairs, back)?;
-    let again =
-        b"1.25 PARK INACTIVE: IVPHELM_STATE=<PARK> DESIRED_SPEED=0 IVPHELM_ALLSTOP=<ManualOverride>";
-    let pairs = [
-        b"MOOS_MANUAL_OVERRIDE=false".as_slice(),
-        b"MOOS_MANUAL_OVERIDE=true",
-    ];
-    answers(&rt, alloc, &mut helm, 1250, &pairs, again)
+    check(&rt, rt.alloc(), MODES, &ticks)
 }
 
 #[test]
 fn without_modes(rt: HostRuntime) -> Result<(), Fail> {
-    let alloc = rt.alloc();
-    let mut helm = helm_of(&rt, alloc, b"")?;
-    let first = b"0 PARK : IVPHELM_STATE=<PARK> DESIRED_SPEED=0 IVPHELM_ALLSTOP=<ManualOverride>";
-    answers(&rt, alloc, &mut helm, 0, &[], first)
+    let ticks = [at(
+        0,
+        &[],
+        b"0 PARK : IVPHELM_STATE=<PARK> DESIRED_SPEED=0 IVPHELM_ALLSTOP=<ManualOverride>",
+    )];
+    check(&rt, rt.alloc(), b"", &ticks)
 }
 
 const TIMERS: &[u8] =
@@ -214,20 +236,30 @@ const TIMERS: &[u8] =
 // Two timers while deployed: one ends for good, the other begins again.
 #[test]
 fn timers(rt: HostRuntime) -> Result<(), Fail> {
-    let alloc = rt.alloc();
-    let mut helm = helm_of(&rt, alloc, TIMERS)?;
-    let pairs = [b"DEPLOY=true".as_slice(), b"MOOS_MANUAL_OVERRIDE=false"];
-    let first =
-        b"0 DRIVE : Running Running IVPHELM_STATE=<DRIVE> A=1 C=1 DESIRED_SPEED=0 IVPHELM_ALLSTOP=<NothingToDo>";
-    answers(&rt, alloc, &mut helm, 0, &pairs, first)?;
-    let second = b"0.25 DRIVE : Running Running DESIRED_SPEED=0";
-    answers(&rt, alloc, &mut helm, 250, &[], second)?;
-    let third = b"0.5 DRIVE : Completed Completed B=1 DESIRED_SPEED=0";
-    answers(&rt, alloc, &mut helm, 500, &[], third)?;
-    let fourth = b"0.75 DRIVE : Completed Running C=1 DESIRED_SPEED=0";
-    answers(&rt, alloc, &mut helm, 750, &[], fourth)?;
-    let off = b"1 DRIVE : Completed Idle D=1 DESIRED_SPEED=0";
-    answers(&rt, alloc, &mut helm, 1000, &[b"DEPLOY=false"], off)
+    let ticks = [
+        at(
+            0,
+            &[b"DEPLOY=true", b"MOOS_MANUAL_OVERRIDE=false"],
+            b"0 DRIVE : Running Running IVPHELM_STATE=<DRIVE> A=1 C=1 DESIRED_SPEED=0 IVPHELM_ALLSTOP=<NothingToDo>",
+        ),
+        at(250, &[], b"0.25 DRIVE : Running Running DESIRED_SPEED=0"),
+        at(
+            500,
+            &[],
+            b"0.5 DRIVE : Completed Completed B=1 DESIRED_SPEED=0",
+        ),
+        at(
+            750,
+            &[],
+            b"0.75 DRIVE : Completed Running C=1 DESIRED_SPEED=0",
+        ),
+        at(
+            1000,
+            &[b"DEPLOY=false"],
+            b"1 DRIVE : Completed Idle D=1 DESIRED_SPEED=0",
+        ),
+    ];
+    check(&rt, rt.alloc(), TIMERS, &ticks)
 }
 
 const STEERED: &[u8] =
@@ -236,26 +268,53 @@ const STEERED: &[u8] =
 // A heading and a speed are decided on: then the heading is another, while parked none is, and at last it counts no more.
 #[test]
 fn decided(rt: HostRuntime) -> Result<(), Fail> {
-    let alloc = rt.alloc();
-    let mut helm = helm_of(&rt, alloc, STEERED)?;
-    let first =
-        b"0 DRIVE : Active Active IVPHELM_STATE=<DRIVE> DESIRED_HEADING=90 DESIRED_SPEED=2 IVPHELM_ALLSTOP=<clear>";
-    let pairs = [b"MOOS_MANUAL_OVERRIDE=false".as_slice()];
-    answers(&rt, alloc, &mut helm, 0, &pairs, first)?;
-    let second = b"0.25 DRIVE : Active Active DESIRED_HEADING=180 DESIRED_SPEED=2";
-    let pairs = [b"H_UP=heading=400".as_slice(), b"H_UP=heading=180"];
-    answers(&rt, alloc, &mut helm, 250, &pairs, second)?;
-    let parked =
-        b"0.5 PARK : Idle Idle IVPHELM_STATE=<PARK> N=1 DESIRED_SPEED=0 IVPHELM_ALLSTOP=<ManualOverride>";
-    let pairs = [b"MOOS_MANUAL_OVERRIDE=true".as_slice(), b"H_UP=pwt=0"];
-    answers(&rt, alloc, &mut helm, 500, &pairs, parked)?;
-    let missing =
-        b"0.75 DRIVE : Running Active IVPHELM_STATE=<DRIVE> DESIRED_SPEED=0 IVPHELM_ALLSTOP=<MissingDecVars>";
-    let pairs = [b"MOOS_MANUAL_OVERRIDE=false".as_slice()];
-    answers(&rt, alloc, &mut helm, 750, &pairs, missing)
+    let ticks = [
+        at(
+            0,
+            &[b"MOOS_MANUAL_OVERRIDE=false"],
+            b"0 DRIVE : Active Active IVPHELM_STATE=<DRIVE> DESIRED_HEADING=90 DESIRED_SPEED=2 IVPHELM_ALLSTOP=<clear>",
+        ),
+        at(
+            250,
+            &[b"H_UP=heading=400", b"H_UP=heading=180"],
+            b"0.25 DRIVE : Active Active DESIRED_HEADING=180 DESIRED_SPEED=2",
+        ),
+        at(
+            500,
+            &[b"MOOS_MANUAL_OVERRIDE=true", b"H_UP=pwt=0"],
+            b"0.5 PARK : Idle Idle IVPHELM_STATE=<PARK> N=1 DESIRED_SPEED=0 IVPHELM_ALLSTOP=<ManualOverride>",
+        ),
+        at(
+            750,
+            &[b"MOOS_MANUAL_OVERRIDE=false"],
+            b"0.75 DRIVE : Running Active IVPHELM_STATE=<DRIVE> DESIRED_SPEED=0 IVPHELM_ALLSTOP=<MissingDecVars>",
+        ),
+    ];
+    check(&rt, rt.alloc(), STEERED, &ticks)
 }
 
-// The variables that it registers for, and those that it posts at first.
+// What the helm registers for, and the variables that it posts at first.
+fn shown_wants(alloc: Global, helm: &Helm) -> Result<Vec<u8>, AllocError> {
+    let mut text = Vec::new(alloc);
+    for reg in helm.wants(alloc)?.all() {
+        append(
+            &mut text,
+            &[
+                reg.var.bytes(),
+                b" ",
+                reg.source.bytes(),
+                b" ",
+                print_seconds(reg.interval).bytes(),
+                b", ",
+            ],
+        )?;
+    }
+    for pair in helm.opening(alloc)?.all() {
+        append(&mut text, &[pair.var.bytes(), b" "])?;
+    }
+    Ok(text)
+}
+
 #[test]
 fn wants_and_opening(rt: HostRuntime) -> Result<(), Fail> {
     let alloc = rt.alloc();
@@ -264,19 +323,9 @@ fn wants_and_opening(rt: HostRuntime) -> Result<(), Fail> {
         alloc,
         b"initialize A = 1\ninitialize B = x\nset MODE = ON {\nDEPLOY = true and NAV_X < 3\n}\nset MODE = NEAR {\nMODE = ON\nC > D or DEPLOY = true or C < 1\n}\nBehavior = BHV_Timer {\n  name = t\n  condition = MODE = ON and E = 1\n  updates = T_UP\n}\n",
     )?;
-    let mut text = Vec::new(alloc);
-    for reg in helm.wants(alloc)?.all() {
-        append(
-            &mut text,
-            &[reg.var.bytes(), b" ", reg.source.bytes(), b", "],
-        )?;
-        assert!(rt; reg.interval == 0);
-    }
-    for pair in helm.opening(alloc)?.all() {
-        append(&mut text, &[pair.var.bytes(), b" "])?;
-    }
+    let text = shown_wants(alloc, &helm)?;
     let wanted =
-        b"MOOS_MANUAL_OVERRIDE *, MOOS_MANUAL_OVERIDE *, NAV_X *, NAV_Y *, NAV_DEPTH *, DEPLOY *, C *, E *, T_UP *, A B ";
+        b"MOOS_MANUAL_OVERRIDE * 0, MOOS_MANUAL_OVERIDE * 0, NAV_X * 0, NAV_Y * 0, NAV_DEPTH * 0, DEPLOY * 0, C * 0, E * 0, T_UP * 0, A B ";
     assert_eq!(rt; text.as_slice(), wanted.as_slice());
     Ok(())
 }

@@ -12,8 +12,8 @@ use ivp_domain::Domain;
 use mission_reader::{Mission, read_mission};
 use moos_db::Db;
 use moos_io::{Gate, NoGate};
-use moos_play::{HelmRun, Order, Play, play};
-use moos_post::{Batch, Call, List, Name, Names, Pair, Pattern, Reg, Regs, Txt, Value};
+use moos_play::{HelmRun, Order, Play, Ran, Round, play};
+use moos_post::{Batch, Call, List, Name, Names, NoMemory, Pair, Pattern, Reg, Regs, Txt, Value};
 use script_reader::{Script, read_script};
 use std::alloc::Global;
 use std::hint::spin_loop;
@@ -181,23 +181,36 @@ fn gate_sees_each_call(rt: HostRuntime) -> Result<(), Fail> {
     Ok(())
 }
 
-// A run that is ended after its first round, with a tick behind the line of its stamp. In between the database is lent.
+// What a run comes to that is ended after its next round. In between the database is lent, and its entries are counted.
+fn ended_after_a_round<R: Threads + Wait + Sync>(
+    rt: &R,
+    alloc: Global,
+    mut play: Play,
+) -> (Result<Option<Round>, NoMemory>, u64, Ran)
+    requires { IsBetween play }
+{
+    let round = play.round(rt, alloc, 1, &NoGate);
+    let held = play.hold(rt);
+    let entries = held.value().entries();
+    play.put_back(held);
+    let ran = play.end(alloc);
+    (round, entries, ran)
+}
+
+// The first round has a tick behind the line of its stamp.
 #[test]
 fn round_by_round(rt: HostRuntime) -> Result<(), Fail> {
-    let script = script_of(&rt, rt.alloc(), b"0 nav post X=1\n0.25 until\n")?;
-    let helm = helm_of(&rt, rt.alloc())?;
     let alloc = rt.alloc();
+    let script = script_of(&rt, alloc, b"0 nav post X=1\n0.25 until\n")?;
+    let helm = helm_of(&rt, alloc)?;
     let none = List::new(alloc);
-    let mut play = Play::make(&rt, alloc, &script, Some(helm), none, Order::Stamp, &NoGate)?;
-    let Some(round) = play.round(&rt, alloc, 1, &NoGate)? else {
+    let play = Play::make(&rt, alloc, &script, Some(helm), none, Order::Stamp, &NoGate)?;
+    let (round, entries, ran) = ended_after_a_round(&rt, alloc, play);
+    let Some(round) = round? else {
         return Err(Fail::from("no round"));
     };
     assert!(rt; round.stamp == 0 && round.from == 2 && round.iterations.len() == 1);
-    let held = play.hold(&rt);
-    assert_eq!(rt; held.value().entries(), 5);
-    play.put_back(held);
-    let ran = play.end(alloc);
-    assert_eq!(rt; ran.db.entries(), 5);
+    assert!(rt; entries == 5 && ran.db.entries() == 5);
     Ok(())
 }
 
@@ -250,6 +263,22 @@ fn enter_three<R: Wait + Abort>(
     Ok(())
 }
 
+// The round after these entries of the client.
+fn round_after_three<R: Threads + Wait + Sync + Abort>(
+    rt: &R,
+    alloc: Global,
+    mut play: Play,
+    client: u32,
+) -> Result<Option<Round>, Fail>
+    requires between { IsBetween play }
+    requires further { IsFurther play client }
+{
+    match enter_three(rt, alloc, &mut play, client) {
+        Ok(()) => Ok(play.round(rt, alloc, 1, &NoGate)?),
+        Err(fail) => Err(fail),
+    }
+}
+
 // A further client's entries stand before the next round, in which the helm hears what the client posted: so it drives.
 #[test]
 fn further_client_is_heard(rt: HostRuntime) -> Result<(), Fail> {
@@ -258,7 +287,7 @@ fn further_client_is_heard(rt: HostRuntime) -> Result<(), Fail> {
     assert!(rt; script.names.len() == 1);
     let helm = helm_of(&rt, alloc)?;
     let further = name_alone(alloc, b"shore")?;
-    let mut play = Play::make(
+    let play = Play::make(
         &rt,
         alloc,
         &script,
@@ -267,8 +296,7 @@ fn further_client_is_heard(rt: HostRuntime) -> Result<(), Fail> {
         Order::Stamp,
         &NoGate,
     )?;
-    enter_three(&rt, alloc, &mut play, 2)?;
-    let Some(round) = play.round(&rt, alloc, 1, &NoGate)? else {
+    let Some(round) = round_after_three(&rt, alloc, play, 2)? else {
         return Err(Fail::from("no round"));
     };
     assert!(rt; round.from == 5 && round.iterations.len() == 1);
