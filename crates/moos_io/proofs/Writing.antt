@@ -1,5 +1,5 @@
 -- Lemmas on text that goes to a sink through a buffer.
-use Rattle.std.proofs.Common.{◌≡◌, ℕ, ◌+◌, ◌<◌, ◌≤◌, inl, inr, Some, None, Option, List, [], ◌∷◌, ◌++◌, map, length, take, drop, get_or, refl, ap, sym, ◌∙◌, arith, length-append, append_assoc, append-nil, take-append-drop}
+use Rattle.std.proofs.Common.{◌≡◌, ℕ, ◌+◌, ◌-◌, ◌<◌, ◌≤◌, inl, inr, Some, None, Option, List, [], ◌∷◌, ◌++◌, map, length, take, drop, get_or, refl, ap, sym, ◌∙◌, arith, length-append, append_assoc, append-nil, take-append-drop}
 use Rattle.std.specs.List.{concat}
 use Rattle.std.proofs.Math.Seq.{take-append-add}
 use Rattle.std.proofs.lemmas.List.{take-append-le, take_more, map-append}
@@ -74,6 +74,34 @@ pieces_parted text pieces i =
     sym (concat-append (map text (take i pieces)) (map text (drop i pieces)))
     ∙ ap concat (sym (map-append text (take i pieces) (drop i pieces)))
     ∙ ap (λ all. concat (map text all)) (take-append-drop i pieces)
+
+-- the piece at a place takes so much of the room that those before it leave
+pub room_less : {X : Type 0} (text : X → List ℕ) (pieces : List X) (i : ℕ) (none : X) (held room all : ℕ)
+    → i < length pieces → length (text (get_or pieces i none)) ≤ room
+    → held + length (concat (map text (take i pieces))) + room ≡ all
+    → held + length (concat (map text (take (i + 1) pieces))) + (room - length (text (get_or pieces i none))) ≡ all
+room_less text pieces i none held room all lt fits so =
+    let more = ap length (pieces_more text pieces i none lt) ∙ length-append (concat (map text (take i pieces))) (text (get_or pieces i none)) in
+    omega (arith, more)
+
+-- where all pieces fit behind what is held, the piece at a place fits behind those before it
+pub piece_fits : {X : Type 0} (text : X → List ℕ) (pieces : List X) (i : ℕ) (none : X) (held now : List ℕ) (room : ℕ)
+    → i < length pieces → length held + length (concat (map text pieces)) ≤ room
+    → now ≡ held ++ concat (map text (take i pieces))
+    → length now + length (text (get_or pieces i none)) ≤ room
+piece_fits text pieces i none held now room lt fit so =
+    let more = ap length (pieces_more text pieces i none lt) ∙ length-append (concat (map text (take i pieces))) (text (get_or pieces i none)) in
+    let parts = sym (length-append (concat (map text (take (i + 1) pieces))) (concat (map text (drop (i + 1) pieces)))) ∙ ap length (pieces_parted text pieces (i + 1)) in
+    let before = ap length so ∙ length-append held (concat (map text (take i pieces))) in
+    omega (arith, more, parts, before)
+
+-- the pieces up to a place are held, and then the piece there
+pub held_more : {X : Type 0} (text : X → List ℕ) (pieces : List X) (i : ℕ) (none : X) (held now later : List ℕ)
+    → i < length pieces → now ≡ held ++ concat (map text (take i pieces)) → later ≡ now ++ text (get_or pieces i none)
+    → later ≡ held ++ concat (map text (take (i + 1) pieces))
+held_more text pieces i none held now later lt so is =
+    is ∙ ap (λ front. front ++ text (get_or pieces i none)) so ∙ append_assoc held (concat (map text (take i pieces))) (text (get_or pieces i none))
+    ∙ ap (λ end. held ++ end) (sym (pieces_more text pieces i none lt))
 
 -- after the pieces up to a place, the piece there
 pub went_more : {a b c : Way} {X : Type 0} (text : X → List ℕ) (pieces : List X) (i : ℕ) (none : X)

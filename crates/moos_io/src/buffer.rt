@@ -41,7 +41,25 @@ impl Buffer {
 
     /// Adds the pieces in order, and passes on to `out` what there is no room for. Where the sink fails, it took a front
     /// of all these bytes, and the rest of them is dropped.
+    // Inlined, so that a caller's pieces of a known length are copied without a loop.
+    #[inline(always)]
     pub fn write<K: Sink>(&mut self, out: &mut K, pieces: &[&[u8]]) -> Result<(), Failed>
+        ensures ok { OnOk result (Went (way (K.taken out.old) self.old (K.faults out.old))
+            (way (K.taken out.new) self.new (K.faults out.new)) (concat (map (λ piece. piece.now) pieces.now))) }
+        ensures front { OnErr result (Stopped (way (K.taken out.old) self.old (K.faults out.old))
+            (way (K.taken out.new) self.new (K.faults out.new)) (concat (map (λ piece. piece.now) pieces.now))) }
+        ensures dropped { OnErr result (self.new ≡ []) }
+    {
+        if self.has_room_for(pieces) {
+            self.hold_all(pieces);
+            return Ok(());
+        }
+        self.add_all(out, pieces)
+    }
+
+    // Adds the pieces one after another.
+    #[inline(never)]
+    fn add_all<K: Sink>(&mut self, out: &mut K, pieces: &[&[u8]]) -> Result<(), Failed>
         ensures ok { OnOk result (Went (way (K.taken out.old) self.old (K.faults out.old))
             (way (K.taken out.new) self.new (K.faults out.new)) (concat (map (λ piece. piece.now) pieces.now))) }
         ensures front { OnErr result (Stopped (way (K.taken out.old) self.old (K.faults out.old))
@@ -95,6 +113,31 @@ impl Buffer {
         piece.len() <= ROOM - self.len
     }
 
+    #[inline(always)]
+    fn has_room_for(&self, pieces: &[&[u8]]) -> bool
+        ensures { IsTrue result → length self.now + length (concat (map (λ piece. piece.now) pieces.now)) ≤ ROOM }
+    {
+        let mut room = ROOM - self.len;
+        for piece in pieces {
+            if piece.len() > room {
+                return false;
+            }
+            room -= piece.len();
+        }
+        true
+    }
+
+    #[inline(always)]
+    fn hold_all(&mut self, pieces: &[&[u8]])
+        requires { length self.old + length (concat (map (λ piece. piece.now) pieces.now)) ≤ ROOM }
+        ensures { self.new ≡ self.old ++ concat (map (λ piece. piece.now) pieces.now) }
+    {
+        for piece in pieces {
+            self.hold(piece);
+        }
+    }
+
+    #[inline(always)]
     fn hold(&mut self, piece: &[u8])
         requires { length self.old + length piece.now ≤ ROOM }
         ensures { self.new ≡ self.old ++ piece.now }
@@ -105,6 +148,7 @@ impl Buffer {
 }
 
 // Writes the piece at this place, over what stood there.
+#[inline(always)]
 fn append(bytes: &mut [u8], place: usize, piece: &[u8])
     requires { place + length piece.now ≤ length bytes.old }
     ensures written { take (place + length piece.now) bytes.new ≡ take place bytes.old ++ piece.now }
