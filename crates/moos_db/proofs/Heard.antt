@@ -279,7 +279,7 @@ hears-push var lives held =
     ∙ list_any-push (λ (one : SubscriptionState). matches one.reg.var var) lives held
     ∙ ap (λ any. any || matches held.reg.var var) (sym (list_any-map (λ pattern. matches pattern var) (λ (one : SubscriptionState). one.reg.var) lives))
 
-hears-without : (var source sought : List ℕ) (lives : List SubscriptionState) → hears (patterns_of (without_held var source lives)) sought ≡ true → hears (patterns_of lives) sought ≡ true
+pub hears-without : (var source sought : List ℕ) (lives : List SubscriptionState) → hears (patterns_of (without_held var source lives)) sought ≡ true → hears (patterns_of lives) sought ≡ true
 hears-without var source sought [] heard = heard
 hears-without var source sought (held ∷ lives) heard = first (not (has_patterns var source held)) heard (hears-without var source sought lives)
   where
@@ -309,7 +309,7 @@ or-second true b is = refl
 or-second false b is = is
 
 -- after these are registered the client hears what it heard before, and what these hear
-hears-regs : (made : ℕ) (sought : List ℕ) (regs : List Reg) (lives : List SubscriptionState) → hears (patterns_of (fold (with_held made) lives regs)) sought ≡ true →
+pub hears-regs : (made : ℕ) (sought : List ℕ) (regs : List Reg) (lives : List SubscriptionState) → hears (patterns_of (fold (with_held made) lives regs)) sought ≡ true →
     (hears (patterns_of lives) sought ≡ true) ⊎ (hears (patterns_asked regs) sought ≡ true)
 hears-regs made sought [] lives heard = inl heard
 hears-regs made sought (reg ∷ regs) lives heard = elim (hears-regs made sought regs (with_held made lives reg) heard) [
@@ -328,7 +328,7 @@ reg-caught made stamp var source held = by (is_new_held made var source held)
     by true = refl
     by false = refl
 
-patterns-caught : (made stamp : ℕ) (var source : List ℕ) (lives : List SubscriptionState) → patterns_of (map (caught made stamp var source) lives) ≡ patterns_of lives
+pub patterns-caught : (made stamp : ℕ) (var source : List ℕ) (lives : List SubscriptionState) → patterns_of (map (caught made stamp var source) lives) ≡ patterns_of lives
 patterns-caught made stamp var source [] = refl
 patterns-caught made stamp var source (held ∷ lives) = λ i. (reg-caught made stamp var source held i).var ∷ patterns-caught made stamp var source lives i
 

@@ -88,3 +88,7 @@ AreListed-push helds lists all number list there = all number list (front lists 
     front [] (suc n) at = absurd (let e : None ≡ Some (Some list) = at in cc)
     front (first ∷ some) zero at = at
     front (first ∷ some) (suc n) at = front some n at
+
+-- where no list stands each is one of the registrations
+pub AreListed-none : (helds : List SubscriptionState) (lists : List (Option VarList)) → lists ≡ [] → AreListed helds lists
+AreListed-none helds lists none number list there = absurd (let e : None ≡ Some (Some list) = sym (ap (λ all. slice_get all number) none) ∙ there in cc)

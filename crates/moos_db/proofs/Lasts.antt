@@ -8,7 +8,7 @@ use Rattle.moos_post.proofs.Texts.{bytes_eq_comm}
 use Rattle.moos_db.specs.Tables.{Row, is_of, number_of, with_row, lasts_of}
 
 -- what is found for a variable after a post of one
-number_of-with_row : (sought var : List ℕ) (number : ℕ) (rows : List Row) →
+pub number_of-with_row : (sought var : List ℕ) (number : ℕ) (rows : List Row) →
     number_of sought (with_row var number rows) ≡ (if bytes_eq var sought then Some number else number_of sought rows)
 number_of-with_row sought var number [] = rw (bytes_eq_comm sought var) (elim (bytes_eq var sought) as
     (λ b. option_map (λ (row : Row). row.number) (cond b (Some (record { var = var; number = number })) None) ≡ (if b then Some number else None)) [ true ↦ refl | false ↦ refl ])

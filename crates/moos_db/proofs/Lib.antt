@@ -1,3 +1,4 @@
+pub mod Asking
 pub mod Catching
 pub mod Examples
 pub mod Growth

@@ -1,3 +1,4 @@
+pub mod Asked
 pub mod Database
 pub mod Index
 pub mod Hearing

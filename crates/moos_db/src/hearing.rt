@@ -11,7 +11,7 @@ use moos_post::{Name, Names, NoMemory};
 use std::alloc::Global;
 
 // So many entries are at hand in a processor's cache while one client after another looks at the posts among them.
-const BLOCK: usize = 256;
+const BLOCK: usize = 2048;
 
 // As many clients for which nothing happened.
 pub(crate) fn new_listeners(alloc: Global, clients: usize) -> Result<Vec<Listener>, NoMemory>

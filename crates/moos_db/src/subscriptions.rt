@@ -4,6 +4,7 @@ ghost use Rattle.moos_post.specs.Patterns.{matches};
 ghost use Rattle.moos_db.specs.Hearing.{IsListed, hears, patterns_of};
 ghost use Rattle.moos_db.specs.Subscribers.{has_patterns, is_due_held, passed, is_new_held, caught, without_held, with_held};
 
+use crate::asked::Asked;
 use crate::index::{Listed, put_list, take_list};
 use crate::subscription::Subscription;
 use crate::variables::Variables;
@@ -13,23 +14,25 @@ use std::marker::Model;
 use std::mem;
 
 // A client's live registrations in the order in which they were made, and of each variable that was posted since they
-// last changed a list of those whose pattern matches it.
+// last changed a list of those whose pattern matches it. By what they ask for a client that doesn't hear a variable is told
+// without a look at each of them.
 #[derive(Drop)]
 pub(crate) struct Subscriptions {
     lives: Vec<Subscription>,
     lists: Vec<Option<Listed>>,
+    asked: Asked,
 }
 
 impl Model for Subscriptions {
     ghost use Rattle.std.specs.Prelude.{List};
-    ghost use Rattle.moos_db.specs.Index.{AreListed};
+    ghost use Rattle.moos_db.specs.Asked.{AreIndexed};
     ghost use Rattle.moos_db.specs.Subscribers.{SubscriptionState};
 
     ghost Value = { List SubscriptionState };
 
     ghost view = { λ all. all.lives.items };
 
-    ghost invariant = { λ all. AreListed all.lives.items all.lists.items };
+    ghost invariant = { λ all. AreIndexed all.lives.items all.lists.items all.asked };
 }
 
 impl Subscriptions {
@@ -42,6 +45,7 @@ impl Subscriptions {
         Subscriptions {
             lives: Vec::new(alloc),
             lists: Vec::new(alloc),
+            asked: Asked::new(alloc),
         }
     }
 
@@ -49,6 +53,9 @@ impl Subscriptions {
     pub fn hears(&self, var: &Name) -> bool
         ensures { result ≡ hears (patterns_of self.now) var.now }
     {
+        if !self.asked.may_ask(var) {
+            return false;
+        }
         hears(self.lives.as_slice(), var)
     }
 
@@ -82,6 +89,7 @@ impl Subscriptions {
             }
             Err(no_memory) => {
                 self.lists.clear();
+                self.asked.add_any();
                 Err(no_memory)
             }
         }
@@ -106,7 +114,13 @@ impl Subscriptions {
         ensures { IfOk result (λ _. self.new ≡ map (caught made stamp var.now source.now) self.old) }
     {
         self.lists.clear();
-        pass_new(alloc, self.lives.as_mut_slice(), made, stamp, var, source)
+        match pass_new(alloc, self.lives.as_mut_slice(), made, stamp, var, source) {
+            Ok(()) => Ok(()),
+            Err(no_memory) => {
+                self.asked.add_any();
+                Err(no_memory)
+            }
+        }
     }
 
     // This entry makes these registrations, one after another, each of which withdraws one with the same patterns.
@@ -114,6 +128,7 @@ impl Subscriptions {
         ensures { IfOk result (λ _. self.new ≡ fold (with_held made) self.old regs.now) }
     {
         self.lists = Vec::new(alloc);
+        self.asked.add_regs(alloc, regs);
         let before = mem::replace(&mut self.lives, Vec::new(alloc));
         self.lives = with_lives(alloc, before, made, regs)?;
         Ok(())
