@@ -1,5 +1,5 @@
 -- A pattern that is a name matches that name alone, so a table of names tells who can't hear a variable.
-use Rattle.std.proofs.Common.{◌≡◌, ℕ, Bool, true, false, ◌&&◌, ◌||◌, ◌==◌, List, [], ◌∷◌, length, Some, bytes_eq, refl, ap, sym, ◌∙◌, subst, if◌then◌else◌}
+use Rattle.std.proofs.Common.{◌≡◌, ℕ, Bool, true, false, ◌&&◌, ◌||◌, ◌==◌, List, [], ◌∷◌, length, Some, bytes_eq, refl, ap, sym, ◌∙◌, if◌then◌else◌}
 use Rattle.std.specs.Prelude.{is_some, nat_le}
 use Rattle.std.specs.List.{list_all}
 use Rattle.std.proofs.lemmas.Bool.{eqb-true, false_from_ne_true, ne_eqb}
@@ -64,10 +64,6 @@ asked-still names false pattern var asked = ap is_some (number_of-with_row var p
     by : (same : Bool) → is_some (number_of var names) ≡ true → is_some (if same then Some 0 else number_of var names) ≡ true
     by true found = refl
     by false found = found
-
--- any variable may be asked for where others may
-pub asked-any : (names : List Row) (var : List ℕ) → may_ask (record { names = names; others = true }) var ≡ true
-asked-any names var = refl
 
 -- who doesn't ask for a variable doesn't hear it
 pub unasked : (asked : AskedState) (patterns : List (List ℕ)) (var : List ℕ) → Covers asked patterns → may_ask asked var ≡ false → hears patterns var ≡ false

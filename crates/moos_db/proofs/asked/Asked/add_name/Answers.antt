@@ -1,7 +1,7 @@
-use Rattle.std.proofs.Common.{◌≡◌, ◌∙◌, true, ap, sym, subst}
+use Rattle.std.proofs.Common.{◌≡◌, ◌∙◌, true, ap, sym}
 use Rattle.moos_post.specs.Words.{is_name}
 use Rattle.moos_db.specs.Asked.{AskedState, may_ask}
-use Rattle.moos_db.specs.Tables.{Row, with_row}
+use Rattle.moos_db.specs.Tables.{with_row}
 use Rattle.moos_db.proofs.Asking.{asked-name, asked-still}
 use Rattle.moos_db.proofs.asked.Asked.add_name.Goals as goal
 

@@ -1,6 +1,6 @@
 use Rattle.std.proofs.Common.{◌≡◌, ◌∙◌, ap, sym}
 use Rattle.moos_db.specs.Hearing.{hears, patterns_of}
-use Rattle.moos_db.specs.Subscribers.{SubscriptionState, without_held}
+use Rattle.moos_db.specs.Subscribers.{without_held}
 use Rattle.moos_db.proofs.Heard.{hears-without}
 use Rattle.moos_db.proofs.Knowing.{AreListed-none}
 use Rattle.moos_db.proofs.subscriptions.Subscriptions.withdraw.Goals as goal
