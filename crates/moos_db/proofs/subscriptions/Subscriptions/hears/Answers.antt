@@ -2,7 +2,6 @@ use Rattle.std.proofs.Common.{◌≡◌, ◌∙◌, ap, false, rules, sym}
 use Rattle.std.specs.List.{list_any}
 use Rattle.moos_post.specs.Patterns.{matches}
 use Rattle.moos_mail.proofs.Lists.{list_any-map}
-use Rattle.moos_db.specs.Asked.{may_ask}
 use Rattle.moos_db.specs.Hearing.{hears, patterns_of}
 use Rattle.moos_db.specs.Subscribers.{SubscriptionState}
 use Rattle.moos_db.proofs.Asking.{unasked}
