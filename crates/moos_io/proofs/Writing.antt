@@ -121,12 +121,15 @@ stopped_within text pieces i none lt one other =
     rw (← pieces_parted text pieces (i + 1), pieces_more text pieces i none lt)
     (stopped_before (concat (map text (drop (i + 1) pieces))) (stopped_later one other))
 
--- a piece that goes past a buffer that holds nothing
-pub went_through : {before now : Option (List ℕ)} {held piece : List ℕ} {faults after : ℕ}
-    → held ≡ [] → Took before now piece → faults ≤ after → Went (way before held faults) (way now held after) piece
-went_through {piece = piece} empty took later = record { piece = piece; took = took; rest = rw empty (append-nil piece); later = later }
+-- a piece that goes past the buffer once that is empty
+pub went_past : {a : Way} {before now : Option (List ℕ)} {held piece : List ℕ} {faults after : ℕ}
+    → Went a (way before held faults) [] → held ≡ []
+    → Took before now piece → faults ≤ after → Went a (way now held after) piece
+went_past {piece = piece} flushed empty took later =
+    went_on flushed (record { piece = piece; took = took; rest = rw empty (append-nil piece); later = later })
 
--- a failure in such a piece
-pub stopped_through : {before now : Option (List ℕ)} {held piece : List ℕ} {faults after : ℕ}
-    → held ≡ [] → TookFront before now piece → faults ≤ after → Rose faults after → Stopped (way before held faults) (way now held after) piece
-stopped_through empty front later rose = record { front = rw empty front; later = later; rose = rose }
+-- a failure in a piece that goes past the buffer once that is empty
+pub stopped_past : {a : Way} {before now : Option (List ℕ)} {held piece : List ℕ} {faults after : ℕ}
+    → Went a (way before held faults) [] → held ≡ []
+    → TookFront before now piece → faults ≤ after → Rose faults after → Stopped a (way now held after) piece
+stopped_past flushed empty front later rose = stopped_later flushed (record { front = rw empty front; later = later; rose = rose })

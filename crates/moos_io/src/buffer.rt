@@ -1,5 +1,5 @@
 // Text on its way to a sink.
-ghost use Rattle.std.specs.Prelude.{◌≡◌, ◌+◌, ◌≤◌, ◌++◌, [], length, map, take, IsTrue, OnOk, OnErr};
+ghost use Rattle.std.specs.Prelude.{◌≡◌, ◌↔◌, ◌+◌, ◌≤◌, ◌++◌, [], length, map, take, IsTrue, OnOk, OnErr};
 ghost use Rattle.std.specs.List.{concat};
 ghost use Rattle.moos_io.specs.Writing.{way, Went, Stopped};
 
@@ -50,11 +50,28 @@ impl Buffer {
             (way (K.taken out.new) self.new (K.faults out.new)) (concat (map (λ piece. piece.now) pieces.now))) }
         ensures dropped { OnErr result (self.new ≡ []) }
     {
-        if self.has_room(pieces) {
-            self.hold(pieces);
+        if self.has_room_for(pieces) {
+            self.hold_all(pieces);
             return Ok(());
         }
-        self.pass(out, pieces)
+        self.add_all(out, pieces)
+    }
+
+    // Adds the pieces one after another.
+    #[inline(never)]
+    fn add_all<K: Sink>(&mut self, out: &mut K, pieces: &[&[u8]]) -> Result<(), Failed>
+        ensures ok { OnOk result (Went (way (K.taken out.old) self.old (K.faults out.old))
+            (way (K.taken out.new) self.new (K.faults out.new)) (concat (map (λ piece. piece.now) pieces.now))) }
+        ensures front { OnErr result (Stopped (way (K.taken out.old) self.old (K.faults out.old))
+            (way (K.taken out.new) self.new (K.faults out.new)) (concat (map (λ piece. piece.now) pieces.now))) }
+        ensures dropped { OnErr result (self.new ≡ []) }
+    {
+        for piece in pieces {
+            if let Err(failed) = self.add(out, piece) {
+                return Err(failed);
+            }
+        }
+        Ok(())
     }
 
     /// Passes all that it holds on to `out`. Where the sink fails, it took a front of that, and the rest is dropped.
@@ -69,31 +86,35 @@ impl Buffer {
         put_all(out, &self.bytes[..len])
     }
 
-    // Passes on what it holds to make room for the pieces, and these too where they are longer than the buffer.
-    fn pass<K: Sink>(&mut self, out: &mut K, pieces: &[&[u8]]) -> Result<(), Failed>
+    // Adds one piece. One that is as long as the buffer isn't copied.
+    fn add<K: Sink>(&mut self, out: &mut K, piece: &[u8]) -> Result<(), Failed>
         ensures ok { OnOk result (Went (way (K.taken out.old) self.old (K.faults out.old))
-            (way (K.taken out.new) self.new (K.faults out.new)) (concat (map (λ piece. piece.now) pieces.now))) }
+            (way (K.taken out.new) self.new (K.faults out.new)) piece.now) }
         ensures front { OnErr result (Stopped (way (K.taken out.old) self.old (K.faults out.old))
-            (way (K.taken out.new) self.new (K.faults out.new)) (concat (map (λ piece. piece.now) pieces.now))) }
+            (way (K.taken out.new) self.new (K.faults out.new)) piece.now) }
         ensures dropped { OnErr result (self.new ≡ []) }
     {
-        if let Err(failed) = self.flush(out) {
-            return Err(failed);
-        }
-        if self.has_room(pieces) {
-            self.hold(pieces);
+        if self.has_room(piece) {
+            self.hold(piece);
             return Ok(());
         }
-        for piece in pieces {
-            if let Err(failed) = put_all(out, piece) {
-                return Err(failed);
-            }
+        self.flush(out)?;
+        if self.has_room(piece) {
+            self.hold(piece);
+            return Ok(());
         }
+        put_all(out, piece)?;
         Ok(())
     }
 
+    fn has_room(&self, piece: &[u8]) -> bool
+        ensures { IsTrue result ↔ (length self.now + length piece.now ≤ ROOM) }
+    {
+        piece.len() <= ROOM - self.len
+    }
+
     #[inline(always)]
-    fn has_room(&self, pieces: &[&[u8]]) -> bool
+    fn has_room_for(&self, pieces: &[&[u8]]) -> bool
         ensures { IsTrue result → length self.now + length (concat (map (λ piece. piece.now) pieces.now)) ≤ ROOM }
     {
         let mut room = ROOM - self.len;
@@ -107,17 +128,17 @@ impl Buffer {
     }
 
     #[inline(always)]
-    fn hold(&mut self, pieces: &[&[u8]])
+    fn hold_all(&mut self, pieces: &[&[u8]])
         requires { length self.old + length (concat (map (λ piece. piece.now) pieces.now)) ≤ ROOM }
         ensures { self.new ≡ self.old ++ concat (map (λ piece. piece.now) pieces.now) }
     {
         for piece in pieces {
-            self.hold_one(piece);
+            self.hold(piece);
         }
     }
 
     #[inline(always)]
-    fn hold_one(&mut self, piece: &[u8])
+    fn hold(&mut self, piece: &[u8])
         requires { length self.old + length piece.now ≤ ROOM }
         ensures { self.new ≡ self.old ++ piece.now }
     {

@@ -1,6 +1,6 @@
 use Rattle.std.proofs.Common.{◌≡◌, ◌+◌, length, map, take}
 use Rattle.std.specs.List.{concat}
-use Rattle.moos_io.proofs.buffer.Buffer.has_room.Given as goal
+use Rattle.moos_io.proofs.buffer.Buffer.has_room_for.Given as goal
 
 -- the room that the pieces so far leave
 abbrev pub invariant-loop-piece : goal.invariant-loop-piece
