@@ -1,5 +1,4 @@
 use Rattle.std.proofs.Common.{◌≡◌, ℕ, ◌+◌, ◌/◌, ◌%◌, List, [], ◌∷◌, drop, length, set, ap, ◌∙◌, arith, rules, length-set}
-use Rattle.std.proofs.lemmas.Grind.{common_steps}
 use Rattle.std.proofs.lemmas.List.{drop-set, drop_all}
 use Rattle.moos_text.proofs.milli_text.write_decimals.Goals as goal
 
@@ -21,13 +20,13 @@ last_four xs a b c d long =
 
 pub returns-then-rest-eq0-2-clause-text : goal.returns-then-rest-eq0-2-clause-text
 returns-then-rest-eq0-2-clause-text c =
-    last_two c.args.buffer.now 46 (48 + c.args.rest / 100) (omega arith) ∙ first_of (search rules, grind (arith, common_steps))
+    last_two c.args.buffer.now 46 (48 + c.args.rest / 100) (omega arith) ∙ search rules
 
 pub returns-then-rest-eq0-3-clause-text : goal.returns-then-rest-eq0-3-clause-text
 returns-then-rest-eq0-3-clause-text c =
-    last_three c.args.buffer.now 46 (48 + c.args.rest / 100) (48 + c.args.rest / 10 % 10) (omega arith) ∙ first_of (search rules, grind (arith, common_steps))
+    last_three c.args.buffer.now 46 (48 + c.args.rest / 100) (48 + c.args.rest / 10 % 10) (omega arith) ∙ search rules
 
 pub returns-clause-text : goal.returns-clause-text
 returns-clause-text c =
     last_four c.args.buffer.now 46 (48 + c.args.rest / 100) (48 + c.args.rest / 10 % 10) (48 + c.args.rest % 10) (omega arith)
-    ∙ first_of (search rules, grind (arith, common_steps))
+    ∙ search rules
