@@ -9,6 +9,7 @@ use Rattle.moos_post.specs.declared.entry.Call.TheVariants.{Register, Unregister
 use Rattle.moos_post.specs.declared.entry.Entry.{Entry}
 use Rattle.moos_post.specs.Delivery.{is_fetch, mail_of_entry, mail_at}
 use Rattle.moos_post.specs.History.{History, posts_of, posts_of_call, posts_of_entry}
+use Rattle.moos_db.specs.declared.db.Parts.{Parts}
 use Rattle.moos_db.specs.Hearing.{AreListeners, AreListenersTo, IsListed, IsListener, ListenerState, patterns_of, VariableState}
 use Rattle.moos_db.specs.Subscribers.{empty_kept, makes_posts, passes_by}
 use Rattle.moos_db.specs.Places.{Journal, IsDb}
@@ -89,6 +90,11 @@ IsLatest-stays history table entry latest =
       within = omega (arith, latest.within, ap length more, length-append (posts_of history) (posts_of (entry ∷ [])));
       same = latest.same ∙ ap rows_of (sym (ap (take table.posts) more ∙ take-append-le table.posts (posts_of history) (posts_of (entry ∷ [])) latest.within));
     }
+
+-- Parts that equal those of a database are such parts too: a box has what it was made of, and lends what it has.
+pub IsDb-equal : (others parts : Parts) → others ≡ parts → IsDb parts.names parts.log parts.latest parts.variables parts.listeners.items →
+    IsDb others.names others.log others.latest others.variables others.listeners.items
+IsDb-equal others parts same db = subst (λ (one : Parts). IsDb one.names one.log one.latest one.variables one.listeners.items) (sym same) db
 
 -- the database with another table
 pub IsDb-table : (names : List (List ℕ)) (journal : Journal) (table other : LatestState) (variables : List VariableState) (listeners : List ListenerState) → IsLatest (posts_of journal.entries) other →

@@ -16,9 +16,16 @@ use std::marker::Model;
 
 /// The database of a community's messages.
 ///
-/// Contracts see its clients' names by number and the history of the calls that it answered with Ok.
+/// Contracts see its clients' names by number and the history of the calls that it answered with Ok. Its parts stand behind a
+/// pointer, since it is moved into a lock and out of it at each call.
 #[derive(Drop)]
 pub struct Db {
+    parts: Box<Parts>,
+}
+
+// What a database is made of.
+#[derive(Drop)]
+struct Parts {
     names: Names,
     log: Log,
     latest: Latest,
@@ -32,9 +39,9 @@ impl Model for Db {
 
     ghost Value = { Database };
 
-    ghost view = { λ db. record { names = db.names; history = db.log.entries } };
+    ghost view = { λ db. record { names = db.parts.value.names; history = db.parts.value.log.entries } };
 
-    ghost invariant = { λ db. IsDb db.names db.log db.latest db.variables db.listeners.items };
+    ghost invariant = { λ db. let parts = db.parts.value in IsDb parts.names parts.log parts.latest parts.variables parts.listeners.items };
 }
 
 impl Db {
@@ -47,13 +54,15 @@ impl Db {
         ensures { IfOk result (λ db. db ≡ record { names = names; history = [] }) }
     {
         let listeners = new_listeners(alloc, names.len())?;
-        Ok(Db {
+        let parts = Parts {
             names,
             log: Log::new(alloc),
             latest: Latest::new(alloc),
             variables: Variables::new(alloc),
             listeners,
-        })
+        };
+        let parts = Box::new(alloc, parts)?;
+        Ok(Db { parts })
     }
 
     // Adds a call of the client that registers or withdraws.
@@ -64,14 +73,17 @@ impl Db {
         ensures ok { OnOk result (self.new ≡ after_entry self.old entry) }
         ensures same { OnErr result (self.new ≡ self.old) }
     {
-        self.latest.see_posts(alloc, &self.log, self.log.posts())?;
+        let parts = &mut *self.parts;
+        parts
+            .latest
+            .see_posts(alloc, &parts.log, parts.log.posts())?;
         add_own(
             alloc,
-            &self.names,
-            &mut self.log,
-            &self.latest,
-            &mut self.variables,
-            &mut self.listeners,
+            &parts.names,
+            &mut parts.log,
+            &parts.latest,
+            &mut parts.variables,
+            &mut parts.listeners,
             entry,
         )?;
         Ok(())
@@ -149,8 +161,9 @@ impl Db {
         ensures same { OnErr result (self.new ≡ self.old) }
     {
         let call = Call::Post(batch);
-        let from = self.log.posts();
-        self.log.append(
+        let parts = &mut *self.parts;
+        let from = parts.log.posts();
+        parts.log.append(
             alloc,
             Entry {
                 stamp,
@@ -160,17 +173,17 @@ impl Db {
         )?;
         hear_posts(
             alloc,
-            &self.log,
-            &mut self.variables,
-            &mut self.listeners,
+            &parts.log,
+            &mut parts.variables,
+            &mut parts.listeners,
             from,
         );
         follow_block(
             alloc,
-            &self.names,
-            &self.log,
-            &self.variables,
-            &mut self.listeners,
+            &parts.names,
+            &parts.log,
+            &parts.variables,
+            &mut parts.listeners,
         );
         Ok(())
     }
@@ -187,12 +200,13 @@ impl Db {
         })) }
         ensures same { OnErr result (self.new ≡ self.old) }
     {
+        let parts = &mut *self.parts;
         let mail = fetch(
             alloc,
-            &self.names,
-            &mut self.log,
-            &mut self.variables,
-            &mut self.listeners,
+            &parts.names,
+            &mut parts.log,
+            &mut parts.variables,
+            &mut parts.listeners,
             client,
             stamp,
         )?;
@@ -210,12 +224,13 @@ impl Db {
         })) }
         ensures same { OnErr result (self.new ≡ self.old) }
     {
+        let parts = &mut *self.parts;
         fetch_unread(
             alloc,
-            &self.names,
-            &mut self.log,
-            &mut self.variables,
-            &mut self.listeners,
+            &parts.names,
+            &mut parts.log,
+            &mut parts.variables,
+            &mut parts.listeners,
             client,
             stamp,
         )?;
@@ -226,7 +241,7 @@ impl Db {
     pub fn entries(&self) -> u64
         ensures { result ≡ length self.now.history }
     {
-        self.log.len() as u64
+        self.parts.log.len() as u64
     }
 
     /// The entry with this number, counted from 0.
@@ -234,14 +249,14 @@ impl Db {
         requires { k < length self.now.history }
         ensures { slice_get self.now.history k ≡ Some result.now }
     {
-        self.log.entry(k as usize)
+        self.parts.log.entry(k as usize)
     }
 
     /// How many posts the history has.
     pub fn posts(&self) -> u64
         ensures { result ≡ length (posts_of self.now.history) }
     {
-        self.log.posts() as u64
+        self.parts.log.posts() as u64
     }
 
     /// What the post with this number says. Posts are counted from 0, and those of a batch in its order.
@@ -249,7 +264,7 @@ impl Db {
         requires { j < length (posts_of self.now.history) }
         ensures { option_map pair_posted (slice_get (posts_of self.now.history) j) ≡ Some result.now }
     {
-        self.log.pair(j as usize)
+        self.parts.log.pair(j as usize)
     }
 
     /// When the post with this number was made, and by which client.
@@ -257,7 +272,7 @@ impl Db {
         requires { j < length (posts_of self.now.history) }
         ensures { option_map origin_of (slice_get (posts_of self.now.history) j) ≡ Some result }
     {
-        self.log.origin(j as usize)
+        self.parts.log.origin(j as usize)
     }
 
     /// The numbers of the posts that the entry gave: a fetch its mail, and every other entry nothing. Nor is there any where
@@ -268,7 +283,7 @@ impl Db {
         if k >= self.entries() {
             return &[];
         }
-        self.log.letters(k as usize)
+        self.parts.log.letters(k as usize)
     }
 
     /// Each number that an entry gave is that of a post before it. This changes nothing, and tells callers of `letters`.
@@ -281,7 +296,7 @@ impl Db {
     pub fn clients(&self) -> u32
         ensures { result ≡ length self.now.names }
     {
-        self.names.len() as u32
+        self.parts.names.len() as u32
     }
 
     /// The name of the client with this number, counted from 0.
@@ -289,6 +304,6 @@ impl Db {
         requires { client < length self.now.names }
         ensures { slice_get self.now.names client ≡ Some result.now }
     {
-        self.names.get(client as usize)
+        self.parts.names.get(client as usize)
     }
 }
