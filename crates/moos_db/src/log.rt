@@ -1,4 +1,4 @@
-ghost use Rattle.std.specs.Prelude.{◌≡◌, ◌<◌, ◌^◌, ◌-◌, ◌++◌, ◌∷◌, [], map, length, IfOk, OnOk, OnErr, is_ok, if◌then◌else◌, Some, option_map, slice_get, vec_len, vec_capacity};
+ghost use Rattle.std.specs.Prelude.{◌≡◌, ◌<◌, ◌≤◌, ◌+◌, ◌^◌, ◌-◌, ◌++◌, ◌∷◌, [], map, length, OnOk, OnErr, is_ok, if◌then◌else◌, Some, option_map, slice_get, vec_len, vec_capacity};
 ghost use Rattle.std.specs.List.{range_with_len};
 ghost use Rattle.moos_post.specs.History.{posts_of, posts_of_call, posts_of_entry};
 ghost use Rattle.moos_db.specs.Places.{place_at};
@@ -35,14 +35,6 @@ impl Model for Log {
     ghost invariant = { λ log. IsLog log.entries.items log.letters.items log.places.items };
 }
 
-// Adds the value, for which there is room.
-fn push_reserved<T: Drop>(list: &mut Vec<T>, value: T)
-    requires { vec_len list.old < vec_capacity list.old }
-    ensures { list.new.items ≡ list.old.items ++ value ∷ [] }
-{
-    let _ = list.push(value);
-}
-
 // How many posts the call makes.
 fn posts_in(call: &Call) -> usize
     ensures { result ≡ length (posts_of_call 0 0 call.now) }
@@ -64,11 +56,14 @@ fn pair_in(entry: &Entry, place: usize) -> &Pair
     }
 }
 
-// The places of an entry's posts.
-fn places_in(alloc: Global, entry: usize, posts: usize) -> Result<Vec<Place>, NoMemory>
-    ensures { IfOk result (λ places. places.items ≡ map (place_at entry) (range_with_len 0 posts)) }
+// Adds the places of an entry's posts, for which there is room.
+fn push_places(places: &mut Vec<Place>, entry: usize, posts: usize)
+    requires { vec_len places.old + posts ≤ vec_capacity places.old }
+    ensures { places.new.items ≡ places.old.items ++ map (place_at entry) (range_with_len 0 posts) }
 {
-    (0..posts).map(|pair| Place { entry, pair }).collect(alloc)
+    for pair in 0..posts {
+        places.push_reserved(Place { entry, pair });
+    }
 }
 
 impl Log {
@@ -161,12 +156,13 @@ impl Log {
         ensures waiting { mailbox.new.waiting ≡ (if is_ok result then [] else mailbox.old.waiting) }
         ensures mailed { mailbox.new.mailed ≡ mailbox.old.mailed }
     {
-        let mut places = places_in(alloc, self.entries.len(), posts_in(&entry.call))?;
+        let (number, posts) = (self.entries.len(), posts_in(&entry.call));
         self.entries.reserve(1)?;
         self.letters.reserve(1)?;
-        self.places.append(&mut places)?;
-        push_reserved(&mut self.entries, entry);
-        push_reserved(&mut self.letters, mailbox.take_all(alloc));
+        self.places.reserve(posts)?;
+        push_places(&mut self.places, number, posts);
+        self.entries.push_reserved(entry);
+        self.letters.push_reserved(mailbox.take_all(alloc));
         Ok(())
     }
 
