@@ -1,8 +1,9 @@
 -- The counts of a script with one line more.
-use Rattle.std.proofs.Common.{◌≡◌, ℕ, ◌+◌, ◌<◌, ◌≤◌, Bool, true, false, cond, ◌&&◌, ◌==◌, nat_lt, nat_eq, List, [], ◌∷◌, ◌++◌, length, map, refl, sym, ap, ◌∙◌, arith, append-nil, length-append, add-zero, get_or, set}
+use Rattle.std.proofs.Common.{◌≡◌, ℕ, ◌+◌, ◌<◌, Bool, true, false, cond, ◌&&◌, ◌==◌, nat_eq, List, [], ◌∷◌, ◌++◌, length, map, refl, sym, ap, ◌∙◌, arith, append-nil, add-zero, get_or, set}
 use Rattle.std.specs.Prelude.{count_by, replicate, fold, slice_index, slice_set}
-use Rattle.std.proofs.lemmas.Bool.{ltb-false, eqb-true, eqb-false}
+use Rattle.std.proofs.lemmas.Bool.{eqb-true, eqb-false}
 use Rattle.std.proofs.lemmas.List.{get_or-replicate, get_or-set_same, get_or-set_other, length-set}
+use Rattle.std.proofs.lemmas.List.Elements.{All-nil}
 use Rattle.std.proofs.lemmas.List.Concat.{flat_map-append}
 use Rattle.std.proofs.lemmas.List.Sums.{fold-append}
 use Rattle.moos_post.specs.declared.entry.Call.{Call}
@@ -12,8 +13,9 @@ use Rattle.moos_post.specs.declared.value.Pair.{Pair}
 use Rattle.moos_post.specs.declared.value.Post.{Post}
 use Rattle.moos_post.specs.History.{post_of, posts_of, posts_of_entry, posts_of_call}
 use Rattle.script_reader.specs.declared.script.Script.{Script}
-use Rattle.script_reader.specs.Script.{with_variable, variables_of, is_register, registrations_of, client_number, with_client, with_client_call}
-use Rattle.script_reader.specs.Counts.{with_pairs, with_call_variables, with_made, AreCounts}
+use Rattle.script_reader.specs.Script.{with_variable, variables_of, is_register, registrations_of}
+use Rattle.script_reader.specs.Counts.{with_pairs, with_call_variables, with_made, with_call, AreCounts}
+use Rattle.script_reader.proofs.Joining.{Named, IsOwn}
 
 abbrev and_var : List (List ℕ) → Post → List (List ℕ)
 and_var vars post = with_variable vars post.var
@@ -41,16 +43,17 @@ pub registrations_more : (client : ℕ) (lines : List Entry) (line : Entry)
     → registrations_of client (lines ++ line ∷ []) ≡ registrations_of client lines + cond (line.client == client && is_register line.call) 1 0
 registrations_more client lines line = count_more (λ one. one.client == client && is_register one.call) lines line
 
-pub client_length : (names : List (List ℕ)) (name : List ℕ) → length names ≤ 64 → client_number names name < 64 → length (with_client names name) ≤ 64
-client_length names name few among = at (nat_lt (client_number names name) (length names)) refl
-  where
-    at : (known : Bool) → nat_lt (client_number names name) (length names) ≡ known → length (cond known names (names ++ name ∷ [])) ≤ 64
-    at true is = few
-    at false is = let past = ltb-false (client_number names name) (length names) is in omega (arith, length-append names (name ∷ []))
-
 -- before the first line
-pub counts_none : AreCounts (record { names = []; lines = []; stop = 0 }) (replicate 64 0) []
-counts_none = record { few = omega arith; each = refl; registrations = λ client within. get_or-replicate 64 client 0 0 within; posted = refl }
+pub counts_none : AreCounts (record { names = []; lines = []; stop = 0 }) (replicate 64 0) [] []
+counts_none = record {
+  few = omega arith;
+  each = refl;
+  registrations = λ client within. get_or-replicate 64 client 0 0 within;
+  posted = refl;
+  joined = refl;
+  named = All-nil Named;
+  own = All-nil IsOwn;
+}
 
 registered : (made : List ℕ) (number client : ℕ) (call : Call) → number < length made
     → slice_index (with_made made number call) client ≡ slice_index made client + cond (number == client && is_register call) 1 0
@@ -68,21 +71,22 @@ registered made number client call within = at (is_register call) (nat_eq number
         get_or-set_other made number client (slice_index made number + 1) 0 (λ same. eqb-false number client is (sym same))
         ∙ sym (add-zero (slice_index made client))
 
--- the counts with a client's call more
-pub counts_more : (script : Script) (made : List ℕ) (variables : List (List ℕ)) (stamp number : ℕ) (name : List ℕ) (call : Call) → AreCounts script made variables
-    → number ≡ client_number script.names name → client_number script.names name < 64
-    → AreCounts (with_client_call script stamp name call) (with_made made number call) (with_call_variables variables call)
-counts_more script made variables stamp number name call counts is among =
-    let line : Entry = record { stamp = stamp; client = client_number script.names name; call = call } in
+-- the counts with a call more
+pub counts_more : (script : Script) (made : List ℕ) (variables clients : List (List ℕ)) (stamp number : ℕ) (call : Call) → AreCounts script made variables clients → number < 64
+    → AreCounts (with_call script stamp number call) (with_made made number call) (with_call_variables variables call) clients
+counts_more script made variables clients stamp number call counts among =
+    let line : Entry = record { stamp = stamp; client = number; call = call } in
     record {
-      few = client_length script.names name counts.few among;
+      few = counts.few;
       each = made_length (is_register call);
       registrations = λ client within.
-          registered made number client call (omega (arith, is, counts.each))
-          ∙ ap (λ n. slice_index made client + cond (n == client && is_register call) 1 0) is
-          ∙ ap (λ n. n + cond (client_number script.names name == client && is_register call) 1 0) (counts.registrations client within)
+          registered made number client call (omega (arith, counts.each))
+          ∙ ap (λ n. n + cond (number == client && is_register call) 1 0) (counts.registrations client within)
           ∙ sym (registrations_more client script.lines line);
       posted = ap (λ known. with_call_variables known call) counts.posted ∙ sym (variables_more script.lines line);
+      joined = counts.joined;
+      named = counts.named;
+      own = counts.own;
     }
   where
     made_length : (one : Bool) → length (cond one (slice_set made number (slice_index made number + 1)) made) ≡ 64

@@ -1,11 +1,11 @@
 -- Scripts and refusals worked by hand.
-use Rattle.std.proofs.Common.{◌≡◌, ℕ, zero, suc, ◌<◌, ◌==◌, ◌&&◌, true, false, List, [], ◌∷◌, length, map, replicate, refl, sym, ap, ◌∙◌, arith}
-use Rattle.std.specs.Prelude.{codes, Ok, Err, pos, slice_index, slice_index_or, IsTrue}
+use Rattle.std.proofs.Common.{◌≡◌, ℕ, zero, suc, ◌<◌, ◌==◌, ◌&&◌, true, false, List, [], ◌∷◌, ◌++◌, length, map, replicate, refl, sym, ap, ◌∙◌, arith}
+use Rattle.std.specs.Prelude.{codes, Ok, Err, pos, slice_index, slice_index_or}
 use Rattle.std.specs.List.{All}
 use Rattle.std.proofs.lemmas.Bool.{false≢true}
 use Rattle.std.proofs.lemmas.Bool.Decides.{nat_tests}
 use Rattle.std.proofs.lemmas.List.{get_or-replicate}
-use Rattle.std.proofs.lemmas.List.Elements.{All-cons, All-nil}
+use Rattle.std.proofs.lemmas.List.Elements.{All-cons, All-head, All-nil}
 use Rattle.std.proofs.lemmas.List.Sums.{count_by-le-length}
 use Rattle.moos_post.specs.declared.entry.Call.TheVariants.{Register, Unregister, Post as Posts, Fetch}
 use Rattle.moos_post.specs.declared.entry.Entry.{Entry}
@@ -13,13 +13,13 @@ use Rattle.moos_post.specs.declared.registration.Reg.{Reg}
 use Rattle.moos_post.specs.declared.value.Pair.{Pair}
 use Rattle.moos_post.specs.declared.value.Value.TheVariants.{Num, Text}
 use Rattle.moos_post.specs.Entries.{IsEntry, IsPair, IsReg}
-use Rattle.moos_post.specs.Words.{is_name}
 use Rattle.moos_text.specs.declared.cause.Cause.TheVariants.{S1, S2, S3, S4, S5, S6, S7, S9}
 use Rattle.moos_text.specs.declared.cause.ReadFault.TheVariants.{At}
 use Rattle.script_reader.specs.declared.script.Script.{Script}
-use Rattle.script_reader.specs.Counts.{AreCounts, pairs_in, with_call_variables, with_made, with_pairs}
+use Rattle.script_reader.specs.Counts.{after_call, AreCounts, pairs_in, with_call, with_call_variables, with_made, with_name, with_pairs}
 use Rattle.script_reader.specs.Script.{is_register, registrations_of, script_of}
 use Rattle.script_reader.specs.Validity.{are_clients, are_lines, IsValid, keeps_limits}
+use Rattle.script_reader.proofs.Joining.{IsOwn, Named}
 
 abbrev registers : ℕ → ℕ → List ℕ → ℕ → List ℕ → Entry
 registers stamp client var interval source =
@@ -135,9 +135,6 @@ two = record {
 two_is_read : script_of (codes "0 a register X 0.5\n0.499 b post X=2 # Y=1\n2 until") ≡ Ok two
 two_is_read = refl
 
-abbrev Named : List ℕ → Type 0
-Named name = IsTrue (is_name name)
-
 entries_of_two : All IsEntry two.lines
 entries_of_two =
     All-cons IsEntry (registers 0 0 (codes "X") 500 (codes "*")) (posts 499 1 (says (codes "X") 2000 ∷ says (codes "Y") 1000 ∷ []) ∷ [])
@@ -202,28 +199,46 @@ batches = refl
 others_keep : map keeps_limits (Unregister (codes "X") (codes "*") ∷ Fetch ∷ []) ≡ true ∷ true ∷ []
 others_keep = refl
 
--- One registration, by the first client, and two variables, in the order of their first posts.
+-- One registration, by the first client, two variables, in the order of their first posts, and two clients.
 abbrev made : List ℕ
 made = 1 ∷ replicate 63 0
 
 other_registers : (client : ℕ) → registrations_of (suc client) two.lines ≡ 0
 other_registers client = grind (arith, nat_tests)
 
-are_counts : AreCounts two made (codes "X" ∷ codes "Y" ∷ [])
-are_counts = record { few = omega arith; each = refl; registrations = counted; posted = refl }
+are_counts : AreCounts two made (codes "X" ∷ codes "Y" ∷ []) two.names
+are_counts = record {
+  few = omega arith;
+  each = refl;
+  registrations = counted;
+  posted = refl;
+  joined = refl;
+  named = is_valid.named;
+  own = All-cons IsOwn (codes "a") (codes "b" ∷ []) refl (All-cons IsOwn (codes "b") [] refl (All-nil IsOwn));
+}
   where
     counted : (client : ℕ) → client < 64 → slice_index made client ≡ registrations_of client two.lines
     counted zero below = refl
     counted (suc client) below = get_or-replicate 63 client 0 0 (omega (arith, below)) ∙ sym (other_registers client)
 
-none_counted : AreCounts two (replicate 64 0) (codes "X" ∷ codes "Y" ∷ []) → ⊥
+none_counted : AreCounts two (replicate 64 0) (codes "X" ∷ codes "Y" ∷ []) two.names → ⊥
 none_counted counts = omega (arith, counts.registrations 0 (omega arith))
 
-other_variables : AreCounts two made (codes "Y" ∷ codes "X" ∷ []) → ⊥
+other_variables : AreCounts two made (codes "Y" ∷ codes "X" ∷ []) two.names → ⊥
 other_variables counts = omega (arith, ap (λ vars. slice_index (slice_index_or vars 0 []) 0) counts.posted)
 
-variable_twice : AreCounts two made (codes "X" ∷ codes "Y" ∷ codes "X" ∷ []) → ⊥
+variable_twice : AreCounts two made (codes "X" ∷ codes "Y" ∷ codes "X" ∷ []) two.names → ⊥
 variable_twice counts = omega (arith, ap length counts.posted)
+
+other_clients : AreCounts two made (codes "X" ∷ codes "Y" ∷ []) (codes "b" ∷ codes "a" ∷ []) → ⊥
+other_clients counts = omega (arith, ap (λ names. slice_index (slice_index_or names 0 []) 0) counts.joined)
+
+-- Each of the clients is named as one may be.
+no_client_without_name : AreCounts (record two { names = [] ∷ [] }) made (codes "X" ∷ codes "Y" ∷ []) ([] ∷ []) → ⊥
+no_client_without_name counts = false≢true (All-head Named [] [] counts.named)
+
+no_client_named_as_helm : AreCounts (record two { names = codes "pHelmIvP" ∷ [] }) made (codes "X" ∷ codes "Y" ∷ []) (codes "pHelmIvP" ∷ []) → ⊥
+no_client_named_as_helm counts = false≢true (All-head IsOwn (codes "pHelmIvP") [] counts.own)
 
 -- What a call adds to both.
 counts_on : (with_made (1 ∷ 0 ∷ []) 1 (Register (reg 0 ∷ [])) ≡ 1 ∷ 1 ∷ []) × (with_made (1 ∷ 0 ∷ []) 1 Fetch ≡ 1 ∷ 0 ∷ [])
@@ -237,3 +252,13 @@ known_once = refl
 
 known_by_calls : (with_call_variables (codes "X" ∷ []) (Posts (says (codes "Y") 1 ∷ [])) ≡ codes "X" ∷ codes "Y" ∷ []) × (with_call_variables (codes "X" ∷ []) (Unregister (codes "Y") (codes "*")) ≡ codes "X" ∷ [])
 known_by_calls = (refl, refl)
+
+-- A client joins the names once, and a call the lines.
+joins_once : (with_name two (codes "c") ≡ record two { names = codes "a" ∷ codes "b" ∷ codes "c" ∷ [] }) × (with_name two (codes "b") ≡ two)
+joins_once = (refl, refl)
+
+call_after : (after_call two 2001 (codes "fetch") 1 ≡ Ok (with_call two 2001 1 Fetch)) × (after_call two 2001 (codes "fetch all") 1 ≡ Err S3)
+call_after = (refl, refl)
+
+call_more : with_call two 2001 1 Fetch ≡ record { names = two.names; lines = two.lines ++ fetches 2001 1 ∷ []; stop = 2001 }
+call_more = refl

@@ -1,8 +1,7 @@
 -- Every script that is read is valid.
 use Rattle.std.proofs.Common.{◌≡◌, ℕ, suc, ◌+◌, ◌<◌, ◌≤◌, Bool, true, false, ◌&&◌, ◌||◌, cond, not, nat_lt, nat_le, nat_eq, drop, List, [], ◌∷◌, ◌++◌, length, refl, sym, ap, subst, ◌∙◌, arith, length-append, codes, bytes_eq, Some, None}
-use Rattle.std.specs.Prelude.{Option, ok_or, Result, Ok, Err, IfOk, IfSome, IsTrue}
+use Rattle.std.specs.Prelude.{Option, ok_or, Result, Ok, Err, IfOk, IfSome}
 use Rattle.std.specs.List.{All, list_any}
-use Rattle.std.proofs.Math.Numerals.{one-add}
 use Rattle.std.proofs.Math.ListN.{drop_of_length-le}
 use Rattle.std.proofs.lemmas.Bool.{and_from, and_parts, le-leb, leb-true, leb-false, lt-ltb, ltb-true, ltb-false, eqb-true}
 use Rattle.std.proofs.lemmas.List.Elements.{All-append, All-cons, All-nil}
@@ -10,18 +9,18 @@ use Rattle.std.proofs.lemmas.List.Folds.{list_any-append}
 use Rattle.moos_post.specs.declared.entry.Call.{Call}
 use Rattle.moos_post.specs.declared.entry.Entry.{Entry}
 use Rattle.moos_post.specs.Entries.{IsEntry}
-use Rattle.moos_post.specs.Words.{is_name}
 use Rattle.moos_post.proofs.Texts.{bytes_eq_comm}
 use Rattle.moos_text.specs.declared.cause.Cause.{Cause}
-use Rattle.moos_text.specs.declared.cause.Cause.TheVariants.{S1, S2, S4, S5, S8, S9}
-use Rattle.moos_text.specs.declared.cause.Limit.TheVariants.{Clients, Lines as NonBlank}
+use Rattle.moos_text.specs.declared.cause.Cause.TheVariants.{S1, S2, S5, S8}
+use Rattle.moos_text.specs.declared.cause.Limit.TheVariants.{Lines as NonBlank}
 use Rattle.moos_text.specs.Lines.{raw_lines, content_of, is_unclosed, first_word, behind_word}
 use Rattle.script_reader.specs.declared.script.Script.{Script}
 use Rattle.moos_text.specs.Refusals.{and_then}
 use Rattle.script_reader.specs.Script.{with_none_behind, time_of, is_register, registrations_of, variables_of, call_of, client_number, with_client, client_of, with_client_call, after_client, after_stamp, not_before, after_line_words, Progress, progress, after_filled, after_line, go_on, progress_from, nothing_read}
 use Rattle.script_reader.specs.Validity.{are_clients, are_lines, keeps_limits, IsValid}
 use Rattle.script_reader.proofs.Calls.{IsFine, IsEarly, time_early, call_fine}
-use Rattle.script_reader.proofs.Counting.{client_length, registrations_more, variables_more}
+use Rattle.script_reader.proofs.Joining.{Named, IsClient, client_good, client_length, first_place}
+use Rattle.script_reader.proofs.Counting.{registrations_more, variables_more}
 use Rattle.moos_text.proofs.Judging.{cond_good, and_then_good, at_good}
 use Rattle.script_reader.proofs.Judging.{ended_good}
 use Rattle.moos_text.proofs.WordLemmas.{position_or_len-le-length}
@@ -58,11 +57,6 @@ lines_wider clients more last stop later (line ∷ lines) wider rises good =
     four_true (nat_lt line.client more) (nat_le last line.stamp) (keeps_limits line.call) (are_lines more line.stamp later lines)
     (lt-ltb line.client more (omega arith)) tests.1 tests.2 (lines_wider clients more line.stamp stop later lines wider rises tests.3)
 
--- a name is the same as one that comes first
-first_place : (same : Bool) (name client : List ℕ) (names : List (List ℕ)) → bytes_eq name client ≡ same → client_number (name ∷ names) client ≡ cond same 0 (suc (client_number names client))
-first_place true name client names is = ap (λ b. cond (not b) (1 + client_number names client) 0) is
-first_place false name client names is = ap (λ b. cond (not b) (1 + client_number names client) 0) is ∙ one-add (client_number names client)
-
 -- a client that no name is may join
 clients_more : (names : List (List ℕ)) (client : List ℕ) → are_clients names ≡ true → not (bytes_eq client (codes "pHelmIvP")) ≡ true → length names ≤ client_number names client → are_clients (names ++ client ∷ []) ≡ true
 clients_more [] client good own new = and_from (not (bytes_eq client (codes "pHelmIvP")) && true) true (and_from (not (bytes_eq client (codes "pHelmIvP"))) true own refl) refl
@@ -95,9 +89,6 @@ clients_more (name ∷ names) client good own new = at (bytes_eq name client) re
         (and_parts (not (bytes_eq name (codes "pHelmIvP"))) (not (list_any (λ other. bytes_eq other name) names)) here).1 (bytes_eq_comm client name ∙ is)))
         (rest later own (omega (arith, first_place false name client names is)))
 
-abbrev Named : List ℕ → Type 0
-Named name = IsTrue (is_name name)
-
 -- what a script so far keeps
 record IsSound (script : Script) : Type 0 where
   named : All Named script.names
@@ -113,30 +104,6 @@ record IsSound (script : Script) : Type 0 where
 record IsNext (count : ℕ) (script : Script) : Type 0 where
   sound : IsSound script
   few : length script.lines ≤ suc count
-
--- a client is one of the first 64, and not the helm
-record IsClient (names : List (List ℕ)) (name : List ℕ) (number : ℕ) : Type 0 where
-  named : Named name
-  own : not (bytes_eq name (codes "pHelmIvP")) ≡ true
-  among : number < 64
-  number_is : number ≡ client_number names name
-
-client_good : (names : List (List ℕ)) (word : List ℕ) → IfOk (client_of names word) (IsClient names word)
-client_good names word =
-    cond_good (IsClient names word) (not (is_name word)) (Err S4) named (λ _. tt)
-    (λ good. cond_good (IsClient names word) (bytes_eq word (codes "pHelmIvP")) (Err S9) placed (λ _. tt)
-    (λ other. cond_good (IsClient names word) (nat_le 64 (client_number names word)) (Err (S8 Clients)) (Ok (client_number names word)) (λ _. tt)
-    (λ room. record { named = no_other (is_name word) good; own = ap not other; among = leb-false 64 (client_number names word) room; number_is = refl })))
-  where
-    no_other : (b : Bool) → not b ≡ false → b ≡ true
-    no_other true good = refl
-    no_other false good = absurd cc
-
-    placed : Result ℕ Cause
-    placed = cond (nat_le 64 (client_number names word)) (Err (S8 Clients)) (Ok (client_number names word))
-
-    named : Result ℕ Cause
-    named = cond (bytes_eq word (codes "pHelmIvP")) (Err S9) (cond (nat_le 64 (client_number names word)) (Err (S8 Clients)) (Ok (client_number names word)))
 
 -- the names with a client's, of which the client is one
 record AreJoined (names joined : List (List ℕ)) (name : List ℕ) : Type 0 where

@@ -1,12 +1,12 @@
 // A script line by line.
-ghost use Rattle.std.specs.Prelude.{◌≡◌, ◌<◌, ◌+◌, [], Ok, Err, IfOk, OnOk, IfErr, bytes_eq, replicate, IsTrue, slice_index};
-ghost use Rattle.std.specs.List.{position};
+ghost use Rattle.std.specs.Prelude.{◌≡◌, ◌<◌, ◌+◌, [], length, Ok, Err, IfOk, OnOk, IfErr, replicate, IsTrue, slice_index};
 ghost use Rattle.moos_text.specs.Lines.{first_word, is_unclosed};
 ghost use Rattle.moos_text.specs.Refusals.{IsLineFault};
-ghost use Rattle.script_reader.specs.Script.{client_number, with_client, with_client_call, is_register, client_of, after_client, after_stamp, not_before, after_line_words, after_filled, after_line, progress, nothing_read};
-ghost use Rattle.script_reader.specs.Counts.{AreCounts, with_made};
+ghost use Rattle.script_reader.specs.Script.{client_number, is_register, client_of, after_stamp, not_before, after_line_words, after_filled, after_line, progress, nothing_read};
+ghost use Rattle.script_reader.specs.Counts.{AreCounts, with_made, with_name, with_call, after_call};
 
 use crate::call::call_of;
+use crate::clients::Clients;
 use crate::script::{Lines, Script};
 use crate::variables::Variables;
 use crate::word::{split_word, time_of, with_none_behind};
@@ -19,21 +19,22 @@ const MAX_LINES: usize = 100_000;
 
 const MAX_CLIENTS: usize = 64;
 
-/// The script so far, how many of its lines weren't blank, how many registrations each client has made, and which
-/// variables are posted.
+/// The script so far, how many of its lines weren't blank, how many registrations each client has made, which variables
+/// are posted, and the clients once more, to look them up by their names.
 #[derive(Drop)]
 pub struct Reading {
     pub script: Script,
     pub filled: usize,
     pub made: [u32; 64],
     pub variables: Variables,
+    pub clients: Clients,
 }
 
 impl Reading {
     /// Before the first line.
     pub fn new(alloc: Global) -> Reading
         ensures read { progress result.script result.filled ≡ nothing_read }
-        ensures counted { AreCounts result.script result.made result.variables }
+        ensures counted { AreCounts result.script result.made result.variables result.clients }
     {
         Reading {
             script: Script {
@@ -44,6 +45,7 @@ impl Reading {
             filled: 0,
             made: no_registrations(),
             variables: Variables::new(alloc),
+            clients: Clients::new(alloc),
         }
     }
 
@@ -54,12 +56,12 @@ impl Reading {
         content: &[u8],
         unclosed: bool,
     ) -> Result<(), LineFault>
-        requires counted { AreCounts self.old.script self.old.made self.old.variables }
+        requires counted { AreCounts self.old.script self.old.made self.old.variables self.old.clients }
         requires quotes { unclosed ≡ is_unclosed content.now }
         ensures read { IfOk result (λ _. after_line (progress self.old.script self.old.filled) content.now (first_word content.now)
             ≡ Ok (progress self.new.script self.new.filled)) }
         ensures refused { IfErr result (λ fault. IsLineFault fault (after_line (progress self.old.script self.old.filled) content.now (first_word content.now))) }
-        ensures counted { OnOk result (AreCounts self.new.script self.new.made self.new.variables) }
+        ensures counted { OnOk result (AreCounts self.new.script self.new.made self.new.variables self.new.clients) }
     {
         let (word, _) = split_word(content);
         match word {
@@ -75,12 +77,12 @@ impl Reading {
         content: &[u8],
         unclosed: bool,
     ) -> Result<(), LineFault>
-        requires counted { AreCounts self.old.script self.old.made self.old.variables }
+        requires counted { AreCounts self.old.script self.old.made self.old.variables self.old.clients }
         requires quotes { unclosed ≡ is_unclosed content.now }
         ensures read { IfOk result (λ _. after_filled (progress self.old.script self.old.filled) content.now
             ≡ Ok (progress self.new.script self.new.filled)) }
         ensures refused { IfErr result (λ fault. IsLineFault fault (after_filled (progress self.old.script self.old.filled) content.now)) }
-        ensures counted { OnOk result (AreCounts self.new.script self.new.made self.new.variables) }
+        ensures counted { OnOk result (AreCounts self.new.script self.new.made self.new.variables self.new.clients) }
     {
         if self.filled >= MAX_LINES {
             return Err(LineFault::Refused(Cause::S8(Limit::Lines)));
@@ -94,10 +96,10 @@ impl Reading {
     }
 
     fn read_words(&mut self, alloc: Global, text: &[u8]) -> Result<(), LineFault>
-        requires { AreCounts self.old.script self.old.made self.old.variables }
+        requires { AreCounts self.old.script self.old.made self.old.variables self.old.clients }
         ensures read { IfOk result (λ _. after_line_words self.old.script text.now ≡ Ok self.new.script) }
         ensures refused { IfErr result (λ fault. IsLineFault fault (after_line_words self.old.script text.now)) }
-        ensures counted { OnOk result (AreCounts self.new.script self.new.made self.new.variables) }
+        ensures counted { OnOk result (AreCounts self.new.script self.new.made self.new.variables self.new.clients) }
         ensures same { self.new.filled ≡ self.old.filled }
     {
         let (word, rest) = split_word(text);
@@ -108,10 +110,10 @@ impl Reading {
 
     // Reads what stands behind a good stamp.
     fn read_behind(&mut self, alloc: Global, text: &[u8], stamp: u64) -> Result<(), LineFault>
-        requires { AreCounts self.old.script self.old.made self.old.variables }
+        requires { AreCounts self.old.script self.old.made self.old.variables self.old.clients }
         ensures read { IfOk result (λ _. after_stamp self.old.script text.now stamp ≡ Ok self.new.script) }
         ensures refused { IfErr result (λ fault. IsLineFault fault (after_stamp self.old.script text.now stamp)) }
-        ensures counted { OnOk result (AreCounts self.new.script self.new.made self.new.variables) }
+        ensures counted { OnOk result (AreCounts self.new.script self.new.made self.new.variables self.new.clients) }
         ensures same { self.new.filled ≡ self.old.filled }
     {
         let (word, rest) = split_word(text);
@@ -121,29 +123,63 @@ impl Reading {
             self.script.stop = stamp;
             return Ok(());
         }
-        let name = client_of(alloc, &self.script.names, word)?;
-        self.read_call(alloc, rest, stamp, name)
+        let number = self.client_of(alloc, word)?;
+        self.read_call(alloc, rest, stamp, number)
     }
 
-    // Reads the call of the client of this name.
+    // The number of the client of this name, which joins the names where it is new. One that is among them was judged
+    // when it joined.
+    fn client_of(&mut self, alloc: Global, name: &[u8]) -> Result<usize, LineFault>
+        requires { AreCounts self.old.script self.old.made self.old.variables self.old.clients }
+        ensures client { IfOk result (λ number. client_of self.old.script.names name.now ≡ Ok number) }
+        ensures refused { IfErr result (λ fault. IsLineFault fault (client_of self.old.script.names name.now)) }
+        ensures joined { OnOk result (self.new.script ≡ with_name self.old.script name.now) }
+        ensures counted { OnOk result (AreCounts self.new.script self.new.made self.new.variables self.new.clients) }
+        ensures same { self.new.filled ≡ self.old.filled }
+    {
+        match self.clients.number_of(name) {
+            Some(number) => Ok(number),
+            None => self.join(alloc, name),
+        }
+    }
+
+    // The number of the client of this name, which is new and joins the names.
+    fn join(&mut self, alloc: Global, name: &[u8]) -> Result<usize, LineFault>
+        requires counted { AreCounts self.old.script self.old.made self.old.variables self.old.clients }
+        requires new { client_number self.old.script.names name.now ≡ length self.old.script.names }
+        ensures client { IfOk result (λ number. client_of self.old.script.names name.now ≡ Ok number) }
+        ensures refused { IfErr result (λ fault. IsLineFault fault (client_of self.old.script.names name.now)) }
+        ensures joined { OnOk result (self.new.script ≡ with_name self.old.script name.now) }
+        ensures counted { OnOk result (AreCounts self.new.script self.new.made self.new.variables self.new.clients) }
+        ensures same { self.new.filled ≡ self.old.filled }
+    {
+        let number = self.script.names.len();
+        let client = new_client(alloc, &self.script.names, name)?;
+        self.clients.join(alloc, name)?;
+        match self.script.names.push(client) {
+            Ok(()) => Ok(number),
+            Err(_) => Err(LineFault::NoMemory),
+        }
+    }
+
+    // Reads the call of the client of this number.
     fn read_call(
         &mut self,
         alloc: Global,
         text: &[u8],
         stamp: u64,
-        name: Name,
+        number: usize,
     ) -> Result<(), LineFault>
-        requires counted { AreCounts self.old.script self.old.made self.old.variables }
-        requires among { client_number self.old.script.names name < 64 }
-        ensures read { IfOk result (λ _. after_client self.old.script stamp name text.now (client_number self.old.script.names name) ≡ Ok self.new.script) }
-        ensures refused { IfErr result (λ fault. IsLineFault fault (after_client self.old.script stamp name text.now (client_number self.old.script.names name))) }
-        ensures counted { OnOk result (AreCounts self.new.script self.new.made self.new.variables) }
+        requires counted { AreCounts self.old.script self.old.made self.old.variables self.old.clients }
+        requires among { number < 64 }
+        ensures read { IfOk result (λ _. after_call self.old.script stamp text.now number ≡ Ok self.new.script) }
+        ensures refused { IfErr result (λ fault. IsLineFault fault (after_call self.old.script stamp text.now number)) }
+        ensures counted { OnOk result (AreCounts self.new.script self.new.made self.new.variables self.new.clients) }
         ensures same { self.new.filled ≡ self.old.filled }
     {
-        let number = client_number(&self.script.names, name.bytes());
         let call = call_of(alloc, self.made[number], &mut self.variables, text)?;
         count(&mut self.made, number, &call);
-        add_call(&mut self.script, stamp, number, name, call)?;
+        add_call(&mut self.script, stamp, number, call)?;
         Ok(())
     }
 }
@@ -177,38 +213,31 @@ fn not_before(last: u64, stamp: u64) -> Result<u64, Cause>
     }
 }
 
-// The name of a client, which is one of the first 64.
-fn client_of(alloc: Global, names: &Names, word: &[u8]) -> Result<Name, LineFault>
-    ensures name { IfOk result (λ name. name ≡ word.now) }
-    ensures client { OnOk result (client_of names.now word.now ≡ Ok (client_number names.now word.now)) }
-    ensures among { OnOk result (client_number names.now word.now < 64) }
-    ensures refused { IfErr result (λ fault. IsLineFault fault (client_of names.now word.now)) }
+// The name of a client that isn't among these, where it may join them.
+fn new_client(alloc: Global, names: &Names, name: &[u8]) -> Result<Name, LineFault>
+    requires new { client_number names.now name.now ≡ length names.now }
+    ensures name { IfOk result (λ client. client ≡ name.now) }
+    ensures client { OnOk result (client_of names.now name.now ≡ Ok (length names.now)) }
+    ensures refused { IfErr result (λ fault. IsLineFault fault (client_of names.now name.now)) }
 {
-    let name = match Name::new(alloc, word) {
-        Ok(name) => name,
+    let client = match Name::new(alloc, name) {
+        Ok(client) => client,
         Err(NameFault::BadName) => return Err(LineFault::Refused(Cause::S4)),
         Err(NameFault::NoMemory) => return Err(LineFault::NoMemory),
     };
-    if word == b"pHelmIvP".as_slice() {
+    if name == b"pHelmIvP".as_slice() {
         return Err(LineFault::Refused(Cause::S9));
     }
-    if client_number(names, word) >= MAX_CLIENTS {
+    if names.len() >= MAX_CLIENTS {
         return Err(LineFault::Refused(Cause::S8(Limit::Clients)));
     }
-    Ok(name)
+    Ok(client)
 }
 
-// Adds a call of the client of this number, whose name joins the others where it is new.
-fn add_call(
-    script: &mut Script,
-    stamp: u64,
-    number: usize,
-    name: Name,
-    call: Call,
-) -> Result<(), NoMemory>
-    requires number { number ≡ client_number script.old.names name }
-    requires among { number < 64 }
-    ensures { OnOk result (script.new ≡ with_client_call script.old stamp name call) }
+// Adds a call of the client of this number.
+fn add_call(script: &mut Script, stamp: u64, number: usize, call: Call) -> Result<(), NoMemory>
+    requires { number < 64 }
+    ensures { OnOk result (script.new ≡ with_call script.old stamp number call) }
 {
     let line = Entry {
         stamp,
@@ -218,35 +247,6 @@ fn add_call(
     if script.lines.push(line).is_err() {
         return Err(AllocError);
     }
-    join(&mut script.names, number, name)?;
     script.stop = stamp;
     Ok(())
-}
-
-// The client of this number joins the names where it is new.
-fn join(names: &mut Names, number: usize, name: Name) -> Result<(), NoMemory>
-    requires { number ≡ client_number names.old name }
-    ensures { OnOk result (names.new ≡ with_client names.old name) }
-{
-    if number < names.len() {
-        return Ok(());
-    }
-    match names.push(name) {
-        Ok(()) => Ok(()),
-        Err(_) => Err(AllocError),
-    }
-}
-
-// A client's number is its place among the names, or the next place where it is new.
-#[tactic(auto, using(moos_text::proofs::WordLemmas::position_or_len_of))]
-fn client_number(names: &Names, client: &[u8]) -> usize
-    ensures { result ≡ client_number names.now client.now }
-{
-    place_of(names.all(), client).unwrap_or(names.len())
-}
-
-fn place_of(names: &[Name], client: &[u8]) -> Option<usize>
-    ensures { result ≡ position (λ name. bytes_eq name client.now) names.now }
-{
-    names.iter().position(|name| name.bytes() == client)
 }

@@ -10,7 +10,7 @@ invariant-loop-from l = record {
   counted : l.number ≤ l.from;
   so_far : progress_from 1 nothing_read (raw_lines l.bytes)
       ≡ progress_from (suc l.number) (progress l.reading.script l.reading.filled) (raw_lines (drop l.from l.bytes));
-  counts : AreCounts l.reading.script l.reading.made l.reading.variables;
+  counts : AreCounts l.reading.script l.reading.made l.reading.variables l.reading.clients;
 }
 
 abbrev pub decreases-loop-from : goal.decreases-loop-from
