@@ -1,12 +1,12 @@
 // The pairs of a post line.
-ghost use Rattle.std.specs.Prelude.{◌≡◌, [], Ok, Err, IfOk, IfErr};
+ghost use Rattle.std.specs.Prelude.{◌≡◌, [], Ok, Err, IfOk, OnOk, IfErr};
 ghost use Rattle.moos_text.specs.Pairs.{pair_of, parts_of};
 ghost use Rattle.moos_text.specs.Refusals.{IsLineFault};
 ghost use Rattle.moos_text.specs.declared.pair.PairFault.TheVariants.{NoMemory};
 ghost use Rattle.script_reader.specs.Script.{posting, with_pair, with_part, with_parts, with_cause, cause_of};
 
 use crate::variables::Variables;
-use moos_post::{Batch, Pair};
+use moos_post::{Batch, NoMemory, Pair};
 use moos_text::{Cause, Limit, LineFault, PairFault, next_part, read_pair};
 use std::alloc::Global;
 
@@ -81,8 +81,19 @@ fn add_pair(
     }
     let Pair { var, value } = pair;
     let var = variables.add(alloc, var)?;
+    make_room(alloc, batch)?;
     match batch.push(Pair { var, value }) {
         Ok(()) => Ok(()),
         Err(_) => Err(LineFault::NoMemory),
     }
+}
+
+// Room for the first pair alone, since most posts have no other: what is taken and given back would leave gaps in memory.
+fn make_room(alloc: Global, batch: &mut Batch) -> Result<(), NoMemory>
+    ensures { OnOk result (batch.new ≡ batch.old) }
+{
+    if batch.len() == 0 {
+        *batch = Batch::of(Vec::with_capacity(alloc, 1)?);
+    }
+    Ok(())
 }

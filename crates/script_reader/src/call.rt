@@ -86,7 +86,7 @@ fn register_one(alloc: Global, made: u32, reg: Reg) -> Result<Call, LineFault>
     if made >= MAX_REGISTRATIONS {
         return Err(LineFault::Refused(Cause::S8(Limit::Registrations)));
     }
-    let mut regs = Regs::new(alloc);
+    let mut regs = Regs::of(Vec::with_capacity(alloc, 1)?);
     match regs.push(reg) {
         Ok(()) => Ok(Call::Register(regs)),
         Err(_) => Err(LineFault::NoMemory),
