@@ -1,114 +1,96 @@
 // Two clients of one database: each call once, and both on threads beside each other.
-ghost use Rattle.std.specs.Prelude.{IfOk};
+ghost use Rattle.std.specs.Prelude.{◌≡◌};
 ghost use Rattle.moos_client.specs.Calls.{MayCall};
 
+use crate::made::{batch, names, pattern, regs};
 use moos_client::{Lock, Seat, fetch, post, register, unregister};
-use moos_db::Db;
-use moos_post::{Batch, Milli, Name, Names, NoMemory, Pair, Pattern, Reg, Regs, Value};
+use moos_db::{Db, Mail};
+use moos_post::{Batch, Regs};
 use std::alloc::Global;
 use std::process::Abort;
 use std::sync::Wait;
-use std::test::Fail;
 use std::thread::{Threads, join};
 use turn_lock::TurnLock;
 
-fn pattern(alloc: Global, text: &str) -> Result<Pattern, Fail> {
-    Ok(Pattern::read(alloc, text.as_bytes())?)
-}
-
-fn everything(alloc: Global) -> Result<Regs, Fail> {
-    let mut regs = Regs::new(alloc);
-    regs.push(Reg {
-        var: pattern(alloc, "*")?,
-        source: pattern(alloc, "*")?,
-        interval: 0,
-    })?;
-    Ok(regs)
-}
-
-fn numbers(alloc: Global, pairs: &[(&str, i64)]) -> Result<Batch, Fail> {
-    let mut batch = Batch::new(alloc);
-    for (var, value) in pairs {
-        batch.push(Pair {
-            var: Name::new(alloc, var.as_bytes())?,
-            value: Value::Num(Milli::new(*value).ok_or("a number")?),
-        })?;
-    }
-    Ok(batch)
-}
-
 // A community of two clients: its lock, and a seat for each.
-fn community(rt: &impl Abort, alloc: Global) -> Result<(Lock, Seat, Seat), Fail>
-    ensures first { IfOk result (λ all. MayCall all.0 all.1) }
-    ensures second { IfOk result (λ all. MayCall all.0 all.2) }
+fn community(rt: &impl Abort, alloc: Global) -> (Lock, Seat, Seat)
+    ensures first { MayCall result.0 result.1 }
+    ensures second { MayCall result.0 result.2 }
 {
-    let mut names = Names::new(alloc);
-    names.push(Name::new(alloc, b"a")?)?;
-    names.push(Name::new(alloc, b"b")?)?;
+    let names = names(rt, alloc, "a b");
     assert!(rt; names.len() == 2);
-    let db = Db::make(alloc, names)?;
-    let Ok((lock, mut first)) = TurnLock::make(alloc, db, 2) else {
-        return Err(Fail::from("no memory"));
-    };
-    let second = lock.split(&mut first);
-    Ok((lock, first, second))
+    let db = Db::make(alloc, names).expect(rt, "memory");
+    match TurnLock::make(alloc, db, 2) {
+        Ok((lock, mut first)) => {
+            let second = lock.split(&mut first);
+            (lock, first, second)
+        }
+        Err(_) => panic!(rt; "memory"),
+    }
+}
+
+fn everything(rt: &impl Abort, alloc: Global) -> Regs {
+    regs(rt, alloc, &["*", "0", "*"])
+}
+
+// The letters of one client behind a post of these variables by the other.
+fn heard<R: Wait + Abort>(
+    rt: &R,
+    alloc: Global,
+    lock: &Lock,
+    from: &mut Seat,
+    to: &mut Seat,
+    vars: &[&str],
+) -> Mail
+    requires from { MayCall lock.now from.old }
+    requires to { MayCall lock.now to.old }
+    ensures from { MayCall lock.now from.new }
+    ensures to { MayCall lock.now to.new }
+{
+    let posted = post(rt, alloc, lock, from, 1, batch(rt, alloc, vars));
+    posted.expect(rt, "memory");
+    fetch(rt, alloc, lock, to, 2).expect(rt, "memory")
+}
+
+fn is_letter(rt: &impl Abort, mail: &Mail, number: u64, var: &str) {
+    assert!(rt; number < mail.len() as u64);
+    let letter = mail.get(number as usize);
+    assert!(rt; letter.number == number && letter.post.var.bytes() == var.as_bytes());
+}
+
+// The pairs of one post are read back in their order, by who registered, until the registration is withdrawn.
+fn call_once<R: Wait + Abort>(
+    rt: &R,
+    alloc: Global,
+    lock: &Lock,
+    first: &mut Seat,
+    second: &mut Seat,
+)
+    requires first { MayCall lock.now first.old }
+    requires second { MayCall lock.now second.old }
+    ensures first { MayCall lock.now first.new }
+    ensures second { MayCall lock.now second.new }
+{
+    let registered = register(rt, alloc, lock, second, 0, everything(rt, alloc));
+    registered.expect(rt, "memory");
+    let mail = heard(rt, alloc, lock, first, second, &["X", "Y"]);
+    assert!(rt; mail.len() == 2);
+    is_letter(rt, &mail, 0, "X");
+    is_letter(rt, &mail, 1, "Y");
+    let (var, source) = (pattern(rt, alloc, "*"), pattern(rt, alloc, "*"));
+    let withdrawn = unregister(rt, alloc, lock, second, 3, var, source);
+    withdrawn.expect(rt, "memory");
+    assert!(rt; heard(rt, alloc, lock, first, second, &["X"]).len() == 0);
 }
 
 #[test]
-fn each_call_once(rt: HostRuntime) -> Result<(), Fail> {
-    let alloc = rt.alloc();
-    let (lock, mut first, mut second) = community(&rt, alloc)?;
-    register(&rt, alloc, &lock, &mut second, 0, everything(alloc)?)?;
-    post(
-        &rt,
-        alloc,
-        &lock,
-        &mut first,
-        1,
-        numbers(alloc, &[("X", 5_000)])?,
-    )?;
-    let mail = fetch(&rt, alloc, &lock, &mut second, 2)?;
-    assert!(rt; mail.len() == 1);
-    assert!(rt; mail.get(0).number == 0 && mail.get(0).post.var.bytes() == b"X".as_slice());
-    unregister(
-        &rt,
-        alloc,
-        &lock,
-        &mut second,
-        3,
-        pattern(alloc, "*")?,
-        pattern(alloc, "*")?,
-    )?;
-    post(
-        &rt,
-        alloc,
-        &lock,
-        &mut first,
-        4,
-        numbers(alloc, &[("X", 6_000)])?,
-    )?;
-    let mail = fetch(&rt, alloc, &lock, &mut second, 5)?;
-    assert!(rt; mail.len() == 0);
+fn each_call_once(rt: HostRuntime) {
+    let (lock, mut first, mut second) = community(&rt, rt.alloc());
+    call_once(&rt, rt.alloc(), &lock, &mut first, &mut second);
     lock.meet(&mut first, second);
     let held = lock.take(&rt, &mut first);
-    assert!(rt; (held.value().entries(), held.value().posts()) == (6, 2));
+    assert!(rt; held.value().entries() == 6 && held.value().posts() == 3);
     lock.give_back(&mut first, held);
-    Ok(())
-}
-
-// A post of two pairs is one entry, whose pairs the client reads back in their order.
-#[test]
-fn pairs_of_a_post_keep_their_order(rt: HostRuntime) -> Result<(), Fail> {
-    let alloc = rt.alloc();
-    let (lock, mut seat, _) = community(&rt, alloc)?;
-    register(&rt, alloc, &lock, &mut seat, 0, everything(alloc)?)?;
-    let pairs = numbers(alloc, &[("X", 1_000), ("Y", 2_000)])?;
-    post(&rt, alloc, &lock, &mut seat, 1, pairs)?;
-    let mail = fetch(&rt, alloc, &lock, &mut seat, 2)?;
-    assert!(rt; mail.len() == 2);
-    assert!(rt; mail.get(0).number == 0 && mail.get(0).post.var.bytes() == b"X".as_slice());
-    assert!(rt; mail.get(1).number == 1 && mail.get(1).post.var.bytes() == b"Y".as_slice());
-    Ok(())
 }
 
 // The client posts so many times, and says whether each call was Ok.
@@ -147,10 +129,10 @@ fn is_in_order(db: &Db, client: u32, calls: u64) -> bool {
 
 // Two clients beside each other: each has its own entries, in their order.
 #[test]
-fn two_threads(rt: HostRuntime) -> Result<(), Fail> {
+fn two_threads(rt: HostRuntime) {
     const CALLS: u64 = 1_000;
     let alloc = rt.alloc();
-    let (lock, first, second) = community(&rt, alloc)?;
+    let (lock, first, second) = community(&rt, alloc);
     let ((mut first, one), (second, other)) = join(
         &rt,
         || -> (Seat, bool)
@@ -168,5 +150,4 @@ fn two_threads(rt: HostRuntime) -> Result<(), Fail> {
     assert!(rt; held.value().entries() == 2 * CALLS);
     assert!(rt; is_in_order(held.value(), 0, CALLS) && is_in_order(held.value(), 1, CALLS));
     lock.give_back(&mut first, held);
-    Ok(())
 }

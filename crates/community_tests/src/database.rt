@@ -1,121 +1,82 @@
 // Worked rows of the database: calls of clients, a line each, and the numbers of the posts that each fetch gives.
 ghost use Rattle.std.specs.Prelude.{◌<◌, length};
 
+use crate::made::{batch, count, names, pattern, regs, words};
 use moos_db::Db;
-use moos_post::{Batch, Milli, Name, Names, Pair, Pattern, Reg, Regs, Value};
 use std::alloc::Global;
 use std::process::Abort;
-use std::test::Fail;
-
-fn reg_of(alloc: Global, var: &str, interval: u64, source: &str) -> Result<Reg, Fail> {
-    let var = Pattern::read(alloc, var.as_bytes())?;
-    let source = Pattern::read(alloc, source.as_bytes())?;
-    Ok(Reg {
-        var,
-        source,
-        interval,
-    })
-}
-
-/// The registrations that the words name: of each a pattern for the variable, an interval, and a pattern for the source.
-pub(crate) fn regs_of(alloc: Global, words: &[&str]) -> Result<Regs, Fail> {
-    let mut regs = Regs::new(alloc);
-    for three in words.chunks_exact(3) {
-        let interval = three[1].parse::<u64>().ok().ok_or("an interval")?;
-        regs.push(reg_of(alloc, three[0], interval, three[2])?)?;
-    }
-    Ok(regs)
-}
-
-/// A batch of posts of these variables.
-pub(crate) fn batch_of(alloc: Global, vars: &[&str]) -> Result<Batch, Fail> {
-    let mut batch = Batch::new(alloc);
-    for var in vars {
-        let var = Name::new(alloc, var.as_bytes())?;
-        let value = Value::Num(Milli::new(5).ok_or("a number")?);
-        batch.push(Pair { var, value })?;
-    }
-    Ok(batch)
-}
 
 // A database of clients with these names, and no calls.
-fn database(rt: &impl Abort, alloc: Global, names: &str) -> Result<Db, Fail> {
-    let mut list = Names::new(alloc);
-    for name in names.split_whitespace() {
-        list.push(Name::new(alloc, name.as_bytes())?)?;
-    }
-    assert!(rt; list.len() < 100);
-    Ok(Db::make(alloc, list)?)
+fn database(rt: &impl Abort, alloc: Global, clients: &str) -> Db {
+    let names = names(rt, alloc, clients);
+    assert!(rt; names.len() < 100);
+    Db::make(alloc, names).expect(rt, "memory")
 }
 
-fn unregister(
-    alloc: Global,
-    db: &mut Db,
-    client: u32,
-    stamp: u64,
-    words: &[&str],
-) -> Result<(), Fail>
+fn unregister(rt: &impl Abort, alloc: Global, db: &mut Db, client: u32, stamp: u64, words: &[&str])
     requires { client < length db.old.names }
 {
     let [var, source] = words else {
-        return Err(Fail::from("two patterns"));
+        panic!(rt; "two patterns")
     };
-    let var = Pattern::read(alloc, var.as_bytes())?;
-    let source = Pattern::read(alloc, source.as_bytes())?;
-    db.unregister(alloc, client, stamp, var, source)?;
-    Ok(())
+    let (var, source) = (pattern(rt, alloc, var), pattern(rt, alloc, source));
+    let done = db.unregister(alloc, client, stamp, var, source);
+    done.expect(rt, "memory");
 }
 
 // A fetch gives the posts with these numbers, and is said to have given them.
-fn fetch(
-    rt: &impl Abort,
-    alloc: Global,
-    db: &mut Db,
-    client: u32,
-    stamp: u64,
-    numbers: &[&str],
-) -> Result<(), Fail>
+fn fetch(rt: &impl Abort, alloc: Global, db: &mut Db, client: u32, stamp: u64, numbers: &[&str])
     requires { client < length db.old.names }
 {
     let k = db.entries();
-    let mail = db.fetch(alloc, client, stamp)?;
+    let mail = db.fetch(alloc, client, stamp).expect(rt, "memory");
     let given = db.letters(k);
     assert!(rt; mail.len() == numbers.len() && given.len() == numbers.len());
     for ((letter, number), word) in mail.all().iter().zip(given).zip(numbers) {
-        let wanted = word.parse::<u64>().ok().ok_or("a number")?;
+        let wanted = count(rt, word);
         assert!(rt; letter.number == wanted && *number == wanted);
     }
-    Ok(())
 }
 
-// Makes a call: its stamp, the number of its client, and what it does. Of a fetch the numbers that it is given follow.
-fn perform(rt: &impl Abort, alloc: Global, db: &mut Db, call: &str) -> Result<(), Fail> {
-    let mut words = Vec::new(alloc);
-    for word in call.split_whitespace() {
-        words.push(word)?;
-    }
-    let [stamp, client, verb, rest @ ..] = words.as_slice() else {
-        return Err(Fail::from("a call"));
+// Makes a call of a client: what it does, and the words of it. Of a fetch these are the numbers that it is given.
+fn act(rt: &impl Abort, alloc: Global, db: &mut Db, client: u32, stamp: u64, words: &[&str])
+    requires { client < length db.old.names }
+{
+    let [verb, rest @ ..] = words else {
+        panic!(rt; "a verb")
     };
-    let stamp = stamp.parse::<u64>().ok().ok_or("a stamp")?;
-    let client = client.parse::<u32>().ok().ok_or("a client")?;
-    assert!(rt; client < db.clients());
     match *verb {
-        "register" => db.register(alloc, client, stamp, regs_of(alloc, rest)?)?,
-        "unregister" => unregister(alloc, db, client, stamp, rest)?,
-        "post" => db.post(alloc, client, stamp, batch_of(alloc, rest)?)?,
-        _ => fetch(rt, alloc, db, client, stamp, rest)?,
+        "register" => {
+            let done = db.register(alloc, client, stamp, regs(rt, alloc, rest));
+            done.expect(rt, "memory");
+        }
+        "unregister" => unregister(rt, alloc, db, client, stamp, rest),
+        "post" => {
+            let done = db.post(alloc, client, stamp, batch(rt, alloc, rest));
+            done.expect(rt, "memory");
+        }
+        _ => fetch(rt, alloc, db, client, stamp, rest),
     }
-    Ok(())
+}
+
+// Makes the call of a line: its stamp, the number of its client, and what it does.
+fn perform(rt: &impl Abort, alloc: Global, db: &mut Db, line: &str) {
+    let words = words(rt, alloc, line);
+    let [stamp, client, rest @ ..] = words.as_slice() else {
+        panic!(rt; "a call")
+    };
+    let client = client.parse::<u32>().ok().expect(rt, "a client");
+    assert!(rt; client < db.clients());
+    act(rt, alloc, db, client, count(rt, stamp), rest);
 }
 
 /// A database of clients with these names behind the calls, a line each.
-pub(crate) fn played(rt: &impl Abort, alloc: Global, names: &str, calls: &str) -> Result<Db, Fail> {
-    let mut db = database(rt, alloc, names)?;
+pub(crate) fn played(rt: &impl Abort, alloc: Global, clients: &str, calls: &str) -> Db {
+    let mut db = database(rt, alloc, clients);
     for call in calls.lines() {
-        perform(rt, alloc, &mut db, call)?;
+        perform(rt, alloc, &mut db, call);
     }
-    Ok(db)
+    db
 }
 
 // A source pattern lets through whom it matches; `?` wants one byte.
@@ -214,8 +175,8 @@ const HEARD_LATER: &str = "0 1 post X
 2 2 fetch 0 1";
 
 #[test]
-fn worked_rows(rt: HostRuntime) -> Result<(), Fail> {
-    let _ = played(&rt, rt.alloc(), "log two p q", PATTERNS)?;
+fn worked_rows(rt: HostRuntime) {
+    let _ = played(&rt, rt.alloc(), "log two p q", PATTERNS);
     for calls in [
         INTERVAL,
         LATE,
@@ -229,7 +190,6 @@ fn worked_rows(rt: HostRuntime) -> Result<(), Fail> {
         STAMPS_FALL_BACK,
         HEARD_LATER,
     ] {
-        let _ = played(&rt, rt.alloc(), "a b c", calls)?;
+        let _ = played(&rt, rt.alloc(), "a b c", calls);
     }
-    Ok(())
 }

@@ -1,16 +1,18 @@
 // What a database tells of its parts, and the mail of a list of calls.
-use crate::database::{batch_of, played, regs_of};
-use moos_db::mails_of;
-use moos_post::{Call, Entry, Name, Names, Value};
-use std::test::Fail;
+ghost use Rattle.std.specs.Prelude.{◌≡◌, ◌<◌, length};
+
+use crate::database::played;
+use crate::made::{batch, names, regs};
+use moos_db::{Db, mails_of};
+use moos_post::{Call, Entry, Value};
+use std::alloc::Global;
+use std::process::Abort;
 
 // A call that asks for nothing is an entry too.
 #[test]
-fn empty_lists_are_entries(rt: HostRuntime) -> Result<(), Fail> {
-    let db = played(&rt, rt.alloc(), "a", "0 0 post\n0 0 register")?;
-    assert_eq!(rt; db.entries(), 2);
-    assert_eq!(rt; db.posts(), 0);
-    Ok(())
+fn empty_lists_are_entries(rt: HostRuntime) {
+    let db = played(&rt, rt.alloc(), "a", "0 0 post\n0 0 register");
+    assert!(rt; db.entries() == 2 && db.posts() == 0);
 }
 
 // A registration of the second client, a batch of the first, and a post of the second.
@@ -18,53 +20,82 @@ const BUSY: &str = "0 1 register X 0 *
 1000 0 post Y X
 2000 1 post X";
 
-// The numbers that a fetch gave are those of posts before it.
-#[test]
-fn tells_its_parts(rt: HostRuntime) -> Result<(), Fail> {
-    let mut db = played(&rt, rt.alloc(), "pA pB", BUSY)?;
-    assert!(rt; db.clients() == 2 && db.entries() == 3 && db.posts() == 3);
-    assert_eq!(rt; db.name(1).bytes(), b"pB".as_slice());
-    let entry = db.entry(1);
-    assert!(rt; entry.stamp == 1000 && entry.client == 0 && matches!(&entry.call, Call::Post(_)));
-    assert_eq!(rt; db.pair(0).var.bytes(), b"Y".as_slice());
-    let origin = db.origin(2);
-    assert!(rt; origin.stamp == 2000 && origin.client == 1);
-    let mail = db.fetch(rt.alloc(), 1, 3000)?;
-    db.letters_law(3);
-    assert_eq!(rt; db.letters(1).len(), 0);
-    assert_eq!(rt; db.letters(3), [1, 2].as_slice());
-    assert_eq!(rt; mail.len(), 2);
-    let letter = mail.get(0);
-    assert!(rt; letter.number == 1 && letter.post.stamp == 1000 && letter.post.source == 0);
-    assert_eq!(rt; letter.post.var.bytes(), b"X".as_slice());
-    assert!(rt; matches!(&letter.post.value, Value::Num(number) if number.get() == 5));
-    Ok(())
+fn tells_clients(rt: &impl Abort, db: &Db) {
+    assert!(rt; db.clients() == 2);
+    assert!(rt; db.name(1).bytes() == b"pB".as_slice());
 }
 
-fn entry(stamp: u64, client: u32, call: Call) -> Entry {
+fn tells_entries(rt: &impl Abort, db: &Db) {
+    assert!(rt; db.entries() == 3);
+    let entry = db.entry(1);
+    assert!(rt; entry.stamp == 1000 && entry.client == 0 && matches!(&entry.call, Call::Post(_)));
+}
+
+fn tells_posts(rt: &impl Abort, db: &Db) {
+    assert!(rt; db.posts() == 3);
+    assert!(rt; db.pair(0).var.bytes() == b"Y".as_slice());
+    let origin = db.origin(2);
+    assert!(rt; origin.stamp == 2000 && origin.client == 1);
+}
+
+// The numbers that a fetch gave are those of posts before it.
+fn tells_letters(rt: &impl Abort, alloc: Global, db: &mut Db)
+    requires { 1 < length db.old.names }
+{
+    let mail = db.fetch(alloc, 1, 3000).expect(rt, "memory");
+    db.letters_law(3);
+    assert!(rt; db.letters(1).len() == 0 && db.letters(3) == [1, 2].as_slice());
+    assert!(rt; mail.len() == 2);
+    let letter = mail.get(0);
+    assert!(rt; letter.number == 1 && letter.post.stamp == 1000 && letter.post.source == 0);
+    assert!(rt; letter.post.var.bytes() == b"X".as_slice());
+    assert!(rt; matches!(&letter.post.value, Value::Num(number) if number.get() == 5));
+}
+
+#[test]
+fn tells_its_parts(rt: HostRuntime) {
+    let mut db = played(&rt, rt.alloc(), "pA pB", BUSY);
+    tells_clients(&rt, &db);
+    tells_entries(&rt, &db);
+    tells_posts(&rt, &db);
+    assert!(rt; db.clients() == 2);
+    tells_letters(&rt, rt.alloc(), &mut db);
+}
+
+fn entry(stamp: u64, call: Call) -> Entry
+    ensures { result.client ≡ 0 }
+{
     Entry {
         stamp,
-        client,
+        client: 0,
         call,
     }
 }
 
+// A registration, a post, and two fetches.
+fn calls(rt: &impl Abort, alloc: Global) -> Vec<Entry> {
+    let mut calls = Vec::new(alloc);
+    for call in [
+        Call::Register(regs(rt, alloc, &["X", "0", "*"])),
+        Call::Post(batch(rt, alloc, &["X"])),
+        Call::Fetch,
+        Call::Fetch,
+    ] {
+        calls.push(entry(1000, call)).expect(rt, "memory");
+    }
+    calls
+}
+
 // Each call has its mail in its own place.
 #[test]
-fn mails_of_a_list_of_calls(rt: HostRuntime) -> Result<(), Fail> {
-    let alloc = rt.alloc();
-    let mut names = Names::new(alloc);
-    names.push(Name::new(alloc, b"pA")?)?;
-    let mut calls = Vec::new(alloc);
-    calls.push(entry(0, 0, Call::Register(regs_of(alloc, &["X", "0", "*"])?)))?;
-    calls.push(entry(1000, 0, Call::Post(batch_of(alloc, &["X"])?)))?;
-    calls.push(entry(2000, 0, Call::Fetch))?;
-    calls.push(entry(3000, 0, Call::Fetch))?;
+fn mails_of_a_list_of_calls(rt: HostRuntime) {
+    let names = names(&rt, rt.alloc(), "pA");
+    let calls = calls(&rt, rt.alloc());
     assert!(rt; names.len() == 1);
     assert!(rt; calls.iter().all(|call| call.client == 0));
-    let mails = mails_of(alloc, names, calls)?;
-    for (mail, len) in mails.iter().zip([0, 0, 1, 0]) {
-        assert_eq!(rt; mail.len(), len);
+    let mails = mails_of(rt.alloc(), names, calls).expect(&rt, "memory");
+    assert!(rt; mails.len() == 4);
+    for (k, mail) in mails.iter().enumerate() {
+        assert!(rt; mail.len() == if k == 2 { 1 } else { 0 });
     }
-    Ok(())
 }

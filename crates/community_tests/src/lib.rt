@@ -3,7 +3,7 @@
 //!
 //! The tests of these crates stand here, since a crate with tests of its own is proved once more with them. One module for
 //! each subject: `posts`, `registrations`, `mailboxes`, `turns` of the lock, `database` and `database_parts`, `clients`, and of
-//! the helm `conditions`, `geometry`, `modes` and `lives`.
+//! the helm `conditions`, `geometry`, `modes` and `lives`. What they make of words is `made` in one place.
 #![tactic(auto)]
 
 #[cfg(test)]
@@ -18,6 +18,8 @@ mod database_parts;
 mod geometry;
 #[cfg(test)]
 mod lives;
+#[cfg(test)]
+mod made;
 #[cfg(test)]
 mod mailboxes;
 #[cfg(test)]

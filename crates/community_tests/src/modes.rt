@@ -1,121 +1,86 @@
-ghost use Rattle.std.specs.Prelude.{◌≡◌, IfOk, None, Some};
+ghost use Rattle.std.specs.Prelude.{◌≡◌, None, Some};
 
+use crate::made::{check, name, text};
 use bhv_reader::{Conds, Decl, Decls};
 use helm_cond::{Cond, Info};
 use mode_tree::ModeTree;
-use moos_post::{Name, Txt, Value};
-use std::alloc::{AllocError, Global};
+use std::alloc::Global;
 use std::process::Abort;
-use std::test::Fail;
 
-fn name(alloc: Global, bytes: &[u8]) -> Result<Name, AllocError> {
-    match Name::new(alloc, bytes) {
-        Ok(name) => Ok(name),
-        Err(_) => Err(AllocError),
-    }
-}
-
-fn cond(rt: &impl Abort, alloc: Global, text: &[u8]) -> Result<Cond, AllocError> {
-    assert!(rt; text.len() < 1000);
-    match Cond::read(alloc, text) {
-        Ok(cond) => Ok(cond),
-        Err(_) => Err(AllocError),
-    }
-}
-
-fn root(rt: &impl Abort, alloc: Global) -> Result<Decl, AllocError>
-    ensures { IfOk result (λ decl. decl.parent ≡ None) }
-{
+// The conditions of these lines.
+fn conds(rt: &impl Abort, alloc: Global, lines: &[&str]) -> Conds {
     let mut conds = Conds::new(alloc);
-    let _ = conds.push(cond(rt, alloc, b"DEPLOY = true")?);
-    Ok(Decl {
-        name: name(alloc, b"ACTIVE")?,
+    for line in lines {
+        assert!(rt; line.len() < 1000);
+        let cond = Cond::read(alloc, line.as_bytes()).expect(rt, "a condition");
+        conds.push(cond).expect(rt, "memory");
+    }
+    conds
+}
+
+fn root(rt: &impl Abort, alloc: Global) -> Decl
+    ensures { result.parent ≡ None }
+{
+    let conds = conds(rt, alloc, &["DEPLOY = true"]);
+    let (called, other) = (name(rt, alloc, "ACTIVE"), name(rt, alloc, "INACTIVE"));
+    Decl {
+        name: called,
         parent: None,
         conds,
-        other: Some(name(alloc, b"INACTIVE")?),
-    })
+        other: Some(other),
+    }
 }
 
-fn child(rt: &impl Abort, alloc: Global, called: &[u8], line: &[u8]) -> Result<Decl, AllocError>
-    ensures { IfOk result (λ decl. decl.parent ≡ Some 0) }
+fn child(rt: &impl Abort, alloc: Global, called: &str, line: &str) -> Decl
+    ensures { result.parent ≡ Some 0 }
 {
-    let mut conds = Conds::new(alloc);
-    let _ = conds.push(cond(rt, alloc, b"MODE = ACTIVE")?);
-    let _ = conds.push(cond(rt, alloc, line)?);
-    Ok(Decl {
-        name: name(alloc, called)?,
+    let conds = conds(rt, alloc, &["MODE = ACTIVE", line]);
+    Decl {
+        name: name(rt, alloc, called),
         parent: Some(0),
         conds,
         other: None,
-    })
+    }
 }
 
 // Active, and then surveying or else returning; or inactive.
-fn mission(rt: &impl Abort, alloc: Global) -> Result<ModeTree, AllocError> {
-    let first = root(rt, alloc)?;
-    let second = child(rt, alloc, b"SURVEYING", b"SURVEY = true")?;
-    let third = child(rt, alloc, b"RETURNING", b"RETURN = true")?;
-    Ok(ModeTree::make(Decls::of(vec![in alloc; first, second, third]?)))
+fn mission(rt: &impl Abort, alloc: Global) -> ModeTree {
+    let first = root(rt, alloc);
+    let second = child(rt, alloc, "SURVEYING", "SURVEY = true");
+    let third = child(rt, alloc, "RETURNING", "RETURN = true");
+    let decls = vec![in alloc; first, second, third].expect(rt, "memory");
+    ModeTree::make(Decls::of(decls))
 }
 
-struct Row {
-    deploy: &'static [u8],
-    survey: &'static [u8],
-    back: &'static [u8],
-    mode: &'static [u8],
-}
+// Of DEPLOY, SURVEY and RETURN what they are, and the mode.
+const ROWS: &str = "true true true ACTIVE:SURVEYING
+true false true ACTIVE:RETURNING
+true false false ACTIVE
+false true true INACTIVE";
 
-const ROWS: [Row; 4] = [
-    Row {
-        deploy: b"true",
-        survey: b"true",
-        back: b"true",
-        mode: b"ACTIVE:SURVEYING",
-    },
-    Row {
-        deploy: b"true",
-        survey: b"false",
-        back: b"true",
-        mode: b"ACTIVE:RETURNING",
-    },
-    Row {
-        deploy: b"true",
-        survey: b"false",
-        back: b"false",
-        mode: b"ACTIVE",
-    },
-    Row {
-        deploy: b"false",
-        survey: b"true",
-        back: b"true",
-        mode: b"INACTIVE",
-    },
-];
-
-// What is known in a row.
-fn knowledge(alloc: Global, row: &Row) -> Result<Info, AllocError> {
+// What is known where the three are what the words say.
+fn knowledge(rt: &impl Abort, alloc: Global, words: &str) -> Info {
     let mut info = Info::make(alloc);
-    for (var, text) in [
-        (b"DEPLOY".as_slice(), row.deploy),
-        (b"SURVEY", row.survey),
-        (b"RETURN", row.back),
-    ] {
-        let Ok(text) = Txt::new(alloc, text) else {
-            return Err(AllocError);
-        };
-        info.learn(alloc, &name(alloc, var)?, &Value::Text(text))?;
+    for (var, said) in ["DEPLOY", "SURVEY", "RETURN"]
+        .iter()
+        .zip(words.split_whitespace())
+    {
+        let value = text(rt, alloc, said);
+        let var = name(rt, alloc, var);
+        info.learn(alloc, &var, &value).expect(rt, "memory");
     }
-    Ok(info)
+    info
 }
 
 #[test]
-fn modes(rt: HostRuntime) -> Result<(), Fail> {
-    let tree = mission(&rt, rt.alloc())?;
-    for row in &ROWS {
-        let info = knowledge(rt.alloc(), row)?;
-        let path = tree.mode(&info);
-        let text = tree.text(rt.alloc(), &path)?;
-        assert!(rt; text.bytes() == row.mode);
+fn modes(rt: HostRuntime) {
+    let tree = mission(&rt, rt.alloc());
+    for row in ROWS.lines() {
+        let info = knowledge(&rt, rt.alloc(), row);
+        let text = tree
+            .text(rt.alloc(), &tree.mode(&info))
+            .expect(&rt, "memory");
+        let mode = row.split_whitespace().nth(3).unwrap_or("");
+        check(&rt, text.bytes() == mode.as_bytes(), true, row);
     }
-    Ok(())
 }

@@ -1,12 +1,12 @@
 // What each call gives where memory is left.
+use crate::made::{name, names, number, pattern, text};
 use moos_post::{
-    Batch, Copied, Milli, Name, NameFault, Names, Pair, Pattern, PatternFault, Reg, Regs, Txt,
-    TxtFault, Value,
+    Batch, Copied, Milli, Name, NameFault, Pair, Pattern, PatternFault, Reg, Regs, Txt, TxtFault,
+    Value,
 };
 use std::alloc::Global;
 use std::collections::HashSet;
 use std::process::Abort;
-use std::test::Fail;
 
 #[test]
 fn numbers(rt: HostRuntime) {
@@ -24,55 +24,74 @@ fn numbers(rt: HostRuntime) {
     }
 }
 
-#[test]
-fn names(rt: HostRuntime) -> Result<(), Fail> {
-    let alloc = rt.alloc();
-    for (bytes, fault) in [
-        (b"NAV_X".as_slice(), None),
-        (b"_b.c-9", None),
-        (b"z", None),
-        ([b'a'; 64].as_slice(), None),
-        ([b'a'; 65].as_slice(), Some(NameFault::BadName)),
-        (b"", Some(NameFault::BadName)),
-        (b"9a", Some(NameFault::BadName)),
-        (b"-a", Some(NameFault::BadName)),
-        (b"a b", Some(NameFault::BadName)),
-        (b"a*", Some(NameFault::BadName)),
-        (b"a\xe9", Some(NameFault::BadName)),
-    ] {
-        match Name::new(alloc, bytes) {
-            Ok(name) => {
-                assert_eq!(rt; fault, None, "{bytes:?}");
-                assert_eq!(rt; name.copy(alloc)?.bytes(), bytes);
-            }
-            Err(other) => assert_eq!(rt; Some(other), fault, "{bytes:?}"),
+// Why the bytes are no name. Where they are one, a copy of it has these bytes too.
+fn name_fault(rt: &impl Abort, alloc: Global, bytes: &[u8]) -> Option<NameFault> {
+    match Name::new(alloc, bytes) {
+        Ok(name) => {
+            let copied = name.copy(alloc).expect(rt, "memory");
+            assert!(rt; name.bytes() == bytes && copied.bytes() == bytes);
+            None
         }
+        Err(fault) => Some(fault),
     }
-    Ok(())
+}
+
+const NAMES: &str = "NAV_X
+_b.c-9
+z";
+
+// The first one is empty.
+const NO_NAMES: &str = "
+9a
+-a
+a b
+a*
+a\u{e9}";
+
+#[test]
+fn bytes_of_names(rt: HostRuntime) {
+    let alloc = rt.alloc();
+    for row in NAMES.lines() {
+        assert_eq!(rt; name_fault(&rt, alloc, row.as_bytes()), None, "{row}");
+    }
+    assert_eq!(rt; name_fault(&rt, alloc, &[b'a'; 64]), None);
+    for row in NO_NAMES.lines() {
+        let fault = name_fault(&rt, alloc, row.as_bytes());
+        assert_eq!(rt; fault, Some(NameFault::BadName), "{row}");
+    }
+    let fault = name_fault(&rt, alloc, &[b'a'; 65]);
+    assert_eq!(rt; fault, Some(NameFault::BadName));
 }
 
 // Equal names are found by their hash, and a name isn't equal to a longer one or to the same with another case.
 #[test]
-fn names_are_keys(rt: HostRuntime) -> Result<(), Fail> {
+fn names_are_keys(rt: HostRuntime) {
     let alloc = rt.alloc();
+    let known_name = name(&rt, alloc, "NAV_X");
     let mut known = HashSet::new(alloc);
-    let name = Name::new(alloc, b"NAV_X")?;
-    known.insert(name.copy(alloc)?)?;
-    for (bytes, is_known) in [
-        (b"NAV_X".as_slice(), true),
-        (b"NAV_XY", false),
-        (b"nav_x", false),
-    ] {
-        let other = Name::new(alloc, bytes)?;
+    let copied = known_name.copy(alloc).expect(&rt, "memory");
+    known.insert(copied).expect(&rt, "memory");
+    for (word, is_known) in [("NAV_X", true), ("NAV_XY", false), ("nav_x", false)] {
+        let other = name(&rt, alloc, word);
         assert!(rt; known.contains(&other) == is_known);
-        assert!(rt; (name == other) == is_known);
+        assert!(rt; (known_name == other) == is_known);
     }
-    Ok(())
+}
+
+// Why the bytes are no text. Where they are one, a copy of it has these bytes too.
+fn text_fault(rt: &impl Abort, alloc: Global, bytes: &[u8]) -> Option<TxtFault> {
+    match Txt::new(alloc, bytes) {
+        Ok(text) => {
+            let copied = text.copy(alloc).expect(rt, "memory");
+            assert!(rt; text.bytes() == bytes && copied.bytes() == bytes);
+            None
+        }
+        Err(fault) => Some(fault),
+    }
 }
 
 #[test]
-fn texts(rt: HostRuntime) -> Result<(), Fail> {
-    let alloc = rt.alloc();
+fn bytes_of_texts(rt: HostRuntime) {
     for (bytes, fault) in [
         (b"".as_slice(), None),
         (b"a\tb # \"c\" \xff", None),
@@ -82,115 +101,113 @@ fn texts(rt: HostRuntime) -> Result<(), Fail> {
         (b"ab\x7f", Some(TxtFault::BadByte(2))),
         (b"\r\n", Some(TxtFault::BadByte(0))),
     ] {
-        match Txt::new(alloc, bytes) {
-            Ok(text) => {
-                assert_eq!(rt; fault, None, "{bytes:?}");
-                assert_eq!(rt; text.copy(alloc)?.bytes(), bytes);
-            }
-            Err(other) => assert_eq!(rt; Some(other), fault, "{bytes:?}"),
-        }
+        assert_eq!(rt; text_fault(&rt, rt.alloc(), bytes), fault);
     }
-    Ok(())
+}
+
+// Why the bytes are no pattern. Where they are one, a copy of it has these bytes too.
+fn pattern_fault(rt: &impl Abort, alloc: Global, bytes: &[u8]) -> Option<PatternFault> {
+    match Pattern::read(alloc, bytes) {
+        Ok(pattern) => {
+            let copied = pattern.copy(alloc).expect(rt, "memory");
+            assert!(rt; pattern.bytes() == bytes && copied.bytes() == bytes);
+            None
+        }
+        Err(fault) => Some(fault),
+    }
 }
 
 #[test]
-fn patterns(rt: HostRuntime) -> Result<(), Fail> {
-    let alloc = rt.alloc();
+fn bytes_of_patterns(rt: HostRuntime) {
+    let bad = Some(PatternFault::BadPattern);
     for (bytes, fault) in [
         (b"NAV_*".as_slice(), None),
         (b"9?.-", None),
         (b"*", None),
         ([b'?'; 64].as_slice(), None),
-        ([b'?'; 65].as_slice(), Some(PatternFault::BadPattern)),
-        (b"", Some(PatternFault::BadPattern)),
-        (b"a#", Some(PatternFault::BadPattern)),
+        ([b'?'; 65].as_slice(), bad),
+        (b"", bad),
+        (b"a#", bad),
     ] {
-        match Pattern::read(alloc, bytes) {
-            Ok(pattern) => {
-                assert_eq!(rt; fault, None, "{bytes:?}");
-                assert_eq!(rt; pattern.copy(alloc)?.bytes(), bytes);
-            }
-            Err(other) => assert_eq!(rt; Some(other), fault, "{bytes:?}"),
-        }
+        assert_eq!(rt; pattern_fault(&rt, rt.alloc(), bytes), fault);
     }
-    Ok(())
 }
 
-fn text_pair(alloc: Global, var: &[u8], text: &[u8]) -> Result<Pair, Fail> {
-    let var = Name::new(alloc, var)?;
-    let value = Value::Text(Txt::new(alloc, text)?);
-    Ok(Pair { var, value })
-}
-
-fn is_pair(rt: &impl Abort, pair: &Pair, var: &[u8], text: &[u8]) {
-    assert_eq!(rt; pair.var.bytes(), var);
+fn is_pair(rt: &impl Abort, pair: &Pair, var: &str, said: &str) {
+    assert!(rt; pair.var.bytes() == var.as_bytes());
     match &pair.value {
-        Value::Text(of_pair) => assert_eq!(rt; of_pair.bytes(), text),
-        Value::Num(_) => assert!(rt; false, "a number"),
+        Value::Text(text) => assert!(rt; text.bytes() == said.as_bytes()),
+        Value::Num(_) => panic!(rt; "a number"),
     }
 }
 
-#[test]
-fn batches(rt: HostRuntime) -> Result<(), Fail> {
-    let alloc = rt.alloc();
+fn pair_of(rt: &impl Abort, alloc: Global, var: &str, said: &str) -> Pair {
+    let (var, value) = (name(rt, alloc, var), text(rt, alloc, said));
+    Pair { var, value }
+}
+
+// The pairs of a batch, in their order.
+const PAIRS: [(&str, &str); 3] = [("A", "one"), ("B", ""), ("A", "three")];
+
+fn batch_of(rt: &impl Abort, alloc: Global) -> Batch {
     let mut batch = Batch::new(alloc);
-    assert_eq!(rt; batch.len(), 0);
-    for (var, text) in [
-        (b"A".as_slice(), b"one".as_slice()),
-        (b"B", b""),
-        (b"A", b"three"),
-    ] {
-        let pushed = batch.push(text_pair(alloc, var, text)?);
-        assert!(rt; pushed.is_ok());
+    for (var, said) in PAIRS {
+        batch
+            .push(pair_of(rt, alloc, var, said))
+            .expect(rt, "memory");
     }
-    let mut copied = batch.copy(alloc)?;
+    batch
+}
+
+#[test]
+fn batches(rt: HostRuntime) {
+    let alloc = rt.alloc();
+    let batch = batch_of(&rt, alloc);
+    let mut copied = batch.copy(alloc).expect(&rt, "memory");
     copied.shrink_to_fit();
-    assert_eq!(rt; copied.len(), 3);
-    assert_eq!(rt; copied.all().len(), 3);
-    is_pair(&rt, copied.get(0), b"A", b"one");
-    is_pair(&rt, copied.get(1), b"B", b"");
-    is_pair(&rt, copied.get(2), b"A", b"three");
-    is_pair(&rt, &batch.all()[2].copy(alloc)?, b"A", b"three");
-    let number = Value::Num(Milli::new(-1500).ok_or("no number")?);
-    match number.copy(alloc)? {
-        Value::Num(milli) => assert_eq!(rt; milli.get(), -1500),
-        Value::Text(_) => assert!(rt; false, "a text"),
+    assert!(rt; copied.len() == 3 && copied.all().len() == 3);
+    is_pair(&rt, copied.get(2), "A", "three");
+    for (pair, (var, said)) in copied.all().iter().zip(&PAIRS) {
+        is_pair(&rt, pair, var, said);
+        let copied = pair.copy(alloc).expect(&rt, "memory");
+        is_pair(&rt, &copied, var, said);
     }
-    Ok(())
 }
 
 #[test]
-fn registrations(rt: HostRuntime) -> Result<(), Fail> {
-    let alloc = rt.alloc();
+fn copied_number(rt: HostRuntime) {
+    let number = number(&rt, -1500).copy(rt.alloc()).expect(&rt, "memory");
+    assert!(rt; matches!(&number, Value::Num(milli) if milli.get() == -1500));
+}
+
+fn regs_of(rt: &impl Abort, alloc: Global) -> Regs {
     let mut regs = Regs::new(alloc);
-    for (var, source, interval) in [(b"A*".as_slice(), b"*".as_slice(), 0), (b"B", b"p?", 2500)] {
-        let pushed = regs.push(Reg {
-            var: Pattern::read(alloc, var)?,
-            source: Pattern::read(alloc, source)?,
+    for (var, source, interval) in [("A*", "*", 0), ("B", "p?", 2500)] {
+        let (var, source) = (pattern(rt, alloc, var), pattern(rt, alloc, source));
+        let reg = Reg {
+            var,
+            source,
             interval,
-        });
-        assert!(rt; pushed.is_ok());
+        };
+        regs.push(reg).expect(rt, "memory");
     }
-    let copied = regs.copy(alloc)?;
-    assert_eq!(rt; copied.len(), 2);
-    assert_eq!(rt; copied.all().len(), 2);
-    assert_eq!(rt; copied.get(0).var.bytes(), b"A*".as_slice());
-    assert_eq!(rt; copied.get(1).source.bytes(), b"p?".as_slice());
-    assert_eq!(rt; copied.get(1).interval, 2500);
-    Ok(())
+    regs
 }
 
 #[test]
-fn lists_of_names(rt: HostRuntime) -> Result<(), Fail> {
-    let alloc = rt.alloc();
-    let mut names = Names::new(alloc);
-    for bytes in [b"pHelmIvP".as_slice(), b"log"] {
-        let pushed = names.push(Name::new(alloc, bytes)?);
-        assert!(rt; pushed.is_ok());
-    }
-    assert_eq!(rt; names.len(), 2);
-    assert_eq!(rt; names.all().len(), 2);
-    assert_eq!(rt; names.get(0).bytes(), b"pHelmIvP".as_slice());
-    assert_eq!(rt; names.all()[1].bytes(), b"log".as_slice());
-    Ok(())
+fn registrations(rt: HostRuntime) {
+    let regs = regs_of(&rt, rt.alloc());
+    let copied = regs.copy(rt.alloc()).expect(&rt, "memory");
+    assert!(rt; copied.len() == 2 && copied.all().len() == 2);
+    assert!(rt; copied.get(0).var.bytes() == b"A*".as_slice());
+    assert!(rt; copied.get(1).source.bytes() == b"p?".as_slice());
+    assert!(rt; copied.get(1).interval == 2500);
+}
+
+#[test]
+fn lists_of_names(rt: HostRuntime) {
+    let names = names(&rt, rt.alloc(), "pHelmIvP log");
+    assert!(rt; names.len() == 2 && names.all().len() == 2);
+    assert!(rt; names.get(0).bytes() == b"pHelmIvP".as_slice());
+    assert!(rt; names.all()[1].bytes() == b"log".as_slice());
 }

@@ -1,90 +1,95 @@
-// What each call answers. A name here is any bytes, and a pattern is read as a registration has it.
-use moos_post::{Name, Pattern, Reg};
+// What each call answers. A name here is any text, and a pattern is read as a registration has it.
+use crate::made::{check, name, pattern};
+use moos_post::Reg;
 use moos_reg::{due, matches, selects};
-use std::test::Fail;
 
-#[test]
-fn patterns_against_names(rt: HostRuntime) -> Result<(), Fail> {
-    let alloc = rt.alloc();
-    let letters = [b'a'; 64];
-    for (pattern, name, good) in [
-        // without a star, byte by byte
-        (b"NAV_X".as_slice(), b"NAV_X".as_slice(), true),
-        (b"NAV_X", b"NAV_Y", false),
-        (b"NAV_X", b"NAV_XY", false),
-        (b"NAV_X", b"NAV_", false),
-        (b"nav_X", b"NAV_X", false),
-        (b"NAV_X", b"", false),
-        // `?` takes exactly one byte, whatever it is
-        (b"?", b"", false),
-        (b"?", b"a", true),
-        (b"?", b"*", true),
-        (b"?", b"ab", false),
-        (b"?AV_?", b"NAV_X", true),
-        (b"?AV_?", b"NAV_", false),
-        (b"?AV_?", b"AV_X", false),
-        // `*` takes any run, none included
-        (b"*", b"", true),
-        (b"*", b"NAV_X", true),
-        (b"**", b"", true),
-        (b"**", b"NAV_X", true),
-        (b"NAV_*", b"NAV_", true),
-        (b"NAV_*", b"NAV_X", true),
-        (b"NAV_*", b"NAV", false),
-        (b"*_X", b"NAV_X", true),
-        (b"*_X", b"NAV_XY", false),
-        (b"*?", b"", false),
-        (b"?*", b"a", true),
-        (b"a", b"*", false),
-        // the star is tried again, the latest one alone
-        (b"*ab?", b"aabab_", true),
-        (b"*ab?", b"aababc_", false),
-        (b"*aab", b"aaaab", true),
-        (b"a*b*c", b"abcbc", true),
-        (b"a*b*c", b"acbca", false),
-        (b"*a*b", b"bbaab", true),
-        (b"*a*b", b"bba", false),
-        // 64 bytes
-        (letters.as_slice(), letters.as_slice(), true),
-        ([b'?'; 64].as_slice(), letters.as_slice(), true),
-        ([b'*'; 64].as_slice(), letters.as_slice(), true),
-        ([b'?'; 64].as_slice(), &letters[..63], false),
-        (
-            letters.as_slice(),
-            b"aaaaaaaaaaaaaaaaaaaaaaaaaaaaaaaaaaaaaaaaaaaaaaaaaaaaaaaaaaaaaaab",
-            false,
-        ),
-        (
-            b"*a*a*a*a*a*a*a*a*a*a*a*a*a*a*a*a*a*a*a*a*a*a*a*a*a*a*a*a*a*a*a*b",
-            letters.as_slice(),
-            false,
-        ),
-    ] {
-        let read = Pattern::read(alloc, pattern)?;
-        assert_eq!(rt; matches(&read, name), good, "{pattern:?} {name:?}");
-    }
-    Ok(())
+// Whether a pattern matches a name, the pattern, and the name, where it isn't empty.
+const MATCHES: &str = "yes NAV_X NAV_X
+no NAV_X NAV_Y
+no NAV_X NAV_XY
+no NAV_X NAV_
+no nav_X NAV_X
+no NAV_X
+no ?
+yes ? a
+yes ? *
+no ? ab
+yes ?AV_? NAV_X
+no ?AV_? NAV_
+no ?AV_? AV_X
+yes *
+yes * NAV_X
+yes **
+yes ** NAV_X
+yes NAV_* NAV_
+yes NAV_* NAV_X
+no NAV_* NAV
+yes *_X NAV_X
+no *_X NAV_XY
+no *?
+yes ?* a
+no a *
+yes *ab? aabab_
+no *ab? aababc_
+yes *aab aaaab
+yes a*b*c abcbc
+no a*b*c acbca
+yes *a*b bbaab
+no *a*b bba";
+
+// 64 letters, and patterns of 64 bytes.
+const LONGEST: &str = "yes aaaaaaaaaaaaaaaaaaaaaaaaaaaaaaaaaaaaaaaaaaaaaaaaaaaaaaaaaaaaaaaa
+yes ????????????????????????????????????????????????????????????????
+yes ****************************************************************
+no aaaaaaaaaaaaaaaaaaaaaaaaaaaaaaaaaaaaaaaaaaaaaaaaaaaaaaaaaaaaaaab
+no *a*a*a*a*a*a*a*a*a*a*a*a*a*a*a*a*a*a*a*a*a*a*a*a*a*a*a*a*a*a*a*b";
+
+// What a row says: whether it holds, and two words, which are empty where they are left out.
+fn read(row: &str) -> (bool, &str, &str) {
+    let mut words = row.split_whitespace();
+    let holds = words.next() == Some("yes");
+    let one = words.next().unwrap_or("");
+    (holds, one, words.next().unwrap_or(""))
 }
 
 #[test]
-fn selections(rt: HostRuntime) -> Result<(), Fail> {
-    let alloc = rt.alloc();
+fn patterns_against_names(rt: HostRuntime) {
+    for row in MATCHES.lines() {
+        let (holds, word, name) = read(row);
+        let pattern = pattern(&rt, rt.alloc(), word);
+        check(&rt, matches(&pattern, name.as_bytes()), holds, row);
+    }
+}
+
+#[test]
+fn longest_patterns(rt: HostRuntime) {
+    for row in LONGEST.lines() {
+        let (holds, word, _) = read(row);
+        let pattern = pattern(&rt, rt.alloc(), word);
+        check(&rt, matches(&pattern, &[b'a'; 64]), holds, row);
+        assert_eq!(rt; pattern.bytes().len(), 64);
+    }
+}
+
+// Whether variable and source are selected, by a registration for both.
+const SELECTIONS: &str = "yes NAV_X pA
+no NAV_X log
+no DEPTH pA
+no DEPTH log
+no pA NAV_X";
+
+#[test]
+fn selections(rt: HostRuntime) {
     let reg = Reg {
-        var: Pattern::read(alloc, b"NAV_*")?,
-        source: Pattern::read(alloc, b"p?")?,
+        var: pattern(&rt, rt.alloc(), "NAV_*"),
+        source: pattern(&rt, rt.alloc(), "p?"),
         interval: 2500,
     };
-    for (var, source, good) in [
-        (b"NAV_X".as_slice(), b"pA".as_slice(), true),
-        (b"NAV_X", b"log", false),
-        (b"DEPTH", b"pA", false),
-        (b"DEPTH", b"log", false),
-        (b"pA", b"NAV_X", false),
-    ] {
-        let (var, source) = (Name::new(alloc, var)?, Name::new(alloc, source)?);
-        assert_eq!(rt; selects(&reg, &var, &source), good);
+    for row in SELECTIONS.lines() {
+        let (holds, var, source) = read(row);
+        let (var, source) = (name(&rt, rt.alloc(), var), name(&rt, rt.alloc(), source));
+        check(&rt, selects(&reg, &var, &source), holds, row);
     }
-    Ok(())
 }
 
 #[test]

@@ -1,10 +1,10 @@
 // A journal of marks under a lock: each call once, and four threads beside each other.
-ghost use Rattle.std.specs.Prelude.{◌≡◌, []};
-ghost use Rattle.turn_lock.specs.Passes.{IsFree, IsOf};
+ghost use Rattle.std.specs.Prelude.{◌≡◌, ◌≤◌, []};
+ghost use Rattle.turn_lock.specs.Passes.{IsFree, IsOf, first_pass};
 
 use std::alloc::Global;
+use std::process::Abort;
 use std::sync::Wait;
-use std::test::Fail;
 use std::thread::{Threads, join};
 use turn_lock::{Journaled, Pass, TurnLock};
 
@@ -60,11 +60,20 @@ fn empty_journal(alloc: Global) -> Journal
     }
 }
 
+// A lock over an empty journal, which so many passes take in turns, and its first pass.
+fn journal_of(rt: &impl Abort, alloc: Global, passes: u32) -> (TurnLock<Journal>, Pass<Journal>)
+    requires { 1 ≤ passes }
+    ensures { result.1 ≡ first_pass result.0 passes }
+{
+    match TurnLock::make(alloc, empty_journal(alloc), passes) {
+        Ok(made) => made,
+        Err(_) => panic!(rt; "memory"),
+    }
+}
+
 #[test]
-fn each_call_once(rt: HostRuntime) -> Result<(), Fail> {
-    let Ok((lock, mut zero)) = TurnLock::make(rt.alloc(), empty_journal(rt.alloc()), 2) else {
-        return Err(Fail::from("no memory"));
-    };
+fn each_call_once(rt: HostRuntime) {
+    let (lock, mut zero) = journal_of(&rt, rt.alloc(), 2);
     let mut one = lock.split(&mut zero);
     assert!(rt; (zero.number(), one.number()) == (0, 1));
     assert!(rt; add(&rt, &lock, &mut one, 0) && add(&rt, &lock, &mut zero, 0));
@@ -84,7 +93,6 @@ fn each_call_once(rt: HostRuntime) -> Result<(), Fail> {
             .map(|mark| (mark.by, mark.count))
             .eq([(1, 0), (0, 0), (1, 1)])
     );
-    Ok(())
 }
 
 // Adds so many marks in turn.
@@ -130,11 +138,9 @@ fn add_beside<R: Threads + Wait + Sync>(
 }
 
 #[test]
-fn four_threads(rt: HostRuntime) -> Result<(), Fail> {
+fn four_threads(rt: HostRuntime) {
     const MARKS: u64 = 1_000;
-    let Ok((lock, mut zero)) = TurnLock::make(rt.alloc(), empty_journal(rt.alloc()), 5) else {
-        return Err(Fail::from("no memory"));
-    };
+    let (lock, mut zero) = journal_of(&rt, rt.alloc(), 5);
     let one = lock.split(&mut zero);
     let two = lock.split(&mut zero);
     let three = lock.split(&mut zero);
@@ -168,5 +174,4 @@ fn four_threads(rt: HostRuntime) -> Result<(), Fail> {
             .map(|mark| mark.count);
         assert!(rt; counts.eq(0..MARKS));
     }
-    Ok(())
 }

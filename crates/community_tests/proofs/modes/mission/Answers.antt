@@ -12,5 +12,5 @@ rooted a b d first second third =
 
 pub make-requires-clause-rooted : goal.make-requires-clause-rooted
 make-requires-clause-rooted g c =
-    ap (are_rooted 0) (c.of.ensures ∙ c.in_ok-vec.ensures.items)
-    ∙ rooted c.in_ok-first.first c.in_ok-second.second c.in_ok-third.third c.in_ok-first.ensures c.in_ok-second.ensures c.in_ok-third.ensures
+    ap (are_rooted 0) (c.of.ensures ∙ (rw c.expect-decls.ensures at c.vec.ensures.items))
+    ∙ rooted c.root-first.result c.child-second.result c.child-third.result c.root-first.ensures c.child-second.ensures c.child-third.ensures
