@@ -1,15 +1,16 @@
 -- The first seat and the players from one step of a round to the next.
-use Rattle.std.proofs.Common.{◌≡◌, ◌≢◌, ℕ, zero, suc, ◌+◌, ◌-◌, ◌<◌, ◌≤◌, ◌==◌, Bool, true, false, cond, ◌&&◌, ◌||◌, List, [], ◌∷◌, ◌++◌, map, length, length-append, append-nil, refl, sym, ap, ◌∙◌, subst, arith, eq-eqb, ne_eqb, nat_lt}
+use Rattle.std.proofs.Common.{◌≡◌, ◌≢◌, ℕ, zero, suc, ◌+◌, ◌-◌, ◌<◌, ◌≤◌, ◌==◌, Bool, true, false, cond, ◌&&◌, ◌||◌, ◌⊎◌, inl, inr, List, [], ◌∷◌, ◌++◌, map, take, drop, length, length-append, append-nil, refl, sym, ap, ◌∙◌, subst, arith, eq-eqb, ne_eqb, nat_lt}
 use Rattle.std.specs.List.{list_all}
-use Rattle.std.proofs.lemmas.Bool.{and_from, and_parts, false≢true}
+use Rattle.std.proofs.lemmas.Bool.{and_from, and_parts, cases_lt, false≢true}
 use Rattle.std.proofs.lemmas.Bool.Decides.{nat_tests}
-use Rattle.std.proofs.lemmas.List.{map-append}
+use Rattle.std.proofs.lemmas.List.{map-append, take-append-drop}
 use Rattle.std.proofs.lemmas.List.Elements.{All-nil, All-push}
+use Rattle.std.proofs.lemmas.List.Folds.{list_any-append}
 use native.Mathlib.Decide.{ℕ_discrete}
 use Rattle.moos_client.specs.Calls.{MayCall, SeatState, entries_of}
 use Rattle.moos_post.specs.declared.entry.Entry.{Entry}
 use Rattle.moos_play.specs.declared.player.Player.{Player}
-use Rattle.moos_play.specs.Rounds.{AreBusy, AreParted, busy_below, CommunityLock, has_line, IsApart, IsGathered, met_of, times_met}
+use Rattle.moos_play.specs.Rounds.{AreBusy, AreParted, busy_below, CommunityLock, has_line, IsApart, IsGathered, IsNextBusy, met_of, times_met}
 use Rattle.moos_play.proofs.Mets.{moved_of, moves_each, moves_known}
 use Rattle.turn_lock.specs.declared.view.Met.{Met}
 use Rattle.turn_lock.specs.Passes.{beside, events_in, first_pass, has_number, met_with, without_number}
@@ -113,16 +114,21 @@ none_past clients client (line ∷ lines) h past =
     ap (λ b. cond b (line ∷ entries_of client lines) (entries_of client lines)) (ne_eqb line.client client other)
     ∙ none_past clients client lines tests.1 past
 
--- a client without lines stays
-pub busy_skip : (lines : List Entry) (client : ℕ) (players : List Player) → AreBusy lines client players → has_line client lines ≡ false → AreBusy lines (client + 1) players
-busy_skip lines client players so none = record {
-  busy = λ n above below absent. by n above below absent (ℕ_discrete client n);
-  fresh = λ n past. so.fresh n (omega (arith, past));
+-- the clients stay among whom none has lines
+pub busy_skip : (lines : List Entry) (from limit next : ℕ) (players : List Player) → AreBusy lines from players → IsNextBusy lines from limit next → AreBusy lines next players
+busy_skip lines from limit next players so found = record {
+  busy = λ n above below absent. by n above below absent (cases_lt n from);
+  fresh = λ n past. so.fresh n (omega (arith, past, found.above));
 }
   where
-    by : (n : ℕ) → 0 < n → n < client + 1 → times_met n (map met_of players) ≡ 0 → Dec (client ≡ n) → entries_of n lines ≡ []
-    by n above below absent (yes e) = subst (λ k. entries_of k lines ≡ []) e (none_among client lines none)
-    by n above below absent (no ne) = so.busy n above (omega (arith, below, ne)) absent
+    by : (n : ℕ) → 0 < n → n < next → times_met n (map met_of players) ≡ 0 → (n < from) ⊎ (from ≤ n) → entries_of n lines ≡ []
+    by n above below absent (inl before) = so.busy n above before absent
+    by n above below absent (inr past) = none_among n lines (found.idle n past below)
+
+-- and nobody is parted where the first one that has lines is still to come
+pub busy_none : (lines : List Entry) (limit next : ℕ) → IsNextBusy lines 1 limit next → AreBusy lines next []
+busy_none lines limit next found =
+    busy_skip lines 1 limit next [] (record { busy = λ n above below absent. absurd (omega (arith, above, below)); fresh = λ n past. refl }) found
 
 -- one more that is parted
 pub busy_more : (lines : List Entry) (client : ℕ) (players : List Player) (player : Player) → AreBusy lines client players → player.seat.number ≡ client → AreBusy lines (client + 1) (players ++ player ∷ [])
@@ -151,14 +157,47 @@ busier lines client above some =
     let count : client + 1 ≡ suc client = omega arith in
     ap (busy_below lines) count ∙ ap (λ b. cond b (suc (busy_below lines client)) (busy_below lines client)) (and_from (nat_lt 0 client) (has_line client lines) here some) ∙ omega arith
 
-pub as_busy : (lines : List Entry) (client : ℕ) → has_line client lines ≡ false → busy_below lines (client + 1) ≡ busy_below lines client
+as_busy : (lines : List Entry) (client : ℕ) → has_line client lines ≡ false → busy_below lines (suc client) ≡ busy_below lines client
 as_busy lines client none =
-    let count : client + 1 ≡ suc client = omega arith in
-    ap (busy_below lines) count ∙ ap (λ b. cond (nat_lt 0 client && b) (suc (busy_below lines client)) (busy_below lines client)) none ∙ by (nat_lt 0 client)
+    ap (λ b. cond (nat_lt 0 client && b) (suc (busy_below lines client)) (busy_below lines client)) none ∙ by (nat_lt 0 client)
   where
     by : (b : Bool) → cond (b && false) (suc (busy_below lines client)) (busy_below lines client) ≡ busy_below lines client
     by true = refl
     by false = refl
+
+-- over clients among whom none has lines the count stays
+busy_over : (lines : List Entry) (low high : ℕ) → low ≤ high → ((n : ℕ) → low ≤ n → n < high → has_line n lines ≡ false) → busy_below lines high ≡ busy_below lines low
+busy_over lines low zero more idle = let none : low ≡ 0 = omega (arith, more) in rw none refl
+busy_over lines low (suc high) more idle = by (ℕ_discrete low (suc high)) (busy_over lines low high)
+  where
+    by : Dec (low ≡ suc high) → (low ≤ high → ((n : ℕ) → low ≤ n → n < high → has_line n lines ≡ false) → busy_below lines high ≡ busy_below lines low) → busy_below lines (suc high) ≡ busy_below lines low
+    by (yes e) before = rw e refl
+    by (no ne) before =
+        as_busy lines high (idle high (omega (arith, more, ne)) (omega arith))
+        ∙ before (omega (arith, more, ne)) (λ n above below. idle n above (omega (arith, below)))
+
+-- none is counted before the first one that has lines, and just one from one such client to the next
+pub busy_begin : (lines : List Entry) (limit next : ℕ) → IsNextBusy lines 1 limit next → busy_below lines next ≡ 0
+busy_begin lines limit next found = busy_over lines 1 next found.above found.idle
+
+pub busy_on : (lines : List Entry) (client limit next : ℕ) → 0 < client → has_line client lines ≡ true → IsNextBusy lines (client + 1) limit next → busy_below lines next ≡ busy_below lines client + 1
+busy_on lines client limit next above some found = busy_over lines (client + 1) next found.above found.idle ∙ busier lines client above some
+
+-- who has one of the first lines has one of all
+has_still : (client i : ℕ) (lines : List Entry) → has_line client (take i lines) ≡ true → has_line client lines ≡ true
+has_still client i lines some =
+    ap (has_line client) (sym (take-append-drop i lines))
+    ∙ list_any-append (λ (line : Entry). line.client == client) (take i lines) (drop i lines)
+    ∙ ap (λ b. b || has_line client (drop i lines)) some
+
+-- no client from a number on comes before that of this number, once it has a line
+pub busy_first : (lines : List Entry) (i from limit next : ℕ) → IsNextBusy (take i lines) from limit next → next ≡ from → IsNextBusy lines from limit next
+busy_first lines i from limit next found is = record {
+  above = found.above;
+  within = found.within;
+  idle = λ n above below. absurd (omega (arith, is, above, below));
+  busy = λ below. has_still next i lines (found.busy below);
+}
 
 -- and of the clients below a higher number as many have lines, or more
 pub busy_rises : (lines : List Entry) (low high : ℕ) → low ≤ high → busy_below lines low ≤ busy_below lines high

@@ -1,5 +1,5 @@
 -- The seats of a run's clients: how the first takes in all others, and what the lines of a step do to them.
-use Rattle.std.specs.Prelude.{◌≡◌, ℕ, zero, suc, ◌+◌, ◌-◌, ◌==◌, ◌&&◌, ◌<◌, ◌≤◌, ◌≢◌, nat_lt, if◌then◌else◌, Bool, IsTrue, List, [], ◌++◌, length, map, take, drop, OnOk, Result, count_by}
+use Rattle.std.specs.Prelude.{◌≡◌, ℕ, zero, suc, ◌+◌, ◌-◌, ◌==◌, ◌&&◌, ◌<◌, ◌≤◌, ◌≢◌, nat_lt, if◌then◌else◌, Bool, true, false, IsTrue, List, [], ◌++◌, length, map, take, drop, OnOk, Result, count_by}
 use Rattle.std.specs.List.{All, list_all, list_any}
 use Rattle.moos_client.specs.Calls.{MayCall, SeatState, entries_of}
 use Rattle.moos_post.specs.declared.entry.Entry.{Entry}
@@ -56,6 +56,13 @@ has_line client lines = list_any (λ line. line.client == client) lines
 abbrev pub busy_below : List Entry → ℕ → ℕ
 busy_below lines zero = 0
 busy_below lines (suc client) = if nat_lt 0 client && has_line client lines then suc (busy_below lines client) else busy_below lines client
+
+-- the least client from one number on that has some of the lines, or a limit where none below that has
+pub record IsNextBusy (lines : List Entry) (from limit next : ℕ) : Type 0 where
+  pub above : from ≤ next
+  pub within : next ≤ limit
+  pub idle : (n : ℕ) → from ≤ n → n < next → has_line n lines ≡ false
+  pub busy : next < limit → has_line next lines ≡ true
 
 -- what the first seat keeps of a player that it takes in
 abbrev pub met_of : Player → Met Entry

@@ -4,7 +4,7 @@ ghost use Rattle.std.specs.Prelude.{◌≡◌, ◌<◌, ◌≤◌, ◌^◌, leng
 ghost use Rattle.std.specs.List.{All, AllZip, list_all};
 ghost use Rattle.std.specs.Thread.{IsSync};
 ghost use Rattle.moos_client.specs.Calls.{MayCall};
-ghost use Rattle.moos_play.specs.Rounds.{AreBusy, AreParted, busy_below, GoesOn, HasEnded, HasSeenAll, HasTaken, has_line, IsApart, IsGathered, IsPlayed, IsWhole};
+ghost use Rattle.moos_play.specs.Rounds.{AreBusy, AreParted, busy_below, GoesOn, HasEnded, HasSeenAll, HasTaken, has_line, IsApart, IsGathered, IsNextBusy, IsPlayed, IsWhole};
 ghost use Rattle.turn_lock.specs.Passes.{HasAll, IsFree, IsOf};
 
 use crate::player::{Player, play_part};
@@ -72,21 +72,40 @@ fn player_at(seat: Seat, calls: &[u64]) -> Player
     }
 }
 
+// The least client from one number on that has lines, or as many as there are clients where none of them has.
+fn next_busy(lines: &[Entry], from: u32, clients: u32) -> u32
+    requires { from ≤ clients }
+    ensures { IsNextBusy lines.now from clients result }
+{
+    let mut next = clients;
+    for line in lines {
+        if next == from {
+            break;
+        }
+        if from <= line.client && line.client < next {
+            next = line.client;
+        }
+    }
+    next
+}
+
 // How many clients below a number, the first one left out, have lines.
 fn count_busy(lines: &[Entry], clients: u32) -> usize
     requires { 0 < clients }
     ensures { result ≡ busy_below lines.now clients }
 {
     let mut busy = 0;
-    for client in 1..clients {
-        if has_lines(lines, client) {
-            busy += 1;
-        }
+    let mut client = next_busy(lines, 1, clients);
+    while client < clients {
+        busy += 1;
+        client = next_busy(lines, client + 1, clients);
     }
     busy
 }
 
-/// Parts from the first seat those of all other clients that have lines, and makes room for no more of them. Where no memory is left none is parted.
+/// Parts from the first seat those of all other clients that have lines, and makes room for no more of them. Where no memory
+/// is left none is parted. It looks through the lines twice for each of these clients and twice more, whatever the number of
+/// the others.
 pub(crate) fn part_busy(
     alloc: Global,
     lock: &Lock,
@@ -102,11 +121,11 @@ pub(crate) fn part_busy(
 {
     let clients = calls.len() as u32;
     let mut players = Vec::with_capacity(alloc, count_busy(lines, clients))?;
-    for client in 1..clients {
-        if has_lines(lines, client) {
-            let seat = lock.part(first, client);
-            players.push_reserved(player_at(seat, calls));
-        }
+    let mut client = next_busy(lines, 1, clients);
+    while client < clients {
+        let seat = lock.part(first, client);
+        players.push_reserved(player_at(seat, calls));
+        client = next_busy(lines, client + 1, clients);
     }
     Ok(players)
 }

@@ -1,7 +1,7 @@
--- Of the clients below this one, those with lines are parted from the first.
-use Rattle.std.proofs.Common.{◌≡◌}
+-- Of the clients below this one, those with lines are parted from the first, and it is the next that has some.
+use Rattle.std.proofs.Common.{◌≡◌, ◌-◌, ◌<◌, ◌≤◌, true}
 use Rattle.std.specs.Prelude.{vec_capacity, vec_len}
-use Rattle.moos_play.specs.Rounds.{AreBusy, AreParted, busy_below}
+use Rattle.moos_play.specs.Rounds.{AreBusy, AreParted, busy_below, has_line}
 use Rattle.moos_play.proofs.round.part_busy.Given as goal
 
 abbrev pub invariant-loop-client : goal.invariant-loop-client
@@ -10,4 +10,10 @@ invariant-loop-client l = record {
   busy : AreBusy l.lines l.client l.players.items;
   room : vec_capacity l.players ≡ busy_below l.lines l.clients;
   few : vec_len l.players ≡ busy_below l.lines l.client;
+  here : l.client < l.clients → has_line l.client l.lines ≡ true;
+  above : 0 < l.client;
+  within : l.client ≤ l.clients;
 }
+
+abbrev pub decreases-loop-client : goal.decreases-loop-client
+decreases-loop-client l = l.clients - l.client
