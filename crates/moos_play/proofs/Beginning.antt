@@ -1,16 +1,23 @@
 -- How a run begins.
-use Rattle.std.proofs.Common.{◌≡◌, ℕ, ◌+◌, ◌*◌, ◌^◌, ◌<◌, ◌≤◌, true, cond, List, [], ◌++◌, drop, length, length-append, Option, None, Some, sym, ap, ◌∙◌, subst, arith}
+use Rattle.std.proofs.Common.{◌≡◌, ℕ, ◌+◌, ◌*◌, ◌^◌, ◌<◌, ◌≤◌, Bool, true, false, cond, List, [], ◌∷◌, ◌++◌, drop, length, length-append, Option, None, Some, nat_lt, not, refl, sym, ap, ◌∙◌, subst, arith}
+use Rattle.std.specs.List.{list_all}
 use Rattle.std.proofs.lemmas.List.{drop_all}
 use Rattle.std.specs.Prelude.{IfSome, option_map, option_to_list}
 use Rattle.moos_play.specs.declared.playing.Play.{Play}
 use Rattle.moos_play.specs.declared.run.HelmRun.{HelmRun}
 use Rattle.moos_play.specs.declared.steersman.Steersman.{Steersman}
 use Rattle.helm_core.specs.Helms.{plan_of}
+use Rattle.helm_core.specs.Plans.{wants_of}
+use Rattle.moos_client.specs.Calls.{entry_of}
+use Rattle.moos_post.specs.declared.entry.Call.TheVariants.{Register, Post as Posts}
+use Rattle.moos_post.specs.Delivery.{is_fetch}
 use Rattle.moos_post.specs.History.{History}
-use Rattle.moos_play.specs.Lawful.{names_with, ticks_to, iterations_of, opening_of, ticks_of}
-use Rattle.moos_play.specs.Steered.{HasOpened, helm_of, IsAtPlay, IsUnopened, IsUnderWay, run_as, steering_of, Steers}
+use Rattle.moos_play.specs.Lawful.{heard_of, helm_number, names_with, ticks_to, iterations_of, opening, opening_of, Steering, ticks_of}
+use Rattle.moos_play.specs.Plays.{helm_in, history_in, IsBetween}
+use Rattle.moos_play.specs.Steered.{HasOpened, helm_of, IsAtPlay, IsUnopened, IsUnderWay, run_as, StandsAt, steering_of, Steers, told_in}
 use Rattle.moos_play.proofs.Below.{names_more}
 use Rattle.moos_play.proofs.Coming.{start_under}
+use Rattle.moos_play.proofs.Hearing.{heard_deaf}
 use Rattle.script_reader.specs.declared.script.Script.{Script}
 use Rattle.script_reader.specs.Validity.{are_lines}
 
@@ -59,3 +66,19 @@ new_steers names n s seen is empty = subst (λ (seen : History). Steers names s 
   few = omega (arith, is.told);
   same = is.iterations ∙ sym (ap (drop s.told) (ap (λ n. iterations_of (plan_of s.helm) [] n) is.ticks) ∙ drop_all s.told [] (omega arith));
 })
+
+-- a run that has made just its opening has handed out nothing
+pub none_told : (play : Play) → IsBetween play → history_in play ≡ opening (helm_in play) → told_in play.steersman ≡ 0
+none_told play between begun = by play.steersman between.told between.at_play.under.steered begun
+  where
+    deaf : (helm : Steering) → heard_of play.lock.base helm.client (opening_of helm) ≡ []
+    deaf helm = heard_deaf play.lock.base helm.client [] (opening_of helm) (all (nat_lt 0 (length helm.plan.opening)))
+      where
+        all : (b : Bool) → list_all (λ entry. not (is_fetch entry.call)) (entry_of helm.client 0 (Register (wants_of helm.plan)) ∷ cond b (entry_of helm.client 0 (Posts helm.plan.opening) ∷ []) []) ≡ true
+        all true = refl
+        all false = refl
+
+    by : (s : Option Steersman) → IfSome s (λ s. s.told ≡ s.ticks) → StandsAt play.lock.base (helm_number play.script.now) s play.first.seat.seen → play.first.seat.seen ≡ opening (helm_of s) → told_in s ≡ 0
+    by None told stands begun = refl
+    by (Some s) told stands begun =
+        told ∙ sym stands.2.many ∙ ap (λ history. length (heard_of play.lock.base s.number history)) begun ∙ ap length (deaf (steering_of s))

@@ -1,6 +1,6 @@
 -- The history of the lock once it is closed, and what makes a run over.
-use Rattle.std.proofs.Common.{◌≡◌, ℕ, ◌+◌, ◌≤◌, ◌==◌, ◌++◌, true, cond, List, [], ◌∷◌, drop, length, take, nat_lt, Option, None, Some, arith, refl, subst, sym, ap, ◌∙◌, append-nil}
-use Rattle.std.specs.Prelude.{IfSome, is_none, option_map}
+use Rattle.std.proofs.Common.{◌≡◌, ℕ, ◌+◌, ◌≤◌, ◌==◌, ◌++◌, true, cond, List, [], ◌∷◌, drop, length, take, nat_lt, Option, None, Some, Result, Ok, Err, arith, refl, subst, sym, ap, ◌∙◌, append-nil}
+use Rattle.std.specs.Prelude.{IfOk, IfSome, is_none, option_map}
 use Rattle.std.specs.List.{list_all}
 use Rattle.std.proofs.lemmas.Bool.{and_parts, false≢true}
 use Rattle.std.proofs.lemmas.Bool.Decides.{nat_tests}
@@ -13,6 +13,7 @@ use Rattle.moos_post.specs.declared.entry.Entry.{Entry}
 use Rattle.moos_post.specs.History.{History}
 use Rattle.moos_play.specs.declared.playing.Play.{Play}
 use Rattle.moos_play.specs.declared.run.HelmRun.{HelmRun}
+use Rattle.moos_play.specs.declared.run.Ran.{Ran}
 use Rattle.moos_play.specs.declared.steersman.Steersman.{Steersman}
 use Rattle.moos_play.specs.Lawful.{entries_below, heard_of, helm_number, IsLawful, IsLawfulBeside, iterations, iterations_of, KeepsOrder, known_clients, names_with, opening_of, Steering, steering_with, ticks_of, ticks_to}
 use Rattle.moos_play.specs.Plays.{made_by}
@@ -139,7 +140,7 @@ no_lines clients [] all none = refl
 no_lines clients (line ∷ lines) all none = let here = (and_parts (nat_lt line.client clients) (list_all (λ line. nat_lt line.client clients) lines) all).0 in absurd (grind (arith, nat_tests, here, none))
 
 -- nobody's history
-pub lawful_none : (order : Order) (script : Script) (helm : Option HelmRun) (names : List (List ℕ)) (history : History) → is_none helm ≡ true → length script.names ≡ 0 → are_lines (length script.names) 0 script.stop script.lines ≡ true → history ≡ []
+lawful_none : (order : Order) (script : Script) (helm : Option HelmRun) (names : List (List ℕ)) (history : History) → is_none helm ≡ true → length script.names ≡ 0 → are_lines (length script.names) 0 script.stop script.lines ≡ true → history ≡ []
     → IsLawful order script (option_map (steering_with script) helm) names history
 lawful_none order script (Some run) names history none nobody valid empty = absurd (false≢true none)
 lawful_none order script None names history none nobody valid empty = record {
@@ -153,3 +154,18 @@ lawful_none order script None names history none nobody valid empty = record {
     by : (order : Order) → KeepsOrder order (helm_number script) []
     by Stamp = refl
     by Race = tt
+
+-- what is left of a run without clients is as lawful, has their names, and no iterations
+pub none_lawful : {E : Type 0} (order : Order) (script : Script) (helm : Option HelmRun) (result : Result Ran E) → is_none helm ≡ true → length script.names ≡ 0 → are_lines (length script.names) 0 script.stop script.lines ≡ true
+    → IfOk result (λ ran. ran.db.history ≡ []) → IfOk result (λ ran. IsLawful order script (option_map (steering_with script) helm) ran.db.names ran.db.history)
+none_lawful order script helm (Ok ran) none nobody valid empty = lawful_none order script helm ran.db.names ran.db.history none nobody valid empty
+none_lawful order script helm (Err _) none nobody valid empty = tt
+
+pub none_named : {E : Type 0} (script : Script) (helm : Option HelmRun) (result : Result Ran E) → is_none helm ≡ true → IfOk result (λ ran. ran.db.names ≡ script.names) → IfOk result (λ ran. ran.db.names ≡ names_with script helm)
+none_named script (Some run) result none named = absurd (false≢true none)
+none_named script None result none named = named
+
+pub none_iterations : {E : Type 0} (script : Script) (helm : Option HelmRun) (result : Result Ran E) → is_none helm ≡ true → IfOk result (λ ran. ran.iterations ≡ [])
+    → IfOk result (λ ran. ran.iterations ≡ iterations (option_map (steering_with script) helm) script.stop (heard_of ran.db.names (helm_number script) ran.db.history))
+none_iterations script (Some run) result none made = absurd (false≢true none)
+none_iterations script None result none made = made

@@ -9,18 +9,16 @@ use crate::player::Player;
 use crate::race::race;
 use crate::round::play_round;
 use crate::run::{HelmRun, Ran};
-use crate::seats::{names_for, no_calls, open_all, seat_all, steersman_for};
+use crate::seats::{open_all, seats_for, steersman_for};
 use crate::stamps::{due_end, tick_due};
 use crate::steersman::{Steersman, lead};
 use moos_client::Lock;
-use moos_db::Db;
 use moos_io::Gate;
 use moos_post::{List, Names, NoMemory};
 use script_reader::{Order, Script};
-use std::alloc::{AllocError, Global};
+use std::alloc::Global;
 use std::sync::Wait;
 use std::thread::Threads;
-use turn_lock::TurnLock;
 
 /// A script that is played round by round. Between two rounds the seat of the first client has taken in all others.
 #[derive(Drop)]
@@ -58,15 +56,8 @@ impl<'a> Play<'a> {
         ensures between { IfOk result IsBetween }
     {
         let clients = script.names.len() as u32;
-        let names = names_for(alloc, script, &helm, &further)?;
-        let passes = names.len() as u32;
+        let (lock, mut seat, calls) = seats_for(alloc, script, clients, &helm, &further)?;
         let mut steersman = steersman_for(alloc, clients, helm);
-        let calls = no_calls(alloc, clients)?;
-        let db = Db::make(alloc, names)?;
-        let Ok((lock, mut seat)) = TurnLock::make(alloc, db, passes) else {
-            return Err(AllocError);
-        };
-        seat_all(&lock, &mut seat, passes);
         open_all(rt, alloc, &lock, &mut seat, &mut steersman, clients, gate)?;
         let first = Player {
             seat,

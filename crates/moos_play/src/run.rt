@@ -1,6 +1,7 @@
 // The whole of a run, round by round.
-ghost use Rattle.std.specs.Prelude.{◌≡◌, ◌≤◌, option_map, IfOk, IfSome};
+ghost use Rattle.std.specs.Prelude.{◌≡◌, ◌≤◌, [], length, option_map, IfOk, IfSome, OnOk};
 ghost use Rattle.moos_play.specs.Lawful.{heard_of, helm_number, MayStart, IsLawful, iterations, names_with, steering_with};
+ghost use Rattle.moos_play.specs.Steered.{GoesOnWith, IsAtPlay, left_of, told_in};
 ghost use Rattle.script_reader.specs.Validity.{IsValid};
 
 use crate::playing::Play;
@@ -61,11 +62,42 @@ pub fn play<R: Threads + Wait + Sync, G: Gate>(
         IfOk result (λ ran. ran.iterations ≡ iterations helm script.now.stop (heard_of ran.db.names (helm_number script.now) ran.db.history)) }
 {
     if script.names.len() == 0 && helm.is_none() {
-        let db = Db::make(alloc, script.names.copy(alloc)?)?;
-        let iterations = List::new(alloc);
-        return Ok(Ran { db, iterations });
+        return play_none(alloc, script);
     }
     let mut play = Play::make(rt, alloc, script, helm, List::new(alloc), order, gate)?;
-    while play.go_on(rt, alloc, script, workers, gate)? {}
+    play_out(rt, alloc, &mut play, script, workers, gate)?;
     Ok(play.close(alloc))
+}
+
+// What a run leaves that has no clients.
+fn play_none(alloc: Global, script: &Script) -> Result<Ran, NoMemory>
+    requires { length script.now.names ≡ 0 }
+    ensures names { IfOk result (λ ran. ran.db.names ≡ script.now.names) }
+    ensures history { IfOk result (λ ran. ran.db.history ≡ []) }
+    ensures iterations { IfOk result (λ ran. ran.iterations ≡ []) }
+{
+    let db = Db::make(alloc, script.names.copy(alloc)?)?;
+    let iterations = List::new(alloc);
+    Ok(Ran { db, iterations })
+}
+
+// Plays all that is left.
+fn play_out<R: Threads + Wait + Sync, G: Gate>(
+    rt: &R,
+    alloc: Global,
+    play: &mut Play,
+    script: &Script,
+    workers: u32,
+    gate: &G,
+) -> Result<(), NoMemory>
+    requires valid { IsValid script.now }
+    requires at_play { IsAtPlay script.now play.old }
+    requires workers { (1 ≤ workers) × (workers ≤ 16) }
+    ensures at_play { OnOk result (IsAtPlay script.now play.new) }
+    ensures same { OnOk result (GoesOnWith play.old play.new) }
+    ensures told { OnOk result (told_in play.new.steersman ≡ told_in play.old.steersman) }
+    ensures over { OnOk result (left_of script.now play.new ≡ 0) }
+{
+    while play.go_on(rt, alloc, script, workers, gate)? {}
+    Ok(())
 }

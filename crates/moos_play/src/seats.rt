@@ -1,5 +1,5 @@
 // How a run begins: its names, a seat for each client, and the helm with its opening.
-ghost use Rattle.std.specs.Prelude.{◌≡◌, ◌<◌, ◌++◌, codes, length, option_map, IfOk, OnOk, IfSome};
+ghost use Rattle.std.specs.Prelude.{◌≡◌, ◌<◌, ◌++◌, ◌^◌, codes, length, option_map, IfOk, OnOk, IfSome};
 ghost use Rattle.moos_play.specs.Lawful.{names_with, MayStart};
 ghost use Rattle.moos_play.specs.Rounds.{IsGathered, KnowsNothing};
 ghost use Rattle.moos_play.specs.Steered.{HasOpened, helm_of, IsUnopened, run_as};
@@ -8,15 +8,44 @@ ghost use Rattle.turn_lock.specs.Passes.{first_pass};
 use crate::run::HelmRun;
 use crate::steersman::{Steersman, lead};
 use moos_client::{Lock, Seat};
+use moos_db::Db;
 use moos_io::Gate;
 use moos_post::{Copied, List, Name, NameFault, Names, NoMemory};
 use script_reader::Script;
 use std::alloc::{AllocError, Global};
 use std::sync::Wait;
 use std::thread::Threads;
+use turn_lock::TurnLock;
 
-/// The names of all clients: the script's, then the helm's where there is one, and then the further ones.
-pub(crate) fn names_for(
+/// The lock over a new database, the seat of the first client, which has taken in all others, and a count of calls for this
+/// many clients.
+pub(crate) fn seats_for(
+    alloc: Global,
+    script: &Script,
+    clients: u32,
+    helm: &Option<HelmRun>,
+    further: &Names,
+) -> Result<(Lock, Seat, Vec<u64>), NoMemory>
+    requires some { 0 < length (names_with script.now helm.now ++ further.now) }
+    requires few { length (names_with script.now helm.now ++ further.now) < 2 ^ 32 }
+    ensures names { IfOk result (λ seats. seats.0.base ≡ names_with script.now helm.now ++ further.now) }
+    ensures gathered { IfOk result (λ seats. IsGathered seats.0 seats.1) }
+    ensures nothing { IfOk result (λ seats. KnowsNothing seats.1) }
+    ensures calls { IfOk result (λ seats. length seats.2.items ≡ clients) }
+{
+    let names = names_for(alloc, script, helm, further)?;
+    let passes = names.len() as u32;
+    let calls = no_calls(alloc, clients)?;
+    let db = Db::make(alloc, names)?;
+    let Ok((lock, mut seat)) = TurnLock::make(alloc, db, passes) else {
+        return Err(AllocError);
+    };
+    seat_all(&lock, &mut seat, passes);
+    Ok((lock, seat, calls))
+}
+
+// The names of all clients: the script's, then the helm's where there is one, and then the further ones.
+fn names_for(
     alloc: Global,
     script: &Script,
     helm: &Option<HelmRun>,
@@ -84,8 +113,8 @@ pub(crate) fn steersman_for(alloc: Global, clients: u32, helm: Option<HelmRun>) 
     })
 }
 
-/// A count of 0 calls for each client.
-pub(crate) fn no_calls(alloc: Global, clients: u32) -> Result<Vec<u64>, NoMemory>
+// A count of 0 calls for each client.
+fn no_calls(alloc: Global, clients: u32) -> Result<Vec<u64>, NoMemory>
     ensures { IfOk result (λ calls. length calls.items ≡ clients) }
 {
     let mut calls = Vec::new(alloc);
@@ -95,8 +124,8 @@ pub(crate) fn no_calls(alloc: Global, clients: u32) -> Result<Vec<u64>, NoMemory
     Ok(calls)
 }
 
-/// Splits off the seats of all other clients from that of the first, which takes them in.
-pub(crate) fn seat_all(lock: &Lock, first: &mut Seat, clients: u32)
+// Splits off the seats of all other clients from that of the first, which takes them in.
+fn seat_all(lock: &Lock, first: &mut Seat, clients: u32)
     requires clients { (0 < clients) × (clients ≡ length lock.now.base) }
     requires first { first.old ≡ first_pass lock.now clients }
     ensures gathered { IsGathered lock.now first.new }

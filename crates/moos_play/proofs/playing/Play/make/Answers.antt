@@ -1,4 +1,4 @@
-use Rattle.std.proofs.Common.{◌∙◌, ap, refl, rules}
+use Rattle.std.proofs.Common.{◌∙◌, ap, refl}
 use Rattle.std.specs.Prelude.{option_map}
 use Rattle.moos_play.specs.Steered.{run_as}
 use Rattle.moos_play.proofs.Beginning.{new_within, play_made}
@@ -7,7 +7,7 @@ use Rattle.moos_play.proofs.playing.Play.make.Goals as goal
 
 pub open_all-requires-clause-new : goal.open_all-requires-clause-new
 open_all-requires-clause-new g c κs lives =
-    new_within c.args.script.now c.args.helm c.args.further c.len-clients.result c.in-Ok.lock.base c.steersman_for-steersman.result c.steersman_for-steersman.ensures.helm c.steersman_for-steersman.ensures.new c.len-clients.ensures (search rules)
+    new_within c.args.script.now c.args.helm c.args.further c.len-clients.result c.in_ok-lock.lock.base c.steersman_for-steersman.result c.steersman_for-steersman.ensures.helm c.steersman_for-steersman.ensures.new c.len-clients.ensures c.in_ok-lock.ensures.names
 
 pub returns-clause-helm : goal.returns-clause-helm
 returns-clause-helm g c = c.in_ok-open_all.ensures.same ∙ c.steersman_for-steersman.ensures.helm ∙ ap (λ n. option_map (run_as n) c.args.helm) c.len-clients.ensures
@@ -15,7 +15,7 @@ returns-clause-helm g c = c.in_ok-open_all.ensures.same ∙ c.steersman_for-stee
 pub returns-clause-between : goal.returns-clause-between
 returns-clause-between g c = record {
   valid = c.requires.valid;
-  at_play = play_made c.args.script.now c.args.helm c.args.further c.len-clients.result c.steersman_for-steersman.result _ c.requires.valid.lines c.len-clients.ensures c.in_ok-open_all.ensures.same c.steersman_for-steersman.ensures.helm (search rules)
-      c.in_ok-open_all.ensures.opened c.in_ok-calls.ensures refl;
+  at_play = play_made c.args.script.now c.args.helm c.args.further c.len-clients.result c.steersman_for-steersman.result _ c.requires.valid.lines c.len-clients.ensures c.in_ok-open_all.ensures.same c.steersman_for-steersman.ensures.helm c.in_ok-lock.ensures.names
+      c.in_ok-open_all.ensures.opened c.in_ok-lock.ensures.calls refl;
   told = told_begin _ c.in_ok-open_all.ensures.opened.ticks c.in_ok-open_all.ensures.opened.told;
 }
