@@ -1,6 +1,6 @@
 // The job that makes a mission from a number, plays it, and sums it up.
 ghost use Rattle.std.specs.Prelude.{IfOk};
-ghost use Rattle.moos_top.specs.Generating.{WasGenerated};
+ghost use Rattle.moos_top.specs.Generating.{IsSurvey, WasGenerated};
 ghost use Rattle.moos_top.specs.Jobs.{Ready};
 ghost use Rattle.moos_top.specs.Jobs.Task.{Generating};
 ghost use Rattle.moos_top.specs.Steps.{Ended, sinking};
@@ -49,13 +49,20 @@ fn play_generated<R: Threads + Wait + Sync, G: Gate>(
     ensures { IfOk result (λ ran. WasGenerated number ran.db.names ran.db.history ran.iterations) }
 {
     let script = make_script(alloc, number)?;
+    let survey = survey_run(alloc)?;
+    let ran = play(rt, alloc, &script, Some(survey), Order::Stamp, 1, gate)?;
+    Ok(ran)
+}
+
+// The survey's helm before its first tick.
+fn survey_run(alloc: Global) -> Result<HelmRun, NoMemory>
+    ensures { IfOk result IsSurvey }
+{
     let mission = make_mission(alloc)?;
     let file = make_behaviors(alloc, &mission)?;
     let helm = Helm::make(alloc, &mission, file)?;
-    let run = HelmRun {
+    Ok(HelmRun {
         helm,
         period: mission.period,
-    };
-    let ran = play(rt, alloc, &script, Some(run), Order::Stamp, 1, gate)?;
-    Ok(ran)
+    })
 }
