@@ -10,6 +10,7 @@ pub mod Helming
 pub mod Leading
 pub mod Lending
 pub mod Stopping
+pub mod Ticking
 pub mod Racing
 pub mod Histories
 pub mod Below

@@ -6,9 +6,7 @@ use Rattle.std.proofs.lemmas.List.Elements.{filter-append}
 use Rattle.std.specs.declared.alloc.AllocError.{AllocError}
 use Rattle.helm_core.specs.declared.helm.Helm.{Helm}
 use Rattle.helm_core.specs.declared.iteration.Iteration.{Iteration}
-use Rattle.helm_core.specs.Helms.{plan_of}
 use Rattle.helm_core.specs.Iterations.{iteration_at}
-use Rattle.helm_core.specs.Plans.{Plan}
 use Rattle.helm_core.specs.Ticks.{Tick, tick_of}
 use Rattle.moos_client.specs.Calls.{entries_of, entry_of, IsFetched, IsUncalled, SeatState}
 use Rattle.moos_db.specs.declared.mail.Letter.{Letter}
@@ -165,11 +163,6 @@ beside_stopped names helm (Ok _) s most seat same own steers reached stopped =
     subst (λ helm. HasStopped names helm s.ticks most seat) same
     (stops_here names (steering_of s) s.ticks most seat own
     (steered_stops names (steering_of s) s.helm s.ticks s.told s.ticks most s.iterations seat.seen (subst (λ b. IsSteered names (steering_of s) s.helm b s.ticks s.told s.iterations seat.seen) reached.0 steers) (omega arith) (omega (arith, reached.1))))
-
--- what is counted and ticked leaves how the helm is run
-pub same_steering : (s u t : Steersman) (helm : Helm) → u ≡ record s { calls = u.calls } → t ≡ record u { helm = helm; calls = t.calls } → plan_of helm ≡ plan_of u.helm → steering_of t ≡ steering_of s
-same_steering s u t helm first second plan =
-    ap {A = Steersman} steering_of second ∙ ap {A = Plan} (λ plan. record { client = u.number; plan = plan; period = u.period }) plan ∙ ap {A = Steersman} steering_of first
 
 -- a tick whose calls were all made, but whose iteration found no memory
 pub posted_stops : (names : List (List ℕ)) (s t : Steersman) (seat : SeatState) (done : List Iteration) → steering_of t ≡ steering_of s → t.opened ≡ true → t.ticks ≡ s.ticks → HasOwn seat → IsSteered names (steering_of t) t.helm t.opened (t.ticks + 1) t.told done seat.seen

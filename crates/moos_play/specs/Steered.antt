@@ -1,13 +1,15 @@
 -- The helm at its seat, and where a run stands between two rounds.
-use Rattle.std.specs.Prelude.{◌≡◌, ◌≢◌, ℕ, ◌+◌, ◌-◌, ◌*◌, ◌/◌, ◌^◌, ◌==◌, ◌≤◌, ◌<◌, Bool, true, false, not, nat_le, nat_lt, suc, if◌then◌else◌, List, [], ◌∷◌, ◌++◌, length, drop, take, Option, None, Some, option_map, option_to_list, IfSome, IsTrue, OnErr, OnOk, Result}
+use Rattle.std.specs.Prelude.{◌≡◌, ◌≢◌, ◌⊎◌, ℕ, ◌+◌, ◌-◌, ◌*◌, ◌/◌, ◌^◌, ◌==◌, ◌≤◌, ◌<◌, Bool, true, false, not, nat_le, nat_lt, suc, if◌then◌else◌, List, [], ◌∷◌, ◌++◌, length, drop, take, Option, None, Some, option_map, option_to_list, IfSome, IsTrue, OnErr, OnOk, Result}
 use Rattle.std.specs.List.{list_all}
 use Rattle.moos_post.specs.Delivery.{is_fetch}
 use Rattle.moos_post.specs.History.{History}
+use Rattle.moos_post.specs.declared.entry.Call.{Call}
 use Rattle.moos_post.specs.declared.entry.Entry.{Entry}
-use Rattle.moos_client.specs.Calls.{MayCall, SeatState, entries_of}
+use Rattle.moos_db.specs.declared.mail.Letter.{Letter}
+use Rattle.moos_client.specs.Calls.{IsCalled, IsFetched, IsUncalled, MayCall, SeatState, entries_of}
 use Rattle.helm_core.specs.declared.helm.Helm.{Helm}
 use Rattle.helm_core.specs.declared.iteration.Iteration.{Iteration}
-use Rattle.helm_core.specs.Helms.{clock_of, plan_of, StandsFor}
+use Rattle.helm_core.specs.Helms.{clock_of, IsTicked, plan_of, StandsFor}
 use Rattle.moos_play.specs.declared.playing.Play.{Play}
 use Rattle.moos_play.specs.declared.run.HelmRun.{HelmRun}
 use Rattle.moos_play.specs.declared.steersman.Steersman.{Steersman}
@@ -44,6 +46,20 @@ Steers names steersman history =
 -- the history of the seat has of its own number just the seat's entries
 abbrev pub HasOwn : SeatState → Type 0
 HasOwn seat = entries_of seat.number seat.seen ≡ seat.mine
+
+-- The helm has fetched at its seat, and made its iteration of the mail.
+pub record HasIterated (names : List (List ℕ)) (before after : SeatState) (old new : Helm) (stamp : ℕ) (iteration : Iteration) : Type 0 where
+  pub mail : List Letter
+  pub fetched : IsFetched before after names stamp mail
+  pub ticked : IsTicked old new stamp mail iteration
+
+-- no memory was left for a fetch, or for what comes behind it
+abbrev pub MayHaveFetched : List (List ℕ) → SeatState → SeatState → ℕ → Type 0
+MayHaveFetched names before after stamp = IsUncalled before after ⊎ ((mail : List Letter) × IsFetched before after names stamp mail)
+
+-- no memory was left for a call, or for what comes behind it
+abbrev pub MayHaveCalled : SeatState → SeatState → ℕ → Call → Type 0
+MayHaveCalled before after stamp call = IsUncalled before after ⊎ IsCalled before after stamp call
 
 -- the helm may make its ticks at the seat up to so many
 pub record MaySteer (lock : CommunityLock) (seat : SeatState) (steersman : Steersman) (ticks workers : ℕ) : Type 0 where

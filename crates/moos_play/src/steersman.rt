@@ -1,8 +1,10 @@
 // The helm at its seat: its opening, and its ticks as calls.
-ghost use Rattle.std.specs.Prelude.{◌≡◌, ◌≤◌, ◌<◌, ◌*◌, ◌+◌, ◌^◌, true, false, length, OnErr, OnOk};
-ghost use Rattle.moos_client.specs.Calls.{MayCall};
+ghost use Rattle.std.specs.Prelude.{◌≡◌, ◌≤◌, ◌<◌, ◌*◌, ◌+◌, ◌^◌, ◌++◌, ◌∷◌, [], true, false, length, IfOk, OnErr, OnOk};
+ghost use Rattle.helm_core.specs.Helms.{clock_of};
+ghost use Rattle.moos_client.specs.Calls.{IsCalled, MayCall};
 ghost use Rattle.moos_play.specs.Rounds.{Anything, GoesOn, IsAlone, IsGathered, IsWhole, Makes};
-ghost use Rattle.moos_play.specs.Steered.{HasOwn, HasStopped, IsStopped, Steers, steering_of};
+ghost use Rattle.moos_post.specs.declared.entry.Call.TheVariants.{Post as Posts};
+ghost use Rattle.moos_play.specs.Steered.{HasIterated, HasOwn, HasStopped, IsStopped, MayHaveCalled, MayHaveFetched, Steers, steering_of};
 
 use crate::round::see_all;
 use helm_core::{Helm, Iteration};
@@ -136,14 +138,71 @@ fn tick<R: Threads + Wait + Sync, G: Gate>(
 {
     let stamp = steersman.ticks * steersman.period;
     count_call(steersman, gate);
-    let mail = fetch(rt, alloc, lock, seat, stamp)?;
-    let iteration = steersman.helm.tick(rt, alloc, stamp, &mail, workers, gate)?;
+    let iteration = iterate(
+        rt,
+        alloc,
+        lock,
+        seat,
+        &mut steersman.helm,
+        stamp,
+        workers,
+        gate,
+    )?;
     count_call(steersman, gate);
+    tell(
+        rt,
+        alloc,
+        lock,
+        seat,
+        &mut steersman.iterations,
+        stamp,
+        iteration,
+    )?;
+    steersman.ticks += 1;
+    Ok(())
+}
+
+// The helm fetches its mail, and makes its iteration of that. Where no memory is left it is as it was.
+fn iterate<R: Threads + Wait + Sync, G: Gate>(
+    rt: &R,
+    alloc: Global,
+    lock: &Lock,
+    seat: &mut Seat,
+    helm: &mut Helm,
+    stamp: u64,
+    workers: u32,
+    gate: &G,
+) -> Result<Iteration, NoMemory>
+    requires may { MayCall lock.now seat.old }
+    requires clock { clock_of helm.old ≤ stamp }
+    requires workers { (1 ≤ workers) × (workers ≤ 16) }
+    ensures iterated { IfOk result (HasIterated lock.now.base seat.old seat.new helm.old helm.new stamp) }
+    ensures same { OnErr result (helm.new ≡ helm.old) }
+    ensures stopped { OnErr result (MayHaveFetched lock.now.base seat.old seat.new stamp) }
+{
+    let mail = fetch(rt, alloc, lock, seat, stamp)?;
+    helm.tick(rt, alloc, stamp, &mail, workers, gate)
+}
+
+// The helm posts what its iteration says, and keeps that.
+fn tell<R: Wait>(
+    rt: &R,
+    alloc: Global,
+    lock: &Lock,
+    seat: &mut Seat,
+    iterations: &mut Iterations,
+    stamp: u64,
+    iteration: Iteration,
+) -> Result<(), NoMemory>
+    requires { MayCall lock.now seat.old }
+    ensures posted { OnOk result (IsCalled seat.old seat.new stamp (Posts iteration.posts)) }
+    ensures kept { OnOk result (iterations.new ≡ iterations.old ++ iteration ∷ []) }
+    ensures stopped { OnErr result (MayHaveCalled seat.old seat.new stamp (Posts iteration.posts)) }
+{
     post(rt, alloc, lock, seat, stamp, iteration.posts.copy(alloc)?)?;
-    let Ok(()) = steersman.iterations.push(iteration) else {
+    let Ok(()) = iterations.push(iteration) else {
         return Err(AllocError);
     };
-    steersman.ticks += 1;
     Ok(())
 }
 
