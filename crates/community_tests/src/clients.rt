@@ -1,5 +1,4 @@
 // Two clients of one database: each call once, and both on threads beside each other.
-ghost use Rattle.std.specs.Prelude.{◌≡◌};
 ghost use Rattle.moos_client.specs.Calls.{MayCall};
 
 use crate::made::{batch, names, pattern, regs};
