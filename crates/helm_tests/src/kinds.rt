@@ -1,21 +1,21 @@
 // Updates of behaviours, and what stays of those that are refused; what steps give.
-ghost use Rattle.std.specs.Prelude.{◌≡◌, ◌<◌, IfOk, IsTrue};
+ghost use Rattle.std.specs.Prelude.{◌≡◌, ◌<◌, IsTrue};
 ghost use Rattle.ivp_domain.specs.Domains.{is_point};
 ghost use Rattle.bhv_reader.specs.declared.spec.Shape.{Shape};
 ghost use Rattle.bhv_reader.specs.Params.{has_axes, has_axis};
 ghost use Rattle.bhv_kinds.specs.Standing.{IsSoundKind};
 
+use crate::made::{name, number, text};
 use bhv_kinds::{BhvFault, Kind, Out};
 use bhv_reader::{Shape, Spec};
 use helm_cond::Info;
 use ivp_domain::{Axis, AxisName, Domain, Point, Steps};
 use ivp_func::Func;
-use moos_post::{Copied, Milli, Name, Txt, Value};
+use moos_post::Copied;
 use std::alloc::Global;
 use std::marker::Brand;
 use std::process::Abort;
 use std::sync::ledger::{Blank, Ledger};
-use std::test::Fail;
 
 // A behaviour that keeps the station where it is first stepped.
 #[tactic(auto, using(bhv_kinds::proofs::KindExamples::station_valid))]
@@ -34,62 +34,57 @@ pub(crate) fn station() -> Kind
     })
 }
 
-// An update is taken or not, and leaves this weight.
-fn takes(
-    rt: &impl Abort,
-    alloc: Global,
-    kind: &mut Kind,
-    text: &[u8],
-    taken: bool,
-    weight: u32,
-) -> Result<(), Fail>
+// An update is taken or not.
+pub(crate) fn update(rt: &impl Abort, alloc: Global, kind: &mut Kind, said: &str, taken: bool)
     requires { IsSoundKind kind.old }
     ensures { IsSoundKind kind.new }
 {
-    let text = Txt::new(alloc, text).map_err(|_| "a text")?;
-    assert_eq!(rt; kind.update(alloc, &text)?, taken);
-    assert_eq!(rt; kind.weight(), weight);
-    assert_eq!(rt; kind.copy(alloc)?.weight(), weight);
-    Ok(())
+    let said = text(rt, alloc, said);
+    match kind.update(alloc, &said) {
+        Ok(was_taken) => assert!(rt; was_taken == taken),
+        Err(_) => panic!(rt; "memory"),
+    }
+}
+
+// Whether an update is taken, the weight that it leaves, and the update.
+const UPDATES: &str = "no 100 inner_radius=15
+yes 100 inner_radius=20 # outer_radius=30
+yes 100 inner_radius=29
+no 100 center_activate=false
+yes 7 PWT = 7.9
+no 7 pwt=8#outer_speed=fast
+no 7 pwt=8#
+yes 9 center_activate=false#point=1,2#pwt=9";
+
+fn takes(rt: &impl Abort, alloc: Global, kind: &mut Kind, row: &str)
+    requires { IsSoundKind kind.old }
+    ensures { IsSoundKind kind.new }
+{
+    let mut parts = row.splitn(3, ' ');
+    let taken = parts.next() == Some("yes");
+    let weight = parts.next().unwrap_or("").parse::<u32>().ok();
+    update(rt, alloc, kind, parts.next().unwrap_or(""), taken);
+    let copied = kind.copy(alloc).expect(rt, "memory");
+    assert!(rt; Some(kind.weight()) == weight && Some(copied.weight()) == weight);
 }
 
 // Each pair is good or none is taken, and the relations are judged behind the last of them.
 #[test]
-fn updates(rt: HostRuntime) -> Result<(), Fail> {
-    let alloc = rt.alloc();
+fn updates(rt: HostRuntime) {
     let mut kind = station();
-    takes(&rt, alloc, &mut kind, b"inner_radius=15", false, 100)?;
-    takes(
-        &rt,
-        alloc,
-        &mut kind,
-        b"inner_radius=20 # outer_radius=30",
-        true,
-        100,
-    )?;
-    takes(&rt, alloc, &mut kind, b"inner_radius=29", true, 100)?;
-    takes(&rt, alloc, &mut kind, b"center_activate=false", false, 100)?;
-    takes(&rt, alloc, &mut kind, b"PWT = 7.9", true, 7)?;
-    takes(&rt, alloc, &mut kind, b"pwt=8#outer_speed=fast", false, 7)?;
-    takes(&rt, alloc, &mut kind, b"pwt=8#", false, 7)?;
-    takes(
-        &rt,
-        alloc,
-        &mut kind,
-        b"center_activate=false#point=1,2#pwt=9",
-        true,
-        9,
-    )
+    for row in UPDATES.lines() {
+        takes(&rt, rt.alloc(), &mut kind, row);
+    }
 }
 
-// The axis of a name.
-fn axis(name: &[u8], high: i64, points: u32) -> Result<Axis, Fail> {
-    Ok(Axis {
-        name: AxisName::new(name).ok_or("a name")?,
+fn axis(rt: &impl Abort, name: &[u8], high: i64, points: u32) -> Axis {
+    let name = AxisName::new(name).expect(rt, "a name");
+    Axis {
+        name,
         low: 0,
         high,
         points,
-    })
+    }
 }
 
 // Whether the domain has an axis of this name.
@@ -101,20 +96,17 @@ fn has_axis(domain: &Domain, name: &[u8]) -> bool
 
 // Four courses round a circle, three speeds and three depths.
 #[tactic(auto, using(bhv_kinds::proofs::KindExamples::three_axes))]
-pub(crate) fn waters() -> Result<Domain, Fail>
-    ensures { IfOk result (λ domain. (shape : Shape) → IsTrue (has_axes domain shape)) }
+pub(crate) fn waters(rt: &impl Abort) -> Domain
+    ensures { (shape : Shape) → IsTrue (has_axes result shape) }
 {
-    let axes = [
-        axis(b"course", 270_000, 4)?,
-        axis(b"speed", 2_000, 3)?,
-        axis(b"depth", 20_000, 3)?,
-    ];
-    let domain = Domain::make(&axes).map_err(|_| "a domain")?;
-    if has_axis(&domain, b"course") && has_axis(&domain, b"speed") && has_axis(&domain, b"depth") {
-        Ok(domain)
-    } else {
-        Err("three axes".into())
-    }
+    let course = axis(rt, b"course", 270_000, 4);
+    let speed = axis(rt, b"speed", 2_000, 3);
+    let depth = axis(rt, b"depth", 20_000, 3);
+    let domain = Domain::make(&[course, speed, depth]).expect(rt, "a domain");
+    assert!(rt; has_axis(&domain, b"course"));
+    assert!(rt; has_axis(&domain, b"speed"));
+    assert!(rt; has_axis(&domain, b"depth"));
+    domain
 }
 
 /// The value at a point, counted by a ledger of its own.
@@ -223,78 +215,138 @@ fn region() -> Kind
 }
 
 // What is known of the ship: its place, where it is given, and its depth.
-pub(crate) fn known(alloc: Global, place: Option<(i64, i64)>, depth: i64) -> Result<Info, Fail> {
+pub(crate) fn known(rt: &impl Abort, alloc: Global, place: Option<(i64, i64)>, depth: i64) -> Info {
     let mut info = Info::make(alloc);
-    learn(alloc, &mut info, b"NAV_DEPTH", depth)?;
+    learn(rt, alloc, &mut info, "NAV_DEPTH", depth);
     if let Some((x, y)) = place {
-        learn(alloc, &mut info, b"NAV_X", x)?;
-        learn(alloc, &mut info, b"NAV_Y", y)?;
+        learn(rt, alloc, &mut info, "NAV_X", x);
+        learn(rt, alloc, &mut info, "NAV_Y", y);
     }
-    Ok(info)
+    info
 }
 
-fn learn(alloc: Global, info: &mut Info, var: &[u8], thousandths: i64) -> Result<(), Fail> {
-    let var = Name::new(alloc, var).map_err(|_| "a name")?;
-    let number = Milli::new(thousandths).ok_or("a number")?;
-    Ok(info.learn(alloc, &var, &Value::Num(number))?)
+fn learn(rt: &impl Abort, alloc: Global, info: &mut Info, var: &str, thousandths: i64) {
+    let var = name(rt, alloc, var);
+    let value = number(rt, thousandths);
+    info.learn(alloc, &var, &value).expect(rt, "memory");
 }
 
-// What a step gives after an update that is taken.
-fn stepped(
+// What a step gives.
+pub(crate) fn stepped(
     rt: &impl Abort,
     alloc: Global,
     kind: &mut Kind,
-    update: &[u8],
     info: &Info,
     stamp: u64,
-) -> Result<Out, Fail>
+    fresh: bool,
+) -> Out
     requires { IsSoundKind kind.old }
     ensures { IsSoundKind kind.new }
 {
-    let text = Txt::new(alloc, update).map_err(|_| "a text")?;
-    assert!(rt; kind.update(alloc, &text)?);
-    let domain = waters()?;
-    Ok(kind.step(alloc, &domain, info, stamp, false)?)
-}
-
-// The axes that a step's function mentions, and its values at the least place of all, at one course, speed or depth more.
-fn told(out: &Out) -> ([bool; 3], [Option<i64>; 4]) {
-    let axes = [out.course, out.speed, out.depth];
-    match &out.func {
-        Some(func) => (
-            axes,
-            [
-                value(func, 0),
-                value(func, 9),
-                value(func, 3),
-                value(func, 1),
-            ],
-        ),
-        None => (axes, [None; 4]),
+    let domain = waters(rt);
+    match kind.step(alloc, &domain, info, stamp, fresh) {
+        Ok(out) => out,
+        Err(_) => panic!(rt; "memory"),
     }
 }
 
-// A constant course, speed and depth, a greatest depth, and a timer.
+// The axes that a step's function mentions.
+fn axes(out: &Out) -> [bool; 3] {
+    [out.course, out.speed, out.depth]
+}
+
+// The values of a step's function at the least place of all, at one course, speed or depth more.
+fn values(out: &Out) -> [Option<i64>; 4] {
+    match &out.func {
+        Some(func) => [
+            value(func, 0),
+            value(func, 9),
+            value(func, 3),
+            value(func, 1),
+        ],
+        None => [None; 4],
+    }
+}
+
+// A step after an update has no fault, mentions these axes, and gives these values.
+fn gives(
+    rt: &impl Abort,
+    alloc: Global,
+    mut kind: Kind,
+    said: &str,
+    mentioned: [bool; 3],
+    wanted: [Option<i64>; 4],
+)
+    requires { IsSoundKind kind }
+{
+    update(rt, alloc, &mut kind, said, true);
+    let out = stepped(rt, alloc, &mut kind, &known(rt, alloc, None, 0), 0, false);
+    assert!(rt; axes(&out) == mentioned && values(&out) == wanted);
+    assert!(rt; !out.done && out.fault.is_none());
+}
+
+// A constant course, speed and depth, and a greatest depth.
 #[test]
-fn steady_steps(rt: HostRuntime) -> Result<(), Fail> {
+fn steady_steps(rt: HostRuntime) {
     let alloc = rt.alloc();
-    let info = known(alloc, None, 0)?;
-    let out = stepped(&rt, alloc, &mut course(), b"heading=90", &info, 0)?;
     let values = [Some(75_000), Some(100_000), Some(75_000), Some(75_000)];
-    assert_eq!(rt; told(&out), ([true, false, false], values));
-    let out = stepped(&rt, alloc, &mut speed(), b"speed=1", &info, 0)?;
+    gives(
+        &rt,
+        alloc,
+        course(),
+        "heading=90",
+        [true, false, false],
+        values,
+    );
     let values = [Some(75_000), Some(75_000), Some(100_000), Some(75_000)];
-    assert_eq!(rt; told(&out), ([false, true, false], values));
-    let out = stepped(&rt, alloc, &mut depth(), b"depth=10", &info, 0)?;
+    gives(&rt, alloc, speed(), "speed=1", [false, true, false], values);
     let values = [Some(75_000), Some(75_000), Some(75_000), Some(100_000)];
-    assert_eq!(rt; told(&out), ([false, false, true], values));
-    let out = stepped(&rt, alloc, &mut limit(), b"max_depth=9.9", &info, 0)?;
+    gives(
+        &rt,
+        alloc,
+        depth(),
+        "depth=10",
+        [false, false, true],
+        values,
+    );
     let values = [Some(100_000), Some(100_000), Some(100_000), Some(50_000)];
-    assert_eq!(rt; told(&out), ([false, false, true], values));
-    let out = stepped(&rt, alloc, &mut timer(), b"pwt=7", &info, 0)?;
-    assert_eq!(rt; told(&out), ([false; 3], [None; 4]));
-    assert_eq!(rt; (out.done, out.fault), (false, None));
-    Ok(())
+    gives(
+        &rt,
+        alloc,
+        limit(),
+        "max_depth=9.9",
+        [false, false, true],
+        values,
+    );
+}
+
+// A timer's step gives nothing.
+#[test]
+fn timer_step(rt: HostRuntime) {
+    let mut kind = timer();
+    update(&rt, rt.alloc(), &mut kind, "pwt=7", true);
+    let info = known(&rt, rt.alloc(), None, 0);
+    let out = stepped(&rt, rt.alloc(), &mut kind, &info, 0, false);
+    assert!(rt; axes(&out) == [false; 3] && out.func.is_none());
+    assert!(rt; !out.done && out.fault.is_none());
+}
+
+// The fault of a step of a region, which has no function.
+fn fault(
+    rt: &impl Abort,
+    alloc: Global,
+    kind: &mut Kind,
+    place: Option<(i64, i64)>,
+    depth: i64,
+    stamp: u64,
+) -> Option<BhvFault>
+    requires { IsSoundKind kind.old }
+    ensures { IsSoundKind kind.new }
+{
+    let info = known(rt, alloc, place, depth);
+    let out = stepped(rt, alloc, kind, &info, stamp, false);
+    assert!(rt; axes(&out) == [false; 3] && out.func.is_none());
+    out.fault
 }
 
 // The fault of a second step of a region of ten by ten, twenty deep, for five seconds. The first one is at 60 s.
@@ -304,37 +356,26 @@ fn second_fault(
     place: Option<(i64, i64)>,
     depth: i64,
     stamp: u64,
-) -> Result<Option<BhvFault>, Fail> {
+) -> Option<BhvFault> {
     let mut kind = region();
-    let update = b"polygon=0,0:0,10:10,10:10,0#max_depth=20#max_time=5";
-    let info = known(alloc, None, 21_000)?;
-    let out = stepped(rt, alloc, &mut kind, update, &info, 60_000)?;
-    assert_eq!(rt; out.fault, Some(BhvFault::NoPosition));
-    let info = known(alloc, place, depth)?;
-    let out = stepped(rt, alloc, &mut kind, b"pwt=5", &info, stamp)?;
-    assert_eq!(rt; told(&out), ([false; 3], [None; 4]));
-    Ok(out.fault)
+    let said = "polygon=0,0:0,10:10,10:10,0#max_depth=20#max_time=5";
+    update(rt, alloc, &mut kind, said, true);
+    let first = fault(rt, alloc, &mut kind, None, 21_000, 60_000);
+    assert!(rt; first == Some(BhvFault::NoPosition));
+    fault(rt, alloc, &mut kind, place, depth, stamp)
 }
 
 // The first fault of several is told.
 #[test]
-fn region_faults(rt: HostRuntime) -> Result<(), Fail> {
-    let here = Some((10_000, 5_000));
-    let table = [
+fn region_faults(rt: HostRuntime) {
+    let (here, outside) = (Some((10_000, 5_000)), Some((10_001, 5_000)));
+    for (place, depth, stamp, fault) in [
         (here, 20_000, 64_999, None),
         (None, 21_000, 65_000, Some(BhvFault::NoPosition)),
-        (
-            Some((10_001, 5_000)),
-            21_000,
-            65_000,
-            Some(BhvFault::OutsidePolygon),
-        ),
+        (outside, 21_000, 65_000, Some(BhvFault::OutsidePolygon)),
         (here, 20_001, 65_000, Some(BhvFault::TooDeep)),
         (here, 20_000, 65_000, Some(BhvFault::TooLate)),
-    ];
-    for (place, depth, stamp, fault) in &table {
-        let told = second_fault(&rt, rt.alloc(), *place, *depth, *stamp)?;
-        assert_eq!(rt; told, *fault);
+    ] {
+        assert!(rt; second_fault(&rt, rt.alloc(), place, depth, stamp) == fault);
     }
-    Ok(())
 }

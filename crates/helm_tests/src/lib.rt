@@ -2,13 +2,16 @@
 //! what was worked by hand; and that the clients of a run act beside each other.
 //!
 //! The tests of these crates stand here, since a crate with tests of its own is proved once more with them. One module for each
-//! subject: `kinds` of behaviours and their `travels`, the `helm`, `plays` and `reports`.
+//! subject: `kinds` of behaviours and their `travels`, the `helm`, `plays` and `reports`. What they make of words and files is
+//! `made` in one place.
 #![tactic(auto)]
 
 #[cfg(test)]
 mod helm;
 #[cfg(test)]
 mod kinds;
+#[cfg(test)]
+mod made;
 #[cfg(test)]
 mod plays;
 #[cfg(test)]

@@ -1,35 +1,30 @@
 // What no clause says: that clients are beside each other, and that the gate is called before each call.
-ghost use Rattle.std.specs.Prelude.{◌≡◌, length, IfOk, IsTrue, OnOk};
-ghost use Rattle.bhv_reader.specs.Validity.{IsValidFile, serves};
-ghost use Rattle.mission_reader.specs.Validity.{IsValidMission};
+ghost use Rattle.std.specs.Prelude.{◌≡◌, length};
 ghost use Rattle.moos_play.specs.Lawful.{MayStart};
 ghost use Rattle.moos_play.specs.Plays.{IsBetween, IsFurther};
 ghost use Rattle.script_reader.specs.Validity.{IsValid};
 
-use bhv_reader::{BhvFile, read_behaviors};
+use crate::made::{batch, file_of, mission_of, name, regs, text};
 use helm_core::Helm;
-use ivp_domain::Domain;
-use mission_reader::{Mission, read_mission};
-use moos_db::Db;
+use moos_db::{Db, Mail};
 use moos_io::{Gate, NoGate};
-use moos_play::{HelmRun, Order, Play, Ran, Round, play};
-use moos_post::{Batch, Call, List, Name, Names, NoMemory, Pair, Pattern, Reg, Regs, Txt, Value};
+use moos_play::{HelmRun, Order, Play, Round, play};
+use moos_post::{Call, List, Names, Value};
 use script_reader::{Script, read_script};
 use std::alloc::Global;
 use std::hint::spin_loop;
 use std::process::Abort;
 use std::sync::Wait;
 use std::sync::atomic::{AtomicBool, AtomicU64, Ordering};
-use std::test::Fail;
 use std::thread::Threads;
 
-fn script_of(rt: &impl Abort, alloc: Global, text: &[u8]) -> Result<Script, Fail>
-    ensures { IfOk result IsValid }
+fn script_of(rt: &impl Abort, alloc: Global, text: &[u8]) -> Script
+    ensures { IsValid result }
 {
     assert!(rt; text.len() < 4_000_000_000);
     match read_script(alloc, text) {
-        Ok(script) => Ok(script),
-        Err(_) => Err(Fail::from("no script")),
+        Ok(script) => script,
+        Err(_) => panic!(rt; "no script"),
     }
 }
 
@@ -81,54 +76,43 @@ fn entries_ahead(db: &Db) -> u32 {
     ahead
 }
 
-// The three clients meet before their first calls, and who is held at the gate hasn't made its call.
-#[test]
-fn clients_beside(rt: HostRuntime) -> Result<(), Fail> {
-    let script = script_of(&rt, rt.alloc(), THREE)?;
-    for order in [Order::Stamp, Order::Race] {
-        let gate = Meeting {
-            arrived: AtomicU64::new(0),
-            ahead: AtomicBool::new(false),
-            missed: AtomicBool::new(false),
-        };
-        let ran = play(&rt, rt.alloc(), &script, None, order, 1, &gate)?;
-        let missed = gate.missed.load(Ordering::SeqCst);
-        assert!(rt; !missed && entries_ahead(&ran.db) >= 2);
+fn gate_before_meeting() -> Meeting {
+    Meeting {
+        arrived: AtomicU64::new(0),
+        ahead: AtomicBool::new(false),
+        missed: AtomicBool::new(false),
     }
-    Ok(())
+}
+
+// The three clients meet before their first calls, and who is held at the gate hasn't made its call.
+fn meet<R: Threads + Wait + Sync + Abort>(rt: &R, alloc: Global, script: &Script, order: Order)
+    requires { IsValid script.now }
+{
+    let gate = gate_before_meeting();
+    let ran = play(rt, alloc, script, None, order, 1, &gate).expect(rt, "memory");
+    assert!(rt; !gate.missed.load(Ordering::SeqCst) && entries_ahead(&ran.db) >= 2);
+}
+
+#[test]
+fn clients_beside(rt: HostRuntime) {
+    let script = script_of(&rt, rt.alloc(), THREE);
+    meet(&rt, rt.alloc(), &script, Order::Stamp);
+    meet(&rt, rt.alloc(), &script, Order::Race);
 }
 
 const MISSION: &[u8] =
     b"ProcessConfig = pHelmIvP\n{\n  AppTick = 4\n  behaviors = a.bhv\n  domain = course:0:359:360\n}\n";
 
-fn mission_of(rt: &impl Abort, alloc: Global) -> Result<Mission, Fail>
-    ensures { IfOk result IsValidMission }
-{
-    assert!(rt; MISSION.len() < 4_000_000_000);
-    match read_mission(alloc, MISSION) {
-        Ok(mission) => Ok(mission),
-        Err(_) => Err(Fail::from("no mission")),
-    }
-}
-
-fn file_of(rt: &impl Abort, alloc: Global, domain: &Domain) -> Result<BhvFile, Fail>
-    ensures valid { IfOk result IsValidFile }
-    ensures served { IfOk result (λ file. IsTrue (serves domain.now file.blocks)) }
-{
-    match read_behaviors(alloc, b"initialize DEPLOY = false\n", domain) {
-        Ok(file) => Ok(file),
-        Err(_) => Err(Fail::from("no behaviour file")),
-    }
-}
-
 // A helm that has something to begin with, four times a second.
-fn helm_of(rt: &impl Abort, alloc: Global) -> Result<HelmRun, Fail>
-    ensures { IfOk result MayStart }
+fn helm_of(rt: &impl Abort, alloc: Global) -> HelmRun
+    ensures { MayStart result }
 {
-    let mission = mission_of(rt, alloc)?;
-    let file = file_of(rt, alloc, &mission.domain)?;
-    let helm = Helm::make(alloc, &mission, file)?;
-    Ok(HelmRun { helm, period: 250 })
+    let mission = mission_of(rt, alloc, MISSION);
+    let file = file_of(rt, alloc, b"initialize DEPLOY = false\n", &mission.domain);
+    match Helm::make(alloc, &mission, file) {
+        Ok(helm) => HelmRun { helm, period: 250 },
+        Err(_) => panic!(rt; "memory"),
+    }
 }
 
 /// Adds up the calls that it sees, and their places among those of their clients.
@@ -155,139 +139,150 @@ fn check_gate<R: Threads + Wait + Sync + Abort>(
     order: Order,
     calls: u64,
     places: u64,
-) -> Result<(), Fail> {
-    let script = script_of(rt, alloc, text)?;
-    let helm = helm_of(rt, alloc)?;
+) {
+    let script = script_of(rt, alloc, text);
+    let helm = helm_of(rt, alloc);
     let gate = Counting {
         calls: AtomicU64::new(0),
         places: AtomicU64::new(0),
     };
-    let ran = play(rt, alloc, &script, Some(helm), order, 2, &gate)?;
-    assert_eq!(rt; ran.iterations.len(), 3);
-    assert_eq!(rt; ran.db.entries(), calls);
-    assert_eq!(rt; gate.calls.load(Ordering::SeqCst), calls);
-    assert_eq!(rt; gate.places.load(Ordering::SeqCst), places);
-    Ok(())
+    let ran = play(rt, alloc, &script, Some(helm), order, 2, &gate).expect(rt, "memory");
+    assert!(rt; ran.iterations.len() == 3 && ran.db.entries() == calls);
+    assert!(rt; gate.calls.load(Ordering::SeqCst) == calls);
+    assert!(rt; gate.places.load(Ordering::SeqCst) == places);
 }
 
 // A helm alone is the first client, and one beside a client of two calls is the second.
 #[test]
-fn gate_sees_each_call(rt: HostRuntime) -> Result<(), Fail> {
+fn gate_sees_each_call(rt: HostRuntime) {
+    let alone = b"0.5 until\n";
+    let beside = b"0 nav post MOOS_MANUAL_OVERRIDE=false\n0.5 nav fetch\n";
     for order in [Order::Stamp, Order::Race] {
-        check_gate(&rt, rt.alloc(), b"0.5 until\n", order, 8, 28)?;
-        let text = b"0 nav post MOOS_MANUAL_OVERRIDE=false\n0.5 nav fetch\n";
-        check_gate(&rt, rt.alloc(), text, order, 10, 29)?;
+        check_gate(&rt, rt.alloc(), alone, order, 8, 28);
+        check_gate(&rt, rt.alloc(), beside, order, 10, 29);
     }
-    Ok(())
 }
 
-// What a run comes to that is ended after its next round. In between the database is lent, and its entries are counted.
-fn ended_after_a_round<R: Threads + Wait + Sync>(
-    rt: &R,
-    alloc: Global,
-    mut play: Play,
-) -> (Result<Option<Round>, NoMemory>, u64, Ran)
-    requires { IsBetween play }
+// How many entries the database has, which is lent for it.
+fn entries_lent<R: Wait>(rt: &R, play: &mut Play) -> u64
+    requires { IsBetween play.old }
+    ensures { IsBetween play.new }
 {
-    let round = play.round(rt, alloc, 1, &NoGate);
     let held = play.hold(rt);
     let entries = held.value().entries();
     play.put_back(held);
-    let ran = play.end(alloc);
-    (round, entries, ran)
+    entries
 }
 
-// The first round has a tick behind the line of its stamp.
-#[test]
-fn round_by_round(rt: HostRuntime) -> Result<(), Fail> {
-    let alloc = rt.alloc();
-    let script = script_of(&rt, alloc, b"0 nav post X=1\n0.25 until\n")?;
-    let helm = helm_of(&rt, alloc)?;
-    let none = List::new(alloc);
-    let play = Play::make(&rt, alloc, &script, Some(helm), none, Order::Stamp, &NoGate)?;
-    let (round, entries, ran) = ended_after_a_round(&rt, alloc, play);
-    let Some(round) = round? else {
-        return Err(Fail::from("no round"));
-    };
+// The first round has a tick behind the line of its stamp, and the run may be ended then.
+fn end_after_a_round<R: Threads + Wait + Sync + Abort>(rt: &R, alloc: Global, mut play: Play)
+    requires { IsBetween play }
+{
+    let round = round_of(rt, alloc, &mut play);
     assert!(rt; round.stamp == 0 && round.from == 2 && round.iterations.len() == 1);
-    assert!(rt; entries == 5 && ran.db.entries() == 5);
-    Ok(())
+    assert!(rt; entries_lent(rt, &mut play) == 5);
+    assert!(rt; play.end(alloc).db.entries() == 5);
 }
 
-fn name_alone(alloc: Global, name: &[u8]) -> Result<Names, Fail>
-    ensures { IfOk result (λ names. length names ≡ 1) }
+fn round_of<R: Threads + Wait + Sync + Abort>(rt: &R, alloc: Global, play: &mut Play) -> Round
+    requires { IsBetween play.old }
+    ensures { IsBetween play.new }
+{
+    match play.round(rt, alloc, 1, &NoGate) {
+        Ok(Some(round)) => round,
+        Ok(None) => panic!(rt; "no round"),
+        Err(_) => panic!(rt; "memory"),
+    }
+}
+
+#[test]
+fn round_by_round(rt: HostRuntime) {
+    let alloc = rt.alloc();
+    let script = script_of(&rt, alloc, b"0 nav post X=1\n0.25 until\n");
+    let helm = Some(helm_of(&rt, alloc));
+    match Play::make(
+        &rt,
+        alloc,
+        &script,
+        helm,
+        List::new(alloc),
+        Order::Stamp,
+        &NoGate,
+    ) {
+        Ok(play) => end_after_a_round(&rt, alloc, play),
+        Err(_) => panic!(rt; "memory"),
+    }
+}
+
+fn name_alone(rt: &impl Abort, alloc: Global, word: &str) -> Names
+    ensures { length result ≡ 1 }
 {
     let mut names = Names::new(alloc);
-    names.push(Name::new(alloc, name)?)?;
-    Ok(names)
+    match names.push(name(rt, alloc, word)) {
+        Ok(()) => names,
+        Err(_) => panic!(rt; "memory"),
+    }
 }
 
-// To hear one variable from everybody.
-fn hearing(alloc: Global, var: &[u8]) -> Result<Call, Fail> {
-    let mut regs = Regs::new(alloc);
-    regs.push(Reg {
-        var: Pattern::read(alloc, var)?,
-        source: Pattern::read(alloc, b"*")?,
-        interval: 0,
-    })?;
-    Ok(Call::Register(regs))
-}
-
-// To say something of one variable.
-fn saying(alloc: Global, var: &[u8], text: &[u8]) -> Result<Call, Fail> {
-    let mut batch = Batch::new(alloc);
-    batch.push(Pair {
-        var: Name::new(alloc, var)?,
-        value: Value::Text(Txt::new(alloc, text)?),
-    })?;
-    Ok(Call::Post(batch))
-}
-
-// The client registers for what the helm began with, lets the helm drive, and hears the one post that it registered for.
-fn enter_three<R: Wait + Abort>(
+// A call of the client.
+fn enter<R: Wait + Abort>(
     rt: &R,
     alloc: Global,
     play: &mut Play,
     client: u32,
-) -> Result<(), Fail>
+    stamp: u64,
+    call: Call,
+) -> Mail
     requires between { IsBetween play.old }
     requires further { IsFurther play.old client }
-    ensures between { OnOk result (IsBetween play.new) }
+    ensures between { IsBetween play.new }
+    ensures further { IsFurther play.new client }
 {
-    play.enter(rt, alloc, client, 7, hearing(alloc, b"DEPLOY")?)?;
-    let driving = saying(alloc, b"MOOS_MANUAL_OVERRIDE", b"false")?;
-    let nothing = play.enter(rt, alloc, client, 6, driving)?;
-    let mail = play.enter(rt, alloc, client, 5, Call::Fetch)?;
-    assert!(rt; nothing.len() == 0 && mail.len() == 1);
-    assert!(rt; mail.get(0).post.var.bytes() == b"DEPLOY".as_slice());
-    Ok(())
+    play.enter(rt, alloc, client, stamp, call)
+        .expect(rt, "memory")
 }
 
-// The round after these entries of the client.
-fn round_after_three<R: Threads + Wait + Sync + Abort>(
+// The client registers for what the helm began with, lets the helm drive, and hears the one post that it registered for.
+fn enter_three<R: Wait + Abort>(rt: &R, alloc: Global, play: &mut Play, client: u32)
+    requires between { IsBetween play.old }
+    requires further { IsFurther play.old client }
+    ensures { IsBetween play.new }
+{
+    let hearing = Call::Register(regs(rt, alloc, "DEPLOY"));
+    let driving = Value::Text(text(rt, alloc, "false"));
+    let driving = Call::Post(batch(rt, alloc, "MOOS_MANUAL_OVERRIDE", driving));
+    assert!(rt; enter(rt, alloc, play, client, 7, hearing).len() == 0);
+    assert!(rt; enter(rt, alloc, play, client, 6, driving).len() == 0);
+    let mail = enter(rt, alloc, play, client, 5, Call::Fetch);
+    assert!(rt; mail.len() == 1);
+    assert!(rt; mail.get(0).post.var.bytes() == b"DEPLOY".as_slice());
+}
+
+// The round after these entries of the client, in which the helm hears what the client posted: so it drives.
+fn drives_after_three<R: Threads + Wait + Sync + Abort>(
     rt: &R,
     alloc: Global,
     mut play: Play,
     client: u32,
-) -> Result<Option<Round>, Fail>
+)
     requires between { IsBetween play }
     requires further { IsFurther play client }
 {
-    match enter_three(rt, alloc, &mut play, client) {
-        Ok(()) => Ok(play.round(rt, alloc, 1, &NoGate)?),
-        Err(fail) => Err(fail),
-    }
+    enter_three(rt, alloc, &mut play, client);
+    let round = round_of(rt, alloc, &mut play);
+    assert!(rt; round.from == 5 && round.iterations.len() == 1);
+    assert!(rt; !round.iterations.get(0).parked);
 }
 
-// A further client's entries stand before the next round, in which the helm hears what the client posted: so it drives.
+// A further client's entries stand before the next round.
 #[test]
-fn further_client_is_heard(rt: HostRuntime) -> Result<(), Fail> {
+fn further_client_is_heard(rt: HostRuntime) {
     let alloc = rt.alloc();
-    let script = script_of(&rt, alloc, b"0 nav post X=1\n0.25 until\n")?;
+    let script = script_of(&rt, alloc, b"0 nav post X=1\n0.25 until\n");
     assert!(rt; script.names.len() == 1);
-    let helm = helm_of(&rt, alloc)?;
-    let further = name_alone(alloc, b"shore")?;
-    let play = Play::make(
+    let helm = helm_of(&rt, alloc);
+    let further = name_alone(&rt, alloc, "shore");
+    match Play::make(
         &rt,
         alloc,
         &script,
@@ -295,11 +290,8 @@ fn further_client_is_heard(rt: HostRuntime) -> Result<(), Fail> {
         further,
         Order::Stamp,
         &NoGate,
-    )?;
-    let Some(round) = round_after_three(&rt, alloc, play, 2)? else {
-        return Err(Fail::from("no round"));
-    };
-    assert!(rt; round.from == 5 && round.iterations.len() == 1);
-    assert!(rt; !round.iterations.get(0).parked);
-    Ok(())
+    ) {
+        Ok(play) => drives_after_three(&rt, alloc, play, 2),
+        Err(_) => panic!(rt; "memory"),
+    }
 }

@@ -1,12 +1,14 @@
+ghost use Rattle.std.specs.Prelude.{◌<◌, length};
+
+use crate::made::{batch, names, number, regs, text};
 use bhv_reader::UnusedList;
 use helm_core::{Faults, Iteration, States, Updates};
 use moos_db::Db;
 use moos_io::MemSink;
-use moos_post::{Batch, Milli, Name, Names, Pair, Pattern, Reg, Regs, Txt, Value};
+use moos_post::{Batch, Names};
 use moos_report::{Setup, parts_law, report, report_law};
 use std::alloc::Global;
 use std::process::Abort;
-use std::test::Fail;
 
 fn setup(alloc: Global) -> Setup {
     Setup {
@@ -16,50 +18,40 @@ fn setup(alloc: Global) -> Setup {
     }
 }
 
-fn registration(alloc: Global) -> Result<Regs, Fail> {
-    let mut regs = Regs::new(alloc);
-    regs.push(Reg {
-        var: Pattern::read(alloc, b"X")?,
-        source: Pattern::read(alloc, b"*")?,
-        interval: 0,
-    })?;
-    Ok(regs)
-}
-
-fn batch(alloc: Global) -> Result<Batch, Fail> {
-    let mut batch = Batch::new(alloc);
-    batch.push(Pair {
-        var: Name::new(alloc, b"X")?,
-        value: Value::Num(Milli::new(5000).ok_or("a number")?),
-    })?;
-    Ok(batch)
-}
-
 // A helm that hears itself: its opening posts something, and so does its one iteration.
-fn community(rt: &impl Abort, alloc: Global) -> Result<Db, Fail> {
-    let mut names = Names::new(alloc);
-    names.push(Name::new(alloc, b"pHelmIvP")?)?;
-    assert!(rt; names.len() < 100);
-    let mut db = Db::make(alloc, names)?;
-    assert!(rt; 0 < db.clients());
-    db.register(alloc, 0, 0, registration(alloc)?)?;
-    db.post(alloc, 0, 0, batch(alloc)?)?;
-    let _ = db.fetch(alloc, 0, 250)?;
-    db.post(alloc, 0, 250, batch(alloc)?)?;
-    Ok(db)
+fn act(rt: &impl Abort, alloc: Global, db: &mut Db)
+    requires { 0 < length db.old.names }
+{
+    let registered = db.register(alloc, 0, 0, regs(rt, alloc, "X"));
+    registered.expect(rt, "memory");
+    let posted = db.post(alloc, 0, 0, batch(rt, alloc, "X", number(rt, 5000)));
+    posted.expect(rt, "memory");
+    let fetched = db.fetch(alloc, 0, 250);
+    let _ = fetched.expect(rt, "memory");
+    let posted = db.post(alloc, 0, 250, batch(rt, alloc, "X", number(rt, 5000)));
+    posted.expect(rt, "memory");
 }
 
-fn iteration(alloc: Global) -> Result<Iteration, Fail> {
-    Ok(Iteration {
+fn community(rt: &impl Abort, alloc: Global) -> Db {
+    let names = names(rt, alloc, "pHelmIvP");
+    assert!(rt; names.len() < 100);
+    let mut db = Db::make(alloc, names).expect(rt, "memory");
+    assert!(rt; 0 < db.clients());
+    act(rt, alloc, &mut db);
+    db
+}
+
+fn iteration(rt: &impl Abort, alloc: Global) -> Iteration {
+    Iteration {
         stamp: 250,
         parked: true,
-        mode: Txt::new(alloc, b"")?,
+        mode: text(rt, alloc, ""),
         updates: Updates::new(alloc),
         states: States::new(alloc),
         faults: Faults::new(alloc),
         decision: None,
         posts: Batch::new(alloc),
-    })
+    }
 }
 
 const REPORT: &str = "%% moosdb play 1
@@ -77,25 +69,35 @@ const REPORT: &str = "%% moosdb play 1
 %% end 4 2
 ";
 
+// What the sink has of the report, where its put of this number fails, and whether the report was told whole.
+fn is_reported(
+    rt: &impl Abort,
+    alloc: Global,
+    db: &Db,
+    iterations: &[Iteration],
+    mark: u64,
+    taken: usize,
+) {
+    let mut sink = MemSink::make(alloc, 2000, 4096).expect(rt, "memory");
+    sink.fail_at(mark).expect(rt, "memory");
+    let reported = report(&setup(alloc), db, iterations, &mut sink);
+    assert!(rt; reported.is_ok() == (mark == 3));
+    assert_eq!(rt; sink.bytes(), REPORT.as_bytes().get(..taken).unwrap_or(b""));
+}
+
 // Head, entries and end leave in one put each, and where one of these fails those before it are out.
 #[test]
-fn parts_leave_in_one_put_each(rt: HostRuntime) -> Result<(), Fail> {
-    let (db, setup) = (community(&rt, rt.alloc())?, setup(rt.alloc()));
-    let iterations = [iteration(rt.alloc())?];
+fn parts_leave_in_one_put_each(rt: HostRuntime) {
+    let db = community(&rt, rt.alloc());
+    let iterations = [iteration(&rt, rt.alloc())];
     for (mark, taken) in [(0, 0), (1, 38), (2, 269), (3, 280)] {
-        let mut sink = MemSink::make(rt.alloc(), 2000, 4096)?;
-        sink.fail_at(mark)?;
-        let reported = report(&setup, &db, &iterations, &mut sink);
-        assert_eq!(rt; reported.is_ok(), mark == 3);
-        assert_eq!(rt; sink.bytes(), REPORT.as_bytes().get(..taken).unwrap_or(b""));
+        is_reported(&rt, rt.alloc(), &db, &iterations, mark, taken);
     }
-    Ok(())
 }
 
 // A law does nothing, and says what it says to whoever calls it.
 #[test]
-fn laws_hold(_rt: HostRuntime) -> Result<(), Fail> {
+fn laws_hold(_rt: HostRuntime) {
     report_law();
     parts_law();
-    Ok(())
 }

@@ -1,78 +1,16 @@
 // Steps of behaviours that go to places, one after the other.
-ghost use Rattle.std.specs.Prelude.{IfOk};
 ghost use Rattle.bhv_kinds.specs.Standing.{IsSoundKind};
 
-use crate::kinds::{known, station, value, waters};
+use crate::kinds::{known, station, stepped, update, value};
 use bhv_kinds::{BhvFault, Kind, Out};
 use bhv_reader::{Shape, Spec, Spots};
 use helm_geo::Spot;
-use moos_post::Txt;
 use std::alloc::Global;
 use std::process::Abort;
-use std::test::Fail;
 
-// Where a function is greatest: the number of the course, that of the speed, and the utility there.
-type Led = Option<(u32, u32, i64)>;
-
-// A step: whether it is fresh, where the ship is, where it is led then, and whether the behaviour is done.
-#[derive(Clone, Copy)]
-struct Leg {
-    fresh: bool,
-    place: Option<(i64, i64)>,
-    led: Led,
-    done: bool,
-}
-
-const fn at(x: i64, y: i64, course: u32, speed: u32) -> Leg {
-    Leg {
-        fresh: false,
-        place: Some((x, y)),
-        led: Some((course, speed, 100_000)),
-        done: false,
-    }
-}
-
-const fn fresh(x: i64, y: i64, course: u32, speed: u32) -> Leg {
-    Leg {
-        fresh: true,
-        place: Some((x, y)),
-        led: Some((course, speed, 100_000)),
-        done: false,
-    }
-}
-
-// To stay: a fresh step or not.
-const fn still(fresh: bool, x: i64, y: i64) -> Leg {
-    Leg {
-        fresh,
-        place: Some((x, y)),
-        led: Some((0, 0, 50_000)),
-        done: false,
-    }
-}
-
-// The last point of a list is captured for the last time.
-const fn last(x: i64, y: i64) -> Leg {
-    Leg {
-        fresh: false,
-        place: Some((x, y)),
-        led: None,
-        done: true,
-    }
-}
-
-// No position is known.
-const fn lost(fresh: bool) -> Leg {
-    Leg {
-        fresh,
-        place: None,
-        led: None,
-        done: false,
-    }
-}
-
-// The first of the best points, of four courses, three speeds and three depths.
-fn led(out: &Out) -> Led {
+// The first of the best points, of four courses, three speeds and three depths: the number of the course, that of the speed, and
+// the utility there.
+fn led(out: &Out) -> Option<(i64, i64, i64)> {
     let Some(func) = &out.func else {
         return None;
     };
@@ -82,65 +20,101 @@ fn led(out: &Out) -> Led {
             best = index;
         }
     }
-    Some((best / 9, best / 3 % 3, value(func, best).unwrap_or(0)))
+    let (course, speed) = (best / 9, best / 3 % 3);
+    Some((course as i64, speed as i64, value(func, best).unwrap_or(0)))
+}
+
+// The number that a word stands for, where there is one.
+fn number(word: Option<&str>) -> Option<i64> {
+    word.unwrap_or("").parse::<i64>().ok()
+}
+
+fn pair(one: Option<i64>, other: Option<i64>) -> Option<(i64, i64)> {
+    match (one, other) {
+        (Some(one), Some(other)) => Some((one, other)),
+        _ => None,
+    }
+}
+
+// Where a step leads, as `led` tells it, by the words for the course, the speed and the utility.
+fn wanted(
+    course: Option<i64>,
+    speed: Option<i64>,
+    utility: Option<i64>,
+) -> Option<(i64, i64, i64)> {
+    match (pair(course, speed), utility) {
+        (Some((course, speed)), Some(utility)) => Some((course, speed, utility)),
+        _ => None,
+    }
+}
+
+fn is_told(rt: &impl Abort, out: &Out, led_to: Option<(i64, i64, i64)>, done: bool) {
+    let is_led = led_to.is_some();
+    assert!(rt; led(out) == led_to && out.done == done);
+    assert!(rt; out.course == is_led && out.speed == is_led);
+}
+
+// A step of a row: it is `fresh`, or the `last` one, with which the behaviour is done, or another; where the ship is, if that
+// is known; and where it is led then, if anywhere.
+fn steps(rt: &impl Abort, alloc: Global, kind: &mut Kind, row: &str)
+    requires { IsSoundKind kind.old }
+    ensures { IsSoundKind kind.new }
+{
+    let mut words = row.split_whitespace();
+    let how = words.next().unwrap_or("");
+    let place = pair(number(words.next()), number(words.next()));
+    let led_to = wanted(
+        number(words.next()),
+        number(words.next()),
+        number(words.next()),
+    );
+    let info = known(rt, alloc, place, 0);
+    let out = stepped(rt, alloc, kind, &info, 0, how == "fresh");
+    is_told(rt, &out, led_to, how == "last");
+    let lost = if place.is_none() {
+        Some(BhvFault::NoPosition)
+    } else {
+        None
+    };
+    assert!(rt; out.fault == lost);
 }
 
 // Takes an update, and then makes these steps.
-fn travels(
-    rt: &impl Abort,
-    alloc: Global,
-    kind: &mut Kind,
-    update: &[u8],
-    legs: &[Leg],
-) -> Result<(), Fail>
+fn travels(rt: &impl Abort, alloc: Global, kind: &mut Kind, said: &str, rows: &str)
     requires { IsSoundKind kind.old }
-    ensures { IfOk result (λ _. IsSoundKind kind.new) }
+    ensures { IsSoundKind kind.new }
 {
-    let text = Txt::new(alloc, update).map_err(|_| "a text")?;
-    assert!(rt; kind.update(alloc, &text)?);
-    let domain = waters()?;
-    for leg in legs {
-        let info = known(alloc, leg.place, 0)?;
-        let out = kind.step(alloc, &domain, &info, 0, leg.fresh)?;
-        assert_eq!(rt; led(&out), leg.led);
-        assert_eq!(rt;
-            (out.course, out.speed),
-            (out.func.is_some(), out.func.is_some())
-        );
-        assert_eq!(rt; out.done, leg.done);
-        let fault = if leg.place.is_none() {
-            Some(BhvFault::NoPosition)
-        } else {
-            None
-        };
-        assert_eq!(rt; out.fault, fault);
+    update(rt, alloc, kind, said, true);
+    for row in rows.lines() {
+        steps(rt, alloc, kind, row);
     }
-    Ok(())
 }
 
 // A list of one point.
 #[tactic(auto, using(bhv_kinds::proofs::KindExamples::waypoint_valid))]
-fn waypoint(alloc: Global) -> Result<Kind, Fail>
-    ensures { IfOk result IsSoundKind }
+fn waypoint(rt: &impl Abort, alloc: Global) -> Kind
+    ensures { IsSoundKind result }
 {
-    let points = Vec::from_slice(alloc, &[Spot { x: 0, y: 0 }])?;
-    Ok(Kind::make(Spec {
-        weight: 100,
-        shape: Shape::Waypoint {
-            points: Spots::of(points),
-            speed: 1000,
-            capture_radius: 10_000,
-            slip_radius: 15_000,
-            reverse: false,
-            repeat: Some(1),
-        },
-    }))
+    match Vec::from_slice(alloc, &[Spot { x: 0, y: 0 }]) {
+        Ok(points) => Kind::make(Spec {
+            weight: 100,
+            shape: Shape::Waypoint {
+                points: Spots::of(points),
+                speed: 1000,
+                capture_radius: 10_000,
+                slip_radius: 15_000,
+                reverse: false,
+                repeat: Some(1),
+            },
+        }),
+        Err(_) => panic!(rt; "memory"),
+    }
 }
 
 // A square of a hundred, listed counterclockwise.
 #[tactic(auto, using(bhv_kinds::proofs::KindExamples::loiter_valid))]
-fn loiter(alloc: Global) -> Result<Kind, Fail>
-    ensures { IfOk result IsSoundKind }
+fn loiter(rt: &impl Abort, alloc: Global) -> Kind
+    ensures { IsSoundKind result }
 {
     let vertices = [
         Spot { x: 0, y: 0 },
@@ -151,87 +125,86 @@ fn loiter(alloc: Global) -> Result<Kind, Fail>
         },
         Spot { x: 0, y: 100_000 },
     ];
-    let polygon = Vec::from_slice(alloc, &vertices)?;
-    Ok(Kind::make(Spec {
-        weight: 100,
-        shape: Shape::Loiter {
-            polygon: Spots::of(polygon),
-            speed: 1000,
-            capture_radius: 10_000,
-            slip_radius: 20_000,
-            clockwise: true,
-        },
-    }))
+    match Vec::from_slice(alloc, &vertices) {
+        Ok(polygon) => Kind::make(Spec {
+            weight: 100,
+            shape: Shape::Loiter {
+                polygon: Spots::of(polygon),
+                speed: 1000,
+                capture_radius: 10_000,
+                slip_radius: 20_000,
+                clockwise: true,
+            },
+        }),
+        Err(_) => panic!(rt; "memory"),
+    }
 }
+
+const FORTH: &str = "step 0 -10001 0 1 100000
+step 0 -10000 1 1 100000
+step 90000 -13000 0 1 100000
+step 95000 -13000 0 1 100000
+step
+step 95000 -13000 0 1 100000
+step 100000 -14000 3 1 100000
+step 0 0 1 1 100000
+last 100000 0
+step 100000 0 3 1 100000";
+
+const BACK: &str = "step 0 0 1 1 100000
+step 100000 0 3 1 100000
+step 0 1 1 1 100000";
 
 // Captured at exactly the radius, slipped past from within the slip radius, begun again once, done, and begun anew; then from
 // the last point to the first.
 #[test]
-fn lists(rt: HostRuntime) -> Result<(), Fail> {
-    let alloc = rt.alloc();
-    let mut kind = waypoint(alloc)?;
-    let legs = [
-        at(0, -10_001, 0, 1),
-        at(0, -10_000, 1, 1),
-        at(90_000, -13_000, 0, 1),
-        at(95_000, -13_000, 0, 1),
-        lost(false),
-        at(95_000, -13_000, 0, 1),
-        at(100_000, -14_000, 3, 1),
-        at(0, 0, 1, 1),
-        last(100_000, 0),
-        at(100_000, 0, 3, 1),
-    ];
-    travels(&rt, alloc, &mut kind, b"points=0,0:100,0", &legs)?;
-    let legs = [at(0, 0, 1, 1), at(100_000, 0, 3, 1), at(0, 1, 1, 1)];
-    travels(&rt, alloc, &mut kind, b"order=reverse", &legs)
+fn lists(rt: HostRuntime) {
+    let mut kind = waypoint(&rt, rt.alloc());
+    travels(&rt, rt.alloc(), &mut kind, "points=0,0:100,0", FORTH);
+    travels(&rt, rt.alloc(), &mut kind, "order=reverse", BACK);
 }
 
 // A list of one point that is begun again once, and is slipped past as the same target.
 #[test]
-fn one_point(rt: HostRuntime) -> Result<(), Fail> {
-    let alloc = rt.alloc();
-    let mut kind = waypoint(alloc)?;
-    let legs = [at(0, -10_000, 0, 1), last(0, -10_500)];
-    travels(&rt, alloc, &mut kind, b"pwt=100", &legs)
+fn one_point(rt: HostRuntime) {
+    let mut kind = waypoint(&rt, rt.alloc());
+    let rows = "step 0 -10000 0 1 100000\nlast 0 -10500";
+    travels(&rt, rt.alloc(), &mut kind, "pwt=100", rows);
 }
+
+const CLOCKWISE: &str = "fresh
+step 50000 -20000 3 1 100000
+step 0 -10000 0 1 100000
+step 0 90000 1 1 100000
+fresh 0 -10001 0 1 100000";
+
+const ANTICLOCKWISE: &str = "step 0 -10000 1 1 100000
+step 90000 0 0 1 100000";
 
 // The nearest vertex, the first of several; clockwise, the other way, and chosen anew.
 #[test]
-fn polygons(rt: HostRuntime) -> Result<(), Fail> {
-    let alloc = rt.alloc();
-    let mut kind = loiter(alloc)?;
-    let legs = [
-        lost(true),
-        at(50_000, -20_000, 3, 1),
-        at(0, -10_000, 0, 1),
-        at(0, 90_000, 1, 1),
-        fresh(0, -10_001, 0, 1),
-    ];
-    travels(&rt, alloc, &mut kind, b"pwt=100", &legs)?;
-    let legs = [at(0, -10_000, 1, 1), at(90_000, 0, 0, 1)];
-    travels(&rt, alloc, &mut kind, b"clockwise=false", &legs)
+fn polygons(rt: HostRuntime) {
+    let mut kind = loiter(&rt, rt.alloc());
+    travels(&rt, rt.alloc(), &mut kind, "pwt=100", CLOCKWISE);
+    travels(&rt, rt.alloc(), &mut kind, "clockwise=false", ANTICLOCKWISE);
 }
+
+const HERE: &str = "fresh
+step 5000 5000 0 0 50000
+step 5000 -10000 0 1 100000
+fresh 5000 -10000 0 0 50000";
+
+const THERE: &str = "step 0 -10000 0 0 50000
+step 0 -10001 0 0 100000
+step 0 -15000 0 1 100000
+step 0 -20000 0 2 100000
+step 0 -90000 0 2 100000";
 
 // To stay up to the inner radius, and back to the station, as fast as the distance says up to the outer one.
 #[test]
-fn stations(rt: HostRuntime) -> Result<(), Fail> {
-    let alloc = rt.alloc();
+fn stations(rt: HostRuntime) {
     let mut kind = station();
-    let legs = [
-        lost(true),
-        still(false, 5_000, 5_000),
-        at(5_000, -10_000, 0, 1),
-        still(true, 5_000, -10_000),
-    ];
-    travels(&rt, alloc, &mut kind, b"pwt=100", &legs)?;
-    let legs = [
-        still(false, 0, -10_000),
-        at(0, -10_001, 0, 0),
-        at(0, -15_000, 0, 1),
-        at(0, -20_000, 0, 2),
-        at(0, -90_000, 0, 2),
-    ];
-    let update = b"center_activate=false#point=0,0#outer_radius=20#inner_radius=10#outer_speed=2";
-    travels(&rt, alloc, &mut kind, update, &legs)
+    travels(&rt, rt.alloc(), &mut kind, "pwt=100", HERE);
+    let said = "center_activate=false#point=0,0#outer_radius=20#inner_radius=10#outer_speed=2";
+    travels(&rt, rt.alloc(), &mut kind, said, THERE);
 }
