@@ -3,7 +3,8 @@ use Rattle.std.proofs.Common.{◌≡◌, ℕ, zero, suc, ◌+◌, ◌-◌, ◌<�
 use Rattle.std.specs.Prelude.{slice_get, option_map, if◌then◌else◌}
 use Rattle.std.specs.List.{concat, filter}
 use Rattle.std.proofs.Math.Seq.{drop-cons, take-suc}
-use Rattle.std.proofs.lemmas.List.{drop_all}
+use Rattle.std.proofs.lemmas.List.{append_assoc, drop_all}
+use Rattle.std.proofs.lemmas.List.Folds.{concat-append}
 use Rattle.std.proofs.lemmas.List.Filters.{length-filter_more}
 use Rattle.std.proofs.lemmas.List.Sums.{count_by-le-length, length-filter}
 use Rattle.std.proofs.lemmas.Option.{get_or_from_slice_get, slice_get_past, slice_get_within}
@@ -21,6 +22,7 @@ use Rattle.moos_db.specs.Database.{pair_posted, origin_of}
 use Rattle.moos_db.proofs.Growth.{posts-front}
 use Rattle.bhv_life.specs.declared.outcome.BhvState.{BhvState}
 use Rattle.helm_core.specs.declared.iteration.Iteration.{Iteration}
+use Rattle.moos_text.specs.Numbers.{unsigned_text}
 use Rattle.moos_report.specs.declared.setup.Setup.{Setup}
 use Rattle.moos_report.specs.IterationLines.{behavior_text, current_text, helm_fetches, is_helm_fetch, iteration_from, listed_text, outcome_text, states_text}
 use Rattle.moos_report.specs.Report.{client_text, clients_text, entry_text, entries_text, said_text, post_text, letter_text, letters_text, call_text}
@@ -157,3 +159,12 @@ went_whole {text = text} took later = record { piece = text; took = took; rest =
 pub stopped_whole : {before now : Option (List ℕ)} {faults after : ℕ} {text : List ℕ} → TookFront before now text → faults ≤ after → Rose faults after
     → Stopped (way before [] faults) (way now [] after) text
 stopped_whole front later rose = record { front = front; later = later; rose = rose }
+
+-- the line of a letter, whose front is written with that of its post
+pub mail_line : (number stamp : ℕ) (var source value : List ℕ) →
+    concat (codes "%% mail " ∷ decimal number ∷ codes " " ∷ unsigned_text stamp ∷ codes " " ∷ var ∷ codes " " ∷ source ∷ codes " " ∷ []) ++ value
+    ≡ concat (codes "%% mail " ∷ decimal number ∷ codes " " ∷ []) ++ (concat (unsigned_text stamp ∷ codes " " ∷ var ∷ codes " " ∷ source ∷ codes " " ∷ []) ++ value)
+mail_line number stamp var source value =
+    let front = codes "%% mail " ∷ decimal number ∷ codes " " ∷ [] in
+    let said = unsigned_text stamp ∷ codes " " ∷ var ∷ codes " " ∷ source ∷ codes " " ∷ [] in
+    ap (λ line. line ++ value) (concat-append front said) ∙ append_assoc (concat front) (concat said) value

@@ -29,7 +29,7 @@ mod setup;
 use self::iterations::{fetches_after, put_outcome};
 pub use self::law::{parts_law, report_law};
 use self::lines::{put, put_client, put_mail, put_post, put_reg, put_unused};
-pub use self::parts::{report, report_end, report_head, report_part};
+pub use self::parts::{report, report_end, report_head, report_part, report_part_through};
 pub use self::setup::Setup;
 use bhv_reader::Unused;
 use helm_core::Iteration;
@@ -363,8 +363,12 @@ fn put_letter<K: Sink>(
         return Ok(());
     }
     let (origin, pair) = (db.origin(number), db.pair(number));
-    if let Err(failed) = put_mail(number, buffer, out) {
-        return Err(failed);
-    }
-    put_post(origin.stamp, name_of(db, origin.client), pair, buffer, out)
+    put_mail(
+        number,
+        origin.stamp,
+        name_of(db, origin.client),
+        pair,
+        buffer,
+        out,
+    )
 }

@@ -2,7 +2,6 @@
 ghost use Rattle.std.specs.Prelude.{◌≡◌, ◌<◌, ◌≤◌, [], ◌∷◌, ◌++◌, map, flat_map, length, take, slice_index, codes, IsTrue, decimal};
 ghost use Rattle.std.specs.List.{concat};
 ghost use Rattle.moos_io.specs.Writing.{Wrote, way};
-ghost use Rattle.moos_text.specs.Numbers.{unsigned_text};
 ghost use Rattle.moos_report.specs.Report.{client_text, reg_text, said_text, unused_text, value_text, is_sign, escaped};
 
 use bhv_reader::Unused;
@@ -79,42 +78,40 @@ pub(super) fn put_post<K: Sink>(
     ensures { Wrote (way (K.taken out.old) buffer.old (K.faults out.old)) (way (K.taken out.new) buffer.new (K.faults out.new))
         result (said_text stamp source.now pair.now.var pair.now.value) }
 {
-    if let Err(failed) = put_saying(stamp, source, &pair.var, buffer, out) {
+    let stamp = print_seconds(stamp);
+    let var = pair.var.bytes();
+    if let Err(failed) = put(&[stamp.bytes(), b" ", var, b" ", source, b" "], buffer, out) {
         return Err(failed);
     }
-    if let Err(failed) = put_value(&pair.value, buffer, out) {
-        return Err(failed);
-    }
-    put(&[b"\n"], buffer, out)
+    put_value(&pair.value, buffer, out)
 }
 
-// What stands before the value on the line of a post.
-fn put_saying<K: Sink>(
+// The line of a letter: the post's number, and the post by the client with this name.
+pub(super) fn put_mail<K: Sink>(
+    number: u64,
     stamp: u64,
     source: &[u8],
-    var: &Name,
+    pair: &Pair,
     buffer: &mut Buffer,
     out: &mut K,
 ) -> Result<(), Failed>
     ensures { Wrote (way (K.taken out.old) buffer.old (K.faults out.old)) (way (K.taken out.new) buffer.new (K.faults out.new))
-        result (concat (unsigned_text stamp ∷ codes " " ∷ var.now ∷ codes " " ∷ source.now ∷ codes " " ∷ [])) }
-{
-    let stamp = print_seconds(stamp);
-    put(
-        &[stamp.bytes(), b" ", var.bytes(), b" ", source, b" "],
-        buffer,
-        out,
-    )
-}
-
-// What stands before the post on the line of a letter.
-pub(super) fn put_mail<K: Sink>(number: u64, buffer: &mut Buffer, out: &mut K) -> Result<(), Failed>
-    ensures { Wrote (way (K.taken out.old) buffer.old (K.faults out.old)) (way (K.taken out.new) buffer.new (K.faults out.new))
-        result (concat (codes "%% mail " ∷ decimal number ∷ codes " " ∷ [])) }
+        result (concat (codes "%% mail " ∷ decimal number ∷ codes " " ∷ []) ++ said_text stamp source.now pair.now.var pair.now.value) }
 {
     let mut digits = itoa::Buffer::new();
     let number = digits.format(number).as_bytes();
-    put(&[b"%% mail ", number, b" "], buffer, out)
+    let stamp = print_seconds(stamp);
+    let (seconds, var) = (stamp.bytes(), pair.var.bytes());
+    if let Err(failed) = put(
+        &[
+            b"%% mail ", number, b" ", seconds, b" ", var, b" ", source, b" ",
+        ],
+        buffer,
+        out,
+    ) {
+        return Err(failed);
+    }
+    put_value(&pair.value, buffer, out)
 }
 
 // The line at the end, which counts the entries and the posts.
@@ -135,20 +132,21 @@ pub(super) fn put_end<K: Sink>(
     put(&[b"%% end ", entries, b" ", posts, b"\n"], buffer, out)
 }
 
+// The value, which ends a line.
 fn put_value<K: Sink>(value: &Value, buffer: &mut Buffer, out: &mut K) -> Result<(), Failed>
     ensures { Wrote (way (K.taken out.old) buffer.old (K.faults out.old)) (way (K.taken out.new) buffer.new (K.faults out.new))
-        result (value_text value.now) }
+        result (value_text value.now ++ codes "\n") }
 {
     match value {
-        Value::Num(number) => put(&[print_milli(*number).bytes()], buffer, out),
+        Value::Num(number) => put(&[print_milli(*number).bytes(), b"\n"], buffer, out),
         Value::Text(text) => put_quoted(text.bytes(), buffer, out),
     }
 }
 
-// The text between quotes.
+// The text between quotes, which ends a line.
 fn put_quoted<K: Sink>(text: &[u8], buffer: &mut Buffer, out: &mut K) -> Result<(), Failed>
     ensures { Wrote (way (K.taken out.old) buffer.old (K.faults out.old)) (way (K.taken out.new) buffer.new (K.faults out.new))
-        result (concat (codes "\"" ∷ flat_map escaped text.now ∷ codes "\"" ∷ [])) }
+        result (concat (codes "\"" ∷ flat_map escaped text.now ∷ codes "\"\n" ∷ [])) }
 {
     if let Err(failed) = put(&[b"\""], buffer, out) {
         return Err(failed);
@@ -156,7 +154,7 @@ fn put_quoted<K: Sink>(text: &[u8], buffer: &mut Buffer, out: &mut K) -> Result<
     if let Err(failed) = put_escaped(text, buffer, out) {
         return Err(failed);
     }
-    put(&[b"\""], buffer, out)
+    put(&[b"\"\n"], buffer, out)
 }
 
 // The text in runs up to each byte that gets a `\`.

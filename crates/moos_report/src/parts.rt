@@ -1,5 +1,5 @@
 // A report at once, and part by part.
-ghost use Rattle.std.specs.Prelude.{◌≡◌, ◌≤◌, OnOk, OnErr, take, drop};
+ghost use Rattle.std.specs.Prelude.{◌≡◌, ◌≤◌, [], OnOk, OnErr, take, drop};
 ghost use Rattle.moos_io.specs.Faults.{Rose};
 ghost use Rattle.moos_io.specs.Pieces.{Took, TookFront};
 ghost use Rattle.moos_io.specs.Writing.{Wrote, way};
@@ -87,7 +87,30 @@ pub fn report_part<K: Sink>(
     ensures rose { OnErr result (Rose (K.faults out.old) (K.faults out.new)) }
 {
     let mut buffer = Buffer::new();
-    if let Err(failed) = put_entries(setup, db, from, first, iterations, &mut buffer, out) {
+    report_part_through(setup, db, from, first, iterations, &mut buffer, out)
+}
+
+/// Writes the same through an empty buffer, which is empty again after Ok: who writes part after part makes one for all.
+pub fn report_part_through<K: Sink>(
+    setup: &Setup,
+    db: &Db,
+    from: u64,
+    first: u64,
+    iterations: &[Iteration],
+    buffer: &mut Buffer,
+    out: &mut K,
+) -> Result<(), Failed>
+    requires first { helm_fetches db.now.names (take from db.now.history) ≡ first }
+    requires empty { buffer.old ≡ [] }
+    ensures ok { OnOk result (Took (K.taken out.old) (K.taken out.new)
+        (entries_text setup.now first iterations.now db.now.names (take from db.now.history) (drop from db.now.history))) }
+    ensures front { OnErr result (TookFront (K.taken out.old) (K.taken out.new)
+        (entries_text setup.now first iterations.now db.now.names (take from db.now.history) (drop from db.now.history))) }
+    ensures later { K.faults out.old ≤ K.faults out.new }
+    ensures rose { OnErr result (Rose (K.faults out.old) (K.faults out.new)) }
+    ensures empty { OnOk result (buffer.new ≡ []) }
+{
+    if let Err(failed) = put_entries(setup, db, from, first, iterations, buffer, out) {
         return Err(failed);
     }
     if let Err(failed) = buffer.flush(out) {

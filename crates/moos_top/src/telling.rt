@@ -15,10 +15,10 @@ ghost use Rattle.script_reader.specs.Validity.{IsValid};
 use crate::run::written;
 use crate::status::Status;
 use moos_db::Db;
-use moos_io::{Failed, Gate, Sink};
+use moos_io::{Buffer, Failed, Gate, Sink};
 use moos_play::{HelmRun, Order, Play, Round};
 use moos_post::List;
-use moos_report::{Setup, parts_law, report_end, report_head, report_part};
+use moos_report::{Setup, parts_law, report_end, report_head, report_part, report_part_through};
 use script_reader::Script;
 use std::alloc::Global;
 use std::sync::Wait;
@@ -72,9 +72,12 @@ fn tell<R: Threads + Wait + Sync, K: Sink, G: Gate>(
     if let Err(_) = tell_opening(rt, play, setup, out) {
         return Status::WriteFault;
     }
+    let mut buffer = Buffer::new();
     let mut made = 0;
     loop {
-        match tell_round(rt, alloc, play, setup, made, workers, out, gate) {
+        match tell_round(
+            rt, alloc, play, setup, made, workers, &mut buffer, out, gate,
+        ) {
             Ok(Some(more)) => made += more,
             Ok(None) => return written(Status::Done, tell_end(rt, play, out)),
             Err(status) => return status,
@@ -83,7 +86,7 @@ fn tell<R: Threads + Wait + Sync, K: Sink, G: Gate>(
 }
 
 // Plays the next round and tells it, where the helm has made so many iterations before, and answers how many it made in it.
-// None where no round is left.
+// None where no round is left. The buffer is empty before and after.
 fn tell_round<R: Threads + Wait + Sync, K: Sink, G: Gate>(
     rt: &R,
     alloc: Global,
@@ -91,13 +94,16 @@ fn tell_round<R: Threads + Wait + Sync, K: Sink, G: Gate>(
     setup: &Setup,
     made: u64,
     workers: u32,
+    buffer: &mut Buffer,
     out: &mut K,
     gate: &G,
 ) -> Result<Option<u64>, Status>
+    requires empty { buffer.old ≡ [] }
     requires between { IsBetween play.old }
     requires named { clients_in play.old ≡ names_with (script_played play.old) (helm_in play.old) }
     requires made { made ≡ length (iterations_made play.old) }
     requires few { (1 ≤ workers) × (workers ≤ 16) }
+    ensures empty { OnOk result (buffer.new ≡ []) }
     ensures between { OnOk result (IsBetween play.new) }
     ensures same { OnOk result (GoesOnWith play.old play.new) }
     ensures later { K.faults out.old ≤ K.faults out.new }
@@ -120,7 +126,7 @@ fn tell_round<R: Threads + Wait + Sync, K: Sink, G: Gate>(
         return Ok(None);
     };
     play.front_law();
-    if let Err(_) = tell_part(rt, play, setup, &round, made, out) {
+    if let Err(_) = tell_part(rt, play, setup, &round, made, buffer, out) {
         return Err(Status::WriteFault);
     }
     Ok(Some(round.iterations.len() as u64))
@@ -159,17 +165,20 @@ fn report_front<K: Sink>(setup: &Setup, db: &Db, out: &mut K) -> Result<(), Fail
     report_part(setup, db, 0, 0, &[], out)
 }
 
-// Tells what a round brought, where the helm has made so many iterations before.
+// Tells what a round brought, where the helm has made so many iterations before, through an empty buffer.
 fn tell_part<R: Wait, K: Sink>(
     rt: &R,
     play: &mut Play,
     setup: &Setup,
     round: &Round,
     made: u64,
+    buffer: &mut Buffer,
     out: &mut K,
 ) -> Result<(), Failed>
+    requires empty { buffer.old ≡ [] }
     requires seated { IsSeated play.old }
     requires fetched { helm_fetches (clients_in play.old) (take round.now.from (history_in play.old)) ≡ made }
+    ensures empty { OnOk result (buffer.new ≡ []) }
     ensures same { play.new ≡ play.old }
     ensures ok { OnOk result (Took (K.taken out.old) (K.taken out.new)
         (entries_text setup.now made round.now.iterations (clients_in play.old) (take round.now.from (history_in play.old)) (drop round.now.from (history_in play.old)))) }
@@ -180,7 +189,15 @@ fn tell_part<R: Wait, K: Sink>(
 {
     let held = play.hold(rt);
     let iterations = round.iterations.all();
-    let told = report_part(setup, held.value(), round.from, made, iterations, out);
+    let told = report_part_through(
+        setup,
+        held.value(),
+        round.from,
+        made,
+        iterations,
+        buffer,
+        out,
+    );
     play.put_back(held);
     told
 }

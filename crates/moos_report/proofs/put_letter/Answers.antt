@@ -1,20 +1,13 @@
-use Rattle.moos_io.proofs.Writing.{stopped_before}
 use Rattle.moos_post.specs.History.{posts_of}
 use Rattle.moos_report.proofs.Reporting.{letter_none, letter_is}
-use Rattle.moos_io.proofs.Passages.{went_none, wrote_on}
+use Rattle.moos_io.proofs.Passages.{went_none}
 use Rattle.moos_report.proofs.put_letter.Goals as goal
 
 pub returns-then-number-first : goal.returns-then-number-first
 returns-then-number-first g c =
     record { ok = rw (letter_none c.args.db.now.names (posts_of c.args.db.now.history) c.args.first c.args.number c.if-number-first.true) (went_none _); front = tt }
 
-pub returns-in-Err : goal.returns-in-Err
-returns-in-Err g c =
-    let is = letter_is c.args.db.now.names (posts_of c.args.db.now.history) c.args.first c.args.number c.if-number-first.false c.origin-origin.ensures c.pair-pair.ensures in
-    record { ok = tt; front = rw is (stopped_before _ c.in-Err.ensures.front) }
-
 pub returns : goal.returns
 returns g c =
     let is = letter_is c.args.db.now.names (posts_of c.args.db.now.history) c.args.first c.args.number c.if-number-first.false c.origin-origin.ensures c.pair-pair.ensures in
-    let said = rw c.name_of.ensures at c.put_post.ensures in
-    rw is (wrote_on c.put_post.result c.in_default.ensures.ok said)
+    rw is (rw c.name_of.ensures at c.put_mail.ensures)

@@ -30,6 +30,7 @@ loop-more-init g c =
     let same = sym c.tell_opening.ensures.same in
     let none = none_made play c.requires.between c.requires.named c.requires.begun in
     record {
+      empty = c.new-buffer.ensures;
       between = subst IsBetween same c.requires.between;
       named = subst IsNamed same c.requires.named;
       on = subst HasCompletion same c.front_law.ensures;
@@ -53,6 +54,7 @@ loop-more-preserved g c =
     let is = c.in-Ok-Some.field-0-is in
     let on = c.in-Ok-Some.ensures.same in
     record {
+      empty = c.in-Ok-Some.ensures.empty;
       between = c.in-Ok-Some.ensures.between;
       named = named_on old new on kept.named;
       on = subst (λ more. IfSome more (λ _. HasCompletion new)) is c.in-Ok-Some.ensures.on;

@@ -1,5 +1,5 @@
 -- What is printed of the run so far was written, and the run goes on from where it began.
-use Rattle.std.proofs.Common.{◌≡◌, ◌≤◌, length}
+use Rattle.std.proofs.Common.{◌≡◌, ◌≤◌, [], length}
 use Rattle.moos_play.specs.Plays.{HasCompletion, IsBetween, iterations_made, left_in}
 use Rattle.moos_play.specs.Steered.{GoesOnWith}
 use Rattle.moos_top.specs.Telling.{IsToldSoFar}
@@ -8,6 +8,7 @@ use Rattle.moos_top.proofs.telling.tell.Given as goal
 
 abbrev pub invariant-loop-more : goal.invariant-loop-more
 invariant-loop-more g l = record {
+  empty : l.buffer ≡ [];
   between : IsBetween l.play;
   named : IsNamed l.play;
   on : HasCompletion l.play;
