@@ -1,8 +1,8 @@
 -- Worked by hand: the tables tried on posts of the variables C, B, A and C again, the letters of these posts, and what is
 -- kept of a client.
-use Rattle.std.specs.Prelude.{◌≡◌, ℕ, zero, suc, ◌<◌, List, [], ◌∷◌, length, Option, None, Some, unwrap_or, codes, false, true, fold, pos, slice_get, take, slice_index_or}
-use Rattle.std.proofs.Common.{refl, ap, sym, ◌∙◌, ◌≤◌, subst, arith}
-use Rattle.std.proofs.lemmas.Option.{slice_get_within}
+use Rattle.std.specs.Prelude.{◌≡◌, ℕ, zero, suc, ◌<◌, Bool, bytes_eq, if◌then◌else◌, option_map, List, [], ◌∷◌, length, Option, None, Some, unwrap_or, codes, false, true, fold, pos, slice_get, take, slice_index_or}
+use Rattle.std.proofs.Common.{refl, ap, subst, arith}
+use Rattle.std.proofs.lemmas.List.Elements.{All-cons, All-head, All-nil}
 use Rattle.moos_post.specs.declared.entry.Call.{Call}
 use Rattle.moos_post.specs.declared.entry.Call.TheVariants.{Register, Unregister, Post as Posts, Fetch}
 use Rattle.moos_post.specs.declared.entry.Entry.{Entry}
@@ -13,12 +13,11 @@ use Rattle.moos_post.specs.Delivery.{inbox_of, mail_at}
 use Rattle.moos_post.specs.History.{History, posts_of}
 use Rattle.moos_db.specs.Database.{after_entry, AreLetters, AreMails, Database, letter_at, letter_of, origin_of, pair_posted}
 use Rattle.moos_db.specs.declared.mail.Letter.{Letter}
-use Rattle.moos_db.specs.Subscribers.{catch_found, catch_number, catch_post, empty_kept, held_of_reg, IsFresh, IsSubscriber, passes_by, SubscriberState, kept_entry, kept_of}
-use Rattle.moos_mail.specs.Mailboxes.{is_one_of}
-use Rattle.moos_db.specs.Hearing.{AreHeard, AreListeners, hears, IsListener, ListenerState, VariableState}
-use Rattle.moos_db.specs.Places.{IsDb, IsLog, Journal, place_at, post_in}
-use Rattle.moos_db.proofs.Heard.{IsListener-brought}
-use Rattle.moos_db.specs.Tables.{IsLatest, LatestState, Row, rows_of, number_of, latest_from, lasts_of}
+use Rattle.moos_db.specs.Subscribers.{catch_found, catch_number, catch_post, held_of_reg, IsFresh, IsSubscriber, SubscriberState, SubscriptionState, kept_entry, kept_of}
+use Rattle.moos_db.specs.Clients.{ClientState, IsClient}
+use Rattle.moos_db.specs.Hearers.{AreKnown, HearerState, hearers_of, IsHeardBy, of_client, VariableState, VariablesState}
+use Rattle.moos_db.specs.Places.{IsDb, IsLog, Journal, kept_after, place_at, post_in}
+use Rattle.moos_db.specs.Tables.{Row, rows_of, number_of, latest_from, lasts_of}
 
 abbrev post : List ℕ → ℕ → Post
 post var stamp = record { stamp = stamp; source = 0; var = var; value = Num (pos 0) }
@@ -34,22 +33,6 @@ latest_posts = refl
 
 table_of_latest_posts : rows_of posts ≡ row (codes "C") 3 ∷ row (codes "B") 1 ∷ row (codes "A") 2 ∷ []
 table_of_latest_posts = refl
-
--- The table of all four posts, and one that has seen three. Post 0 is not the latest of C among four.
-abbrev table : ℕ → ℕ → LatestState
-table seen latest_of_c = record { posts = seen; rows = row (codes "C") latest_of_c ∷ row (codes "B") 1 ∷ row (codes "A") 2 ∷ [] }
-
-is_latest_of_all : IsLatest posts (table 4 3)
-is_latest_of_all = record { within = omega arith; same = refl }
-
-is_latest_of_three : IsLatest posts (table 3 0)
-is_latest_of_three = record { within = omega arith; same = refl }
-
-first_of_c : IsLatest posts (table 4 0) → ⊥
-first_of_c latest = omega (arith, ap (λ rows. unwrap_or (number_of (codes "C") rows) 9) latest.same)
-
-no_fifth_post : IsLatest posts (table 5 3) → ⊥
-no_fifth_post latest = omega (arith, latest.within)
 
 last_stamp_of_c : number_of (codes "C") (lasts_of posts) ≡ Some 5
 last_stamp_of_c = refl
@@ -93,7 +76,10 @@ kept = record { seen = 4; posts = 3; lives = record { reg = all; made = 1; lasts
 kept_then : kept_of (inbox_of names 0 history) ≡ kept
 kept_then = refl
 
-kept_by_entries : fold (kept_entry names 0 (posts_of history)) empty_kept (says 10 ∷ []) ≡ record empty_kept { seen = 1; posts = 1 }
+abbrev nothing : SubscriberState
+nothing = record { seen = 0; posts = 0; lives = []; mailed = []; waits = [] }
+
+kept_by_entries : fold (kept_entry names 0 (posts_of history)) nothing (says 10 ∷ []) ≡ record nothing { seen = 1; posts = 1 }
 kept_by_entries = refl
 
 kept_after_a_fetch : kept_entry names 0 (posts_of history) kept (at 200 0 Fetch) ≡ record kept { seen = 5; waits = [] }
@@ -202,63 +188,6 @@ other_order mails = omega (arith, ap first_number (mails.mail 4 (letter_of 2 (a_
 one_mail_less : AreMails names fetched ([] ∷ [] ∷ [] ∷ [] ∷ []) → ⊥
 one_mail_less mails = omega (arith, mails.each)
 
--- What is kept of both clients: the first has seen all five entries, the second the first four. The first alone hears A.
-abbrev listener_of : SubscriberState → ListenerState
-listener_of kept = record { kept = kept; heard = []; lost = false }
-
-abbrev listeners : List ListenerState
-listeners = listener_of (record kept { seen = 5; waits = [] }) ∷ listener_of (record { seen = 4; posts = 3; lives = []; mailed = []; waits = [] }) ∷ []
-
-abbrev variable : List ℕ → VariableState
-variable clients = record { name = codes "A"; listeners = clients }
-
-listed : (k : ℕ) (one : VariableState) → slice_get (variable (0 ∷ []) ∷ []) k ≡ Some one → hears (codes "*" ∷ []) one.name ≡ true → is_one_of 0 one.listeners ≡ true
-listed = each_of (λ k one. hears (codes "*" ∷ []) one.name ≡ true → is_one_of 0 one.listeners ≡ true) (variable (0 ∷ [])) [] (λ heard. refl)
-    (each_of_none (λ k one. hears (codes "*" ∷ []) one.name ≡ true → is_one_of 0 one.listeners ≡ true))
-
-passed_by : (number : ℕ) (entry : Entry) → 4 ≤ number → slice_get fetched number ≡ Some entry → passes_by 1 entry ≡ true
-passed_by number entry from there =
-    let within : number < 5 = slice_get_within fetched number entry there in
-    let last : number ≡ 4 = omega arith in
-    let is : Some (at 200 0 Fetch) ≡ Some entry = sym (ap (slice_get fetched) last) ∙ there in
-    let same : at 200 0 Fetch ≡ entry = cc in ap (passes_by 1) (sym same)
-
-are_listeners : AreListeners names fetched (variable (0 ∷ []) ∷ []) listeners
-are_listeners = each_of (λ k one. one.lost ≡ false → IsListener names fetched (variable (0 ∷ []) ∷ []) k 3 one) (listener_of (record kept { seen = 5; waits = [] })) (listener_of (record { seen = 4; posts = 3; lives = []; mailed = []; waits = [] }) ∷ [])
-    (λ there. IsListener-brought names fetched (variable (0 ∷ []) ∷ []) 0 (listener_of (record kept { seen = 5; waits = [] })) (record { within = omega arith; same = refl }) refl refl listed)
-    (each_of (λ k one. one.lost ≡ false → IsListener names fetched (variable (0 ∷ []) ∷ []) (suc k) 3 one) (listener_of (record { seen = 4; posts = 3; lives = []; mailed = []; waits = [] })) []
-    (λ there. record {
-      inbox = record { within = omega arith; same = refl };
-      passing = passed_by;
-      heard = λ number post low high at. absurd (omega (arith, low, high));
-      listed = λ number one at heard. absurd (let e : false ≡ true = heard in cc);
-    })
-    (each_of_none (λ k one. one.lost ≡ false → IsListener names fetched (variable (0 ∷ []) ∷ []) (suc (suc k)) 3 one)))
-
--- They are none where the first isn't listed for A.
-unlisted : AreListeners names fetched (variable (1 ∷ []) ∷ []) listeners → ⊥
-unlisted all = let e : false ≡ true = (all 0 (listener_of (record kept { seen = 5; waits = [] })) refl refl).listed 0 (variable (1 ∷ [])) refl refl in cc
-
--- Of three posts, of A, B and A, the first and the last are heard.
-abbrev three : List Post
-three = post (codes "A") 10 ∷ post (codes "B") 20 ∷ post (codes "A") 30 ∷ []
-
-are_heard : AreHeard (codes "A" ∷ []) three 0 (0 ∷ 2 ∷ []) 3
-are_heard = (
-  omega arith,
-  (λ number one low high at. absurd (omega (arith, low, high))),
-  (omega arith, quiet, (λ number one low high at. absurd (omega (arith, low, high)))),
-)
-  where
-    quiet : (number : ℕ) (one : Post) → 1 ≤ number → number < 2 → slice_get three number ≡ Some one → hears (codes "A" ∷ []) one.var ≡ false
-    quiet number one low high at =
-        let middle : number ≡ 1 = omega arith in
-        let is : Some (post (codes "B") 20) ≡ Some one = sym (ap (slice_get three) middle) ∙ at in
-        let same : post (codes "B") 20 ≡ one = cc in ap (λ (p : Post). hears (codes "A" ∷ []) p.var) (sym same)
-
-last_unheard : AreHeard (codes "A" ∷ []) three 0 (0 ∷ []) 3 → ⊥
-last_unheard heard = let e : true ≡ false = heard.2 2 (post (codes "A") 30) (omega arith) (omega arith) refl in cc
-
 -- Where its posts stand, and what each entry gave.
 abbrev letters : List (List ℕ)
 letters = [] ∷ [] ∷ [] ∷ [] ∷ (0 ∷ 2 ∷ []) ∷ []
@@ -283,12 +212,93 @@ given (suc (suc (suc zero))) below = refl
 given (suc (suc (suc (suc zero)))) below = refl
 given (suc (suc (suc (suc (suc k))))) below = absurd (omega (arith, below))
 
-is_db : IsDb names journal (record { posts = 3; rows = row (codes "A") 2 ∷ [] }) (variable (0 ∷ []) ∷ []) listeners
-is_db = record { few = omega arith; each = refl; lettered = refl; latest = record { within = omega arith; same = refl }; kept = are_listeners; given = given }
+-- Client 0 hears A by its registration, and post 2 was the last that came through.
+abbrev hearer : ℕ → HearerState
+hearer stamp = record { client = 0; reg = all; made = 1; last = Some stamp }
 
--- It is no such database where the fetch's letters lack one, or a client has no listener.
-letter_lost : IsDb names (record journal { letters = [] ∷ [] ∷ [] ∷ [] ∷ (2 ∷ []) ∷ [] }) (record { posts = 3; rows = row (codes "A") 2 ∷ [] }) (variable (0 ∷ []) ∷ []) listeners → ⊥
+abbrev variable : List HearerState → VariableState
+variable hearers = record { name = codes "A"; latest = Some 2; hearers = hearers; room = 0 }
+
+abbrev variables : List HearerState → VariablesState
+variables hearers = record { all = variable hearers ∷ []; numbers = row (codes "A") 0 ∷ []; noted = 0 ∷ 0 ∷ 0 ∷ [] }
+
+abbrev first : ClientState
+first = record { lives = record { reg = all; made = 1 } ∷ []; mailed = 0 ∷ 2 ∷ []; waits = []; spare = 0; room = 0 }
+
+abbrev second : ClientState
+second = record { lives = []; mailed = []; waits = []; spare = 0; room = 0 }
+
+are_clients : (number : ℕ) (one : ClientState) → slice_get (first ∷ second ∷ []) number ≡ Some one → IsClient (kept_after names fetched number) one
+are_clients = each_of (λ number one. IsClient (kept_after names fetched number) one) first (second ∷ []) (record { lives = refl; mailed = refl; waits = refl })
+    (each_of (λ number one. IsClient (kept_after names fetched (suc number)) one) second [] (record { lives = refl; mailed = refl; waits = refl })
+    (each_of_none (λ number one. IsClient (kept_after names fetched (suc (suc number))) one)))
+
+is_heard : IsHeardBy 2 (kept_after names fetched) (variable (hearer 110 ∷ []))
+is_heard = record { each = by_each; within = All-cons (λ (one : HearerState). one.client < 2) (hearer 110) [] (omega arith) (All-nil (λ (one : HearerState). one.client < 2)) }
+  where
+    by_each : (client : ℕ) → client < 2 → of_client client (hearer 110 ∷ []) ≡ hearers_of client (codes "A") (kept_after names fetched client).lives
+    by_each zero below = refl
+    by_each (suc zero) below = refl
+    by_each (suc (suc client)) below = absurd (omega (arith, below))
+
+-- nothing came through but posts of A
+known_a : (var : List ℕ) → number_of var (row (codes "A") 0 ∷ []) ≡ None → number_of var (row (codes "A") 110 ∷ []) ≡ None
+known_a var none = through (bytes_eq var (codes "A")) none
+  where
+    through : (same : Bool) → option_map (λ (one : Row). one.number) (if same then Some (row (codes "A") 0) else None) ≡ None →
+        option_map (λ (one : Row). one.number) (if same then Some (row (codes "A") 110) else None) ≡ None
+    through true none = absurd (let some : Some 0 ≡ None = none in cc)
+    through false none = refl
+
+abbrev IsKnown : SubscriptionState → Type 0
+IsKnown held = (var : List ℕ) → number_of var (row (codes "A") 0 ∷ []) ≡ None → number_of var held.lasts ≡ None
+
+are_known : AreKnown 2 (kept_after names fetched) (row (codes "A") 0 ∷ [])
+are_known zero below = All-cons IsKnown (record { reg = all; made = 1; lasts = row (codes "A") 110 ∷ [] }) [] known_a (All-nil IsKnown)
+are_known (suc zero) below = All-nil IsKnown
+are_known (suc (suc client)) below = absurd (omega (arith, below))
+
+abbrev IsLatestOf : VariableState → Type 0
+IsLatestOf one = one.latest ≡ number_of one.name (rows_of (posts_of fetched))
+
+is_db : IsDb names journal (variables (hearer 110 ∷ [])) (first ∷ second ∷ [])
+is_db = record {
+  kept = record {
+    few = omega arith;
+    each = refl;
+    kept = record {
+      clients = are_clients;
+      heard = record {
+        heard = All-cons (IsHeardBy 2 (kept_after names fetched)) (variable (hearer 110 ∷ [])) [] is_heard (All-nil (IsHeardBy 2 (kept_after names fetched)));
+        latest = All-cons IsLatestOf (variable (hearer 110 ∷ [])) [] refl (All-nil IsLatestOf);
+        known = are_known;
+      };
+    };
+    noted = refl;
+  };
+  lettered = refl;
+  given = given;
+}
+
+-- It is no such database where the fetch's letters lack one, a client isn't kept, nobody hears A, the stamp of an earlier post is
+-- kept, or the variable of a post isn't noted.
+letter_lost : IsDb names (record journal { letters = [] ∷ [] ∷ [] ∷ [] ∷ (2 ∷ []) ∷ [] }) (variables (hearer 110 ∷ [])) (first ∷ second ∷ []) → ⊥
 letter_lost db = omega (arith, ap length (db.given 4 (omega arith)))
 
-listener_lost : IsDb names journal (record { posts = 3; rows = row (codes "A") 2 ∷ [] }) (variable (0 ∷ []) ∷ []) (listener_of empty_kept ∷ []) → ⊥
-listener_lost db = omega (arith, db.each)
+client_lost : IsDb names journal (variables (hearer 110 ∷ [])) (first ∷ []) → ⊥
+client_lost db = omega (arith, db.kept.each)
+
+hearer_lost : IsDb names journal (variables []) (first ∷ second ∷ []) → ⊥
+hearer_lost db = omega (arith, ap length ((All-head (IsHeardBy 2 (kept_after names fetched)) (variable []) [] db.kept.kept.heard.heard).each 0 (omega arith)))
+
+abbrev first_stamp_through : List HearerState → ℕ
+first_stamp_through [] = 0
+first_stamp_through (one ∷ later) = unwrap_or one.last 0
+
+earlier_stamp : IsDb names journal (variables (hearer 10 ∷ [])) (first ∷ second ∷ []) → ⊥
+earlier_stamp db =
+    let same : 10 ≡ 110 = ap first_stamp_through ((All-head (IsHeardBy 2 (kept_after names fetched)) (variable (hearer 10 ∷ [])) [] db.kept.kept.heard.heard).each 0 (omega arith)) in
+    omega (arith, same)
+
+post_unnoted : IsDb names journal (record (variables (hearer 110 ∷ [])) { noted = 0 ∷ 0 ∷ [] }) (first ∷ second ∷ []) → ⊥
+post_unnoted db = omega (arith, ap length db.kept.noted)

@@ -1,5 +1,5 @@
 -- The table of last stamps is that of the posts that came.
-use Rattle.std.proofs.Common.{◌≡◌, ℕ, Bool, true, false, cond, List, [], ◌∷◌, fold, find, option_map, Some, None, bytes_eq, refl, ap, sym, ◌∙◌, inl, inr, if◌then◌else◌}
+use Rattle.std.proofs.Common.{◌≡◌, ℕ, true, false, cond, List, [], ◌∷◌, fold, find, option_map, Some, None, bytes_eq, refl, ap, sym, ◌∙◌, inl, inr, if◌then◌else◌}
 use Rattle.std.proofs.lemmas.Bool.{cases_Bool, both_ways, false_from_ne_true}
 use Rattle.std.proofs.lemmas.Slice.Eq.{bytes_eq-Decides}
 use Rattle.moos_post.specs.Delivery.{newer_stamp, last_stamp}
@@ -37,18 +37,3 @@ last_in-fold sought lasts (post ∷ came) =
 -- The table of the posts that came tells what the posts themselves tell.
 pub last_in-lasts_of : (sought : List ℕ) (came : List Post) → number_of sought (lasts_of came) ≡ last_stamp sought came
 last_in-lasts_of sought came = last_in-fold sought [] came
-
--- where a variable stands at a number, that number changes nothing
-with_row-same : (var : List ℕ) (stood : ℕ) (rows : List Row) → number_of var rows ≡ Some stood → with_row var stood rows ≡ rows
-with_row-same var stood [] found = absurd (let e : None ≡ Some stood = found in cc)
-with_row-same var stood (row ∷ rows) found = through (is_of var row) found (with_row-same var stood rows)
-  where
-    through : (own : Bool) → option_map (λ (one : Row). one.number) (cond own (Some row) (find (is_of var) rows)) ≡ Some stood → (number_of var rows ≡ Some stood → with_row var stood rows ≡ rows) →
-        (if own then record row { number = stood } ∷ rows else row ∷ with_row var stood rows) ≡ row ∷ rows
-    through true here rest = let e : row.number ≡ stood = cc in ap (λ n. record row { number = n } ∷ rows) (sym e)
-    through false there rest = ap (λ more. row ∷ more) (rest there)
-
-pub with_row-by : (passes : Bool) (var : List ℕ) (number stood : ℕ) (rows : List Row) → number_of var rows ≡ Some stood →
-    with_row var (if passes then number else stood) rows ≡ (if passes then with_row var number rows else rows)
-with_row-by true var number stood rows found = refl
-with_row-by false var number stood rows found = with_row-same var stood rows found

@@ -1,20 +1,14 @@
 -- The table of latest posts has, in some order, the numbers of the posts that are the latest of their variable.
-use Rattle.std.proofs.Common.{◌≡◌, ℕ, suc, ◌+◌, ◌<◌, Bool, true, false, cond, ◌||◌, not, List, [], ◌∷◌, ◌++◌, length, map, filter, take, slice_get, Option, None, Some, option_map, bytes_eq, append_assoc, append-nil, refl, ap, sym, ◌∙◌, arith, inl, inr, subst, if◌then◌else◌}
+use Rattle.std.proofs.Common.{◌≡◌, ℕ, suc, ◌+◌, Bool, true, false, cond, ◌||◌, not, List, [], ◌∷◌, ◌++◌, length, filter, bytes_eq, append_assoc, append-nil, refl, ap, sym, ◌∙◌, arith, inl, inr, subst, if◌then◌else◌}
 use Rattle.std.specs.List.{list_any}
-use Rattle.std.specs.List.Sorted.{IsPermutation, IsNonDecreasingBy}
 use Rattle.std.proofs.lemmas.Bool.{cases_Bool}
 use Rattle.std.proofs.lemmas.Slice.Eq.{bytes_eq-Decides}
-use Rattle.std.proofs.lemmas.List.{length-take-le}
-use Rattle.std.proofs.lemmas.Option.{get_or_from_slice_get}
-use Rattle.std.proofs.Math.Seq.{take-suc}
-use Rattle.moos_post.specs.declared.value.Pair.{Pair}
 use Rattle.moos_post.specs.declared.value.Post.{Post}
 use Rattle.moos_post.specs.Delivery.{is_latest}
 use Rattle.moos_post.proofs.Texts.{bytes_eq_comm}
-use Rattle.moos_db.specs.Database.{pair_posted}
-use Rattle.moos_db.specs.Tables.{Row, LatestState, IsLatest, is_of, with_row, rows_from, rows_of, latest_from}
+use Rattle.moos_db.specs.Tables.{Row, is_of, with_row, rows_from, rows_of}
 use Rattle.moos_mail.proofs.Lists.{list_any-push}
-use Rattle.moos_db.proofs.Sorting.{total, total-permutation, IsFrom, IsRising, from-lower, same_rising, rising-sorted}
+use Rattle.moos_db.proofs.Sorting.{total}
 
 -- the row of this post
 abbrev one_row : Post → ℕ → Row
@@ -49,7 +43,7 @@ latest-push number (one ∷ posts) post =
         ≡ cond (not b) (one_row one number ∷ filter (λ row. not (is_of post.var row)) (latest_rows (suc number) posts)) (filter (λ row. not (is_of post.var row)) (latest_rows (suc number) posts)) ++ record { var = post.var; number = number + suc (length posts) } ∷ [])
         [ true ↦ refl | false ↦ refl ]
 
-rows-push : (number : ℕ) (rows : List Row) (posts : List Post) (post : Post) →
+pub rows-push : (number : ℕ) (rows : List Row) (posts : List Post) (post : Post) →
     rows_from number rows (posts ++ post ∷ []) ≡ with_row post.var (number + length posts) (rows_from number rows posts)
 rows-push number rows [] post = let e : number ≡ number + 0 = omega arith in ap (λ n. with_row post.var n rows) e
 rows-push number rows (one ∷ posts) post =
@@ -137,58 +131,3 @@ mixed-more posts (post ∷ more) mixed = subst Mixed (append_assoc posts (post �
 
 mixed : (posts : List Post) → Mixed posts
 mixed posts = mixed-more [] posts (record { apart = tt; same = λ f. refl })
-
-numbers-latest : (f : ℕ → ℕ) (number : ℕ) (posts : List Post) → total f (latest_from number posts) ≡ total (λ row. f row.number) (latest_rows number posts)
-numbers-latest f number [] = refl
-numbers-latest f number (post ∷ later) = through (is_latest post later) (numbers-latest f (suc number) later)
-  where
-    through : (newest : Bool) → total f (latest_from (suc number) later) ≡ total (λ (row : Row). f row.number) (latest_rows (suc number) later) →
-        total f (if newest then number ∷ latest_from (suc number) later else latest_from (suc number) later)
-        ≡ total (λ (row : Row). f row.number) (if newest then record { var = post.var; number = number } ∷ latest_rows (suc number) later else latest_rows (suc number) later)
-    through true rest = ap (λ n. f number + n) rest
-    through false rest = rest
-
-total-map : (f : ℕ → ℕ) (rows : List Row) → total f (map (λ (row : Row). row.number) rows) ≡ total (λ row. f row.number) rows
-total-map f [] = refl
-total-map f (row ∷ rows) = ap (λ n. f row.number + n) (total-map f rows)
-
-latest-rising : (number : ℕ) (posts : List Post) → IsFrom number (latest_from number posts) × IsRising (latest_from number posts)
-latest-rising number [] = (tt, tt)
-latest-rising number (post ∷ later) = through (is_latest post later) (latest-rising (suc number) later)
-  where
-    through : (newest : Bool) → IsFrom (suc number) (latest_from (suc number) later) × IsRising (latest_from (suc number) later) →
-        IsFrom number (if newest then number ∷ latest_from (suc number) later else latest_from (suc number) later)
-        × IsRising (if newest then number ∷ latest_from (suc number) later else latest_from (suc number) later)
-    through true rest = let lower : IsFrom number (latest_from (suc number) later) = from-lower number (suc number) _ (omega arith) rest.0 in ((omega arith, lower), (lower, rest.1))
-    through false rest = (from-lower number (suc number) _ (omega arith) rest.0, rest.1)
-
--- The numbers of the table in rising order are those of the latest posts.
-pub sorted-latest : (rows : List Row) (numbers : List ℕ) → IsPermutation (map (λ (row : Row). row.number) rows) numbers → IsNonDecreasingBy (λ (n : ℕ). n) numbers →
-    (posts : List Post) → rows ≡ rows_of posts → numbers ≡ latest_from 0 posts
-sorted-latest rows numbers same up posts is =
-    same_rising numbers (latest_from 0 posts) (rising-sorted numbers up) (latest-rising 0 posts).1 (λ f.
-    total-permutation f _ numbers same ∙ total-map f rows
-    ∙ ap (total (λ row. f row.number)) is ∙ (mixed posts).same (λ row. f row.number)
-    ∙ sym (numbers-latest f 0 posts))
-
--- The table after the next post.
-pub IsLatest-next : (posts : List Post) (latest : LatestState) (pair : Pair) → IsLatest posts latest → latest.posts < length posts → option_map pair_posted (slice_get posts latest.posts) ≡ Some pair →
-    IsLatest posts (record { posts = latest.posts + 1; rows = with_row pair.var latest.posts latest.rows })
-IsLatest-next posts latest pair table below there = through (slice_get posts latest.posts) refl there
-  where
-    through : (found : Option Post) → slice_get posts latest.posts ≡ found → option_map pair_posted found ≡ Some pair →
-        IsLatest posts (record { posts = latest.posts + 1; rows = with_row pair.var latest.posts latest.rows })
-    through None is e = absurd (let e' : None ≡ Some pair = e in cc)
-    through (Some post) is e =
-        let var : pair.var ≡ post.var = (let e' : pair_posted post ≡ pair = cc in ap (λ (p : Pair). p.var) (sym e')) in
-        let next : latest.posts + 1 ≡ suc latest.posts = omega arith in
-        let length_is : 0 + length (take latest.posts posts) ≡ latest.posts = omega (arith, length-take-le latest.posts posts (omega arith)) in
-        record {
-          within = omega arith;
-          same =
-              ap (λ v. with_row v latest.posts latest.rows) var
-              ∙ ap (with_row post.var latest.posts) table.same
-              ∙ ap (λ n. with_row post.var n (rows_of (take latest.posts posts))) (sym length_is)
-              ∙ sym (rows-push 0 [] (take latest.posts posts) post)
-              ∙ ap rows_of (sym (ap (λ n. take n posts) next ∙ take-suc posts latest.posts post below ∙ ap (λ one. take latest.posts posts ++ one ∷ []) (get_or_from_slice_get posts latest.posts post post is)));
-        }

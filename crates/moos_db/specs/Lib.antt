@@ -1,7 +1,8 @@
-pub mod Asked
+pub mod Clients
 pub mod Database
-pub mod Index
-pub mod Hearing
-pub mod Subscribers
+pub mod Hearers
 pub mod Places
+pub mod Registering
+pub mod Subscribers
 pub mod Tables
+pub mod Withdrawing

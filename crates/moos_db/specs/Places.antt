@@ -2,10 +2,11 @@
 use Rattle.std.specs.Prelude.{◌≡◌, ℕ, ◌<◌, ◌^◌, List, [], map, length, Option, Some, option_and_then, slice_get, slice_index_or}
 use Rattle.moos_post.specs.declared.value.Post.{Post}
 use Rattle.moos_post.specs.History.{History, posts_of, posts_of_entry}
-use Rattle.moos_post.specs.Delivery.{mail_at}
+use Rattle.moos_post.specs.Delivery.{inbox_of, mail_at}
 use Rattle.moos_db.specs.declared.log.Place.{Place}
-use Rattle.moos_db.specs.Hearing.{AreListeners, ListenerState, VariableState}
-use Rattle.moos_db.specs.Tables.{LatestState, IsLatest}
+use Rattle.moos_db.specs.Clients.{ClientState}
+use Rattle.moos_db.specs.Hearers.{AreKeptAs, AreNoted, VariablesState}
+use Rattle.moos_db.specs.Subscribers.{SubscriberState, kept_of}
 
 -- the entries, and what each of them gave
 pub record Journal : Type 0 where
@@ -26,12 +27,19 @@ pub record IsLog (entries : History) (letters : List (List ℕ)) (places : List 
   pub each : length letters ≡ length entries
   pub placed : map (post_in entries) places ≡ map (λ post. Some post) (posts_of entries)
 
--- each client is followed as a listener, the table has latest posts, and each entry's letters are its mail
-pub record IsDb (names : List (List ℕ)) (journal : Journal) (table : LatestState) (variables : List VariableState) (listeners : List ListenerState) : Type 0 where
+-- what is kept of the client after this history
+abbrev pub kept_after : List (List ℕ) → History → ℕ → SubscriberState
+kept_after names history client = kept_of (inbox_of names client history)
+
+-- the clients, who hears the variables and the variables noted of posts are what this history says
+pub record AreKept (names : List (List ℕ)) (history : History) (variables : VariablesState) (clients : List ClientState) : Type 0 where
   pub few : length names < 2 ^ 32
-  pub each : length listeners ≡ length names
+  pub each : length clients ≡ length names
+  pub kept : AreKeptAs (kept_after names history) (posts_of history) variables clients
+  pub noted : AreNoted (map (λ post. post.var) (posts_of history)) variables
+
+-- all of that holds, and each entry's letters are its mail
+pub record IsDb (names : List (List ℕ)) (journal : Journal) (variables : VariablesState) (clients : List ClientState) : Type 0 where
+  pub kept : AreKept names journal.entries variables clients
   pub lettered : length journal.letters ≡ length journal.entries
-  pub latest : IsLatest (posts_of journal.entries) table
-  pub kept : AreListeners names journal.entries variables listeners
-  pub given : (k : ℕ) → k < length journal.entries →
-      slice_index_or journal.letters k [] ≡ mail_at names journal.entries k
+  pub given : (k : ℕ) → k < length journal.entries → slice_index_or journal.letters k [] ≡ mail_at names journal.entries k

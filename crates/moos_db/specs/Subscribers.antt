@@ -1,5 +1,5 @@
 -- What is kept of one client: its inbox of the delivery rule, without the posts themselves.
-use Rattle.std.specs.Prelude.{◌≡◌, ℕ, suc, ◌≤◌, Bool, true, false, ◌&&◌, ◌||◌, ◌==◌, not, if◌then◌else◌, List, [], ◌∷◌, ◌++◌, length, map, filter, fold, take, Option, None, Some, bytes_eq, slice_get}
+use Rattle.std.specs.Prelude.{◌≡◌, ℕ, suc, ◌≤◌, Bool, true, false, ◌&&◌, ◌==◌, not, if◌then◌else◌, List, [], ◌∷◌, ◌++◌, length, map, filter, fold, take, Option, None, Some, bytes_eq, slice_get}
 use Rattle.std.specs.List.{list_any}
 use Rattle.moos_post.specs.declared.entry.Call.{Call}
 use Rattle.moos_post.specs.declared.entry.Call.TheVariants.{Register, Unregister, Post as Posts, Fetch}
@@ -82,10 +82,6 @@ kept_of inbox = record {
   mailed = in_rising_order (map (λ one. one.number) inbox.mailed);
   waits = waiting inbox;
 }
-
--- before the first entry
-abbrev pub empty_kept : SubscriberState
-empty_kept = record { seen = 0; posts = 0; lives = []; mailed = []; waits = [] }
 
 -- the post with this number is mailed
 abbrev pub with_mailed : ℕ → SubscriberState → SubscriberState
@@ -175,10 +171,6 @@ makes_posts (Register regs) = false
 makes_posts (Unregister var source) = false
 makes_posts (Posts batch) = true
 makes_posts Fetch = false
-
--- of this entry the client needs to know no more than its posts: it is another one's, or a post
-abbrev pub passes_by : ℕ → Entry → Bool
-passes_by client entry = makes_posts entry.call || not (entry.client == client)
 
 -- after one entry more, where these are the posts before it
 abbrev pub kept_entry : List (List ℕ) → ℕ → List Post → SubscriberState → Entry → SubscriberState

@@ -1,6 +1,6 @@
 -- Tables with a number for each variable: the stamps of the last posts that came through a registration, and the
 -- numbers of the latest posts.
-use Rattle.std.specs.Prelude.{◌≡◌, ℕ, suc, ◌≤◌, Bool, if◌then◌else◌, List, [], ◌∷◌, length, fold, find, take, Option, Some, option_map, bytes_eq, slice_get}
+use Rattle.std.specs.Prelude.{◌≡◌, ℕ, suc, Bool, if◌then◌else◌, List, [], ◌∷◌, fold, find, Option, Some, option_map, bytes_eq, slice_get}
 use Rattle.moos_post.specs.declared.value.Post.{Post}
 use Rattle.moos_post.specs.Delivery.{is_latest, is_past}
 
@@ -50,13 +50,3 @@ abbrev pub latest_from : ℕ → List Post → List ℕ
 latest_from number [] = []
 latest_from number (post ∷ later) =
     if is_latest post later then number ∷ latest_from (suc number) later else latest_from (suc number) later
-
--- a table of latest posts, and how many posts it has seen
-pub record LatestState : Type 0 where
-  pub posts : ℕ
-  pub rows : List Row
-
--- it has the latest of the first posts, as many as it has seen
-pub record IsLatest (posts : List Post) (latest : LatestState) : Type 0 where
-  pub within : latest.posts ≤ length posts
-  pub same : latest.rows ≡ rows_of (take latest.posts posts)

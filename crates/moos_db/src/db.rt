@@ -1,14 +1,13 @@
-ghost use Rattle.std.specs.Prelude.{◌≡◌, ◌^◌, ◌<◌, [], length, take, All, false, IfOk, OnOk, OnErr, Some, option_map, slice_get};
-ghost use Rattle.moos_post.specs.Delivery.{mail_after, mail_at, is_fetch};
+ghost use Rattle.std.specs.Prelude.{◌≡◌, ◌^◌, ◌<◌, [], length, take, All, IfOk, OnOk, OnErr, Some, option_map, slice_get};
+ghost use Rattle.moos_post.specs.Delivery.{mail_after, mail_at};
 ghost use Rattle.moos_post.specs.History.{posts_of};
-ghost use Rattle.moos_db.specs.Subscribers.{makes_posts};
 
-use crate::calls::{add_own, fetch, fetch_unread};
-use crate::hearing::{follow_block, hear_posts, new_listeners};
-use crate::latest::Latest;
-use crate::listener::Listener;
+use crate::calls::{fetch, fetch_unread};
+use crate::client::{Client, new_clients};
 use crate::log::Log;
 use crate::mail::{Mail, Origin};
+use crate::posting::post;
+use crate::registering::{register, unregister};
 use crate::variables::Variables;
 use moos_post::{Batch, Call, Entry, Name, Names, NoMemory, Pair, Pattern, Regs};
 use std::alloc::Global;
@@ -28,9 +27,8 @@ pub struct Db {
 struct Parts {
     names: Names,
     log: Log,
-    latest: Latest,
     variables: Variables,
-    listeners: Vec<Listener>,
+    clients: Vec<Client>,
 }
 
 impl Model for Db {
@@ -41,7 +39,7 @@ impl Model for Db {
 
     ghost view = { λ db. record { names = db.parts.value.names; history = db.parts.value.log.entries } };
 
-    ghost invariant = { λ db. let parts = db.parts.value in IsDb parts.names parts.log parts.latest parts.variables parts.listeners.items };
+    ghost invariant = { λ db. let parts = db.parts.value in IsDb parts.names parts.log parts.variables parts.clients.items };
 }
 
 impl Db {
@@ -53,40 +51,15 @@ impl Db {
         requires { length names < 2 ^ 32 }
         ensures { IfOk result (λ db. db ≡ record { names = names; history = [] }) }
     {
-        let listeners = new_listeners(alloc, names.len())?;
+        let clients = new_clients(alloc, names.len())?;
         let parts = Parts {
             names,
             log: Log::new(alloc),
-            latest: Latest::new(alloc),
             variables: Variables::new(alloc),
-            listeners,
+            clients,
         };
         let parts = Box::new(alloc, parts)?;
         Ok(Db { parts })
-    }
-
-    // Adds a call of the client that registers or withdraws.
-    fn add(&mut self, alloc: Global, entry: Entry) -> Result<(), NoMemory>
-        requires within { entry.client < length self.old.names }
-        requires own { makes_posts entry.call ≡ false }
-        requires other { is_fetch entry.call ≡ false }
-        ensures ok { OnOk result (self.new ≡ after_entry self.old entry) }
-        ensures same { OnErr result (self.new ≡ self.old) }
-    {
-        let parts = &mut *self.parts;
-        parts
-            .latest
-            .see_posts(alloc, &parts.log, parts.log.posts())?;
-        add_own(
-            alloc,
-            &parts.names,
-            &mut parts.log,
-            &parts.latest,
-            &mut parts.variables,
-            &mut parts.listeners,
-            entry,
-        )?;
-        Ok(())
     }
 
     /// The client makes these registrations together. One with the patterns of a live one takes its place.
@@ -105,15 +78,18 @@ impl Db {
         })) }
         ensures same { OnErr result (self.new ≡ self.old) }
     {
-        let call = Call::Register(regs);
-        self.add(
+        let parts = &mut *self.parts;
+        register(
             alloc,
-            Entry {
-                stamp,
-                client,
-                call,
-            },
-        )
+            &parts.names,
+            &mut parts.log,
+            &mut parts.variables,
+            &mut parts.clients,
+            client,
+            stamp,
+            regs,
+        )?;
+        Ok(())
     }
 
     /// The client withdraws its live registration with these patterns, if it has one.
@@ -133,15 +109,18 @@ impl Db {
         })) }
         ensures same { OnErr result (self.new ≡ self.old) }
     {
-        let call = Call::Unregister(var, source);
-        self.add(
+        let parts = &mut *self.parts;
+        unregister(
             alloc,
-            Entry {
-                stamp,
-                client,
-                call,
-            },
-        )
+            &mut parts.log,
+            &mut parts.variables,
+            &mut parts.clients,
+            client,
+            stamp,
+            var,
+            source,
+        )?;
+        Ok(())
     }
 
     /// The client posts these pairs.
@@ -162,29 +141,18 @@ impl Db {
     {
         let call = Call::Post(batch);
         let parts = &mut *self.parts;
-        let from = parts.log.posts();
-        parts.log.append(
+        post(
             alloc,
+            &parts.names,
+            &mut parts.log,
+            &mut parts.variables,
+            &mut parts.clients,
             Entry {
                 stamp,
                 client,
                 call,
             },
         )?;
-        hear_posts(
-            alloc,
-            &parts.log,
-            &mut parts.variables,
-            &mut parts.listeners,
-            from,
-        );
-        follow_block(
-            alloc,
-            &parts.names,
-            &parts.log,
-            &parts.variables,
-            &mut parts.listeners,
-        );
         Ok(())
     }
 
@@ -203,10 +171,9 @@ impl Db {
         let parts = &mut *self.parts;
         let mail = fetch(
             alloc,
-            &parts.names,
             &mut parts.log,
-            &mut parts.variables,
-            &mut parts.listeners,
+            &parts.variables,
+            &mut parts.clients[client as usize],
             client,
             stamp,
         )?;
@@ -227,10 +194,8 @@ impl Db {
         let parts = &mut *self.parts;
         fetch_unread(
             alloc,
-            &parts.names,
             &mut parts.log,
-            &mut parts.variables,
-            &mut parts.listeners,
+            &mut parts.clients[client as usize],
             client,
             stamp,
         )?;

@@ -1,176 +1,336 @@
-ghost use Rattle.std.specs.Prelude.{◌≡◌, [], ◌∷◌, ℕ, List, true, IfOk, OnOk, IfSome, Some, slice_get};
+ghost use Rattle.std.specs.Prelude.{◌≡◌, ◌<◌, ◌≤◌, ◌+◌, ◌^◌, ◌++◌, ◌∷◌, [], ℕ, List, None, Some, false, true, length, map, slice_get, take, IfOk, OnErr, OnOk};
+ghost use Rattle.std.specs.List.{All, list_any};
+ghost use Rattle.moos_post.specs.Patterns.{matches};
 ghost use Rattle.moos_mail.specs.Mailboxes.{is_one_of};
-ghost use Rattle.moos_db.specs.Hearing.{IsListed, VariableState, hears, patterns_asked};
+ghost use Rattle.moos_db.specs.Hearers.{AreAlike, HearBelow, AreNoted, AreReady, caught_at, HaveLetterRoom, IsAdded, is_new_at, IsNumbering, IsPosted, MayAdd, name_at};
+ghost use Rattle.moos_db.specs.Registering.{AreEach, AreEachAt, AreRoomier, HasRoomThrough, HaveRoomFor, heard_where, heard_through, IsAddedTo, IsCaught, IsRoomier, latest_at, variable_names};
+ghost use Rattle.moos_db.specs.Subscribers.{SubscriberState};
+ghost use Rattle.moos_db.specs.Tables.{number_of};
+ghost use Rattle.moos_post.specs.declared.value.Post.{Post};
+ghost use Rattle.moos_db.specs.Withdrawing.{AreWithdrawn, IsWithdrawn};
 
-use crate::table::{Table, is_same};
-use moos_post::{Copied, Name, NoMemory, Pattern, Reg};
+use crate::client::Client;
+use crate::hearer::Hearer;
+use crate::hearers::{catch_all, first_hearers, mail_to};
+use crate::registration::Registration;
+use crate::table::Table;
+use moos_post::{Copied, Name, NoMemory, Pattern};
 use moos_reg::matches;
 use std::alloc::Global;
 use std::marker::Model;
+use std::sync::Arc;
 
-// A variable that was posted, and the numbers of the clients that may hear it: each that has a live registration whose
-// pattern matches it, and some that had one.
+// A variable, the number of its latest post, where there is one, and who hears it: of each client the live registrations that match
+// it, in their order.
 #[derive(Drop)]
 pub(crate) struct Variable {
     name: Name,
-    listeners: Vec<u32>,
+    latest: Option<u64>,
+    hearers: Vec<Hearer>,
 }
 
-impl Model for Variable {
-    ghost use Rattle.moos_db.specs.Hearing.{VariableState};
-
-    ghost Value = { VariableState };
-
-    ghost view = { λ variable. record { name = variable.name; listeners = variable.listeners.items } };
-}
-
-// Whether the client is one of these.
-fn is_listed(listeners: &[u32], client: u32) -> bool
-    ensures { result ≡ is_one_of client listeners.now }
-{
-    listeners.iter().any(|&one| one == client)
-}
-
-impl Variable {
-    // The client may hear it from now on.
-    fn add(&mut self, client: u32) -> Result<(), NoMemory>
-        ensures name { self.new.name ≡ self.old.name }
-        ensures kept { (other : ℕ) → is_one_of other self.old.listeners ≡ true → is_one_of other self.new.listeners ≡ true }
-        ensures added { OnOk result (is_one_of client self.new.listeners ≡ true) }
-    {
-        if !is_listed(self.listeners.as_slice(), client) {
-            self.listeners.push(client)?;
-        }
-        Ok(())
-    }
-}
-
-// The variables that were posted, each under its number, from 0 in the order of their first posts.
+// The variables that were posted, each under its number, from 0 in the order of their first posts, and of each post the number of
+// its variable.
+//
+// A post looks at those who hear its variable, and at nobody else. A registration looks at the variables.
 #[derive(Drop)]
 pub(crate) struct Variables {
     all: Vec<Variable>,
     numbers: Table,
-    posts: Vec<usize>,
+    noted: Vec<usize>,
+}
+
+impl Model for Variable {
+    ghost use Rattle.std.specs.Prelude.{◌-◌, vec_capacity, vec_len};
+    ghost use Rattle.moos_db.specs.Hearers.{VariableState};
+
+    ghost Value = { VariableState };
+
+    ghost view = { λ variable. record {
+      name = variable.name;
+      latest = variable.latest;
+      hearers = variable.hearers.items;
+      room = vec_capacity variable.hearers - vec_len variable.hearers;
+    } };
 }
 
 impl Model for Variables {
-    ghost use Rattle.std.specs.Prelude.{List};
-    ghost use Rattle.moos_db.specs.Hearing.{VariableState};
+    ghost use Rattle.moos_db.specs.Hearers.{AreNumbers, VariablesState};
 
-    ghost Value = { List VariableState };
+    ghost Value = { VariablesState };
 
-    ghost view = { λ variables. variables.all.items };
+    ghost view = { λ variables. record { all = variables.all.items; numbers = variables.numbers; noted = variables.noted.items } };
+
+    ghost invariant = { λ variables. AreNumbers (record { all = variables.all.items; numbers = variables.numbers; noted = variables.noted.items }) };
+}
+
+impl Variable {
+    // Makes room for so many more who hear it.
+    fn reserve(&mut self, more: usize) -> Result<(), NoMemory>
+        ensures roomier { IsRoomier self.old self.new }
+        ensures room { OnOk result (more ≤ self.new.room) }
+    {
+        self.hearers.reserve(more)?;
+        Ok(())
+    }
+
+    // Through the registration the client is to hear the variable, which has this number, where that matches it. There is room for so
+    // many of the client then.
+    fn hear_through(
+        &mut self,
+        hearers: &mut Vec<(usize, Hearer)>,
+        number: usize,
+        client: u32,
+        live: &Arc<Registration>,
+        room: usize,
+    ) -> Result<(), NoMemory>
+        ensures heard { OnOk result (hearers.new.items ≡ hearers.old.items ++ heard_where client live.now.value number self.old.name) }
+        ensures roomier { IsRoomier self.old self.new }
+        ensures room { OnOk result (matches live.now.value.reg.var self.old.name ≡ true → room ≤ self.new.room) }
+    {
+        if live.hears(&self.name) {
+            self.reserve(room)?;
+            hearers.push((number, Hearer::new(client, live.clone()?)))?;
+        }
+        Ok(())
+    }
+
+    // One more hears it, for whom there is room.
+    fn add(&mut self, hearer: Hearer)
+        requires { 0 < self.old.room }
+        ensures same { self.new ≡ record self.old { hearers = self.old.hearers ++ hearer ∷ []; room = self.new.room } }
+        ensures room { self.old.room ≤ self.new.room + 1 }
+    {
+        self.hearers.push_reserved(hearer);
+    }
+
+    // The client hears it no more through its registration with these patterns.
+    fn withdraw(&mut self, client: u32, var: &Pattern, source: &Pattern)
+        ensures { IsWithdrawn client var.now source.now self.old self.new }
+    {
+        if matches(var, self.name.bytes()) {
+            self.hearers
+                .retain(|hearer| !hearer.is_registration(client, var, source));
+        }
+    }
+
+    // A post of it that catches up comes through the registrations that the client made at this entry and that select it. Tells
+    // whether there is one.
+    fn catch_up(&mut self, client: u32, made: u64, stamp: u64, source: &[u8]) -> bool
+        ensures catches { result ≡ list_any (is_new_at client made source.now) self.old.hearers }
+        ensures same { self.new ≡ record self.old { hearers = map (caught_at client made stamp source.now) self.old.hearers; room = self.new.room } }
+    {
+        catch_all(&mut self.hearers, client, made, stamp, source)
+    }
+}
+
+// Through the registration the client is to hear each of these variables that it matches: that variable's number, and who hears it.
+// There is room for so many of the client there.
+fn hearers_among(
+    alloc: Global,
+    all: &mut Vec<Variable>,
+    client: u32,
+    live: &Arc<Registration>,
+    room: usize,
+) -> Result<Vec<(usize, Hearer)>, NoMemory>
+    ensures through { IfOk result (λ hearers. hearers.items ≡ heard_through client live.now.value 0 (variable_names all.old.items)) }
+    ensures roomier { AreEach IsRoomier all.old.items all.new.items }
+    ensures room { OnOk result (HasRoomThrough room live.now.value.reg.var all.new.items) }
+{
+    let mut hearers = Vec::new(alloc);
+    for number in 0..all.len() {
+        all[number].hear_through(&mut hearers, number, client, live, room)?;
+    }
+    Ok(hearers)
+}
+
+// These hear from now on, each the one of the variables with its number. There is room for them.
+fn add_among(all: &mut Vec<Variable>, hearers: Vec<(usize, Hearer)>)
+    requires within { All (λ one. one.0 < length all.old.items) hearers.items }
+    requires room { HaveRoomFor hearers.items all.old.items }
+    ensures { AreEachAt (IsAddedTo hearers.items) all.old.items all.new.items }
+{
+    for (number, hearer) in hearers {
+        all[number].add(hearer);
+    }
+}
+
+// The client hears none of these any more through its registration with these patterns.
+fn withdraw_from_all(all: &mut Vec<Variable>, client: u32, var: &Pattern, source: &Pattern)
+    ensures { AreEach (IsWithdrawn client var.now source.now) all.old.items all.new.items }
+{
+    for number in 0..all.len() {
+        all[number].withdraw(client, var, source);
+    }
 }
 
 impl Variables {
     // The variables of no post.
     pub fn new(alloc: Global) -> Variables
-        ensures { result ≡ [] }
+        ensures { result ≡ record { all = []; numbers = []; noted = [] } }
     {
         Variables {
             all: Vec::new(alloc),
             numbers: Table::new(alloc),
-            posts: Vec::new(alloc),
+            noted: Vec::new(alloc),
         }
     }
 
-    // Whether the variable has this number.
-    fn is_at(&self, number: usize, var: &Name) -> bool
-        ensures { result ≡ true → (variable : VariableState) × (slice_get self.now number ≡ Some variable) × (variable.name ≡ var.now) }
-    {
-        if number >= self.all.len() {
-            return false;
-        }
-        is_same(self.all[number].name.bytes(), var.bytes())
-    }
-
-    // The number of the variable, where it has one.
-    pub fn number_of(&self, var: &Name) -> Option<usize>
-        ensures { IfSome result (λ number. (variable : VariableState) × (slice_get self.now number ≡ Some variable) × (variable.name ≡ var.now)) }
-    {
-        match self.numbers.number_of(var) {
-            Some(number) if self.is_at(number as usize, var) => Some(number as usize),
-            _ => None,
-        }
-    }
-
-    // The clients that may hear the variable with this number.
-    pub fn listeners(&self, number: usize) -> &[u32]
-        ensures { (variable : VariableState) → slice_get self.now number ≡ Some variable → result.now ≡ variable.listeners }
-    {
-        match self.all.get(number) {
-            Some(variable) => variable.listeners.as_slice(),
-            None => &[],
-        }
-    }
-
-    // A variable that these clients hear gets the next number.
-    pub fn add(&mut self, alloc: Global, var: &Name, listeners: Vec<u32>) -> Result<usize, NoMemory>
-        ensures added { IfOk result (λ number. (variable : VariableState) × (slice_get self.new number ≡ Some variable) × (variable.name ≡ var.now)) }
-        ensures listed { (client : ℕ) (patterns : List (List ℕ)) → IsListed self.old client patterns →
-            (hears patterns var.now ≡ true → is_one_of client listeners.items ≡ true) → IsListed self.new client patterns }
+    // A variable that has no number gets the next one.
+    fn add(&mut self, alloc: Global, clients: &[Client], var: &Name) -> Result<usize, NoMemory>
+        requires few { length clients.now < 2 ^ 32 }
+        requires unknown { number_of var.now self.old.numbers ≡ None }
+        ensures number { IfOk result (λ number. name_at self.new.all number ≡ Some var.now) }
+        ensures added { OnOk result (IsAdded clients.now var.now self.old self.new) }
+        ensures same { OnErr result (self.new ≡ self.old) }
     {
         let number = self.all.len();
+        let hearers = first_hearers(alloc, clients, var)?;
         let name = var.copy(alloc)?;
+        self.all.reserve(1)?;
         self.numbers.set(alloc, var, number as u64)?;
-        self.all.push(Variable { name, listeners })?;
+        self.all.push_reserved(Variable {
+            name,
+            latest: None,
+            hearers,
+        });
         Ok(number)
     }
 
-    // A client that gets a registration with this pattern may hear each variable that it matches.
-    pub fn hear(&mut self, client: u32, pattern: &Pattern) -> Result<(), NoMemory>
-        ensures kept { (other : ℕ) (patterns : List (List ℕ)) → IsListed self.old other patterns → IsListed self.new other patterns }
-        ensures heard { OnOk result (IsListed self.new client (pattern.now ∷ [])) }
+    // The number of the variable, which gets one where it has none.
+    fn number_for(
+        &mut self,
+        alloc: Global,
+        clients: &[Client],
+        var: &Name,
+    ) -> Result<usize, NoMemory>
+        requires few { length clients.now < 2 ^ 32 }
+        ensures number { IfOk result (λ number. name_at self.new.all number ≡ Some var.now) }
+        ensures added { MayAdd clients.now var.now self.old self.new }
+        ensures numbering { IsNumbering self.old.all self.old.numbers }
     {
-        for number in 0..self.all.len() {
-            if matches(pattern, self.all[number].name.bytes()) {
-                self.all[number].add(client)?;
+        match self.numbers.number_of(var) {
+            Some(number) => Ok(number as usize),
+            None => self.add(alloc, clients, var),
+        }
+    }
+
+    // Notes the variable of the next post.
+    pub fn note(&mut self, alloc: Global, clients: &[Client], var: &Name) -> Result<(), NoMemory>
+        requires few { length clients.now < 2 ^ 32 }
+        ensures noted { (vars : List (List ℕ)) → AreNoted vars self.old → OnOk result (AreNoted (vars ++ var.now ∷ []) self.new) }
+        ensures below { HearBelow (length clients.now) self.old.all → HearBelow (length clients.now) self.new.all }
+        ensures ready { (kept : ℕ → SubscriberState) (posts : List Post) → AreReady kept posts self.old clients.now → AreReady kept posts self.new clients.now }
+    {
+        let number = self.number_for(alloc, clients, var)?;
+        self.noted.push(number)?;
+        Ok(())
+    }
+
+    // Forgets the variables of the posts from this number on.
+    pub fn forget(&mut self, from: usize)
+        ensures { self.new ≡ record self.old { noted = take from self.old.noted } }
+    {
+        self.noted.truncate(from);
+    }
+
+    // Makes room for so many letters more with each client that hears one of the posts from this number on.
+    pub fn make_room(
+        &self,
+        clients: &mut Vec<Client>,
+        from: usize,
+        more: usize,
+    ) -> Result<(), NoMemory>
+        requires below { HearBelow (length clients.old.items) self.now.all }
+        ensures alike { AreAlike clients.old.items clients.new.items }
+        ensures room { OnOk result (HaveLetterRoom clients.new.items self.now from more) }
+    {
+        for post in from..self.noted.len() {
+            for hearer in self.all[self.noted[post]].hearers.as_slice() {
+                clients[hearer.client() as usize].make_room(more)?;
             }
         }
         Ok(())
     }
 
-    // A client that gets these registrations may hear each variable that one of them matches.
-    pub fn hear_regs(&mut self, client: u32, regs: &[Reg]) -> Result<(), NoMemory>
-        ensures kept { (other : ℕ) (patterns : List (List ℕ)) → IsListed self.old other patterns → IsListed self.new other patterns }
-        ensures heard { OnOk result (IsListed self.new client (patterns_asked regs.now)) }
+    // The post with this number, of this stamp and from the client with this name, is mailed once to each client that has a
+    // registration at which it is due, and comes through each of these.
+    pub fn mail(&mut self, clients: &mut Vec<Client>, number: usize, stamp: u64, source: &[u8])
+        requires noted { number < length self.old.noted }
+        requires below { HearBelow (length clients.old.items) self.old.all }
+        requires room { HaveLetterRoom clients.old.items self.old number 1 }
+        requires new { All (λ client. is_one_of number client.mailed ≡ false) clients.old.items }
+        ensures { IsPosted number stamp source.now self.old self.new clients.old.items clients.new.items }
     {
-        for reg in regs {
-            self.hear(client, &reg.var)?;
-        }
-        Ok(())
+        let variable = &mut self.all[self.noted[number]];
+        variable.latest = Some(number as u64);
+        mail_to(&mut variable.hearers, clients, number as u64, stamp, source);
     }
 
-    // The same name as this one of the post with this number. Where it can be, it is the one that all posts of the variable
-    // share, so that it is at hand in a processor's cache.
-    pub fn shared<'a>(&'a self, post: u64, var: &'a Name) -> &'a Name
-        ensures { result.now ≡ var.now }
+    // Through the registration the client is to hear each variable that it matches: that variable's number, and who hears it. There is
+    // room for so many of the client there.
+    pub fn hearers_through(
+        &mut self,
+        alloc: Global,
+        client: u32,
+        live: &Arc<Registration>,
+        room: usize,
+    ) -> Result<Vec<(usize, Hearer)>, NoMemory>
+        ensures through { IfOk result (λ hearers. hearers.items ≡ heard_through client live.now.value 0 (variable_names self.old.all)) }
+        ensures roomier { AreRoomier self.old self.new }
+        ensures room { OnOk result (HasRoomThrough room live.now.value.reg.var self.new.all) }
     {
-        let number = self.of_post(post);
-        if number >= self.all.len() {
-            return var;
-        }
-        let name = &self.all[number].name;
-        if is_same(name.bytes(), var.bytes()) {
-            name
-        } else {
-            var
-        }
+        hearers_among(alloc, &mut self.all, client, live, room)
     }
 
-    // Notes the variable of the post with this number. Without memory, and where the one before it is unknown, it is not
-    // known.
-    pub fn note(&mut self, post: usize, number: usize)
-        ensures { self.new ≡ self.old }
+    // These hear from now on, each the variable with its number. There is room for them.
+    pub fn add_hearers(&mut self, hearers: Vec<(usize, Hearer)>)
+        requires within { All (λ one. one.0 < length self.old.all) hearers.items }
+        requires room { HaveRoomFor hearers.items self.old.all }
+        ensures added { AreEachAt (IsAddedTo hearers.items) self.old.all self.new.all }
+        ensures numbers { self.new.numbers ≡ self.old.numbers }
+        ensures noted { self.new.noted ≡ self.old.noted }
     {
-        if self.posts.len() == post {
-            let _ = self.posts.push(number);
-        }
+        add_among(&mut self.all, hearers);
     }
 
-    // Under which number the list of the post's variable may stand in a client's own lists; 0 where it is not known. No
-    // contract speaks of it: under another number the list is made again.
-    pub fn of_post(&self, post: u64) -> usize {
-        self.posts.get(post as usize).copied().unwrap_or(0)
+    // The client hears no more through its registration with these patterns.
+    pub fn withdraw(&mut self, client: u32, var: &Pattern, source: &Pattern)
+        ensures { AreWithdrawn client var.now source.now self.old self.new }
+    {
+        withdraw_from_all(&mut self.all, client, var, source);
+    }
+
+    // The number of the latest post of the variable with this number, where there is one.
+    pub fn latest(&self, number: usize) -> Option<u64>
+        ensures { result ≡ latest_at self.now.all number }
+    {
+        self.all.get(number)?.latest
+    }
+
+    // The post with this number, of this stamp and from the client with this name, comes through the registrations that the client
+    // made at this entry and that select it. Tells whether there is one.
+    pub fn catch_up(
+        &mut self,
+        client: u32,
+        made: u64,
+        number: u64,
+        stamp: u64,
+        source: &[u8],
+    ) -> bool
+        requires { number < length self.old.noted }
+        ensures { (place : ℕ) → slice_get self.old.noted number ≡ Some place → IsCaught client made stamp source.now place result self.old self.new }
+    {
+        let place = self.noted[number as usize];
+        self.all[place].catch_up(client, made, stamp, source)
+    }
+
+    // The same name as that of the post with this number, which all posts of the variable share, so that it is at hand in a
+    // processor's cache.
+    pub fn name(&self, post: u64) -> &Name
+        requires { post < length self.now.noted }
+        ensures { (vars : List (List ℕ)) → AreNoted vars self.now → slice_get vars post ≡ Some result.now }
+    {
+        &self.all[self.noted[post as usize]].name
     }
 }

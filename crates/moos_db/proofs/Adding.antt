@@ -1,0 +1,203 @@
+-- A variable that is posted for the first time gets a number, and those who hear it.
+use Rattle.std.proofs.Common.{◌≡◌, ◌∙◌, ◌<◌, ◌≤◌, ℕ, zero, suc, Bool, true, false, List, [], ◌∷◌, ◌++◌, map, length, take, slice_get, Option, None, Some, option_map, unwrap_or, bytes_eq, refl, ap, sym, subst, inl, inr, ◌⊎◌, if◌then◌else◌, arith}
+use Rattle.std.specs.List.{All}
+use Rattle.std.proofs.lemmas.Bool.{false_from_ne_true}
+use Rattle.std.proofs.lemmas.List.{length-map, length-take, length_push, map-append, take-append-le}
+use Rattle.std.proofs.lemmas.List.Elements.{All-push, All-weaker}
+use Rattle.std.proofs.lemmas.Option.{none-some, same_Some}
+use Rattle.std.proofs.lemmas.Slice.Eq.{bytes_eq-Decides}
+use Rattle.moos_post.specs.declared.value.Post.{Post}
+use Rattle.moos_db.specs.Clients.{ClientState}
+use Rattle.moos_db.specs.Hearers.{HearBelow, AreKeptAs, AreKnown, AreNoted, AreNumbers, AreReady, IsAdded, IsHeardBy, IsNumbering, MayAdd, VariableState, VariablesState, fresh_hearers, name_at}
+use Rattle.moos_db.specs.Subscribers.{SubscriberState}
+use Rattle.moos_db.specs.Tables.{Row, number_of, rows_from, rows_of, with_row}
+use Rattle.moos_db.proofs.Hearing.{hearers-fresh}
+use Rattle.moos_db.proofs.Lasts.{number_of-with_row}
+use Rattle.moos_db.proofs.Standing.{slice_get-seam}
+
+-- what stands in a list with one element more
+push-cases : {X : Type 0} (xs : List X) (x : X) (k : ℕ) (v : X) → slice_get (xs ++ x ∷ []) k ≡ Some v → (slice_get xs k ≡ Some v) ⊎ ((k ≡ length xs) × (v ≡ x))
+push-cases [] x zero v is = inr (refl, same_Some v x (sym is))
+push-cases [] x (suc k) v is = absurd (none-some v is)
+push-cases (y ∷ xs) x zero v is = inl is
+push-cases (y ∷ xs) x (suc k) v is = elim (push-cases xs x k v is) [ inl old ↦ inl old | inr new ↦ inr (ap suc new.0, new.1) ]
+
+-- what stands at a place within a list
+pub stands-at : {X : Type 0} (xs : List X) (k : ℕ) → k < length xs → (x : X) × (slice_get xs k ≡ Some x)
+stands-at [] k within = absurd (omega (arith, within))
+stands-at (x ∷ xs) zero within = (x, refl)
+stands-at (x ∷ xs) (suc k) within = stands-at xs k (omega (arith, within))
+
+name-front : (variables more : List VariableState) (k : ℕ) (var : List ℕ) → name_at variables k ≡ Some var → name_at (variables ++ more) k ≡ Some var
+name-front [] more k var is = absurd (none-some var is)
+name-front (one ∷ variables) more zero var is = is
+name-front (one ∷ variables) more (suc k) var is = name-front variables more k var is
+
+-- those that are noted stay so
+names-front : (variables more : List VariableState) (numbers : List ℕ) (vars : List (List ℕ)) → map (name_at variables) numbers ≡ map (λ var. Some var) vars → map (name_at (variables ++ more)) numbers ≡ map (λ var. Some var) vars
+names-front variables more [] [] are = refl
+names-front variables more [] (var ∷ vars) are = absurd (let e : [] ≡ Some var ∷ map (λ var. Some var) vars = are in cc)
+names-front variables more (number ∷ numbers) [] are = absurd (let e : name_at variables number ∷ map (name_at variables) numbers ≡ [] = are in cc)
+names-front variables more (number ∷ numbers) (var ∷ vars) are =
+    let e : name_at variables number ∷ map (name_at variables) numbers ≡ Some var ∷ map (λ var. Some var) vars = are in
+    let first : name_at variables number ≡ Some var = cc in
+    let rest : map (name_at variables) numbers ≡ map (λ var. Some var) vars = cc in
+    λ i. name-front variables more number var first i ∷ names-front variables more numbers vars rest i
+
+-- a variable with a name is found by it
+pub named : (variables : List VariableState) (numbers : List Row) (k : ℕ) (var : List ℕ) → IsNumbering variables numbers → name_at variables k ≡ Some var → number_of var numbers ≡ Some k
+named variables numbers k var numbering is = through (slice_get variables k) refl is
+  where
+    through : (found : Option VariableState) → slice_get variables k ≡ found → option_map (λ variable. variable.name) found ≡ Some var → number_of var numbers ≡ Some k
+    through None found is = absurd (none-some var is)
+    through (Some variable) found is = subst (λ name. number_of name numbers ≡ Some k) (same_Some variable.name var is) (numbering.each k variable found)
+
+-- another name than that of a variable with a number
+pub other-name : (numbers : List Row) (k : ℕ) (one other : List ℕ) → number_of one numbers ≡ Some k → number_of other numbers ≡ None → bytes_eq one other ≡ false
+other-name numbers k one other is none = false_from_ne_true (bytes_eq one other) (λ same. none-some k (sym none ∙ ap (λ var. number_of var numbers) (sym ((bytes_eq-Decides one other).0 same)) ∙ is))
+
+-- the table with the new variable
+pub numbering-added : (variables : List VariableState) (numbers : List Row) (new : VariableState) → IsNumbering variables numbers → number_of new.name numbers ≡ None → IsNumbering (variables ++ new ∷ []) (with_row new.name (length variables) numbers)
+numbering-added variables numbers new numbering unknown = record {
+  each = λ number variable is. elim (push-cases variables new number variable is) [
+    | inl old ↦
+        number_of-with_row variable.name new.name (length variables) numbers
+        ∙ ap (λ b. if b then Some (length variables) else number_of variable.name numbers)
+        (false_from_ne_true (bytes_eq new.name variable.name) (λ same. none-some number (sym unknown ∙ ap (λ var. number_of var numbers) ((bytes_eq-Decides new.name variable.name).0 same) ∙ numbering.each number variable old)))
+        ∙ numbering.each number variable old
+    | inr last ↦
+        number_of-with_row variable.name new.name (length variables) numbers
+        ∙ ap (λ b. if b then Some (length variables) else number_of variable.name numbers) ((bytes_eq-Decides new.name variable.name).1 (ap (λ (one : VariableState). one.name) (sym last.1)))
+        ∙ ap (λ n. Some n) (sym last.0)
+  ];
+  only = λ number var is. through number var (bytes_eq new.name var) refl (sym (number_of-with_row var new.name (length variables) numbers) ∙ is);
+}
+  where
+    through : (number : ℕ) (var : List ℕ) (own : Bool) → bytes_eq new.name var ≡ own → (if bytes_eq new.name var then Some (length variables) else number_of var numbers) ≡ Some number → name_at (variables ++ new ∷ []) number ≡ Some var
+    through number var true own is =
+        let at : length variables ≡ number = same_Some (length variables) number (ap (λ b. if b then Some (length variables) else number_of var numbers) (sym own) ∙ is) in
+        subst (λ n. name_at (variables ++ new ∷ []) n ≡ Some var) at
+        (ap (option_map (λ (variable : VariableState). variable.name)) (slice_get-seam variables new []) ∙ ap (λ name. Some name) ((bytes_eq-Decides new.name var).0 own))
+    through number var false own is =
+        name-front variables (new ∷ []) number var (numbering.only number var (ap (λ b. if b then Some (length variables) else number_of var numbers) (sym own) ∙ is))
+
+-- all numbers with the new variable's
+pub numbers-added : (before : VariablesState) (new : VariableState) → AreNumbers before → number_of new.name before.numbers ≡ None →
+    AreNumbers (record { all = before.all ++ new ∷ []; numbers = with_row new.name (length before.all) before.numbers; noted = before.noted })
+numbers-added before new are unknown = record {
+  numbering = numbering-added before.all before.numbers new are.numbering unknown;
+  noted = All-weaker (λ n. n < length before.all) (λ n. n < length (before.all ++ new ∷ [])) (λ n within. omega (arith, within, length_push before.all new)) before.noted are.noted;
+}
+
+-- no post is of a variable without a number
+unposted : (variables : List VariableState) (numbers : List Row) (var : List ℕ) (first : ℕ) (rows : List Row) (noted : List ℕ) (posts : List Post) → IsNumbering variables numbers → number_of var numbers ≡ None →
+    map (name_at variables) noted ≡ map (λ var. Some var) (map (λ (post : Post). post.var) posts) → number_of var rows ≡ None → number_of var (rows_from first rows posts) ≡ None
+unposted variables numbers var first rows [] [] numbering unknown are none = none
+unposted variables numbers var first rows [] (post ∷ posts) numbering unknown are none = absurd (let e : [] ≡ Some post.var ∷ map (λ var. Some var) (map (λ (post : Post). post.var) posts) = are in cc)
+unposted variables numbers var first rows (number ∷ noted) [] numbering unknown are none = absurd (let e : name_at variables number ∷ map (name_at variables) noted ≡ [] = are in cc)
+unposted variables numbers var first rows (number ∷ noted) (post ∷ posts) numbering unknown are none =
+    let e : name_at variables number ∷ map (name_at variables) noted ≡ Some post.var ∷ map (λ var. Some var) (map (λ (post : Post). post.var) posts) = are in
+    let here : name_at variables number ≡ Some post.var = cc in
+    let rest : map (name_at variables) noted ≡ map (λ var. Some var) (map (λ (post : Post). post.var) posts) = cc in
+    unposted variables numbers var (suc first) (with_row post.var first rows) noted posts numbering unknown rest
+    (number_of-with_row var post.var first rows
+    ∙ ap (λ b. if b then Some first else number_of var rows) (other-name numbers number post.var var (named variables numbers number post.var numbering here) unknown)
+    ∙ none)
+
+-- of none without a number, where one more has one, a post came through a registration
+known-more : (clients : ℕ) (kept : ℕ → SubscriberState) (var : List ℕ) (number : ℕ) (numbers : List Row) → AreKnown clients kept numbers → AreKnown clients kept (with_row var number numbers)
+known-more clients kept var number numbers known client below k d within other none =
+    known client below k d within other (through (bytes_eq var other) (sym (number_of-with_row other var number numbers) ∙ none))
+  where
+    through : (own : Bool) → (if own then Some number else number_of other numbers) ≡ None → number_of other numbers ≡ None
+    through true is = absurd (none-some number (sym is))
+    through false is = is
+
+-- the new variable is heard as what is kept says
+heard-new : (kept : ℕ → SubscriberState) (posts : List Post) (clients : List ClientState) (before after : VariablesState) (var : List ℕ) (added : IsAdded clients var before after) → AreKeptAs kept posts before clients →
+    number_of var before.numbers ≡ None → IsHeardBy (length clients) kept (record { name = var; latest = None; hearers = added.hearers; room = added.room })
+heard-new kept posts clients before after var added kept_as unknown = record {
+  each = λ client below.
+      let here = stands-at clients client below in
+      added.each client below
+      ∙ ap (fresh_hearers client var) (ap (λ one. unwrap_or (option_map (λ (state : ClientState). state.lives) one) []) here.1 ∙ (kept_as.clients client here.0 here.1).lives)
+      ∙ hearers-fresh client var (kept client).lives (λ k d within. kept_as.heard.known client below k d within var unknown);
+  within = added.within;
+}
+
+-- all is as kept says with the new variable
+added-ready : (kept : ℕ → SubscriberState) (posts : List Post) (clients : List ClientState) (before after : VariablesState) (var : List ℕ) → IsAdded clients var before after → IsNumbering before.all before.numbers →
+    number_of var before.numbers ≡ None → AreReady kept posts before clients → AreReady kept posts after clients
+added-ready kept posts clients before after var added numbering unknown ready =
+    let new : VariableState = record { name = var; latest = None; hearers = added.hearers; room = added.room } in
+    let with_new : VariablesState = record { all = before.all ++ new ∷ []; numbers = with_row var (length before.all) before.numbers; noted = before.noted } in
+    let is : after ≡ with_new = λ i. record { all = added.all i; numbers = added.numbers i; noted = added.noted i } in
+    subst (λ variables. AreReady kept posts variables clients) (sym is) (record {
+      stand = record {
+        clients = ready.stand.clients;
+        heard = record {
+          heard = All-push (IsHeardBy (length clients) kept) before.all new ready.stand.heard.heard (heard-new kept posts clients before after var added ready.stand unknown);
+          latest = All-push (λ (variable : VariableState). variable.latest ≡ number_of variable.name (rows_of posts)) before.all new ready.stand.heard.latest
+              (sym (unposted before.all before.numbers var 0 [] (take (length posts) before.noted) posts numbering unknown ready.noted refl));
+          known = known-more (length clients) kept var (length before.all) before.numbers ready.stand.heard.known;
+        };
+      };
+      noted = names-front before.all (new ∷ []) (take (length posts) before.noted) (map (λ (post : Post). post.var) posts) ready.noted;
+    })
+
+pub may-add-ready : (kept : ℕ → SubscriberState) (posts : List Post) (clients : List ClientState) (before after : VariablesState) (var : List ℕ) → MayAdd clients var before after → IsNumbering before.all before.numbers →
+    AreReady kept posts before clients → AreReady kept posts after clients
+may-add-ready kept posts clients before after var (inl same) numbering ready = subst (λ variables. AreReady kept posts variables clients) (sym same) ready
+may-add-ready kept posts clients before after var (inr (unknown, added)) numbering ready = added-ready kept posts clients before after var added numbering unknown ready
+
+-- each hears as one of the clients after that too
+pub may-add-below : (clients : List ClientState) (before after : VariablesState) (var : List ℕ) → MayAdd clients var before after → HearBelow (length clients) before.all → HearBelow (length clients) after.all
+may-add-below clients before after var (inl same) below = subst (λ (variables : VariablesState). HearBelow (length clients) variables.all) (sym same) below
+may-add-below clients before after var (inr (unknown, added)) below =
+    subst (HearBelow (length clients)) (sym added.all)
+    (All-push (λ (variable : VariableState). All (λ hearer. hearer.client < length clients) variable.hearers) before.all (record { name = var; latest = None; hearers = added.hearers; room = added.room }) below added.within)
+
+-- those that were noted stay so
+pub may-add-noted : (clients : List ClientState) (before after : VariablesState) (var : List ℕ) (vars : List (List ℕ)) → MayAdd clients var before after → AreNoted vars before → AreNoted vars after
+may-add-noted clients before after var vars (inl same) noted = subst (AreNoted vars) (sym same) noted
+may-add-noted clients before after var vars (inr (unknown, added)) noted =
+    ap (map (name_at after.all)) added.noted ∙ ap (λ all. map (name_at all) before.noted) added.all
+    ∙ names-front before.all (record { name = var; latest = None; hearers = added.hearers; room = added.room } ∷ []) before.noted vars noted
+
+-- the first of those that are noted are as many as there are posts
+pub noted-enough : (variables : List VariableState) (noted : List ℕ) (posts : List Post) → map (name_at variables) (take (length posts) noted) ≡ map (λ var. Some var) (map (λ (post : Post). post.var) posts) → length posts ≤ length noted
+noted-enough variables noted posts are =
+    omega (
+      arith,
+      length-take (length posts) noted,
+      length-map (take (length posts) noted) (name_at variables),
+      length-map posts (λ (post : Post). post.var),
+      length-map (map (λ (post : Post). post.var) posts) (λ var. Some var),
+      ap length are,
+    )
+
+-- one more may be noted behind them
+pub ready-noted : (kept : ℕ → SubscriberState) (posts : List Post) (clients : List ClientState) (variables : VariablesState) (number : ℕ) → AreReady kept posts variables clients →
+    AreReady kept posts (record variables { noted = variables.noted ++ number ∷ [] }) clients
+ready-noted kept posts clients variables number ready = record {
+  stand = record { clients = ready.stand.clients; heard = record { heard = ready.stand.heard.heard; latest = ready.stand.heard.latest; known = ready.stand.heard.known } };
+  noted = ap (map (name_at variables.all)) (take-append-le (length posts) variables.noted (number ∷ []) (noted-enough variables.all variables.noted posts ready.noted)) ∙ ready.noted;
+}
+
+pub noted-more : (variables : VariablesState) (vars : List (List ℕ)) (number : ℕ) (var : List ℕ) → AreNoted vars variables → name_at variables.all number ≡ Some var → AreNoted (vars ++ var ∷ []) (record variables { noted = variables.noted ++ number ∷ [] })
+noted-more variables vars number var noted is =
+    map-append (name_at variables.all) variables.noted (number ∷ [])
+    ∙ (λ i. noted i ++ is i ∷ [])
+    ∙ sym (map-append (λ var. Some var) vars (var ∷ []))
+
+-- a number that is noted is a variable's
+name-within : (variables : List VariableState) (number : ℕ) (var : List ℕ) → name_at variables number ≡ Some var → number < length variables
+name-within [] number var is = absurd (none-some var is)
+name-within (one ∷ variables) zero var is = omega arith
+name-within (one ∷ variables) (suc number) var is = omega (arith, name-within variables number var is)
+
+pub numbers-noted : (variables : VariablesState) (number : ℕ) (var : List ℕ) → AreNumbers variables → name_at variables.all number ≡ Some var → AreNumbers (record variables { noted = variables.noted ++ number ∷ [] })
+numbers-noted variables number var are is = record {
+  numbering = are.numbering;
+  noted = All-push (λ n. n < length variables.all) variables.noted number are.noted (name-within variables.all number var is);
+}

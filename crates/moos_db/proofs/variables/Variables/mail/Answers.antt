@@ -1,0 +1,52 @@
+use Rattle.std.proofs.Common.{◌≡◌, ◌∙◌, ◌<◌, Some, ap, length, refl, set, slice_get, sym, subst, arith, vec_capacity, vec_len, ◌-◌}
+use Rattle.std.specs.List.{All}
+use Rattle.std.proofs.lemmas.Option.{slice_get_read}
+use Rattle.moos_db.specs.Hearers.{HasRoom, IsPosted, VariableState, VariablesState}
+use Rattle.moos_db.proofs.Mailing.{numbers-posted}
+use Rattle.moos_db.proofs.variables.Variables.mail.Goals as goal
+
+pub mail_to-requires-clause-room : goal.mail_to-requires-clause-room
+mail_to-requires-clause-room c =
+    let number = c.args.number in
+    let inside : VariablesState = record { all = c.self.inside.all.items; numbers = c.self.inside.numbers; noted = c.self.inside.noted.items } in
+    let within : number < length inside.noted = subst (λ (variables : VariablesState). number < length variables.noted) (sym c.self.view_is) c.requires.noted in
+    let found : slice_get inside.noted number ≡ Some c.index.result.now = slice_get_read inside.noted (length inside.noted) number c.index.result.now refl within c.index.ensures in
+    let numbered : c.index.result.now < length inside.all = subst (λ n. n < length inside.all) (sym c.index.ensures) (c.self.invariant.noted number c.index.result.now within) in
+    let there : slice_get inside.all c.index.result.now ≡ Some c.index_mut-variable.result.now = slice_get_read inside.all (length inside.all) c.index.result.now c.index_mut-variable.result.now refl numbered c.index_mut-variable.ensures.value in
+    let room : All (HasRoom c.args.clients.now.items 1) c.index_mut-variable.result.now.hearers =
+    c.requires.room number c.index.result.now c.index_mut-variable.result.now (omega arith) (ap (λ (variables : VariablesState). slice_get variables.noted number) (sym c.self.view_is) ∙ found)
+    (ap (λ (variables : VariablesState). slice_get variables.all c.index.result.now) (sym c.self.view_is) ∙ there) in
+    subst (λ (variable : VariableState). All (HasRoom c.args.clients.now.items 1) variable.hearers) (sym c.variable.view_is) room
+
+pub invariant_of-self : goal.invariant_of-self
+invariant_of-self c =
+    let number = c.args.number in
+    let inside : VariablesState = record { all = c.self.inside.all.items; numbers = c.self.inside.numbers; noted = c.self.inside.noted.items } in
+    let within : number < length inside.noted = subst (λ (variables : VariablesState). number < length variables.noted) (sym c.self.view_is) c.requires.noted in
+    let numbered : c.index.result.now < length inside.all = subst (λ n. n < length inside.all) (sym c.index.ensures) (c.self.invariant.noted number c.index.result.now within) in
+    let there : slice_get inside.all c.index.result.now ≡ Some c.index_mut-variable.result.now = slice_get_read inside.all (length inside.all) c.index.result.now c.index_mut-variable.result.now refl numbered c.index_mut-variable.ensures.value in
+    numbers-posted inside c.index.result.now c.index_mut-variable.result.now _ c.self.invariant there (ap (λ (variable : VariableState). variable.name) c.variable.view_is)
+
+pub returns : goal.returns
+returns c =
+    let number = c.args.number in
+    let inside : VariablesState = record { all = c.self.inside.all.items; numbers = c.self.inside.numbers; noted = c.self.inside.noted.items } in
+    let within : number < length inside.noted = subst (λ (variables : VariablesState). number < length variables.noted) (sym c.self.view_is) c.requires.noted in
+    let found : slice_get inside.noted number ≡ Some c.index.result.now = slice_get_read inside.noted (length inside.noted) number c.index.result.now refl within c.index.ensures in
+    let numbered : c.index.result.now < length inside.all = subst (λ n. n < length inside.all) (sym c.index.ensures) (c.self.invariant.noted number c.index.result.now within) in
+    let there : slice_get inside.all c.index.result.now ≡ Some c.index_mut-variable.result.now = slice_get_read inside.all (length inside.all) c.index.result.now c.index_mut-variable.result.now refl numbered c.index_mut-variable.ensures.value in
+    let variable : VariableState = record { name = c.variable.inside.name; latest = c.variable.inside.latest; hearers = c.variable.inside.hearers.items; room = vec_capacity c.variable.inside.hearers - vec_len c.variable.inside.hearers } in
+    let room_left = vec_capacity c.mail_to.new.hearers - vec_len c.mail_to.new.hearers in
+    let after : VariablesState = record inside { all = set inside.all c.index.result.now (record variable { latest = Some number; hearers = c.mail_to.new.hearers.items; room = room_left }) } in
+    subst (λ before. IsPosted number c.args.stamp c.args.source.now before after c.args.clients.now.items c.mail_to.new.clients.items) c.self.view_is (record {
+      at = c.index.result.now;
+      variable = variable;
+      numbering = c.self.invariant.numbering;
+      found = found;
+      room = room_left;
+      there = there ∙ ap (λ one. Some one) (sym c.variable.view_is);
+      all = ap (λ hearers. set inside.all c.index.result.now (record variable { latest = Some number; hearers = hearers; room = room_left })) c.mail_to.ensures.heard;
+      numbers = refl;
+      noted = refl;
+      mailed = c.mail_to.ensures.mailed;
+    })

@@ -1,0 +1,181 @@
+-- Who hears a variable: of each client the live registrations whose pattern matches it, each with the stamp of the last post of the
+-- variable that came through.
+use Rattle.std.specs.Prelude.{◌≡◌, ◌<◌, ◌≤◌, ◌+◌, ◌⊎◌, ℕ, Bool, ◌&&◌, ◌==◌, if◌then◌else◌, List, [], ◌∷◌, ◌++◌, length, map, filter, Option, None, Some, option_map, unwrap_or, bytes_eq, slice_get, slice_set, take}
+use Rattle.std.specs.List.{All, list_any}
+use Rattle.moos_post.specs.declared.registration.Reg.{Reg}
+use Rattle.moos_post.specs.declared.value.Post.{Post}
+use Rattle.moos_post.specs.Delivery.{is_past}
+use Rattle.moos_post.specs.Patterns.{matches}
+use Rattle.moos_db.specs.declared.registration.Registration.{Registration}
+use Rattle.moos_db.specs.Clients.{AreClients, ClientState, mailed_once}
+use Rattle.moos_db.specs.Subscribers.{SubscriberState, SubscriptionState}
+use Rattle.moos_db.specs.Tables.{Row, number_of, rows_of, with_row}
+
+-- a live registration of a client that hears a variable, the entry that made it, and the stamp of the last post of the variable that
+-- came through it
+pub record HearerState : Type 0 where
+  pub client : ℕ
+  pub reg : Reg
+  pub made : ℕ
+  pub last : Option ℕ
+
+-- a variable, the number of its latest post, where there is one, who hears it, and how many more can without memory
+pub record VariableState : Type 0 where
+  pub name : List ℕ
+  pub latest : Option ℕ
+  pub hearers : List HearerState
+  pub room : ℕ
+
+-- the client hears the variable through this registration
+abbrev pub hearer_of : ℕ → List ℕ → SubscriptionState → HearerState
+hearer_of client var held = record { client = client; reg = held.reg; made = held.made; last = number_of var held.lasts }
+
+-- through which of these registrations the client hears the variable, in their order
+abbrev pub hearers_of : ℕ → List ℕ → List SubscriptionState → List HearerState
+hearers_of client var lives = map (hearer_of client var) (filter (λ held. matches held.reg.var var) lives)
+
+-- those of these that are the client's, in their order
+abbrev pub of_client : ℕ → List HearerState → List HearerState
+of_client client hearers = filter (λ hearer. hearer.client == client) hearers
+
+-- a post of this stamp from the source is due
+abbrev pub hears_due : ℕ → List ℕ → HearerState → Bool
+hears_due stamp source hearer = matches hearer.reg.source source && is_past hearer.last stamp hearer.reg.interval
+
+-- after such a post, which comes through where it is due
+abbrev pub after_hearing : ℕ → List ℕ → HearerState → HearerState
+after_hearing stamp source hearer = if hears_due stamp source hearer then record hearer { last = Some stamp } else hearer
+
+-- it is of the client and was made at this entry, and selects a post from the source
+abbrev pub is_new_at : ℕ → ℕ → List ℕ → HearerState → Bool
+is_new_at client made source hearer = hearer.client == client && hearer.made == made && matches hearer.reg.source source
+
+-- after a post of this stamp that catches up, which comes through where that is so
+abbrev pub caught_at : ℕ → ℕ → ℕ → List ℕ → HearerState → HearerState
+caught_at client made stamp source hearer = if is_new_at client made source hearer then record hearer { last = Some stamp } else hearer
+
+-- it is the client's registration with these patterns
+abbrev pub is_registration : ℕ → List ℕ → List ℕ → HearerState → Bool
+is_registration client var source hearer = hearer.client == client && bytes_eq hearer.reg.var var && bytes_eq hearer.reg.source source
+
+-- a registration that was just made, through which nothing came
+abbrev pub fresh_hearer : ℕ → Registration → HearerState
+fresh_hearer client live = record { client = client; reg = live.reg; made = live.made; last = None }
+
+-- through which of these registrations, through which nothing of the variable came, the client hears it
+abbrev pub fresh_hearers : ℕ → List ℕ → List Registration → List HearerState
+fresh_hearers client var lives = map (fresh_hearer client) (filter (λ live. matches live.reg.var var) lives)
+
+-- the live registrations of the client with this number; none where there is no such client
+abbrev pub lives_at : List ClientState → ℕ → List Registration
+lives_at clients client = unwrap_or (option_map (λ one. one.lives) (slice_get clients client)) []
+
+-- the variables, the table of their numbers, and of each post the number of its variable
+pub record VariablesState : Type 0 where
+  pub all : List VariableState
+  pub numbers : List Row
+  pub noted : List ℕ
+
+-- the variable is heard by each client just as what is kept of it says, and by nobody else
+pub record IsHeardBy (clients : ℕ) (kept : ℕ → SubscriberState) (variable : VariableState) : Type 0 where
+  pub each : (client : ℕ) → client < clients → of_client client variable.hearers ≡ hearers_of client variable.name (kept client).lives
+  pub within : All (λ hearer. hearer.client < clients) variable.hearers
+
+-- each of these hears as one of so many clients
+abbrev pub HearBelow : ℕ → List VariableState → Type 0
+HearBelow clients variables = All (λ variable. All (λ hearer. hearer.client < clients) variable.hearers) variables
+
+-- the name of the variable with this number, where there is one
+abbrev pub name_at : List VariableState → ℕ → Option (List ℕ)
+name_at variables number = option_map (λ variable. variable.name) (slice_get variables number)
+
+-- the table has for each variable its number, and no other number
+pub record IsNumbering (variables : List VariableState) (numbers : List Row) : Type 0 where
+  pub each : (number : ℕ) (variable : VariableState) → slice_get variables number ≡ Some variable → number_of variable.name numbers ≡ Some number
+  pub only : (number : ℕ) (var : List ℕ) → number_of var numbers ≡ Some number → name_at variables number ≡ Some var
+
+-- the numbers of variables that are noted are those of these
+pub record AreNumbers (variables : VariablesState) : Type 0 where
+  pub numbering : IsNumbering variables.all variables.numbers
+  pub noted : All (λ number. number < length variables.all) variables.noted
+
+-- the variables whose numbers are noted are these
+abbrev pub AreNoted : List (List ℕ) → VariablesState → Type 0
+AreNoted vars variables = map (name_at variables.all) variables.noted ≡ map (λ var. Some var) vars
+
+-- of no variable without a number a post came through a registration
+abbrev pub AreKnown : ℕ → (ℕ → SubscriberState) → List Row → Type 0
+AreKnown clients kept numbers =
+    (client : ℕ) → client < clients → All (λ held. (var : List ℕ) → number_of var numbers ≡ None → number_of var held.lasts ≡ None) (kept client).lives
+
+-- Each variable is heard as what is kept says, its latest post is that among these, and none came through but of these variables.
+pub record AreHeard (clients : ℕ) (kept : ℕ → SubscriberState) (posts : List Post) (variables : VariablesState) : Type 0 where
+  pub heard : All (IsHeardBy clients kept) variables.all
+  pub latest : All (λ variable. variable.latest ≡ number_of variable.name (rows_of posts)) variables.all
+  pub known : AreKnown clients kept variables.numbers
+
+-- the variables with this one more, which the clients hear by their registrations, through which nothing of it came
+pub record IsAdded (clients : List ClientState) (var : List ℕ) (before after : VariablesState) : Type 0 where
+  pub hearers : List HearerState
+  pub room : ℕ
+  pub each : (client : ℕ) → client < length clients → of_client client hearers ≡ fresh_hearers client var (lives_at clients client)
+  pub within : All (λ hearer. hearer.client < length clients) hearers
+  pub all : after.all ≡ before.all ++ record { name = var; latest = None; hearers = hearers; room = room } ∷ []
+  pub numbers : after.numbers ≡ with_row var (length before.all) before.numbers
+  pub noted : after.noted ≡ before.noted
+
+-- nothing changed but that a variable was added, or nothing
+abbrev pub MayAdd : List ClientState → List ℕ → VariablesState → VariablesState → Type 0
+MayAdd clients var before after = (after ≡ before) ⊎ ((number_of var before.numbers ≡ None) × IsAdded clients var before after)
+
+-- the clients are the same but for room in their mailboxes
+pub record AreAlike (before after : List ClientState) : Type 0 where
+  pub each : length after ≡ length before
+  pub same : (number : ℕ) (one other : ClientState) → slice_get before number ≡ Some one → slice_get after number ≡ Some other → other ≡ record one { spare = other.spare }
+
+-- so many more can be mailed to the client without memory
+abbrev pub HasRoom : List ClientState → ℕ → HearerState → Type 0
+HasRoom clients more hearer = (client : ClientState) → slice_get clients hearer.client ≡ Some client → more ≤ client.spare
+
+-- so they can to each who hears one of the posts from this number on
+abbrev pub HaveLetterRoom : List ClientState → VariablesState → ℕ → ℕ → Type 0
+HaveLetterRoom clients variables from more = (post number : ℕ) (variable : VariableState) → from ≤ post → slice_get variables.noted post ≡ Some number →
+    slice_get variables.all number ≡ Some variable → All (HasRoom clients more) variable.hearers
+
+-- the client after a post, which is mailed where this says so
+abbrev pub mailed_if : Bool → ℕ → ClientState → ClientState
+mailed_if mails number client = if mails then mailed_once number client else client
+
+-- the clients after the post with this number, of this stamp and from the source, which is mailed to each at one of whose hearers it is due
+pub record AreMailed (number stamp : ℕ) (source : List ℕ) (hearers : List HearerState) (before after : List ClientState) : Type 0 where
+  pub each : length after ≡ length before
+  pub mail : (client : ℕ) (one other : ClientState) → slice_get before client ≡ Some one → slice_get after client ≡ Some other →
+      other ≡ record (mailed_if (list_any (hears_due stamp source) (of_client client hearers)) number one) { spare = other.spare }
+  pub room : (client : ℕ) (one other : ClientState) → slice_get before client ≡ Some one → slice_get after client ≡ Some other → one.spare ≤ other.spare + 1
+
+-- the clients and who hears the variables are just what is kept says, where these are the posts so far
+pub record AreKeptAs (kept : ℕ → SubscriberState) (posts : List Post) (variables : VariablesState) (all : List ClientState) : Type 0 where
+  pub clients : AreClients kept all
+  pub heard : AreHeard (length all) kept posts variables
+
+-- what is kept of the client where these are its live registrations, and of each other
+abbrev pub with_lives : ℕ → (List SubscriptionState → List SubscriptionState) → (ℕ → SubscriberState) → ℕ → SubscriberState
+with_lives client change kept number = if number == client then record (kept number) { lives = change (kept number).lives } else kept number
+
+-- posting: the post with this number, of the variable that is noted for it, came through those who hear it, and was mailed
+pub record IsPosted (number stamp : ℕ) (source : List ℕ) (before after : VariablesState) (clients others : List ClientState) : Type 0 where
+  pub at : ℕ
+  pub variable : VariableState
+  pub numbering : IsNumbering before.all before.numbers
+  pub found : slice_get before.noted number ≡ Some at
+  pub there : slice_get before.all at ≡ Some variable
+  pub room : ℕ
+  pub all : after.all ≡ slice_set before.all at (record variable { latest = Some number; hearers = map (after_hearing stamp source) variable.hearers; room = room })
+  pub numbers : after.numbers ≡ before.numbers
+  pub noted : after.noted ≡ before.noted
+  pub mailed : AreMailed number stamp source variable.hearers clients others
+
+-- all is as kept says, where these are the posts so far, whose variables are noted first
+pub record AreReady (kept : ℕ → SubscriberState) (posts : List Post) (variables : VariablesState) (all : List ClientState) : Type 0 where
+  pub stand : AreKeptAs kept posts variables all
+  pub noted : AreNoted (map (λ post. post.var) posts) (record variables { noted = take (length posts) variables.noted })

@@ -1,0 +1,134 @@
+-- What a registration prepares, and what stays the same while it is made.
+use Rattle.std.specs.Prelude.{◌≡◌, ℕ, suc, ◌+◌, ◌≤◌, Bool, true, ◌==◌, false, if◌then◌else◌, List, [], ◌∷◌, ◌++◌, length, map, filter, Option, Some, bytes_eq, option_and_then, option_to_list, slice_get}
+use Rattle.std.specs.List.{flat_map, list_any}
+use Rattle.moos_post.specs.declared.registration.Reg.{Reg}
+use Rattle.moos_post.specs.Patterns.{matches}
+use Rattle.moos_db.specs.declared.registration.Registration.{Registration}
+use Rattle.moos_db.specs.Clients.{ClientState}
+use Rattle.moos_db.specs.Hearers.{HearerState, VariableState, VariablesState, caught_at, fresh_hearer, is_new_at}
+use Rattle.moos_db.specs.Subscribers.{SubscriberState, SubscriptionState, with_held}
+use Rattle.moos_db.specs.Tables.{number_of}
+
+-- who is to hear a variable, with the variable's number
+abbrev pub Heard : Type 0
+Heard = ℕ × HearerState
+
+-- a registration that is to be made, and who are to hear a variable through it
+pub record PreparedState : Type 0 where
+  pub live : Registration
+  pub hearers : List Heard
+
+-- the names of these variables
+abbrev pub variable_names : List VariableState → List (List ℕ)
+variable_names variables = map (λ variable. variable.name) variables
+
+-- who is to hear the variable with this number and name through the registration, where it matches
+abbrev pub heard_where : ℕ → Registration → ℕ → List ℕ → List Heard
+heard_where client live number name = if matches live.reg.var name then (number, fresh_hearer client live) ∷ [] else []
+
+-- through the registration the client is to hear each variable that it matches, of those with these names, the first of which has
+-- this number
+abbrev pub heard_through : ℕ → Registration → ℕ → List (List ℕ) → List Heard
+heard_through client live number [] = []
+heard_through client live number (name ∷ names) =
+    if matches live.reg.var name then (number, fresh_hearer client live) ∷ heard_through client live (suc number) names else heard_through client live (suc number) names
+
+-- the registration that is to be made for this at this entry
+abbrev pub prepared_of : ℕ → ℕ → List (List ℕ) → Reg → PreparedState
+prepared_of client made names reg =
+    record { live = record { reg = reg; made = made }; hearers = heard_through client (record { reg = reg; made = made }) 0 names }
+
+-- those of these that are to hear the variable with this number
+abbrev pub heard_at_number : ℕ → List Heard → List HearerState
+heard_at_number number all = map (λ one. one.1) (filter (λ one. one.0 == number) all)
+
+-- the live registrations after this one more, which withdraws one with the same patterns
+abbrev pub with_prepared : List SubscriptionState → PreparedState → List SubscriptionState
+with_prepared lives one = with_held one.live.made lives one.live.reg
+
+-- the number of the latest post of the variable with this number
+abbrev pub latest_at : List VariableState → ℕ → Option ℕ
+latest_at variables number = option_and_then (λ variable. variable.latest) (slice_get variables number)
+
+-- the numbers of the latest posts of the variables that these are to hear
+abbrev pub latest_heard : List VariableState → List Heard → List ℕ
+latest_heard variables all = flat_map (λ one. option_to_list (latest_at variables one.0)) all
+
+-- the same of the variables that are to be heard through each of these registrations
+abbrev pub latest_prepared : List VariableState → List PreparedState → List ℕ
+latest_prepared variables all = flat_map (λ one. latest_heard variables one.hearers) all
+
+-- each of these stands so to the one at its place before, where the number of the place counts
+pub record AreEachAt {X : Type 0} (R : ℕ → X → X → Type 0) (before after : List X) : Type 0 where
+  pub each : length after ≡ length before
+  pub same : (number : ℕ) (one other : X) → slice_get before number ≡ Some one → slice_get after number ≡ Some other → R number one other
+
+-- the same, where it doesn't
+abbrev pub AreEach : {X : Type 0} → (X → X → Type 0) → List X → List X → Type 0
+AreEach R before after = AreEachAt (λ number. R) before after
+
+-- there is room for these, each with the variable of its number
+abbrev pub HaveRoomFor : List Heard → List VariableState → Type 0
+HaveRoomFor all variables =
+    (number : ℕ) (variable : VariableState) → slice_get variables number ≡ Some variable → length (heard_at_number number all) ≤ variable.room
+
+-- the variable with this number after those of these that are to hear it do, for whom room was used
+pub record IsAddedTo (all : List Heard) (number : ℕ) (one other : VariableState) : Type 0 where
+  pub same : other ≡ record one { hearers = one.hearers ++ heard_at_number number all; room = other.room }
+  pub room : one.room ≤ other.room + length (heard_at_number number all)
+
+-- the variable is the same but for room, of which there is no less
+pub record IsRoomier (one other : VariableState) : Type 0 where
+  pub same : other ≡ record one { room = other.room }
+  pub room : one.room ≤ other.room
+
+-- each variable is so, and their numbers and those noted of the posts are the same
+pub record AreRoomier (before after : VariablesState) : Type 0 where
+  pub all : AreEach IsRoomier before.all after.all
+  pub numbers : after.numbers ≡ before.numbers
+  pub noted : after.noted ≡ before.noted
+
+-- the variable is the same but for who hears it, and room was used for no more than so many
+pub record IsStill (used : ℕ) (one other : VariableState) : Type 0 where
+  pub same : other ≡ record one { hearers = other.hearers; room = other.room }
+  pub room : one.room ≤ other.room + used
+
+-- room for registrations of the client was used for no more than so many, and none for letters
+pub record KeepsRoom (used : ℕ) (one other : ClientState) : Type 0 where
+  pub room : one.room ≤ other.room + used
+  pub spare : one.spare ≤ other.spare
+
+-- the variables and the clients are so, and the variables' numbers are the same
+pub record AreStill (used : ℕ) (before after : VariablesState) (states others : List ClientState) : Type 0 where
+  pub variables : AreEach (IsStill used) before.all after.all
+  pub clients : AreEach (KeepsRoom used) states others
+  pub numbers : after.numbers ≡ before.numbers
+
+-- there is room for so many with each variable that the pattern matches
+abbrev pub HasRoomThrough : ℕ → List ℕ → List VariableState → Type 0
+HasRoomThrough room pattern variables =
+    (number : ℕ) (variable : VariableState) → slice_get variables number ≡ Some variable → matches pattern variable.name ≡ true → room ≤ variable.room
+
+-- the registration of the client is prepared, and there is room for so many with each variable that it matches
+pub record IsPrepared (client more : ℕ) (variables : List VariableState) (one : PreparedState) : Type 0 where
+  pub hearers : one.hearers ≡ heard_through client one.live 0 (variable_names variables)
+  pub room : HasRoomThrough more one.live.reg.var variables
+
+-- what is kept of the client is changed so, and that of each other stays
+abbrev pub with_kept : ℕ → (SubscriberState → SubscriberState) → (ℕ → SubscriberState) → ℕ → SubscriberState
+with_kept client change kept number = if number == client then change (kept number) else kept number
+
+-- the post of this stamp and from the source of the variable with this number caught up with the client's registrations made at this
+-- entry; this tells whether there was one
+pub record IsCaught (client made stamp : ℕ) (source : List ℕ) (place : ℕ) (answer : Bool) (before after : VariablesState) : Type 0 where
+  pub variable : VariableState
+  pub room : ℕ
+  pub there : slice_get before.all place ≡ Some variable
+  pub numbered : number_of variable.name before.numbers ≡ Some place
+  pub apart : (number : ℕ) (other : VariableState) → slice_get before.all number ≡ Some other → (number == place) ≡ false → bytes_eq variable.name other.name ≡ false
+  pub catches : answer ≡ list_any (is_new_at client made source) variable.hearers
+  pub each : length after.all ≡ length before.all
+  pub here : slice_get after.all place ≡ Some (record variable { hearers = map (caught_at client made stamp source) variable.hearers; room = room })
+  pub others : (number : ℕ) → (number == place) ≡ false → slice_get after.all number ≡ slice_get before.all number
+  pub numbers : after.numbers ≡ before.numbers
+  pub noted : after.noted ≡ before.noted
