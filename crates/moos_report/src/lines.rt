@@ -104,7 +104,15 @@ pub(super) fn put_mail<K: Sink>(
     let (seconds, var) = (stamp.bytes(), pair.var.bytes());
     if let Err(failed) = put(
         &[
-            b"%% mail ", number, b" ", seconds, b" ", var, b" ", source, b" ",
+            b"%% mail ",
+            number,
+            b" ",
+            seconds,
+            b" ",
+            var,
+            b" ",
+            source,
+            b" ",
         ],
         buffer,
         out,

@@ -60,6 +60,7 @@ pub fn print_seconds(milliseconds: u64) -> MilliText
 
 // Each of these writes a text so that it ends where the buffer ends, and gives the place where the text starts.
 
+#[inline]
 fn write_signed(thousandths: i64, buffer: &mut [u8; 24]) -> usize
     requires { IsMilli thousandths }
     ensures text { drop result buffer.new ≡ milli_text thousandths }
@@ -74,6 +75,7 @@ fn write_signed(thousandths: i64, buffer: &mut [u8; 24]) -> usize
 }
 
 // Thousandths without a sign as they print, with room for a sign in front.
+#[inline]
 fn write_unsigned(n: u64, buffer: &mut [u8; 24]) -> usize
     ensures text { drop result buffer.new ≡ unsigned_text n }
     ensures room { 0 < result }

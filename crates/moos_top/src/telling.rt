@@ -76,7 +76,15 @@ fn tell<R: Threads + Wait + Sync, K: Sink, G: Gate>(
     let mut made = 0;
     loop {
         match tell_round(
-            rt, alloc, play, setup, made, workers, &mut buffer, out, gate,
+            rt,
+            alloc,
+            play,
+            setup,
+            made,
+            workers,
+            &mut buffer,
+            out,
+            gate,
         ) {
             Ok(Some(more)) => made += more,
             Ok(None) => return written(Status::Done, tell_end(rt, play, out)),
