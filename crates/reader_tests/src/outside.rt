@@ -110,10 +110,10 @@ fn open_gate_is_passed() {
     pass(&NoGate);
 }
 
-// 1,000 times `word `, and then a piece that is longer than the buffer.
+// 4,000 times `word `, and then a piece that is longer than the buffer.
 fn write_words(sink: &mut MemSink, long: &[u8]) -> Result<(), Failed> {
     let mut buffer = Buffer::new();
-    for _ in 0..1000 {
+    for _ in 0..4000 {
         buffer.write(sink, &[b"word".as_slice(), b" "])?;
     }
     buffer.write(sink, &[b"long ".as_slice(), long, b"\n"])?;
@@ -122,23 +122,23 @@ fn write_words(sink: &mut MemSink, long: &[u8]) -> Result<(), Failed> {
 
 #[test]
 fn buffer_passes_words_on_in_few_puts(rt: HostRuntime) -> Result<(), Fail> {
-    let long = vec![in rt.alloc(); b'x'; 5000]?;
+    let long = vec![in rt.alloc(); b'x'; 17000]?;
     let mut whole = Vec::new(rt.alloc());
-    for _ in 0..1000 {
+    for _ in 0..4000 {
         whole.extend_from_slice(b"word ")?;
     }
     for piece in [b"long ".as_slice(), long.as_slice(), b"\n"] {
         whole.extend_from_slice(piece)?;
     }
     let runs: [(u64, Result<(), Failed>, usize); 5] = [
-        (4, Ok(()), 10006),
-        (3, Err(Failed), 10005),
-        (2, Err(Failed), 5005),
-        (1, Err(Failed), 4095),
+        (4, Ok(()), 37006),
+        (3, Err(Failed), 37005),
+        (2, Err(Failed), 20005),
+        (1, Err(Failed), 16384),
         (0, Err(Failed), 0),
     ];
     for (mark, answer, len) in runs {
-        let mut sink = MemSink::make(rt.alloc(), 20000, 8192)?;
+        let mut sink = MemSink::make(rt.alloc(), 40000, 32768)?;
         sink.fail_at(mark)?;
         assert_eq!(rt; write_words(&mut sink, long.as_slice()), answer);
         assert!(rt; sink.bytes().len() == len && whole.as_slice().starts_with(sink.bytes()));
