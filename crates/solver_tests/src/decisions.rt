@@ -10,11 +10,10 @@ use ivp_problem::{Key, Problem, sum_of};
 use ivp_search::best_in_one;
 use moos_io::MemSink;
 use moos_text::{Cause, ReadFault};
-use std::alloc::{AllocError, Global};
+use std::alloc::Global;
 use std::marker::Brand;
 use std::process::Abort;
 use std::sync::ledger::{Blank, Ledger};
-use std::test::Fail;
 
 /// One function of one piece.
 const LEVEL: &[u8] = b"ivp 1\ndomain course:0:359:360\nfunction 100\npiece 0 359 7 0\nend\n";
@@ -47,10 +46,10 @@ fn greatest_key(problem: &Problem) -> Key
     greatest_by::<Brand>(problem, Blank::new(1))
 }
 
-fn joined(alloc: Global, front: &[u8], rest: &[u8]) -> Result<Vec<u8>, AllocError> {
-    let mut text = Vec::from_slice(alloc, front)?;
-    text.extend_from_slice(rest)?;
-    Ok(text)
+fn joined(rt: &impl Abort, alloc: Global, front: &[u8], rest: &[u8]) -> Vec<u8> {
+    let mut text = Vec::from_slice(alloc, front).expect(rt, "memory");
+    text.extend_from_slice(rest).expect(rt, "memory");
+    text
 }
 
 fn read(rt: &impl Abort, alloc: Global, text: &[u8]) -> Result<Decision, ReadFault> {
@@ -59,18 +58,12 @@ fn read(rt: &impl Abort, alloc: Global, text: &[u8]) -> Result<Decision, ReadFau
 }
 
 /// The text of the decision of a problem, whose best point has these places.
-fn solved(
-    rt: &impl Abort,
-    alloc: Global,
-    text: &[u8],
-    at: [u32; 4],
-    prefix: &[u8],
-) -> Result<MemSink, Fail> {
+fn solved(rt: &impl Abort, alloc: Global, text: &[u8], at: [u32; 4], prefix: &[u8]) -> MemSink {
     assert!(rt; text.len() < 4_000_000_000);
-    let problem = read_problem(alloc, text).map_err(|_| "a problem")?;
+    let problem = read_problem(alloc, text).expect(rt, "a problem");
     certificate_law(&problem);
     let key = greatest_key(&problem);
-    let cert = cut(alloc, &problem, key)?;
+    let cert = cut(alloc, &problem, key).expect(rt, "memory");
     let claim = Claim {
         point: Point { at },
         sum: sum_of(key),
@@ -80,9 +73,9 @@ fn solved(
         claim,
         cert,
     };
-    let mut sink = MemSink::make(alloc, 100_000, 100_000)?;
-    print_decision(&decision, prefix, &mut sink).map_err(|_| "room")?;
-    Ok(sink)
+    let mut sink = MemSink::make(alloc, 100_000, 100_000).expect(rt, "memory");
+    print_decision(&decision, prefix, &mut sink).expect(rt, "room");
+    sink
 }
 
 /// Whether a decision is accepted, where the text is one. What the decision prints stands for it.
@@ -100,7 +93,7 @@ fn is_accepted(rt: &impl Abort, alloc: Global, text: &[u8]) -> Option<bool> {
 }
 
 #[test]
-fn decisions_with_certificates(rt: HostRuntime) -> Result<(), Fail> {
+fn decisions_with_certificates(rt: HostRuntime) {
     let alloc = rt.alloc();
     for (problem, at, lines) in [
         (
@@ -120,45 +113,50 @@ fn decisions_with_certificates(rt: HostRuntime) -> Result<(), Fail> {
         ),
         (HALVES, [0; 4], b"decision 0 7\ncut : 7 0\ndone\n"),
     ] {
-        let expected = joined(alloc, problem, lines)?;
-        let sink = solved(&rt, alloc, problem, at, b"")?;
+        let expected = joined(&rt, alloc, problem, lines);
+        let sink = solved(&rt, alloc, problem, at, b"");
         assert!(rt; sink.bytes() == expected.as_slice());
         assert_eq!(rt; is_accepted(&rt, alloc, &expected), Some(true));
     }
-    Ok(())
 }
 
 #[test]
-fn prefix_stands_before_each_line(rt: HostRuntime) -> Result<(), Fail> {
-    let sink = solved(&rt, rt.alloc(), LEVEL, [0; 4], b"%% ")?;
+fn prefix_stands_before_each_line(rt: HostRuntime) {
+    let sink = solved(&rt, rt.alloc(), LEVEL, [0; 4], b"%% ");
     let expected =
         b"%% ivp 1\n%% domain course:0:359:360\n%% function 100\n%% piece 0 359 7 0\n%% end\n%% decision 0 700\n%% cut : 700 0\n%% done\n".as_slice();
     assert!(rt; sink.bytes() == expected);
     assert_eq!(rt; is_accepted(&rt, rt.alloc(), expected), Some(true));
-    Ok(())
+}
+
+/// As many functions as there may be, each of the greatest weight and value.
+fn highest(rt: &impl Abort, alloc: Global) -> Vec<u8> {
+    let mut text = Vec::from_slice(alloc, b"ivp 1\ndomain course:0:359:360\n").expect(rt, "memory");
+    for _ in 0..64 {
+        text.extend_from_slice(b"function 10000\npiece 0 359 100000 0\n")
+            .expect(rt, "memory");
+    }
+    text.extend_from_slice(b"end\n").expect(rt, "memory");
+    text
 }
 
 #[test]
-fn greatest_sum(rt: HostRuntime) -> Result<(), Fail> {
+fn greatest_sum(rt: HostRuntime) {
     let alloc = rt.alloc();
-    let mut text = Vec::from_slice(alloc, b"ivp 1\ndomain course:0:359:360\n")?;
-    for _ in 0..64 {
-        text.extend_from_slice(b"function 10000\npiece 0 359 100000 0\n")?;
-    }
-    text.extend_from_slice(b"end\n")?;
+    let text = highest(&rt, alloc);
     let expected = joined(
+        &rt,
         alloc,
         &text,
         b"decision 0 64000000000\ncut : 64000000000 0\ndone\n",
-    )?;
-    let sink = solved(&rt, alloc, &text, [0; 4], b"")?;
+    );
+    let sink = solved(&rt, alloc, &text, [0; 4], b"");
     assert!(rt; sink.bytes() == expected.as_slice());
     assert_eq!(rt; is_accepted(&rt, alloc, &expected), Some(true));
-    Ok(())
 }
 
 #[test]
-fn changed_decisions(rt: HostRuntime) -> Result<(), Fail> {
+fn changed_decisions(rt: HostRuntime) {
     let alloc = rt.alloc();
     for (lines, accepted) in [
         (
@@ -183,14 +181,13 @@ fn changed_decisions(rt: HostRuntime) -> Result<(), Fail> {
             None,
         ),
     ] {
-        let text = joined(alloc, TWO, lines)?;
+        let text = joined(&rt, alloc, TWO, lines);
         assert_eq!(rt; is_accepted(&rt, alloc, &text), accepted, "{lines:?}");
     }
-    Ok(())
 }
 
 #[test]
-fn changed_certificates(rt: HostRuntime) -> Result<(), Fail> {
+fn changed_certificates(rt: HostRuntime) {
     let alloc = rt.alloc();
     for (lines, accepted) in [
         (
@@ -285,14 +282,13 @@ fn changed_certificates(rt: HostRuntime) -> Result<(), Fail> {
             false,
         ),
     ] {
-        let text = joined(alloc, THREE, lines)?;
+        let text = joined(&rt, alloc, THREE, lines);
         assert_eq!(rt; is_accepted(&rt, alloc, &text), Some(accepted), "{lines:?}");
     }
-    Ok(())
 }
 
 #[test]
-fn refusals(rt: HostRuntime) -> Result<(), Fail> {
+fn refusals(rt: HostRuntime) {
     let alloc = rt.alloc();
     for (lines, line, cause) in [
         // A decision outside its form, before a point outside the domain.
@@ -329,7 +325,7 @@ fn refusals(rt: HostRuntime) -> Result<(), Fail> {
         (b"decision 0 700\n", 6, Cause::P9),
         (b"decision 0 700\ncut : 700 0\n\n", 8, Cause::P9),
     ] {
-        let text = joined(alloc, LEVEL, lines)?;
+        let text = joined(&rt, alloc, LEVEL, lines);
         let fault = read(&rt, alloc, &text).err();
         assert_eq!(rt; fault, Some(ReadFault::At { line, cause }), "{lines:?}");
     }
@@ -339,45 +335,49 @@ fn refusals(rt: HostRuntime) -> Result<(), Fail> {
         cause: Cause::P9,
     };
     assert_eq!(rt; empty, Some(at_1));
-    Ok(())
 }
 
 /// A decision with one line of so many numbers.
-fn long_path(alloc: Global, numbers: u32) -> Result<Vec<u8>, AllocError> {
-    let mut text = joined(alloc, LEVEL, b"decision 0 700\ncut")?;
+fn long_path(rt: &impl Abort, alloc: Global, numbers: u32) -> Vec<u8> {
+    let mut text = joined(rt, alloc, LEVEL, b"decision 0 700\ncut");
     for _ in 0..numbers {
-        text.extend_from_slice(b" 4294967295")?;
+        text.extend_from_slice(b" 4294967295").expect(rt, "memory");
     }
-    text.extend_from_slice(b" : 0 0\ndone\n")?;
-    Ok(text)
+    text.extend_from_slice(b" : 0 0\ndone\n")
+        .expect(rt, "memory");
+    text
 }
 
-#[test]
-fn longest_path(rt: HostRuntime) -> Result<(), Fail> {
-    let alloc = rt.alloc();
-    let decision = read(&rt, alloc, &long_path(alloc, 64)?).map_err(|_| "a decision")?;
+/// The one line of its certificate has a path of 64 numbers, the last of which is the greatest.
+fn has_long_path(rt: &impl Abort, decision: &Decision) {
     assert_eq!(rt; decision.cert.len(), 1);
     assert!(rt; 0 < decision.cert.len());
     let path = &decision.cert.get(0).path;
     assert_eq!(rt; path.len(), 64);
     assert!(rt; 63 < path.len());
     assert_eq!(rt; path.get(63), 4_294_967_295);
+}
+
+#[test]
+fn longest_path(rt: HostRuntime) {
+    let alloc = rt.alloc();
+    let decision = read(&rt, alloc, &long_path(&rt, alloc, 64)).expect(&rt, "a decision");
+    has_long_path(&rt, &decision);
     let refused = ReadFault::At {
         line: 7,
         cause: Cause::P1,
     };
     assert_eq!(rt;
-        read(&rt, alloc, &long_path(alloc, 65)?).err(),
+        read(&rt, alloc, &long_path(&rt, alloc, 65)).err(),
         Some(refused)
     );
-    Ok(())
 }
 
 #[test]
-fn lists(rt: HostRuntime) -> Result<(), Fail> {
+fn lists(rt: HostRuntime) {
     let alloc = rt.alloc();
     let mut path = Path::new(alloc);
-    path.push(3).map_err(|_| "memory")?;
+    path.push(3).expect(&rt, "memory");
     assert!(rt; path.all() == [3].as_slice());
     let mut cert = Cert::new(alloc);
     let line = Line {
@@ -385,7 +385,6 @@ fn lists(rt: HostRuntime) -> Result<(), Fail> {
         sum: 7,
         index: 1,
     };
-    cert.push(line).map_err(|_| "memory")?;
+    cert.push(line).expect(&rt, "memory");
     assert_eq!(rt; cert.all().len(), 1);
-    Ok(())
 }

@@ -1,20 +1,12 @@
 ghost use Rattle.std.specs.Prelude.{◌≡◌, ◌<◌};
 
+use crate::made::{axis_from, domain_of};
 use ivp_domain::{
     Axis, AxisName, BoxN, Domain, DomainFault, Point, Steps, is_proper, meet, volume,
 };
 use std::marker::Brand;
+use std::process::Abort;
 use std::sync::ledger::{Blank, Ledger};
-use std::test::Fail;
-
-fn axis(name: &[u8], low: i64, high: i64, points: u32) -> Result<Axis, Fail> {
-    Ok(Axis {
-        name: AxisName::new(name).ok_or("a name")?,
-        low,
-        high,
-        points,
-    })
-}
 
 #[test]
 fn names(rt: HostRuntime) {
@@ -33,44 +25,48 @@ fn names(rt: HostRuntime) {
     }
 }
 
-fn good() -> Result<Axis, Fail> {
-    axis(b"a", 0, 1, 2)
+fn good(rt: &impl Abort) -> Axis {
+    axis_from(rt, b"a", 0, 1, 2)
 }
 
-fn many() -> Result<Axis, Fail> {
-    axis(b"b", 0, 1, 4_194_305)
-}
-
-#[test]
-fn refusals_in_order(rt: HostRuntime) -> Result<(), Fail> {
-    let axes = [good()?, good()?, many()?, axis(b"c", 0, 1, 1)?];
-    assert_eq!(rt; Domain::make(&axes).err(), Some(DomainFault::BadAxis(3)));
-    let axes = [axis(b"c", 5, 5, 2)?, axis(b"d", 0, 1, 1)?];
-    assert_eq!(rt; Domain::make(&axes).err(), Some(DomainFault::BadAxis(0)));
-    let axes = [good()?, axis(b"d", -1_000_000_000_001, 0, 2)?];
-    assert_eq!(rt; Domain::make(&axes).err(), Some(DomainFault::BadAxis(1)));
-    let axes = [good()?, axis(b"e", 0, 1_000_000_000_001, 2)?];
-    assert_eq!(rt; Domain::make(&axes).err(), Some(DomainFault::BadAxis(1)));
-    let axes = [many()?];
-    assert_eq!(rt; Domain::make(&axes).err(), Some(DomainFault::TooLarge));
-    let axes = [many()?, good()?, good()?];
-    assert_eq!(rt; Domain::make(&axes).err(), Some(DomainFault::TooLarge));
-    let axes = [good()?, axis(b"c", 5, 6, 2)?, good()?];
-    assert_eq!(rt; Domain::make(&axes).err(), Some(DomainFault::SameName(2)));
-    let axes = [axis(b"f", -1_000_000_000_000, 1_000_000_000_000, 4_194_304)?];
-    let domain = Domain::make(&axes).map_err(|_| "the most points")?;
-    assert_eq!(rt; domain.points(), 4_194_304);
-    Ok(())
+fn many(rt: &impl Abort) -> Axis {
+    axis_from(rt, b"b", 0, 1, 4_194_305)
 }
 
 #[test]
-fn indices(rt: HostRuntime) -> Result<(), Fail> {
+fn refusals_in_order(rt: HostRuntime) {
     let axes = [
-        axis(b"a", 0, 2000, 3)?,
-        axis(b"b", 0, 1000, 2)?,
-        axis(b"d", -10, 0, 4)?,
+        good(&rt),
+        good(&rt),
+        many(&rt),
+        axis_from(&rt, b"c", 0, 1, 1),
     ];
-    let domain = Domain::make(&axes).map_err(|_| "a domain")?;
+    assert_eq!(rt; Domain::make(&axes).err(), Some(DomainFault::BadAxis(3)));
+    let axes = [axis_from(&rt, b"c", 5, 5, 2), axis_from(&rt, b"d", 0, 1, 1)];
+    assert_eq!(rt; Domain::make(&axes).err(), Some(DomainFault::BadAxis(0)));
+    let axes = [good(&rt), axis_from(&rt, b"d", -1_000_000_000_001, 0, 2)];
+    assert_eq!(rt; Domain::make(&axes).err(), Some(DomainFault::BadAxis(1)));
+    let axes = [good(&rt), axis_from(&rt, b"e", 0, 1_000_000_000_001, 2)];
+    assert_eq!(rt; Domain::make(&axes).err(), Some(DomainFault::BadAxis(1)));
+    let axes = [many(&rt)];
+    assert_eq!(rt; Domain::make(&axes).err(), Some(DomainFault::TooLarge));
+    let axes = [many(&rt), good(&rt), good(&rt)];
+    assert_eq!(rt; Domain::make(&axes).err(), Some(DomainFault::TooLarge));
+    let axes = [good(&rt), axis_from(&rt, b"c", 5, 6, 2), good(&rt)];
+    assert_eq!(rt; Domain::make(&axes).err(), Some(DomainFault::SameName(2)));
+    let axes = [axis_from(&rt, b"f", -1_000_000_000_000, 1_000_000_000_000, 4_194_304)];
+    let domain = Domain::make(&axes).expect(&rt, "the most points");
+    assert_eq!(rt; domain.points(), 4_194_304);
+}
+
+#[test]
+fn indices(rt: HostRuntime) {
+    let axes = [
+        axis_from(&rt, b"a", 0, 2000, 3),
+        axis_from(&rt, b"b", 0, 1000, 2),
+        axis_from(&rt, b"d", -10, 0, 4),
+    ];
+    let domain = domain_of(&rt, &axes);
     assert_eq!(rt; domain.points(), 24);
     assert_eq!(rt; domain.axes(), 3);
     for index in 0..domain.points() {
@@ -93,7 +89,6 @@ fn indices(rt: HostRuntime) -> Result<(), Fail> {
     for (place, number) in numbers.iter().enumerate() {
         assert_eq!(rt; number_of(&domain, 2, place as u32), Some(*number));
     }
-    Ok(())
 }
 
 /// The number at a place, where the axis has it.

@@ -203,38 +203,35 @@ fn limits() -> [Limit; 12] {
 }
 
 // A peak has its formula's value at each place.
-fn peak_agrees(rt: &impl Abort, alloc: Global, axis: &Scale, shape: &Peak) -> Result<(), Fail> {
-    let domain = line(axis.name, axis.low, axis.high, axis.points)?;
-    let func = peaked(alloc, &domain, shape)?;
+fn peak_agrees(rt: &impl Abort, alloc: Global, axis: &Scale, shape: &Peak) {
+    let domain = line(rt, axis.name, axis.low, axis.high, axis.points);
+    let func = peaked(rt, alloc, &domain, shape);
     for place in 0..axis.points {
         assert_eq!(rt; value(&func, place), Some(peak_value(axis, shape, place)));
     }
-    Ok(())
 }
 
 // And so has a limit.
-fn limit_agrees(rt: &impl Abort, alloc: Global, axis: &Scale, shape: &Limit) -> Result<(), Fail> {
-    let domain = line(axis.name, axis.low, axis.high, axis.points)?;
-    let func = limited(alloc, &domain, shape)?;
+fn limit_agrees(rt: &impl Abort, alloc: Global, axis: &Scale, shape: &Limit) {
+    let domain = line(rt, axis.name, axis.low, axis.high, axis.points);
+    let func = limited(rt, alloc, &domain, shape);
     for place in 0..axis.points {
         assert_eq!(rt; value(&func, place), Some(limit_value(axis, shape, place)));
     }
-    Ok(())
 }
 
 // One value is the same at each place.
-fn flat_agrees(rt: &impl Abort, alloc: Global, axis: &Scale) -> Result<(), Fail> {
-    let domain = line(axis.name, axis.low, axis.high, axis.points)?;
-    let func = flat(alloc, &domain, 100_000)?;
+fn flat_agrees(rt: &impl Abort, alloc: Global, axis: &Scale) {
+    let domain = line(rt, axis.name, axis.low, axis.high, axis.points);
+    let func = flat(alloc, &domain, 100_000).expect(rt, "memory");
     for place in 0..axis.points {
         assert_eq!(rt; value(&func, place), Some(100_000));
     }
-    Ok(())
 }
 
 // The sum of two peaks, at each of four courses and four speeds.
 fn sum_agrees(rt: &impl Abort, alloc: Global, course: &Peak, speed: &Peak) -> Result<(), Fail> {
-    let func = steered(alloc, &plane()?, course, speed)?;
+    let func = steered(alloc, &plane(rt), course, speed)?;
     let round = axis(b"course", 0, 270_000, 4);
     let along = axis(b"speed", 0, 3_000, 4);
     for index in 0..16 {
@@ -249,12 +246,12 @@ fn sum_agrees(rt: &impl Abort, alloc: Global, course: &Peak, speed: &Peak) -> Re
 fn formulas(rt: HostRuntime) -> Result<(), Fail> {
     for axis in &axes() {
         for shape in &shapes() {
-            peak_agrees(&rt, rt.alloc(), axis, shape)?;
+            peak_agrees(&rt, rt.alloc(), axis, shape);
         }
         for shape in &limits() {
-            limit_agrees(&rt, rt.alloc(), axis, shape)?;
+            limit_agrees(&rt, rt.alloc(), axis, shape);
         }
-        flat_agrees(&rt, rt.alloc(), axis)?;
+        flat_agrees(&rt, rt.alloc(), axis);
     }
     for course in &shapes()[5..7] {
         for speed in &shapes()[11..12] {
@@ -315,12 +312,12 @@ fn uniform_value(size: u32, first: u32, second: u32) -> i64 {
 }
 
 #[test]
-fn samples(rt: HostRuntime) -> Result<(), Fail> {
-    let domain = plane()?;
+fn samples(rt: HostRuntime) {
+    let domain = plane(&rt);
     for size in 1..6 {
-        let func = uniform(rt.alloc(), &domain, size, &|point: &Point| bumpy(point)).map_err(
-            |_| "a sample",
-        )?;
+        let func = uniform(rt.alloc(), &domain, size, &|point: &Point| bumpy(point)).expect(
+            &rt, "a sample",
+        );
         for index in 0..16 {
             assert_eq!(rt;
                 value(&func, index),
@@ -328,5 +325,4 @@ fn samples(rt: HostRuntime) -> Result<(), Fail> {
             );
         }
     }
-    Ok(())
 }

@@ -1,31 +1,23 @@
 ghost use Rattle.std.specs.Prelude.{◌≡◌, ◌<◌, IsTrue};
 ghost use Rattle.ivp_domain.specs.Domains.{is_point};
 
-use ivp_domain::{Axis, AxisName, BoxN, Domain, Point, Steps};
+use crate::made::{axis, domain_of};
+use ivp_domain::{BoxN, Domain, Point, Steps};
 use ivp_func::{Func, FuncFault, Piece, are_pieces_of, is_box_of, is_piece_of, tests_law};
 use std::alloc::Global;
 use std::marker::Brand;
+use std::process::Abort;
 use std::sync::ledger::{Blank, Ledger};
-use std::test::Fail;
 
 /// The function that pieces make which may stand in one.
-fn made(alloc: Global, domain: &Domain, pieces: Vec<Piece>) -> Option<Result<Func, FuncFault>> {
-    if are_pieces_of(domain, &pieces) {
-        Some(Func::make(alloc, domain, pieces))
-    } else {
-        None
-    }
+fn made(rt: &impl Abort, alloc: Global, domain: &Domain, pieces: Vec<Piece>) -> Func {
+    assert!(rt; are_pieces_of(domain, &pieces), "pieces that fit");
+    Func::make(alloc, domain, pieces).expect(rt, "a function")
 }
 
 /// A domain of one axis.
-fn line(points: u32) -> Result<Domain, Fail> {
-    let axes = [Axis {
-        name: AxisName::new(b"a").ok_or("a name")?,
-        low: 0,
-        high: 1000,
-        points,
-    }];
-    Ok(Domain::make(&axes).map_err(|_| "a domain")?)
+fn line(rt: &impl Abort, points: u32) -> Domain {
+    domain_of(rt, &[axis(rt, b"a", 1000, points)])
 }
 
 /// The piece `LOW HIGH BASE SLOPE` on one axis.
@@ -47,15 +39,16 @@ fn at(place: u32) -> Point {
 }
 
 /// The fault of these pieces over a line.
-fn fault(alloc: Global, points: u32, pieces: &[Piece]) -> Result<Option<FuncFault>, Fail> {
-    let domain = line(points)?;
-    let pieces = Vec::from_slice(alloc, pieces)?;
-    Ok(made(alloc, &domain, pieces).ok_or("pieces that fit")?.err())
+fn fault(rt: &impl Abort, alloc: Global, points: u32, pieces: &[Piece]) -> Option<FuncFault> {
+    let domain = line(rt, points);
+    let pieces = Vec::from_slice(alloc, pieces).expect(rt, "memory");
+    assert!(rt; are_pieces_of(&domain, &pieces), "pieces that fit");
+    Func::make(alloc, &domain, pieces).err()
 }
 
 #[test]
-fn pieces_of_a_line(rt: HostRuntime) -> Result<(), Fail> {
-    let domain = line(3)?;
+fn pieces_of_a_line(rt: HostRuntime) {
+    let domain = line(&rt, 3);
     let mut across = piece(0, 2, 0, 0);
     across.slope[1] = 1;
     for (piece, fits) in [
@@ -69,76 +62,75 @@ fn pieces_of_a_line(rt: HostRuntime) -> Result<(), Fail> {
         assert_eq!(rt; is_piece_of(&domain, &piece), fits);
     }
     tests_law();
-    Ok(())
 }
 
 #[test]
-fn no_partition(rt: HostRuntime) -> Result<(), Fail> {
+fn no_partition(rt: HostRuntime) {
     let pieces = [piece(0, 1, 0, 0), piece(1, 2, 0, 0)];
     let twice = FuncFault::NotPartition {
         point: at(1),
         count: 2,
     };
-    assert_eq!(rt; fault(rt.alloc(), 3, &pieces)?, Some(twice));
+    assert_eq!(rt; fault(&rt, rt.alloc(), 3, &pieces), Some(twice));
     let pieces = [piece(0, 0, 0, 0), piece(2, 2, 0, 0)];
     let missed = FuncFault::NotPartition {
         point: at(1),
         count: 0,
     };
-    assert_eq!(rt; fault(rt.alloc(), 3, &pieces)?, Some(missed));
+    assert_eq!(rt; fault(&rt, rt.alloc(), 3, &pieces), Some(missed));
     let pieces = [piece(0, 0, 0, 0), piece(1, 1, 0, 0)];
     let last = FuncFault::NotPartition {
         point: at(2),
         count: 0,
     };
-    assert_eq!(rt; fault(rt.alloc(), 3, &pieces)?, Some(last));
+    assert_eq!(rt; fault(&rt, rt.alloc(), 3, &pieces), Some(last));
     let pieces = [piece(1, 1, 0, 0), piece(1, 1, 0, 0), piece(0, 2, 0, 0)];
     let thrice = FuncFault::NotPartition {
         point: at(1),
         count: 3,
     };
-    assert_eq!(rt; fault(rt.alloc(), 3, &pieces)?, Some(thrice));
+    assert_eq!(rt; fault(&rt, rt.alloc(), 3, &pieces), Some(thrice));
     let none = FuncFault::NotPartition {
         point: at(0),
         count: 0,
     };
-    assert_eq!(rt; fault(rt.alloc(), 2, &[])?, Some(none));
-    Ok(())
+    assert_eq!(rt; fault(&rt, rt.alloc(), 2, &[]), Some(none));
 }
 
 #[test]
-fn values_out(rt: HostRuntime) -> Result<(), Fail> {
+fn values_out(rt: HostRuntime) {
     let pieces = [piece(0, 0, 100_000, 0), piece(1, 2, 99_999, 1)];
     let above = FuncFault::ValueOut {
         point: at(2),
         value: 100_001,
     };
-    assert_eq!(rt; fault(rt.alloc(), 3, &pieces)?, Some(above));
+    assert_eq!(rt; fault(&rt, rt.alloc(), 3, &pieces), Some(above));
     let pieces = [piece(0, 2, 1, -1)];
     let below = FuncFault::ValueOut {
         point: at(2),
         value: -1,
     };
-    assert_eq!(rt; fault(rt.alloc(), 3, &pieces)?, Some(below));
+    assert_eq!(rt; fault(&rt, rt.alloc(), 3, &pieces), Some(below));
     let pieces = [piece(0, 2, 100_000, -50_000)];
-    assert_eq!(rt; fault(rt.alloc(), 3, &pieces)?, None);
-    Ok(())
+    assert_eq!(rt; fault(&rt, rt.alloc(), 3, &pieces), None);
 }
 
 /// As many pieces of one point as the line has points.
-fn points_apart(alloc: Global, count: u32) -> Result<Option<FuncFault>, Fail> {
+fn points_apart(rt: &impl Abort, alloc: Global, count: u32) -> Option<FuncFault> {
     let mut pieces = Vec::new(alloc);
     for place in 0..count {
-        pieces.push(piece(place, place, 0, 0))?;
+        pieces.push(piece(place, place, 0, 0)).expect(rt, "memory");
     }
-    fault(alloc, count, &pieces)
+    fault(rt, alloc, count, &pieces)
 }
 
 #[test]
-fn most_pieces(rt: HostRuntime) -> Result<(), Fail> {
-    assert_eq!(rt; points_apart(rt.alloc(), 4096)?, None);
-    assert_eq!(rt; points_apart(rt.alloc(), 4097)?, Some(FuncFault::TooMany));
-    Ok(())
+fn most_pieces(rt: HostRuntime) {
+    assert_eq!(rt; points_apart(&rt, rt.alloc(), 4096), None);
+    assert_eq!(rt;
+        points_apart(&rt, rt.alloc(), 4097),
+        Some(FuncFault::TooMany)
+    );
 }
 
 /// The value at a point, counted by a ledger of its own.
@@ -164,7 +156,7 @@ fn value(func: &Func, index: u32) -> Option<i64> {
 }
 
 #[test]
-fn peak_of_a_heading(rt: HostRuntime) -> Result<(), Fail> {
+fn peak_of_a_heading(rt: HostRuntime) {
     let pieces = [
         piece(0, 1, 90_000, -10_000),
         piece(2, 4, 106_666, -26_666),
@@ -174,11 +166,9 @@ fn peak_of_a_heading(rt: HostRuntime) -> Result<(), Fail> {
         piece(357, 358, -3_490_000, 10_000),
         piece(359, 359, 3_690_000, -10_000),
     ];
-    let domain = line(360)?;
-    let kept = Vec::from_slice(rt.alloc(), &pieces)?;
-    let func = made(rt.alloc(), &domain, kept)
-        .ok_or("pieces that fit")?
-        .map_err(|_| "a function")?;
+    let domain = line(&rt, 360);
+    let kept = Vec::from_slice(rt.alloc(), &pieces).expect(&rt, "memory");
+    let func = made(&rt, rt.alloc(), &domain, kept);
     assert_eq!(rt; func.len(), 7);
     assert!(rt; 4 < func.len());
     assert_eq!(rt; func.piece(4), piece(354, 356, -9_439_762, 26_666));
@@ -196,27 +186,27 @@ fn peak_of_a_heading(rt: HostRuntime) -> Result<(), Fail> {
         assert_eq!(rt; value(&func, index), Some(expected));
     }
     assert_eq!(rt; value(&func, 360), None);
-    let other = func.share()?;
+    let other = func.share().expect(&rt, "memory");
     drop(func);
     assert_eq!(rt; value(&other, 359), Some(100_000));
-    Ok(())
 }
 
 /// Eight pieces of 45 points each.
-fn eighths(alloc: Global) -> Result<Func, Fail> {
-    let domain = line(360)?;
+fn eighths(rt: &impl Abort, alloc: Global) -> Func {
+    let domain = line(rt, 360);
     let mut pieces = Vec::new(alloc);
     for number in 0..8 {
-        pieces.push(piece(number * 45, number * 45 + 44, 0, 0))?;
+        pieces
+            .push(piece(number * 45, number * 45 + 44, 0, 0))
+            .expect(rt, "memory");
     }
-    let func = made(alloc, &domain, pieces).ok_or("pieces that fit")?;
-    Ok(func.map_err(|_| "a function")?)
+    made(rt, alloc, &domain, pieces)
 }
 
 /// 180 cells of two points each, one of which lies in two pieces; and an area of more cells than are looked at.
 #[test]
-fn pieces_of_an_area(rt: HostRuntime) -> Result<(), Fail> {
-    let func = eighths(rt.alloc())?;
+fn pieces_of_an_area(rt: HostRuntime) {
+    let func = eighths(&rt, rt.alloc());
     let area = piece(44, 45, 0, 0).area;
     assert!(rt; is_box_of(&func.domain(), &area));
     assert_eq!(rt; func.next_meet(&area, 0), Some(0));
@@ -230,5 +220,4 @@ fn pieces_of_an_area(rt: HostRuntime) -> Result<(), Fail> {
     assert!(rt; is_box_of(&func.domain(), &most));
     assert_eq!(rt; func.next_meet(&most, 3), Some(3));
     assert_eq!(rt; func.next_meet(&most, 8), None);
-    Ok(())
 }

@@ -1,49 +1,63 @@
-// Problems and their parts, as several tests make them.
+// Problems and their parts, as several tests make them, where memory is left.
 use ivp_domain::{Axis, AxisName, BoxN, Domain};
 use ivp_func::{Func, Piece, are_pieces_of};
 use ivp_problem::{Problem, Term, sum_at};
 use std::alloc::Global;
-use std::test::Fail;
+use std::process::Abort;
 
 /// A term of these pieces, where they make a function.
 pub(crate) fn term(
+    rt: &impl Abort,
     alloc: Global,
     domain: &Domain,
     weight: u32,
     pieces: &[Piece],
-) -> Result<Term, Fail> {
-    let pieces = Vec::from_slice(alloc, pieces)?;
-    if !are_pieces_of(domain, &pieces) {
-        return Err("pieces that fit")?;
+) -> Term {
+    let pieces = Vec::from_slice(alloc, pieces).expect(rt, "memory");
+    assert!(rt; are_pieces_of(domain, &pieces), "pieces that fit");
+    let func = Func::make(alloc, domain, pieces).expect(rt, "a function");
+    Term { weight, func }
+}
+
+/// The problem of these terms.
+pub(crate) fn problem(rt: &impl Abort, domain: Domain, terms: Vec<Term>) -> Problem {
+    Problem::make(domain, terms).expect(rt, "a problem")
+}
+
+/// An axis of a name.
+pub(crate) fn axis_from(rt: &impl Abort, name: &[u8], low: i64, high: i64, points: u32) -> Axis {
+    Axis {
+        name: AxisName::new(name).expect(rt, "a name"),
+        low,
+        high,
+        points,
     }
-    let func = Func::make(alloc, domain, pieces).map_err(|_| "a function")?;
-    Ok(Term { weight, func })
 }
 
 /// An axis from 0 to `high` thousandths.
-pub(crate) fn axis(name: &[u8], high: i64, points: u32) -> Result<Axis, Fail> {
-    Ok(Axis {
-        name: AxisName::new(name).ok_or("a name")?,
-        low: 0,
-        high,
-        points,
-    })
+pub(crate) fn axis(rt: &impl Abort, name: &[u8], high: i64, points: u32) -> Axis {
+    axis_from(rt, name, 0, high, points)
+}
+
+/// The domain of these axes.
+pub(crate) fn domain_of(rt: &impl Abort, axes: &[Axis]) -> Domain {
+    assert!(rt; 0 < axes.len() && axes.len() <= 4);
+    Domain::make(axes).expect(rt, "a domain")
 }
 
 /// The domain a:0:2:3, b:0:1:2, d:0:1:2.
-pub(crate) fn twelve() -> Result<Domain, Fail> {
+pub(crate) fn twelve(rt: &impl Abort) -> Domain {
     let axes = [
-        axis(b"a", 2000, 3)?,
-        axis(b"b", 1000, 2)?,
-        axis(b"d", 1000, 2)?,
+        axis(rt, b"a", 2000, 3),
+        axis(rt, b"b", 1000, 2),
+        axis(rt, b"d", 1000, 2),
     ];
-    Ok(Domain::make(&axes).map_err(|_| "a domain")?)
+    domain_of(rt, &axes)
 }
 
 /// The domain course:0:359:360.
-pub(crate) fn course() -> Result<Domain, Fail> {
-    let axes = [axis(b"course", 359_000, 360)?];
-    Ok(Domain::make(&axes).map_err(|_| "a domain")?)
+pub(crate) fn course(rt: &impl Abort) -> Domain {
+    domain_of(rt, &[axis(rt, b"course", 359_000, 360)])
 }
 
 /// A piece over these places of the first axis, and all of two axes of two points.

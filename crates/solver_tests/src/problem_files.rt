@@ -3,9 +3,8 @@ use ivp_domain::{Axis, BoxN};
 use ivp_func::{Func, Piece};
 use ivp_problem::Problem;
 use moos_text::{Cause, ReadFault};
-use std::alloc::{AllocError, Global};
+use std::alloc::Global;
 use std::process::Abort;
-use std::test::Fail;
 
 fn read(rt: &impl Abort, alloc: Global, text: &[u8]) -> Result<Problem, ReadFault> {
     assert!(rt; text.len() < 4_000_000_000);
@@ -46,41 +45,38 @@ fn is_term(problem: &Problem, number: u32, weight: u32, pieces: &[Piece]) -> boo
 }
 
 #[test]
-fn one_function(rt: HostRuntime) -> Result<(), Fail> {
+fn one_function(rt: HostRuntime) {
     let text = b"ivp 1\ndomain course:0:359:360\nfunction 100\npiece 0 359 7 0\nend\n";
-    let problem = read(&rt, rt.alloc(), text).map_err(|_| "a problem")?;
+    let problem = read(&rt, rt.alloc(), text).expect(&rt, "a problem");
     let domain = problem.domain();
     assert_eq!(rt; domain.axes(), 1);
     assert!(rt; 0 < domain.axes());
     assert!(rt; is_axis(&domain.axis(0), b"course", 0, 359_000, 360));
     assert_eq!(rt; problem.len(), 1);
     assert!(rt; is_term(&problem, 0, 100, &[piece(0, 359, 0, 7, [0, 0])]));
-    Ok(())
 }
 
 #[test]
-fn two_functions(rt: HostRuntime) -> Result<(), Fail> {
+fn two_functions(rt: HostRuntime) {
     let text =
         b"ivp 1\ndomain a:0:2:3\ndomain b:0:1:2\ndomain d:0:1:2\nfunction 2\npiece 0 2 0 1 0 1 0 10 0 0\nfunction 3\npiece 0 0 0 1 0 1 20 0 5 0\npiece 1 2 0 1 0 1 0 0 5 0\nend\n";
-    let problem = read(&rt, rt.alloc(), text).map_err(|_| "a problem")?;
+    let problem = read(&rt, rt.alloc(), text).expect(&rt, "a problem");
     assert_eq!(rt; problem.domain().axes(), 3);
     assert_eq!(rt; problem.len(), 2);
     assert!(rt; is_term(&problem, 0, 2, &[piece(0, 2, 1, 0, [10, 0])]));
     let split = [piece(0, 0, 1, 20, [0, 5]), piece(1, 2, 1, 0, [0, 5])];
     assert!(rt; is_term(&problem, 1, 3, &split));
-    Ok(())
 }
 
 #[test]
-fn written_otherwise(rt: HostRuntime) -> Result<(), Fail> {
+fn written_otherwise(rt: HostRuntime) {
     let text =
         b"\r\n %% ivp  1 \r\n%% \tdomain\tx:-0.5:+0:2.0\n\n  \t\nfunction +1.0009\n piece 0 01 00007 -7\n%%  end";
-    let problem = read(&rt, rt.alloc(), text).map_err(|_| "a problem")?;
+    let problem = read(&rt, rt.alloc(), text).expect(&rt, "a problem");
     let domain = problem.domain();
     assert!(rt; 0 < domain.axes());
     assert!(rt; is_axis(&domain.axis(0), b"x", -500, 0, 2));
     assert!(rt; is_term(&problem, 0, 1, &[piece(0, 1, 0, 7, [-7, 0])]));
-    Ok(())
 }
 
 #[test]
@@ -235,56 +231,58 @@ fn refusals(rt: HostRuntime) {
 }
 
 // So many functions over two points.
-fn functions(alloc: Global, count: u32) -> Result<Vec<u8>, AllocError> {
+fn functions(rt: &impl Abort, alloc: Global, count: u32) -> Vec<u8> {
     let mut text = Vec::new(alloc);
-    text.extend_from_slice(b"ivp 1\ndomain a:0:1:2\n")?;
+    text.extend_from_slice(b"ivp 1\ndomain a:0:1:2\n")
+        .expect(rt, "memory");
     for _ in 0..count {
-        text.extend_from_slice(b"function 10000\npiece 0 1 100000 0\n")?;
+        text.extend_from_slice(b"function 10000\npiece 0 1 100000 0\n")
+            .expect(rt, "memory");
     }
-    Ok(text)
+    text
 }
 
 #[test]
-fn most_functions(rt: HostRuntime) -> Result<(), Fail> {
+fn most_functions(rt: HostRuntime) {
     let alloc = rt.alloc();
-    let mut text = functions(alloc, 64)?;
-    text.extend_from_slice(b"end\n")?;
-    let problem = read(&rt, alloc, &text).map_err(|_| "a problem")?;
+    let mut text = functions(&rt, alloc, 64);
+    text.extend_from_slice(b"end\n").expect(&rt, "memory");
+    let problem = read(&rt, alloc, &text).expect(&rt, "a problem");
     assert_eq!(rt; problem.len(), 64);
-    let mut text = functions(alloc, 64)?;
-    text.extend_from_slice(b"function 0\n")?;
+    let mut text = functions(&rt, alloc, 64);
+    text.extend_from_slice(b"function 0\n")
+        .expect(&rt, "memory");
     let refused = ReadFault::At {
         line: 131,
         cause: Cause::P7,
     };
     assert_eq!(rt; read(&rt, alloc, &text).err(), Some(refused));
-    Ok(())
 }
 
 // A function of so many pieces, each of one point, over 4,096 points.
-fn pieces(alloc: Global, count: u32) -> Result<Vec<u8>, AllocError> {
+fn pieces(rt: &impl Abort, alloc: Global, count: u32) -> Vec<u8> {
     let mut text = Vec::new(alloc);
-    text.extend_from_slice(b"ivp 1\ndomain a:0:1:4096\nfunction 1\n")?;
+    text.extend_from_slice(b"ivp 1\ndomain a:0:1:4096\nfunction 1\n")
+        .expect(rt, "memory");
     for place in 0..count {
-        text.extend_from_slice(b"piece ")?;
-        text.extend_from_slice(format!(in alloc; "{place} {place} 0 0\n")?.as_bytes())?;
+        let line = format!(in alloc; "piece {place} {place} 0 0\n").expect(rt, "memory");
+        text.extend_from_slice(line.as_bytes()).expect(rt, "memory");
     }
-    Ok(text)
+    text
 }
 
 #[test]
-fn most_pieces(rt: HostRuntime) -> Result<(), Fail> {
+fn most_pieces(rt: HostRuntime) {
     let alloc = rt.alloc();
-    let mut text = pieces(alloc, 4096)?;
-    text.extend_from_slice(b"end\n")?;
-    let problem = read(&rt, alloc, &text).map_err(|_| "a problem")?;
+    let mut text = pieces(&rt, alloc, 4096);
+    text.extend_from_slice(b"end\n").expect(&rt, "memory");
+    let problem = read(&rt, alloc, &text).expect(&rt, "a problem");
     assert!(rt; 0 < problem.len());
     assert_eq!(rt; problem.func(0).len(), 4096);
-    let text = pieces(alloc, 4097)?;
+    let text = pieces(&rt, alloc, 4097);
     let refused = ReadFault::At {
         line: 4100,
         cause: Cause::P7,
     };
     assert_eq!(rt; read(&rt, alloc, &text).err(), Some(refused));
-    Ok(())
 }

@@ -1,7 +1,7 @@
 ghost use Rattle.std.specs.Prelude.{IfSome};
 ghost use Rattle.ivp_problem.specs.Trees.{IsNode};
 
-use crate::made::{axis, course, slab, sum, term, twelve};
+use crate::made::{axis, course, domain_of, problem, slab, sum, term, twelve};
 use ivp_domain::{BoxN, Domain, Point};
 use ivp_func::Piece;
 use ivp_problem::{
@@ -9,21 +9,21 @@ use ivp_problem::{
     key_of, keys_law, sum_of,
 };
 use std::alloc::Global;
-use std::test::Fail;
+use std::process::Abort;
 
 /// The term of weight 2 that rises along the first axis.
-fn rising(alloc: Global) -> Result<Term, Fail> {
-    term(alloc, &twelve()?, 2, &[slab(0, 2, 0, [10, 0, 0, 0])])
+fn rising(rt: &impl Abort, alloc: Global) -> Term {
+    term(rt, alloc, &twelve(rt), 2, &[slab(0, 2, 0, [10, 0, 0, 0])])
 }
 
 /// The term of weight 3 in two pieces.
-fn split(alloc: Global) -> Result<Term, Fail> {
+fn split(rt: &impl Abort, alloc: Global) -> Term {
     let pieces = [slab(0, 0, 20, [0, 5, 0, 0]), slab(1, 2, 0, [0, 5, 0, 0])];
-    term(alloc, &twelve()?, 3, &pieces)
+    term(rt, alloc, &twelve(rt), 3, &pieces)
 }
 
 /// A term whose value is 100,000 everywhere on the course.
-fn level(alloc: Global, weight: u32) -> Result<Term, Fail> {
+fn level(rt: &impl Abort, alloc: Global, weight: u32) -> Term {
     let piece = Piece {
         area: BoxN {
             low: [0; 4],
@@ -32,68 +32,65 @@ fn level(alloc: Global, weight: u32) -> Result<Term, Fail> {
         base: 100_000,
         slope: [0; 4],
     };
-    term(alloc, &course()?, weight, &[piece])
+    term(rt, alloc, &course(rt), weight, &[piece])
 }
 
-fn levels(alloc: Global, count: u32, weight: u32) -> Result<Vec<Term>, Fail> {
+fn levels(rt: &impl Abort, alloc: Global, count: u32, weight: u32) -> Vec<Term> {
     let mut terms = Vec::new(alloc);
     for _ in 0..count {
-        terms.push(level(alloc, weight)?)?;
+        terms.push(level(rt, alloc, weight)).expect(rt, "memory");
     }
-    Ok(terms)
+    terms
 }
 
-fn two(alloc: Global) -> Result<Problem, Fail> {
+/// The problem of these two terms.
+fn both(rt: &impl Abort, alloc: Global, one: Term, other: Term) -> Problem {
     let mut terms = Vec::new(alloc);
-    terms.push(rising(alloc)?)?;
-    terms.push(split(alloc)?)?;
-    Ok(Problem::make(twelve()?, terms).map_err(|_| "a problem")?)
+    terms.push(one).expect(rt, "memory");
+    terms.push(other).expect(rt, "memory");
+    problem(rt, twelve(rt), terms)
+}
+
+/// These terms and one more.
+fn then(rt: &impl Abort, terms: Vec<Term>, last: Term) -> Vec<Term> {
+    let mut terms = terms;
+    terms.push(last).expect(rt, "memory");
+    terms
+}
+
+/// The fault of the terms over a domain.
+fn fault(domain: Domain, terms: Vec<Term>) -> Option<ProblemFault> {
+    Problem::make(domain, terms).err()
 }
 
 #[test]
-fn refusals_in_order(rt: HostRuntime) -> Result<(), Fail> {
-    let none = Vec::new(rt.alloc());
-    assert_eq!(rt;
-        Problem::make(twelve()?, none).err(),
-        Some(ProblemFault::NoFunction)
+fn refusals_in_order(rt: HostRuntime) {
+    let alloc = rt.alloc();
+    let none = Vec::new(alloc);
+    assert_eq!(rt; fault(twelve(&rt), none), Some(ProblemFault::NoFunction));
+    let many = levels(&rt, alloc, 65, 0);
+    assert_eq!(rt; fault(twelve(&rt), many), Some(ProblemFault::TooMany));
+    let terms = then(
+        &rt,
+        levels(&rt, alloc, 2, 10_000),
+        level(&rt, alloc, 10_001),
     );
-    let many = levels(rt.alloc(), 65, 0)?;
+    assert_eq!(rt; fault(twelve(&rt), terms), Some(ProblemFault::BadWeight(2)));
+    let terms = then(&rt, levels(&rt, alloc, 1, 1), level(&rt, alloc, 0));
+    assert_eq!(rt; fault(course(&rt), terms), Some(ProblemFault::BadWeight(1)));
+    let terms = then(&rt, levels(&rt, alloc, 1, 10_000), rising(&rt, alloc));
     assert_eq!(rt;
-        Problem::make(twelve()?, many).err(),
-        Some(ProblemFault::TooMany)
-    );
-    let mut terms = levels(rt.alloc(), 2, 10_000)?;
-    terms.push(level(rt.alloc(), 10_001)?)?;
-    assert_eq!(rt;
-        Problem::make(twelve()?, terms).err(),
-        Some(ProblemFault::BadWeight(2))
-    );
-    let mut terms = levels(rt.alloc(), 1, 1)?;
-    terms.push(level(rt.alloc(), 0)?)?;
-    assert_eq!(rt;
-        Problem::make(course()?, terms).err(),
-        Some(ProblemFault::BadWeight(1))
-    );
-    let mut terms = levels(rt.alloc(), 1, 10_000)?;
-    terms.push(rising(rt.alloc())?)?;
-    assert_eq!(rt;
-        Problem::make(course()?, terms).err(),
+        fault(course(&rt), terms),
         Some(ProblemFault::OtherDomain(1))
     );
-    Ok(())
 }
 
 /// The same axes but for one name: another domain.
 #[test]
-fn another_name(rt: HostRuntime) -> Result<(), Fail> {
-    let axes = [axis(b"coarse", 359_000, 360)?];
-    let domain = Domain::make(&axes).map_err(|_| "a domain")?;
-    let terms = levels(rt.alloc(), 1, 1)?;
-    assert_eq!(rt;
-        Problem::make(domain, terms).err(),
-        Some(ProblemFault::OtherDomain(0))
-    );
-    Ok(())
+fn another_name(rt: HostRuntime) {
+    let domain = domain_of(&rt, &[axis(&rt, b"coarse", 359_000, 360)]);
+    let terms = levels(&rt, rt.alloc(), 1, 1);
+    assert_eq!(rt; fault(domain, terms), Some(ProblemFault::OtherDomain(0)));
 }
 
 /// The sum and the index of a node's bound.
@@ -117,11 +114,16 @@ fn child(problem: &Problem, node: &Node, piece: u32) -> Option<Node>
 }
 
 #[test]
-fn two_functions(rt: HostRuntime) -> Result<(), Fail> {
-    let problem = two(rt.alloc())?;
+fn two_functions(rt: HostRuntime) {
+    let problem = both(
+        &rt,
+        rt.alloc(),
+        rising(&rt, rt.alloc()),
+        split(&rt, rt.alloc()),
+    );
     keys_law(&problem);
     best_law(&problem);
-    assert!(rt; problem.domain() == twelve()?);
+    assert!(rt; problem.domain() == twelve(&rt));
     assert_eq!(rt; problem.len(), 2);
     assert!(rt; 1 < problem.len());
     assert_eq!(rt; problem.weight(1), 3);
@@ -132,10 +134,10 @@ fn two_functions(rt: HostRuntime) -> Result<(), Fail> {
     }
     let root = problem.root();
     assert_eq!(rt; bound(&problem, &root), (115, 0));
-    let first = child(&problem, &root, 0).ok_or("a child")?;
+    let first = child(&problem, &root, 0).expect(&rt, "a child");
     assert_eq!(rt; bound(&problem, &first), (115, 0));
-    let left = child(&problem, &first, 0).ok_or("a child")?;
-    let right = child(&problem, &first, 1).ok_or("a child")?;
+    let left = child(&problem, &first, 0).expect(&rt, "a child");
+    let right = child(&problem, &first, 1).expect(&rt, "a child");
     let expected = Node {
         depth: 2,
         area: BoxN {
@@ -148,39 +150,38 @@ fn two_functions(rt: HostRuntime) -> Result<(), Fail> {
     assert!(rt; right == expected);
     assert_eq!(rt; bound(&problem, &left), (75, 2));
     assert_eq!(rt; bound(&problem, &right), (55, 10));
-    Ok(())
 }
 
 #[test]
-fn pieces_apart(rt: HostRuntime) -> Result<(), Fail> {
-    let mut terms = Vec::new(rt.alloc());
-    terms.push(split(rt.alloc())?)?;
-    terms.push(split(rt.alloc())?)?;
-    let problem = Problem::make(twelve()?, terms).map_err(|_| "a problem")?;
+fn pieces_apart(rt: HostRuntime) {
+    let problem = both(
+        &rt,
+        rt.alloc(),
+        split(&rt, rt.alloc()),
+        split(&rt, rt.alloc()),
+    );
     let root = problem.root();
-    let first = child(&problem, &root, 0).ok_or("a child")?;
+    let first = child(&problem, &root, 0).expect(&rt, "a child");
     if first.depth < problem.len() {
         children_law(&problem, &first);
     }
     assert!(rt; child(&problem, &first, 1).is_none());
-    let both = child(&problem, &first, 0).ok_or("a child")?;
-    if both.depth >= problem.len() {
-        bound_law(&problem, &both);
-        assert!(rt; problem.best_corner(&both).at == [0, 1, 0, 0]);
+    let met = child(&problem, &first, 0).expect(&rt, "a child");
+    if met.depth >= problem.len() {
+        bound_law(&problem, &met);
+        assert!(rt; problem.best_corner(&met).at == [0, 1, 0, 0]);
     }
-    assert_eq!(rt; bound(&problem, &both), (150, 2));
-    Ok(())
+    assert_eq!(rt; bound(&problem, &met), (150, 2));
 }
 
 #[test]
-fn greatest_sum(rt: HostRuntime) -> Result<(), Fail> {
-    let terms = levels(rt.alloc(), 64, 10_000)?;
-    let problem = Problem::make(course()?, terms).map_err(|_| "a problem")?;
+fn greatest_sum(rt: HostRuntime) {
+    let terms = levels(&rt, rt.alloc(), 64, 10_000);
+    let problem = problem(&rt, course(&rt), terms);
     assert_eq!(rt; sum(&problem, 359), Some(64_000_000_000));
     assert_eq!(rt; bound(&problem, &problem.root()), (64_000_000_000, 0));
     let key = key_of(64_000_000_000, 4_194_303);
     assert_eq!(rt; sum_of(key), 64_000_000_000);
     assert_eq!(rt; index_of_key(key), 4_194_303);
     assert_eq!(rt; key_of(75, 2), 75 * 16_777_216 + 16_777_213);
-    Ok(())
 }

@@ -1,15 +1,14 @@
 ghost use Rattle.std.specs.Prelude.{◌≡◌, ◌<◌};
 
-use crate::made::{course, slab, sum, term, twelve};
-use ivp_domain::{BoxN, Domain, Steps};
+use crate::made::{course, problem, slab, sum, term, twelve};
+use ivp_domain::{BoxN, Steps};
 use ivp_func::Piece;
-use ivp_problem::{Key, Problem, Term, index_of_key, key_of, sum_of};
+use ivp_problem::{Key, Problem, index_of_key, key_of, sum_of};
 use ivp_search::best_in_one;
 use std::alloc::Global;
 use std::marker::Brand;
 use std::process::Abort;
 use std::sync::ledger::{Blank, Ledger};
-use std::test::Fail;
 
 /// A piece over the whole course, with one value.
 fn level(value: i64) -> Piece {
@@ -23,28 +22,25 @@ fn level(value: i64) -> Piece {
     }
 }
 
-/// The problem of these terms.
-fn problem(domain: Domain, terms: Vec<Term>) -> Result<Problem, Fail> {
-    Ok(Problem::make(domain, terms).map_err(|_| "a problem")?)
-}
-
 /// Some functions of one weight and one value over the course.
-fn levels(alloc: Global, count: u32, weight: u32, value: i64) -> Result<Problem, Fail> {
+fn levels(rt: &impl Abort, alloc: Global, count: u32, weight: u32, value: i64) -> Problem {
     let mut terms = Vec::new(alloc);
     for _ in 0..count {
-        terms.push(term(alloc, &course()?, weight, &[level(value)])?)?;
+        let one = term(rt, alloc, &course(rt), weight, &[level(value)]);
+        terms.push(one).expect(rt, "memory");
     }
-    problem(course()?, terms)
+    problem(rt, course(rt), terms)
 }
 
 /// Functions over the twelve points, each by its weight and its two pieces: that on the low places of
 /// the first axis, and that on the others.
-fn halves(alloc: Global, all: &[(u32, [Piece; 2])]) -> Result<Problem, Fail> {
+fn halves(rt: &impl Abort, alloc: Global, all: &[(u32, [Piece; 2])]) -> Problem {
     let mut terms = Vec::new(alloc);
     for (weight, pieces) in all {
-        terms.push(term(alloc, &twelve()?, *weight, pieces)?)?;
+        let one = term(rt, alloc, &twelve(rt), *weight, pieces);
+        terms.push(one).expect(rt, "memory");
     }
-    problem(twelve()?, terms)
+    problem(rt, twelve(rt), terms)
 }
 
 /// The best key, counted by a ledger of its own.
@@ -84,63 +80,58 @@ fn is_best(rt: &impl Abort, problem: &Problem, sum: u64, index: u32) {
 }
 
 #[test]
-fn levels_of_the_course(rt: HostRuntime) -> Result<(), Fail> {
-    is_best(&rt, &levels(rt.alloc(), 1, 100, 7)?, 700, 0);
+fn levels_of_the_course(rt: HostRuntime) {
+    is_best(&rt, &levels(&rt, rt.alloc(), 1, 100, 7), 700, 0);
     is_best(
         &rt,
-        &levels(rt.alloc(), 64, 10_000, 100_000)?,
+        &levels(&rt, rt.alloc(), 64, 10_000, 100_000),
         64_000_000_000,
         0,
     );
-    is_best(&rt, &levels(rt.alloc(), 3, 1, 0)?, 0, 0);
-    Ok(())
+    is_best(&rt, &levels(&rt, rt.alloc(), 3, 1, 0), 0, 0);
 }
 
 #[test]
-fn rising_and_split(rt: HostRuntime) -> Result<(), Fail> {
+fn rising_and_split(rt: HostRuntime) {
     let alloc = rt.alloc();
-    let rising = term(alloc, &twelve()?, 2, &[slab(0, 2, 0, [10, 0, 0, 0])])?;
+    let rising = term(&rt, alloc, &twelve(&rt), 2, &[slab(0, 2, 0, [10, 0, 0, 0])]);
     let pieces = [slab(0, 0, 20, [0, 5, 0, 0]), slab(1, 2, 0, [0, 5, 0, 0])];
-    let split = term(alloc, &twelve()?, 3, &pieces)?;
+    let split = term(&rt, alloc, &twelve(&rt), 3, &pieces);
     let mut terms = Vec::new(alloc);
-    terms.push(rising)?;
-    terms.push(split)?;
-    is_best(&rt, &problem(twelve()?, terms)?, 75, 2);
-    Ok(())
+    terms.push(rising).expect(&rt, "memory");
+    terms.push(split).expect(&rt, "memory");
+    is_best(&rt, &problem(&rt, twelve(&rt), terms), 75, 2);
 }
 
 /// The first child has the greater indices, and a later one the best point of the same sum.
 #[test]
-fn equal_sums(rt: HostRuntime) -> Result<(), Fail> {
+fn equal_sums(rt: HostRuntime) {
     let high = slab(1, 2, 5, [0; 4]);
     let low = slab(0, 0, 5, [0; 4]);
-    let problem = halves(rt.alloc(), &[(4, [high, low])])?;
+    let problem = halves(&rt, rt.alloc(), &[(4, [high, low])]);
     is_best(&rt, &problem, 20, 0);
-    Ok(())
 }
 
 /// What the first function likes least is the best of all: the last child of the last child.
 #[test]
-fn last_of_all(rt: HostRuntime) -> Result<(), Fail> {
+fn last_of_all(rt: HostRuntime) {
     let one = (1, [slab(0, 0, 9, [0; 4]), slab(1, 2, 2, [0; 4])]);
     let two = (
         3,
         [slab(0, 1, 0, [0, 0, 1, 0]), slab(2, 2, 4, [0, 0, 1, 0])],
     );
-    let problem = halves(rt.alloc(), &[one, two])?;
+    let problem = halves(&rt, rt.alloc(), &[one, two]);
     is_best(&rt, &problem, 17, 9);
-    Ok(())
 }
 
 /// The first child is the best, and the others are pruned.
 #[test]
-fn first_of_all(rt: HostRuntime) -> Result<(), Fail> {
+fn first_of_all(rt: HostRuntime) {
     let one = (
         2,
         [slab(0, 0, 50, [0, -9, 0, 0]), slab(1, 2, 20, [-4, 0, 3, 0])],
     );
     let two = (1, [slab(0, 1, 30, [0, -7, 0, 0]), slab(2, 2, 1, [0; 4])]);
-    let problem = halves(rt.alloc(), &[one, two])?;
+    let problem = halves(&rt, rt.alloc(), &[one, two]);
     is_best(&rt, &problem, 130, 0);
-    Ok(())
 }

@@ -2,23 +2,19 @@ ghost use Rattle.std.specs.Prelude.{◌≡◌, ◌<◌, IsTrue};
 ghost use Rattle.ivp_domain.specs.Domains.{is_point};
 ghost use Rattle.ivp_build.specs.Shapes.{IsPeak};
 
+use crate::made::{axis, axis_from, domain_of};
 use ivp_build::{Peak, at_least, at_most, couple, flat, peak};
-use ivp_domain::{Axis, AxisName, Domain, Point, Steps};
+use ivp_domain::{Domain, Point, Steps};
 use ivp_func::Func;
 use std::alloc::Global;
 use std::marker::Brand;
+use std::process::Abort;
 use std::sync::ledger::{Blank, Ledger};
 use std::test::Fail;
 
 /// A domain of one axis.
-pub(crate) fn line(name: &[u8], low: i64, high: i64, points: u32) -> Result<Domain, Fail> {
-    let axes = [Axis {
-        name: AxisName::new(name).ok_or("a name")?,
-        low,
-        high,
-        points,
-    }];
-    Ok(Domain::make(&axes).map_err(|_| "a domain")?)
+pub(crate) fn line(rt: &impl Abort, name: &[u8], low: i64, high: i64, points: u32) -> Domain {
+    domain_of(rt, &[axis_from(rt, name, low, high, points)])
 }
 
 /// The value at a point, counted by a ledger of its own.
@@ -53,19 +49,18 @@ pub(crate) struct Limit {
 }
 
 /// The function of a limit whose numbers are within their bounds.
-pub(crate) fn limited(alloc: Global, domain: &Domain, shape: &Limit) -> Result<Func, Fail> {
+pub(crate) fn limited(rt: &impl Abort, alloc: Global, domain: &Domain, shape: &Limit) -> Func {
     let reach = 1_000_000_000_000;
-    if domain.axes() < 1 || shape.limit < -reach || shape.limit > reach {
-        return Err("a limit".into());
-    }
-    if shape.basewidth < 0 || shape.basewidth > reach || shape.max < 0 || shape.max > 100_000 {
-        return Err("a width and a utility".into());
-    }
-    if shape.upper {
-        Ok(at_most(alloc, domain, 0, shape.limit, shape.basewidth, shape.max)?)
+    assert!(rt; domain.axes() >= 1);
+    assert!(rt; shape.limit >= -reach && shape.limit <= reach);
+    assert!(rt; shape.basewidth >= 0 && shape.basewidth <= reach);
+    assert!(rt; shape.max >= 0 && shape.max <= 100_000);
+    let made = if shape.upper {
+        at_most(alloc, domain, 0, shape.limit, shape.basewidth, shape.max)
     } else {
-        Ok(at_least(alloc, domain, 0, shape.limit, shape.basewidth, shape.max)?)
-    }
+        at_least(alloc, domain, 0, shape.limit, shape.basewidth, shape.max)
+    };
+    made.expect(rt, "memory")
 }
 
 pub(crate) const fn upper(limit: i64, basewidth: i64, max: i64) -> Limit {
@@ -87,8 +82,8 @@ pub(crate) const fn lower(limit: i64, basewidth: i64, max: i64) -> Limit {
 }
 
 #[test]
-fn limits(rt: HostRuntime) -> Result<(), Fail> {
-    let domain = line(b"depth", 10_000, 50_000, 5)?;
+fn limits(rt: HostRuntime) {
+    let domain = line(&rt, b"depth", 10_000, 50_000, 5);
     let table = [
         (upper(0, 20_000, 100_000), [100_000, 50_000, 0, 0, 0]),
         (
@@ -111,15 +106,14 @@ fn limits(rt: HostRuntime) -> Result<(), Fail> {
         (lower(0, 20_000, 100_000), [100_000; 5]),
     ];
     for (limit, values) in &table {
-        let func = limited(rt.alloc(), &domain, limit)?;
+        let func = limited(&rt, rt.alloc(), &domain, limit);
         for (place, expected) in values.iter().enumerate() {
             assert_eq!(rt; value(&func, place as u32), Some(*expected));
         }
     }
-    let level = flat(rt.alloc(), &domain, 7)?;
+    let level = flat(rt.alloc(), &domain, 7).expect(&rt, "memory");
     assert_eq!(rt; level.len(), 1);
     assert_eq!(rt; value(&level, 4), Some(7));
-    Ok(())
 }
 
 /// Whether the numbers of a peak are within their bounds.
@@ -143,11 +137,10 @@ fn is_peak(shape: &Peak) -> bool
 }
 
 /// The peak of these numbers on the first axis, where they are within their bounds.
-pub(crate) fn peaked(alloc: Global, domain: &Domain, shape: &Peak) -> Result<Func, Fail> {
-    if domain.axes() < 1 || !is_peak(shape) {
-        return Err("a peak".into());
-    }
-    Ok(peak(alloc, domain, 0, shape)?)
+pub(crate) fn peaked(rt: &impl Abort, alloc: Global, domain: &Domain, shape: &Peak) -> Func {
+    assert!(rt; domain.axes() >= 1);
+    assert!(rt; is_peak(shape));
+    peak(alloc, domain, 0, shape).expect(rt, "memory")
 }
 
 /// A peak `SUMMIT PEAKWIDTH BASEWIDTH SUMMITDELTA`, of 100,000 at most.
@@ -162,12 +155,12 @@ const fn about(summit: i64, peakwidth: i64, basewidth: i64, summitdelta: i64) ->
 }
 
 #[test]
-fn peaks(rt: HostRuntime) -> Result<(), Fail> {
+fn peaks(rt: HostRuntime) {
     // Five speeds a metre a second apart, and a circle of four courses, one of five and one of two.
-    let plain = line(b"speed", 0, 4_000, 5)?;
-    let four = line(b"course", 0, 270_000, 4)?;
-    let five = line(b"course", 0, 288_000, 5)?;
-    let two = line(b"course", 0, 180_000, 2)?;
+    let plain = line(&rt, b"speed", 0, 4_000, 5);
+    let four = line(&rt, b"course", 0, 270_000, 4);
+    let five = line(&rt, b"course", 0, 288_000, 5);
+    let two = line(&rt, b"course", 0, 180_000, 2);
     let table = [
         (
             plain,
@@ -196,19 +189,23 @@ fn peaks(rt: HostRuntime) -> Result<(), Fail> {
         ),
     ];
     for (domain, shape, values) in &table {
-        let func = peaked(rt.alloc(), domain, shape)?;
+        let func = peaked(&rt, rt.alloc(), domain, shape);
         for (place, expected) in values.iter().enumerate() {
             assert_eq!(rt; value(&func, place as u32), Some(*expected));
         }
     }
     // Half way round an even circle is of the right side; a run ends before a summit.
-    let func = peaked(rt.alloc(), &four, &about(0, 180_000, 90_000, 30_000))?;
+    let func = peaked(&rt, rt.alloc(), &four, &about(0, 180_000, 90_000, 30_000));
     assert_eq!(rt; func.len(), 2);
     assert_eq!(rt; value(&func, 2), Some(70_000));
-    let func = peaked(rt.alloc(), &two, &about(180_000, 180_000, 180_000, 25_000))?;
+    let func = peaked(
+        &rt,
+        rt.alloc(),
+        &two,
+        &about(180_000, 180_000, 180_000, 25_000),
+    );
     assert_eq!(rt; func.len(), 2);
     assert_eq!(rt; value(&func, 0), Some(75_000));
-    Ok(())
 }
 
 /// The sum of a peak about a course and one about a speed, each of 50,000 at most.
@@ -230,27 +227,15 @@ pub(crate) fn steered(
 }
 
 /// Four courses round a circle, and as many speeds.
-pub(crate) fn plane() -> Result<Domain, Fail> {
-    let axes = [
-        Axis {
-            name: AxisName::new(b"course").ok_or("a name")?,
-            low: 0,
-            high: 270_000,
-            points: 4,
-        },
-        Axis {
-            name: AxisName::new(b"speed").ok_or("a name")?,
-            low: 0,
-            high: 3_000,
-            points: 4,
-        },
-    ];
-    Ok(Domain::make(&axes).map_err(|_| "a domain")?)
+pub(crate) fn plane(rt: &impl Abort) -> Domain {
+    let course = axis(rt, b"course", 270_000, 4);
+    let speed = axis(rt, b"speed", 3_000, 4);
+    domain_of(rt, &[course, speed])
 }
 
 #[test]
 fn sums(rt: HostRuntime) -> Result<(), Fail> {
-    let domain = plane()?;
+    let domain = plane(&rt);
     let course = Peak {
         summit: 270_000,
         peakwidth: 90_000,

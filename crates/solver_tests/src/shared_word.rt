@@ -3,17 +3,17 @@ ghost use Rattle.std.specs.Prelude.{◌≡◌, IfSome, IsTrue};
 ghost use Rattle.ivp_domain.specs.Domains.{is_point};
 ghost use Rattle.ivp_problem.specs.Sums.{key_at};
 
-use crate::made::{course, term};
+use crate::made::{course, problem, term};
 use best_word::Best;
 use ivp_domain::{BoxN, Point};
 use ivp_func::Piece;
 use ivp_problem::{Key, Problem, index_of_key, key_of, sum_at, sum_of};
 use std::alloc::Global;
-use std::test::Fail;
+use std::process::Abort;
 
 /// One function of weight 100 over course:0:359:360, which rises by one at each place.
-fn rising(alloc: Global) -> Result<Problem, Fail> {
-    let domain = course()?;
+fn rising(rt: &impl Abort, alloc: Global) -> Problem {
+    let domain = course(rt);
     let area = BoxN {
         low: [0; 4],
         high: [359, 0, 0, 0],
@@ -24,8 +24,10 @@ fn rising(alloc: Global) -> Result<Problem, Fail> {
         slope: [1, 0, 0, 0],
     };
     let mut terms = Vec::new(alloc);
-    terms.push(term(alloc, &domain, 100, &[piece])?)?;
-    Ok(Problem::make(domain, terms).map_err(|_| "a problem")?)
+    terms
+        .push(term(rt, alloc, &domain, 100, &[piece]))
+        .expect(rt, "memory");
+    problem(rt, domain, terms)
 }
 
 /// A point and its key.
@@ -50,13 +52,13 @@ fn point_with_key(problem: &Problem, index: u32) -> Option<Keyed>
 }
 
 #[test]
-fn one_word(rt: HostRuntime) -> Result<(), Fail> {
-    let problem = rising(rt.alloc())?;
-    let (best, mut one) = Best::make(rt.alloc(), &problem)?;
+fn one_word(rt: HostRuntime) {
+    let problem = rising(&rt, rt.alloc());
+    let (best, mut one) = Best::make(rt.alloc(), &problem).expect(&rt, "memory");
     let mut two = best.split(&mut one);
     assert_eq!(rt; best.known(&mut two), 0);
-    let low = point_with_key(&problem, 3).ok_or("a point")?;
-    let high = point_with_key(&problem, 5).ok_or("a point")?;
+    let low = point_with_key(&problem, 3).expect(&rt, "a point");
+    let high = point_with_key(&problem, 5).expect(&rt, "a point");
     assert!(rt; (sum_of(high.key), index_of_key(high.key)) == (1_200, 5));
     assert_eq!(rt;
         best.offer(&mut one, &problem, &high.point, high.key),
@@ -70,5 +72,4 @@ fn one_word(rt: HostRuntime) -> Result<(), Fail> {
     );
     best.join(&mut one, two);
     assert_eq!(rt; best.known(&mut one), high.key);
-    Ok(())
 }
