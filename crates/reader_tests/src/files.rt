@@ -4,7 +4,7 @@ use ivp_domain::{Axis, AxisName, Domain};
 use mission_reader::read_mission;
 use moos_text::{Cause, ReadFault, print_seconds};
 use script_reader::read_script;
-use std::alloc::{AllocError, Global};
+use std::alloc::Global;
 use std::process::Abort;
 
 /// A kind of file.
@@ -25,12 +25,23 @@ fn axis(rt: &impl Abort, name: &[u8]) -> Axis {
     }
 }
 
-/// Reads a behaviour file for a domain of course, speed and depth.
-pub(crate) fn behaviors(rt: &impl Abort, alloc: Global, text: &[u8]) -> Result<BhvFile, ReadFault> {
-    assert!(rt; text.len() < 4_000_000_000);
+fn domain(rt: &impl Abort) -> Domain {
     match Domain::make(&[axis(rt, b"course"), axis(rt, b"speed"), axis(rt, b"depth")]) {
-        Ok(domain) => read_behaviors(alloc, text, &domain),
+        Ok(domain) => domain,
         Err(_) => panic!(rt; "a domain"),
+    }
+}
+
+fn read_for_domain(rt: &impl Abort, alloc: Global, text: &[u8]) -> Result<BhvFile, ReadFault> {
+    assert!(rt; text.len() < 4_000_000_000);
+    read_behaviors(alloc, text, &domain(rt))
+}
+
+/// A good behaviour file for a domain of course, speed and depth.
+pub(crate) fn behaviors(rt: &impl Abort, alloc: Global, text: &[u8]) -> BhvFile {
+    match read_for_domain(rt, alloc, text) {
+        Ok(file) => file,
+        Err(_) => panic!(rt; "a behaviour file"),
     }
 }
 
@@ -45,7 +56,7 @@ pub(crate) fn refusal(
     match kind {
         Kind::Script => read_script(alloc, text).err(),
         Kind::Mission => read_mission(alloc, text).err(),
-        Kind::Behaviors => behaviors(rt, alloc, text).err(),
+        Kind::Behaviors => read_for_domain(rt, alloc, text).err(),
     }
 }
 
@@ -56,17 +67,15 @@ pub(crate) fn are_refused(
     kind: Kind,
     beginning: &[u8],
     rows: &[(&[u8], u32, Cause)],
-) -> Result<(), AllocError> {
+) {
     for (end, line, cause) in rows {
-        let mut text = Vec::from_slice(alloc, beginning)?;
-        text.extend_from_slice(*end)?;
+        let text = joined(rt, alloc, &[beginning, *end]);
         let at = ReadFault::At {
             line: *line,
             cause: *cause,
         };
         assert_eq!(rt; refusal(rt, alloc, kind, &text), Some(at), "{end:?}");
     }
-    Ok(())
 }
 
 /// A text that keeps a limit is good, and with each of these ends it is refused for its cause.
@@ -76,39 +85,55 @@ pub(crate) fn stands_at(
     kind: Kind,
     good: &[u8],
     ends: &[(&[u8], Cause)],
-) -> Result<(), AllocError> {
+) {
     assert_eq!(rt; refusal(rt, alloc, kind, good), None);
     for (end, cause) in ends {
-        let mut text = Vec::from_slice(alloc, good)?;
-        text.extend_from_slice(*end)?;
+        let text = joined(rt, alloc, &[good, *end]);
         match refusal(rt, alloc, kind, &text) {
             Some(ReadFault::At { cause: found, .. }) => assert_eq!(rt; found, *cause, "{end:?}"),
             _ => assert!(rt; false, "{end:?}"),
         }
     }
-    Ok(())
 }
 
 /// Appends the pieces.
-pub(crate) fn append(text: &mut Vec<u8>, pieces: &[&[u8]]) -> Result<(), AllocError> {
+pub(crate) fn append(rt: &impl Abort, text: &mut Vec<u8>, pieces: &[&[u8]]) {
     for piece in pieces {
-        text.extend_from_slice(*piece)?;
+        text.extend_from_slice(*piece).expect(rt, "memory");
     }
-    Ok(())
 }
 
-/// Appends so many times what stands before a count, the count from 0 up, and what stands behind it.
-pub(crate) fn count(
+/// The pieces, one behind the other.
+pub(crate) fn joined(rt: &impl Abort, alloc: Global, pieces: &[&[u8]]) -> Vec<u8> {
+    let mut text = Vec::new(alloc);
+    append(rt, &mut text, pieces);
+    text
+}
+
+/// Appends a number between what stands before it and behind it.
+pub(crate) fn append_number(
+    rt: &impl Abort,
     text: &mut Vec<u8>,
-    count: u32,
+    before: &[u8],
+    number: u32,
+    behind: &[u8],
+) {
+    let number = print_seconds(number as u64 * 1000);
+    append(rt, text, &[before, number.bytes(), behind]);
+}
+
+/// A beginning, then so many times what stands before a count, the count from 0 up, and what stands behind it.
+pub(crate) fn counted(
+    rt: &impl Abort,
+    alloc: Global,
+    beginning: &[u8],
+    times: u32,
     before: &[u8],
     behind: &[u8],
-) -> Result<(), AllocError> {
-    for number in 0..count {
-        append(
-            text,
-            &[before, print_seconds(number as u64 * 1000).bytes(), behind],
-        )?;
+) -> Vec<u8> {
+    let mut text = joined(rt, alloc, &[beginning]);
+    for number in 0..times {
+        append_number(rt, &mut text, before, number, behind);
     }
-    Ok(())
+    text
 }

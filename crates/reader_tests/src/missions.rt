@@ -1,73 +1,78 @@
 // Missions and refusals worked by hand.
-use crate::files::{Kind, append, are_refused};
+use crate::files::{Kind, append, append_number, are_refused, joined};
+use ivp_domain::Axis;
 use mission_reader::{Mission, read_mission};
 use moos_post::Milli;
 use moos_text::{Cause, print_milli, print_seconds};
-use std::alloc::{AllocError, Global};
-use std::test::Fail;
+use std::alloc::Global;
+use std::process::Abort;
 
-// The period and the last line, the behaviour file, and then each axis.
-fn shown(alloc: Global, mission: &Mission) -> Result<Vec<u8>, AllocError> {
-    let mut text = Vec::new(alloc);
-    append(
-        &mut text,
-        &[
-            print_seconds(mission.period).bytes(),
-            b" ",
-            print_seconds(mission.lines as u64 * 1000).bytes(),
-            b" <",
-            mission.behaviors.bytes(),
-            b">",
-        ],
-    )?;
-    for axis in mission.domain.all() {
-        append(&mut text, &[b" ", axis.name.bytes()])?;
-        for end in [axis.low, axis.high, axis.points as i64 * 1000] {
-            text.extend_from_slice(b":")?;
-            if let Some(end) = Milli::new(end) {
-                text.extend_from_slice(print_milli(end).bytes())?;
-            }
+fn show_axis(rt: &impl Abort, text: &mut Vec<u8>, axis: &Axis) {
+    append(rt, text, &[b" ", axis.name.bytes()]);
+    for end in [axis.low, axis.high, axis.points as i64 * 1000] {
+        append(rt, text, &[b":"]);
+        if let Some(end) = Milli::new(end) {
+            append(rt, text, &[print_milli(end).bytes()]);
         }
     }
-    Ok(text)
+}
+
+// The period and the last line, the behaviour file, and then each axis.
+fn shown(rt: &impl Abort, alloc: Global, mission: &Mission) -> Vec<u8> {
+    let mut text = joined(rt, alloc, &[print_seconds(mission.period).bytes()]);
+    append_number(rt, &mut text, b" ", mission.lines, b" <");
+    append(rt, &mut text, &[mission.behaviors.bytes(), b">"]);
+    for axis in mission.domain.all() {
+        show_axis(rt, &mut text, axis);
+    }
+    text
 }
 
 // The survey of a bay, and what a usual mission has around the helm's block.
 const SURVEY: &[u8] =
     b"ServerHost = localhost\nServerPort = 9000\nCommunity = alpha\nProcessConfig = pHelmIvP\n{\n  AppTick = 4\n  CommsTick = 4\n  behaviors = alpha.bhv\n  domain = course:0:359:360\n  domain = speed:0:4:41\n  domain = depth:0:100:101\n}\n";
 
-#[test]
-fn good_missions(rt: HostRuntime) -> Result<(), Fail> {
-    let alloc = rt.alloc();
-    for (text, wanted) in [
-        (
-            SURVEY,
-            b"0.25 12 <alpha.bhv> course:0:359:360 speed:0:4:41 depth:0:100:101".as_slice(),
-        ),
-        // Other blocks, comments, carriage returns, tabs, letters of either case, a brace on the line, a quoted name.
-        (
-            b"// a vehicle\r\nServerHost = \"a//b\" // here\r\n\r\nPROCESSCONFIG = ANTLER {\r\n  MSBetweenLaunches = 200\r\n  {\r\n  }}\r\n  ProcessConfig = pHelmIvP {\r\n}\r\nset { // unread\r\n}x\r\n  processconfig=phelmivp\t{ // the helm\r\n\tapptick = 2 // fast\r\n\tBehaviors = \"a // b.bhv\"\r\n\tdomain = X:0:1:2\r\n ProcessConfig = pOther\r\n\tTerm = a = {\r\n}\r\n",
-            b"0.5 18 <\"a // b.bhv\"> x:0:1:2",
-        ),
-        // The last rate counts, and it is 4 without one; `,` is `:`, and blanks around fields are dropped.
-        (
-            b"ProcessConfig = pHelmIvP {\nAppTick = 1000\nAppTick = .001\nbehaviors = b\ndomain = Speed_2 , -1.5\t: +2.25,41.0\n}",
-            b"1000 6 <b> speed_2:-1.5:2.25:41",
-        ),
-        (
-            b"ProcessConfig = pHelmIvP\n\n // here\n\t{\ndomain=a:0:1:2\nbehaviors=a=b\ndomain=b:0:1:3\ndomain=c:0:1:4\ndomain=d:0:1:5\n}\n\n",
-            b"0.25 11 <a=b> a:0:1:2 b:0:1:3 c:0:1:4 d:0:1:5",
-        ),
-        (
-            b"ProcessConfig = pHelmIvP {\nAppTick = 1000.0009\nbehaviors = b\ndomain = a:0:1:2048\ndomain = b:0:1:2048\n}",
-            b"0.001 6 <b> a:0:1:2048 b:0:1:2048",
-        ),
-    ] {
-        assert!(rt; text.len() < 1000);
-        let mission = read_mission(alloc, text)?;
-        assert_eq!(rt; shown(alloc, &mission)?.as_slice(), wanted, "{text:?}");
+// Missions and what is shown of them.
+const GOOD: &[(&[u8], &[u8])] = &[
+    (
+        SURVEY,
+        b"0.25 12 <alpha.bhv> course:0:359:360 speed:0:4:41 depth:0:100:101",
+    ),
+    // Other blocks, comments, carriage returns, tabs, letters of either case, a brace on the line, a quoted name.
+    (
+        b"// a vehicle\r\nServerHost = \"a//b\" // here\r\n\r\nPROCESSCONFIG = ANTLER {\r\n  MSBetweenLaunches = 200\r\n  {\r\n  }}\r\n  ProcessConfig = pHelmIvP {\r\n}\r\nset { // unread\r\n}x\r\n  processconfig=phelmivp\t{ // the helm\r\n\tapptick = 2 // fast\r\n\tBehaviors = \"a // b.bhv\"\r\n\tdomain = X:0:1:2\r\n ProcessConfig = pOther\r\n\tTerm = a = {\r\n}\r\n",
+        b"0.5 18 <\"a // b.bhv\"> x:0:1:2",
+    ),
+    // The last rate counts, and it is 4 without one; `,` is `:`, and blanks around fields are dropped.
+    (
+        b"ProcessConfig = pHelmIvP {\nAppTick = 1000\nAppTick = .001\nbehaviors = b\ndomain = Speed_2 , -1.5\t: +2.25,41.0\n}",
+        b"1000 6 <b> speed_2:-1.5:2.25:41",
+    ),
+    (
+        b"ProcessConfig = pHelmIvP\n\n // here\n\t{\ndomain=a:0:1:2\nbehaviors=a=b\ndomain=b:0:1:3\ndomain=c:0:1:4\ndomain=d:0:1:5\n}\n\n",
+        b"0.25 11 <a=b> a:0:1:2 b:0:1:3 c:0:1:4 d:0:1:5",
+    ),
+    (
+        b"ProcessConfig = pHelmIvP {\nAppTick = 1000.0009\nbehaviors = b\ndomain = a:0:1:2048\ndomain = b:0:1:2048\n}",
+        b"0.001 6 <b> a:0:1:2048 b:0:1:2048",
+    ),
+];
+
+fn reads_as(rt: &impl Abort, alloc: Global, text: &[u8], wanted: &[u8]) {
+    assert!(rt; text.len() < 1000);
+    match read_mission(alloc, text) {
+        Ok(mission) => {
+            assert_eq!(rt; shown(rt, alloc, &mission).as_slice(), wanted, "{text:?}");
+        }
+        Err(_) => assert!(rt; false, "{text:?}"),
     }
-    Ok(())
+}
+
+#[test]
+fn good_missions(rt: HostRuntime) {
+    for (text, wanted) in GOOD {
+        reads_as(&rt, rt.alloc(), *text, *wanted);
+    }
 }
 
 // A mission is refused at this line for this cause. Its first line is `ProcessConfig = pHelmIvP {`.
@@ -140,15 +145,12 @@ const WHOLE: &[(&[u8], u32, Cause)] = &[
 ];
 
 #[test]
-fn refusals(rt: HostRuntime) -> Result<(), Fail> {
+fn refusals(rt: HostRuntime) {
     let alloc = rt.alloc();
     let helm = b"ProcessConfig = pHelmIvP {\n".as_slice();
-    are_refused(&rt, alloc, Kind::Mission, helm, HELM)?;
-    are_refused(&rt, alloc, Kind::Mission, b"", WHOLE)?;
+    are_refused(&rt, alloc, Kind::Mission, helm, HELM);
+    are_refused(&rt, alloc, Kind::Mission, b"", WHOLE);
     // A name of one byte more than a text has.
-    let mut text = Vec::from_slice(alloc, b"behaviors = ")?;
-    text.extend_from_slice(&[b'x'; 4097])?;
-    let rows = [(text.as_slice(), 2, Cause::M1)];
-    are_refused(&rt, alloc, Kind::Mission, helm, &rows)?;
-    Ok(())
+    let text = joined(&rt, alloc, &[b"behaviors = ", &[b'x'; 4097]]);
+    are_refused(&rt, alloc, Kind::Mission, helm, &[(&text, 2, Cause::M1)]);
 }

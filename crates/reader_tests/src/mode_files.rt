@@ -1,66 +1,63 @@
 // Behaviour files and refusals worked by hand.
-use crate::files::{Kind, append, are_refused, behaviors, count, refusal, stands_at};
+use crate::files::{
+    Kind, append, append_number, are_refused, behaviors, counted, joined, refusal, stands_at,
+};
 use bhv_reader::{BhvFile, Decl};
-use moos_text::{Cause, print_seconds};
-use std::alloc::{AllocError, Global};
-use std::test::Fail;
+use moos_text::Cause;
+use std::alloc::Global;
+use std::process::Abort;
 
-fn show(text: &mut Vec<u8>, decl: &Decl) -> Result<(), AllocError> {
-    append(text, &[b" | ", decl.name.bytes()])?;
+fn show(rt: &impl Abort, text: &mut Vec<u8>, decl: &Decl) {
+    append(rt, text, &[b" | ", decl.name.bytes()]);
     if let Some(parent) = decl.parent {
-        append(
-            text,
-            &[b" under ", print_seconds(parent as u64 * 1000).bytes()],
-        )?;
+        append_number(rt, text, b" under ", parent, b"");
     }
-    append(
-        text,
-        &[
-            b" if ",
-            print_seconds(decl.conds.len().min(999) as u64 * 1000).bytes(),
-        ],
-    )?;
+    append_number(rt, text, b" if ", decl.conds.len().min(999) as u32, b"");
     if let Some(other) = &decl.other {
-        append(text, &[b" else ", other.bytes()])?;
+        append(rt, text, &[b" else ", other.bytes()]);
     }
-    Ok(())
 }
 
 // The opening variables, and then each mode: its name, its parent's number, how many conditions it has, its OTHER name.
-fn shown(alloc: Global, file: &BhvFile) -> Result<Vec<u8>, AllocError> {
+fn shown(rt: &impl Abort, alloc: Global, file: &BhvFile) -> Vec<u8> {
     let mut text = Vec::new(alloc);
     for pair in file.opening.all() {
-        append(&mut text, &[pair.var.bytes(), b" "])?;
+        append(rt, &mut text, &[pair.var.bytes(), b" "]);
     }
     for decl in file.decls.all() {
-        show(&mut text, decl)?;
+        show(rt, &mut text, decl);
     }
-    Ok(text)
+    text
+}
+
+// Behaviour files and what is shown of them.
+const GOOD: &[(&[u8], &[u8])] = &[
+    (b"", b""),
+    (
+        b"initialize DEPLOY = false\r\n// nothing\r\n\tINITIALIZE  RETURN:=1 2 // off\r\n",
+        b"DEPLOY RETURN ",
+    ),
+    (
+        b"set MODE = ACTIVE {\n DEPLOY = true\n} INACTIVE\nSet MODE = SURVEYING\n\n{ // here\n MODE = active\n SURVEY = true\n}\nset MODE = RETURNING{\n(MODE == ACTIVE)\nRETURN = true and not X > 3\n}\n",
+        b" | ACTIVE if 1 else INACTIVE | SURVEYING under 0 if 2 | RETURNING under 0 if 2",
+    ),
+    // A parent is meant by the end of its path; an OTHER name is no mode.
+    (
+        b"set MODE = A {\n}\nset MODE = B {\nMODE = A\n} A\nset MODE = B {\n}\nset MODE = C {\nMODE = \"a:b\"\n}\n",
+        b" | A if 0 | B under 0 if 1 else A | B if 0 | C under 1 if 1",
+    ),
+];
+
+fn reads_as(rt: &impl Abort, alloc: Global, text: &[u8], wanted: &[u8]) {
+    let file = behaviors(rt, alloc, text);
+    assert_eq!(rt; shown(rt, alloc, &file).as_slice(), wanted, "{text:?}");
 }
 
 #[test]
-fn good_files(rt: HostRuntime) -> Result<(), Fail> {
-    let alloc = rt.alloc();
-    for (text, wanted) in [
-        (b"".as_slice(), b"".as_slice()),
-        (
-            b"initialize DEPLOY = false\r\n// nothing\r\n\tINITIALIZE  RETURN:=1 2 // off\r\n",
-            b"DEPLOY RETURN ",
-        ),
-        (
-            b"set MODE = ACTIVE {\n DEPLOY = true\n} INACTIVE\nSet MODE = SURVEYING\n\n{ // here\n MODE = active\n SURVEY = true\n}\nset MODE = RETURNING{\n(MODE == ACTIVE)\nRETURN = true and not X > 3\n}\n",
-            b" | ACTIVE if 1 else INACTIVE | SURVEYING under 0 if 2 | RETURNING under 0 if 2",
-        ),
-        // A parent is meant by the end of its path; an OTHER name is no mode.
-        (
-            b"set MODE = A {\n}\nset MODE = B {\nMODE = A\n} A\nset MODE = B {\n}\nset MODE = C {\nMODE = \"a:b\"\n}\n",
-            b" | A if 0 | B under 0 if 1 else A | B if 0 | C under 1 if 1",
-        ),
-    ] {
-        let file = behaviors(&rt, alloc, text)?;
-        assert_eq!(rt; shown(alloc, &file)?.as_slice(), wanted, "{text:?}");
+fn good_files(rt: HostRuntime) {
+    for (text, wanted) in GOOD {
+        reads_as(&rt, rt.alloc(), *text, *wanted);
     }
-    Ok(())
 }
 
 const REFUSED: &[(&[u8], u32, Cause)] = &[
@@ -116,65 +113,51 @@ const REFUSED: &[(&[u8], u32, Cause)] = &[
 ];
 
 #[test]
-fn refusals(rt: HostRuntime) -> Result<(), Fail> {
-    are_refused(&rt, rt.alloc(), Kind::Behaviors, b"", REFUSED)?;
-    Ok(())
+fn refusals(rt: HostRuntime) {
+    are_refused(&rt, rt.alloc(), Kind::Behaviors, b"", REFUSED);
 }
 
-#[test]
-fn limits(rt: HostRuntime) -> Result<(), Fail> {
-    let alloc = rt.alloc();
-    let mut pairs = Vec::new(alloc);
-    count(&mut pairs, 256, b"initialize X", b" = 1\n")?;
-    let more = [
-        (b"initialize X = 1".as_slice(), Cause::B9),
-        (b"initialize X =", Cause::B1),
-    ];
-    stands_at(&rt, alloc, Kind::Behaviors, &pairs, &more)?;
-    let mut modes = Vec::new(alloc);
-    count(&mut modes, 256, b"set MODE = M", b" {\n}\n")?;
-    let more = [
-        (b"set MODE = M {\n}".as_slice(), Cause::B9),
-        (b"set MODE = M {\n} 9", Cause::B1),
-    ];
-    stands_at(&rt, alloc, Kind::Behaviors, &modes, &more)?;
-    Ok(())
-}
+const MORE_PAIRS: &[(&[u8], Cause)] = &[
+    (b"initialize X = 1", Cause::B9),
+    (b"initialize X =", Cause::B1),
+];
+
+const MORE_MODES: &[(&[u8], Cause)] = &[
+    (b"set MODE = M {\n}", Cause::B9),
+    (b"set MODE = M {\n} 9", Cause::B1),
+];
 
 #[test]
-fn most_conditions(rt: HostRuntime) -> Result<(), Fail> {
+fn limits(rt: HostRuntime) {
+    let pairs = counted(&rt, rt.alloc(), b"", 256, b"initialize X", b" = 1\n");
+    stands_at(&rt, rt.alloc(), Kind::Behaviors, &pairs, MORE_PAIRS);
+    let modes = counted(&rt, rt.alloc(), b"", 256, b"set MODE = M", b" {\n}\n");
+    stands_at(&rt, rt.alloc(), Kind::Behaviors, &modes, MORE_MODES);
+}
+
+const MORE_CONDITIONS: &[(&[u8], u32, Cause)] = &[
+    (b"X = 1", 66, Cause::B9),
+    (b"X 1", 66, Cause::B5),
+    (b"MODE = Y", 66, Cause::B9),
+];
+
+#[test]
+fn most_conditions(rt: HostRuntime) {
     let alloc = rt.alloc();
-    let mut mode = Vec::from_slice(alloc, b"set MODE = A {\n")?;
-    count(&mut mode, 64, b"X", b" = 1\n")?;
-    let more = [
-        (b"X = 1".as_slice(), 66, Cause::B9),
-        (b"X 1", 66, Cause::B5),
-        (b"MODE = Y", 66, Cause::B9),
-    ];
-    are_refused(&rt, alloc, Kind::Behaviors, &mode, &more)?;
-    mode.extend_from_slice(b"}\n")?;
+    let mut mode = counted(&rt, alloc, b"set MODE = A {\n", 64, b"X", b" = 1\n");
+    are_refused(&rt, alloc, Kind::Behaviors, &mode, MORE_CONDITIONS);
+    append(&rt, &mut mode, &[b"}\n"]);
     assert_eq!(rt; refusal(&rt, alloc, Kind::Behaviors, &mode), None);
-    Ok(())
 }
 
 // Sixteen modes, each under the one before it; a seventeenth is too deep.
 #[test]
-fn deepest_mode(rt: HostRuntime) -> Result<(), Fail> {
-    let alloc = rt.alloc();
-    let mut text = Vec::from_slice(alloc, b"set MODE = M0 {\n}\n")?;
-    for number in 1..16u64 {
-        append(
-            &mut text,
-            &[
-                b"set MODE = M",
-                print_seconds(number * 1000).bytes(),
-                b" {\nMODE = M",
-                print_seconds((number - 1) * 1000).bytes(),
-                b"\n}\n",
-            ],
-        )?;
+fn deepest_mode(rt: HostRuntime) {
+    let mut text = joined(&rt, rt.alloc(), &[b"set MODE = M0 {\n}\n"]);
+    for number in 1..16u32 {
+        append_number(&rt, &mut text, b"set MODE = M", number, b" {\nMODE = M");
+        append_number(&rt, &mut text, b"", number - 1, b"\n}\n");
     }
-    let more = [(b"set MODE = M16 {\nMODE = M15\n".as_slice(), Cause::B9)];
-    stands_at(&rt, alloc, Kind::Behaviors, &text, &more)?;
-    Ok(())
+    let more: &[(&[u8], Cause)] = &[(b"set MODE = M16 {\nMODE = M15\n", Cause::B9)];
+    stands_at(&rt, rt.alloc(), Kind::Behaviors, &text, more);
 }

@@ -1,44 +1,51 @@
+use crate::files::append;
 use moos_io::*;
 use std::alloc::Global;
 use std::fs;
 use std::fs::{File, OpenFile};
-use std::test::Fail;
+use std::process::Abort;
 
-fn load<F: Folder>(folder: &mut F, name: &[u8], into: &mut Vec<u8>) -> Result<(), LoadFault> {
-    folder.load(name, into)
+// What a folder loads of each name behind a mark, and what then stands there.
+fn loads<F: Folder>(
+    rt: &impl Abort,
+    alloc: Global,
+    folder: &mut F,
+    rows: &[(&[u8], Result<(), LoadFault>, &[u8])],
+) {
+    for (name, answer, after) in rows {
+        let mut into = b">".to_vec(alloc).expect(rt, "memory");
+        assert_eq!(rt; folder.load(*name, &mut into), *answer);
+        assert_eq!(rt; into.as_slice(), *after);
+    }
 }
 
 #[test]
-fn first_file_of_a_name_is_loaded(rt: HostRuntime) -> Result<(), Fail> {
+fn first_file_of_a_name_is_loaded(rt: HostRuntime) {
     let mut folder = MemFolder::make(rt.alloc());
     let files: [(&[u8], &[u8]); 3] = [(b"a", b"one"), (b"b", b""), (b"a", b"two")];
     for (name, bytes) in files {
-        folder.add(rt.alloc(), name, bytes)?;
+        let added = folder.add(rt.alloc(), name, bytes);
+        added.expect(&rt, "memory");
     }
-    let loads: [(&[u8], Result<(), LoadFault>, &[u8]); 4] = [
+    let rows: &[(&[u8], Result<(), LoadFault>, &[u8])] = &[
         (b"a", Ok(()), b">one"),
         (b"b", Ok(()), b">"),
         (b"ab", Err(LoadFault::Failed), b">"),
         (b"", Err(LoadFault::Failed), b">"),
     ];
-    for (name, answer, after) in loads {
-        let mut into = b">".to_vec(rt.alloc())?;
-        assert_eq!(rt; load(&mut folder, name, &mut into), answer);
-        assert_eq!(rt; into.as_slice(), after);
-    }
-    Ok(())
+    loads(&rt, rt.alloc(), &mut folder, rows);
 }
 
-fn sink(alloc: Global, room: usize, mark: Option<u64>) -> Result<MemSink, NoMemory> {
-    let mut sink = MemSink::make(alloc, room, 2)?;
+fn sink(rt: &impl Abort, alloc: Global, room: usize, mark: Option<u64>) -> MemSink {
+    let mut sink = MemSink::make(alloc, room, 2).expect(rt, "memory");
     if let Some(nth) = mark {
-        sink.fail_at(nth)?;
+        sink.fail_at(nth).expect(rt, "memory");
     }
-    Ok(sink)
+    sink
 }
 
 #[test]
-fn sink_takes_what_room_and_marks_allow(rt: HostRuntime) -> Result<(), Fail> {
+fn sink_takes_what_room_and_marks_allow(rt: HostRuntime) {
     let puts: [(usize, Option<u64>, &[u8], Result<(), Failed>, &[u8]); 6] = [
         (5, None, b"abcde", Ok(()), b"abcde"),
         (5, None, b"abcdef", Err(Failed), b"abcde"),
@@ -48,50 +55,43 @@ fn sink_takes_what_room_and_marks_allow(rt: HostRuntime) -> Result<(), Fail> {
         (0, None, b"", Ok(()), b""),
     ];
     for (room, mark, piece, answer, after) in puts {
-        let mut out = sink(rt.alloc(), room, mark)?;
+        let mut out = sink(&rt, rt.alloc(), room, mark);
         assert_eq!(rt; put_all(&mut out, piece), answer);
         assert_eq!(rt; out.bytes(), after);
     }
-    Ok(())
 }
 
 #[test]
-fn marked_put_fails_once(rt: HostRuntime) -> Result<(), Fail> {
-    let mut out = sink(rt.alloc(), 5, Some(1))?;
+fn marked_put_fails_once(rt: HostRuntime) {
+    let mut out = sink(&rt, rt.alloc(), 5, Some(1));
     assert_eq!(rt; put_all(&mut out, b"abc"), Err(Failed));
     assert_eq!(rt; put_all(&mut out, b"cde"), Ok(()));
     assert_eq!(rt; out.bytes(), b"abcde".as_slice());
-    Ok(())
 }
 
 #[test]
-fn real_files_are_loaded_up_to_the_limit(rt: HostRuntime) -> Result<(), Fail> {
+fn real_files_are_loaded_up_to_the_limit(rt: HostRuntime) {
     let path = "moos_io_loaded";
-    fs::write(&rt, path, "content\n")?;
+    fs::write(&rt, path, "content\n").expect(&rt, "a file");
     let mut folder = DirFolder::make(&rt);
-    let loads: [(&[u8], Result<(), LoadFault>, &[u8]); 4] = [
+    let rows: &[(&[u8], Result<(), LoadFault>, &[u8])] = &[
         (b"moos_io_loaded", Ok(()), b">content\n"),
         (b"moos_io_absent", Err(LoadFault::Failed), b">"),
         (b".", Err(LoadFault::Failed), b">"),
         (b"\xff", Err(LoadFault::Failed), b">"),
     ];
-    for (name, answer, after) in loads {
-        let mut into = b">".to_vec(rt.alloc())?;
-        assert_eq!(rt; load(&mut folder, name, &mut into), answer);
-        assert_eq!(rt; into.as_slice(), after);
-    }
-    let file = File::create(&rt, path)?;
+    loads(&rt, rt.alloc(), &mut folder, rows);
+    let file = File::create(&rt, path).expect(&rt, "a file");
     for (len, answer, after) in [
         (16_777_216, Ok(()), 16_777_216),
         (16_777_217, Err(LoadFault::Failed), 0),
     ] {
-        file.set_len(len)?;
+        file.set_len(len).expect(&rt, "a file");
         let mut into = Vec::new(rt.alloc());
-        assert_eq!(rt; load(&mut folder, path.as_bytes(), &mut into), answer);
+        assert_eq!(rt; folder.load(path.as_bytes(), &mut into), answer);
         assert_eq!(rt; into.len(), after);
     }
-    fs::remove_file(&rt, path)?;
-    Ok(())
+    fs::remove_file(&rt, path).expect(&rt, "a file");
 }
 
 #[test]
@@ -120,16 +120,26 @@ fn write_words(sink: &mut MemSink, long: &[u8]) -> Result<(), Failed> {
     buffer.flush(sink)
 }
 
-#[test]
-fn buffer_passes_words_on_in_few_puts(rt: HostRuntime) -> Result<(), Fail> {
-    let long = vec![in rt.alloc(); b'x'; 17000]?;
-    let mut whole = Vec::new(rt.alloc());
+// All of those words, and then the pieces of the long one.
+fn words_and_long(rt: &impl Abort, alloc: Global, long: &[u8]) -> Vec<u8> {
+    let mut whole = Vec::new(alloc);
     for _ in 0..4000 {
-        whole.extend_from_slice(b"word ")?;
+        append(rt, &mut whole, &[b"word "]);
     }
-    for piece in [b"long ".as_slice(), long.as_slice(), b"\n"] {
-        whole.extend_from_slice(piece)?;
-    }
+    append(rt, &mut whole, &[b"long ", long, b"\n"]);
+    whole
+}
+
+fn marked_sink(rt: &impl Abort, alloc: Global, mark: u64) -> MemSink {
+    let mut sink = MemSink::make(alloc, 40000, 32768).expect(rt, "memory");
+    sink.fail_at(mark).expect(rt, "memory");
+    sink
+}
+
+#[test]
+fn buffer_passes_words_on_in_few_puts(rt: HostRuntime) {
+    let long = [b'x'; 17000];
+    let whole = words_and_long(&rt, rt.alloc(), &long);
     let runs: [(u64, Result<(), Failed>, usize); 5] = [
         (4, Ok(()), 37006),
         (3, Err(Failed), 37005),
@@ -138,10 +148,8 @@ fn buffer_passes_words_on_in_few_puts(rt: HostRuntime) -> Result<(), Fail> {
         (0, Err(Failed), 0),
     ];
     for (mark, answer, len) in runs {
-        let mut sink = MemSink::make(rt.alloc(), 40000, 32768)?;
-        sink.fail_at(mark)?;
-        assert_eq!(rt; write_words(&mut sink, long.as_slice()), answer);
+        let mut sink = marked_sink(&rt, rt.alloc(), mark);
+        assert_eq!(rt; write_words(&mut sink, &long), answer);
         assert!(rt; sink.bytes().len() == len && whole.as_slice().starts_with(sink.bytes()));
     }
-    Ok(())
 }

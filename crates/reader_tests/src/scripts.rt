@@ -1,113 +1,111 @@
 // Scripts and refusals worked by hand, and each limit with what stands just beyond it.
-use crate::files::{Kind, append, are_refused, count, refusal, stands_at};
-use moos_post::{Call, Entry, Pair, Value};
+use crate::files::{Kind, append, append_number, are_refused, counted, joined, refusal, stands_at};
+use moos_post::{Call, Entry, Pair, Reg, Value};
 use moos_text::{Cause, Limit, ReadFault, print_milli, print_seconds};
 use script_reader::{Lines, Script, read_script};
-use std::alloc::{AllocError, Global};
-use std::test::Fail;
+use std::alloc::Global;
+use std::process::Abort;
 
-fn show_pair(text: &mut Vec<u8>, pair: &Pair) -> Result<(), AllocError> {
-    text.extend_from_slice(b" ")?;
-    text.extend_from_slice(pair.var.bytes())?;
+fn show_pair(rt: &impl Abort, text: &mut Vec<u8>, pair: &Pair) {
+    append(rt, text, &[b" ", pair.var.bytes()]);
     match &pair.value {
-        Value::Num(number) => {
-            text.extend_from_slice(b"=")?;
-            text.extend_from_slice(print_milli(*number).bytes())?;
-        }
-        Value::Text(bytes) => {
-            text.extend_from_slice(b"=<")?;
-            text.extend_from_slice(bytes.bytes())?;
-            text.extend_from_slice(b">")?;
-        }
+        Value::Num(number) => append(rt, text, &[b"=", print_milli(*number).bytes()]),
+        Value::Text(bytes) => append(rt, text, &[b"=<", bytes.bytes(), b">"]),
     }
-    Ok(())
 }
 
-fn show_call(text: &mut Vec<u8>, call: &Call) -> Result<(), AllocError> {
+fn show_register(rt: &impl Abort, text: &mut Vec<u8>, reg: &Reg) {
+    append(rt, text, &[b" register ", reg.var.bytes(), b" "]);
+    append(rt, text, &[reg.source.bytes(), b" "]);
+    append(rt, text, &[print_seconds(reg.interval).bytes()]);
+}
+
+fn show_call(rt: &impl Abort, text: &mut Vec<u8>, call: &Call) {
     match call {
         Call::Register(regs) => for reg in regs.all() {
-            append(
-                text,
-                &[
-                    b" register ",
-                    reg.var.bytes(),
-                    b" ",
-                    reg.source.bytes(),
-                    b" ",
-                ],
-            )?;
-            text.extend_from_slice(print_seconds(reg.interval).bytes())?;
+            show_register(rt, text, reg);
         },
-        Call::Unregister(var, source) => {
-            append(text, &[b" unregister ", var.bytes(), b" ", source.bytes()])?
-        }
+        Call::Unregister(var, source) => append(
+            rt,
+            text,
+            &[b" unregister ", var.bytes(), b" ", source.bytes()],
+        ),
         Call::Post(batch) => for pair in batch.all() {
-            show_pair(text, pair)?;
+            show_pair(rt, text, pair);
         },
-        Call::Fetch => text.extend_from_slice(b" fetch")?,
+        Call::Fetch => append(rt, text, &[b" fetch"]),
     }
-    Ok(())
+}
+
+fn show_entry(rt: &impl Abort, text: &mut Vec<u8>, entry: &Entry) {
+    append(rt, text, &[b"| ", print_seconds(entry.stamp).bytes()]);
+    append_number(rt, text, b" ", entry.client, b"");
+    show_call(rt, text, &entry.call);
+    append(rt, text, &[b" "]);
 }
 
 // The names, then each line by its stamp, its client's number and its call, and the last stamp.
-fn shown(alloc: Global, script: &Script) -> Result<Vec<u8>, AllocError> {
+fn shown(rt: &impl Abort, alloc: Global, script: &Script) -> Vec<u8> {
     let mut text = Vec::new(alloc);
     for name in script.names.all() {
-        append(&mut text, &[name.bytes(), b" "])?;
+        append(rt, &mut text, &[name.bytes(), b" "]);
     }
     for line in script.lines.all() {
-        append(&mut text, &[b"| ", print_seconds(line.stamp).bytes(), b" "])?;
-        append(
-            &mut text,
-            &[print_seconds(line.client as u64 * 1000).bytes()],
-        )?;
-        show_call(&mut text, &line.call)?;
-        text.extend_from_slice(b" ")?;
+        show_entry(rt, &mut text, line);
     }
-    append(&mut text, &[b"| ", print_seconds(script.stop).bytes()])?;
-    Ok(text)
+    append(rt, &mut text, &[b"| ", print_seconds(script.stop).bytes()]);
+    text
 }
 
-#[test]
-fn good_scripts(rt: HostRuntime) -> Result<(), Fail> {
-    let alloc = rt.alloc();
-    for (text, wanted) in [
-        (b"".as_slice(), b"| 0".as_slice()),
-        (b"\n \t // nobody\n", b"| 0"),
-        (
-            b"0 pA register X\n1 pA post X=5\n2 pA fetch\n3 pA fetch\n",
-            b"pA | 0 0 register X * 0 | 1 0 X=5 | 2 0 fetch | 3 0 fetch | 3",
-        ),
-        (
-            b"0 log register NAV_* 0 p*\n0.5 two register NAV_?\n1 p post NAV_=1 # NAV_X=2 # NAV_XY=3\n2 two fetch\n",
-            b"log two p | 0 0 register NAV_* p* 0 | 0.5 1 register NAV_? * 0 | 1 2 NAV_=1 NAV_X=2 NAV_XY=3 | 2 1 fetch | 2",
-        ),
-        (
-            b"0 b register X 1000000 ?\n1 b unregister X ?\n2 b unregister X\n3 b register * .0019\n",
-            b"b | 0 0 register X ? 1000000 | 1 0 unregister X ? | 2 0 unregister X * | 3 0 register * * 0.001 | 3",
-        ),
-        // Carriage returns, tabs, comments, and a last line without an end.
-        (
-            b"// two\r\n\r\n+.5 b  fetch // first\r\n0.5009\ta\tpost\tX_1.y=-1.25\t\r\n 1000000. b fetch\r",
-            b"b a | 0.5 0 fetch | 0.5 1 X_1.y=-1.25 | 1000000 0 fetch | 1000000",
-        ),
-        // Quotes: a text keeps its blanks, `#` and `//`, and `:=` makes a text of a number.
-        (
-            b"0 a post T = \"a  # // b\" # U:=1 2 # V=c  d // e\n0 a post W:=-7#E=\"\"#F=\"7\"",
-            b"a | 0 0 T=<a  # // b> U=<1 2> V=<c  d> | 0 0 W=<-7> E=<> F=<7> | 0",
-        ),
-        // `until` only carries its stamp, and the words of operations may be names.
-        (
-            b"1 until\n1 post fetch\n2.5 until // the end\n",
-            b"post | 1 0 fetch | 2.5",
-        ),
-        (b"7 until", b"| 7"),
-    ] {
-        assert!(rt; text.len() < 1000);
-        let script = read_script(alloc, text)?;
-        assert_eq!(rt; shown(alloc, &script)?.as_slice(), wanted, "{text:?}");
+fn reads_as(rt: &impl Abort, alloc: Global, text: &[u8], wanted: &[u8]) {
+    assert!(rt; text.len() < 1000);
+    match read_script(alloc, text) {
+        Ok(script) => {
+            assert_eq!(rt; shown(rt, alloc, &script).as_slice(), wanted, "{text:?}");
+        }
+        Err(_) => assert!(rt; false, "{text:?}"),
     }
-    Ok(())
+}
+
+// Scripts and what is shown of them.
+const GOOD: &[(&[u8], &[u8])] = &[
+    (b"", b"| 0"),
+    (b"\n \t // nobody\n", b"| 0"),
+    (
+        b"0 pA register X\n1 pA post X=5\n2 pA fetch\n3 pA fetch\n",
+        b"pA | 0 0 register X * 0 | 1 0 X=5 | 2 0 fetch | 3 0 fetch | 3",
+    ),
+    (
+        b"0 log register NAV_* 0 p*\n0.5 two register NAV_?\n1 p post NAV_=1 # NAV_X=2 # NAV_XY=3\n2 two fetch\n",
+        b"log two p | 0 0 register NAV_* p* 0 | 0.5 1 register NAV_? * 0 | 1 2 NAV_=1 NAV_X=2 NAV_XY=3 | 2 1 fetch | 2",
+    ),
+    (
+        b"0 b register X 1000000 ?\n1 b unregister X ?\n2 b unregister X\n3 b register * .0019\n",
+        b"b | 0 0 register X ? 1000000 | 1 0 unregister X ? | 2 0 unregister X * | 3 0 register * * 0.001 | 3",
+    ),
+    // Carriage returns, tabs, comments, and a last line without an end.
+    (
+        b"// two\r\n\r\n+.5 b  fetch // first\r\n0.5009\ta\tpost\tX_1.y=-1.25\t\r\n 1000000. b fetch\r",
+        b"b a | 0.5 0 fetch | 0.5 1 X_1.y=-1.25 | 1000000 0 fetch | 1000000",
+    ),
+    // Quotes: a text keeps its blanks, `#` and `//`, and `:=` makes a text of a number.
+    (
+        b"0 a post T = \"a  # // b\" # U:=1 2 # V=c  d // e\n0 a post W:=-7#E=\"\"#F=\"7\"",
+        b"a | 0 0 T=<a  # // b> U=<1 2> V=<c  d> | 0 0 W=<-7> E=<> F=<7> | 0",
+    ),
+    // `until` only carries its stamp, and the words of operations may be names.
+    (
+        b"1 until\n1 post fetch\n2.5 until // the end\n",
+        b"post | 1 0 fetch | 2.5",
+    ),
+    (b"7 until", b"| 7"),
+];
+
+#[test]
+fn good_scripts(rt: HostRuntime) {
+    for (text, wanted) in GOOD {
+        reads_as(&rt, rt.alloc(), *text, *wanted);
+    }
 }
 
 const REFUSED: &[(&[u8], u32, Cause)] = &[
@@ -152,130 +150,130 @@ const REFUSED: &[(&[u8], u32, Cause)] = &[
 ];
 
 #[test]
-fn refusals(rt: HostRuntime) -> Result<(), Fail> {
-    are_refused(&rt, rt.alloc(), Kind::Script, b"", REFUSED)?;
-    Ok(())
+fn refusals(rt: HostRuntime) {
+    are_refused(&rt, rt.alloc(), Kind::Script, b"", REFUSED);
 }
 
-#[test]
-fn most_clients(rt: HostRuntime) -> Result<(), Fail> {
-    let mut clients = Vec::new(rt.alloc());
-    count(&mut clients, 64, b"0 c", b" fetch\n")?;
-    let too_many = Cause::S8(Limit::Clients);
-    let more = [
-        (b"0 c64 fetch".as_slice(), too_many),
-        (b"0 c64 jump", too_many),
-        (b"0 64 fetch", Cause::S4),
-        (b"0 pHelmIvP fetch", Cause::S9),
-        (b"0 c63 fetch\n0 until\n0 c00 fetch", too_many),
-    ];
-    stands_at(&rt, rt.alloc(), Kind::Script, &clients, &more)?;
-    Ok(())
-}
+const MORE_CLIENTS: &[(&[u8], Cause)] = &[
+    (b"0 c64 fetch", Cause::S8(Limit::Clients)),
+    (b"0 c64 jump", Cause::S8(Limit::Clients)),
+    (b"0 64 fetch", Cause::S4),
+    (b"0 pHelmIvP fetch", Cause::S9),
+    (
+        b"0 c63 fetch\n0 until\n0 c00 fetch",
+        Cause::S8(Limit::Clients),
+    ),
+];
 
 #[test]
-fn most_registrations(rt: HostRuntime) -> Result<(), Fail> {
-    let mut registrations = Vec::new(rt.alloc());
-    count(&mut registrations, 256, b"0 a register X", b"\n")?;
-    let too_many = Cause::S8(Limit::Registrations);
-    let more = [
-        (b"0 a register X".as_slice(), too_many),
-        (b"0 a register X 0 * more", too_many),
-        (b"0 a register X -1", Cause::S7),
-        (
-            b"0 b register X\n0 a unregister X1\n0 a register X1",
-            too_many,
-        ),
-    ];
-    stands_at(&rt, rt.alloc(), Kind::Script, &registrations, &more)?;
-    Ok(())
+fn most_clients(rt: HostRuntime) {
+    let clients = counted(&rt, rt.alloc(), b"", 64, b"0 c", b" fetch\n");
+    stands_at(&rt, rt.alloc(), Kind::Script, &clients, MORE_CLIENTS);
 }
 
-#[test]
-fn most_pairs(rt: HostRuntime) -> Result<(), Fail> {
-    let mut post = Vec::from_slice(rt.alloc(), b"0 a post")?;
-    count(&mut post, 63, b" X=", b" #")?;
-    post.extend_from_slice(b"Y=\"#\"")?;
-    let more = [
-        (b"#Z=1".as_slice(), Cause::S8(Limit::Batch)),
-        (b"#", Cause::S5),
-        (b"#9Z=1", Cause::S4),
-        (b"\n0 a post A=1 # B", Cause::S5),
-    ];
-    stands_at(&rt, rt.alloc(), Kind::Script, &post, &more)?;
-    Ok(())
-}
+const MORE_REGISTRATIONS: &[(&[u8], Cause)] = &[
+    (b"0 a register X", Cause::S8(Limit::Registrations)),
+    (b"0 a register X 0 * more", Cause::S8(Limit::Registrations)),
+    (b"0 a register X -1", Cause::S7),
+    (
+        b"0 b register X\n0 a unregister X1\n0 a register X1",
+        Cause::S8(Limit::Registrations),
+    ),
+];
 
 #[test]
-fn longest_text(rt: HostRuntime) -> Result<(), Fail> {
+fn most_registrations(rt: HostRuntime) {
+    let registrations = counted(&rt, rt.alloc(), b"", 256, b"0 a register X", b"\n");
+    stands_at(
+        &rt,
+        rt.alloc(),
+        Kind::Script,
+        &registrations,
+        MORE_REGISTRATIONS,
+    );
+}
+
+const MORE_PAIRS: &[(&[u8], Cause)] = &[
+    (b"#Z=1", Cause::S8(Limit::Batch)),
+    (b"#", Cause::S5),
+    (b"#9Z=1", Cause::S4),
+    (b"\n0 a post A=1 # B", Cause::S5),
+];
+
+#[test]
+fn most_pairs(rt: HostRuntime) {
+    let mut post = counted(&rt, rt.alloc(), b"0 a post", 63, b" X=", b" #");
+    append(&rt, &mut post, &[b"Y=\"#\""]);
+    stands_at(&rt, rt.alloc(), Kind::Script, &post, MORE_PAIRS);
+}
+
+const MORE_BYTES: &[(&[u8], Cause)] = &[
+    (b"y", Cause::S8(Limit::Text)),
+    (b"y\x7f", Cause::S5),
+    (b" y # Y", Cause::S8(Limit::Text)),
+];
+
+#[test]
+fn longest_text(rt: HostRuntime) {
     let text = [b'x'; 4096];
-    let mut post = Vec::from_slice(rt.alloc(), b"0 a post X=\"")?;
-    append(
-        &mut post,
-        &[text.as_slice(), b"\"\n0 a post X=", text.as_slice()],
-    )?;
-    let more = [
-        (b"y".as_slice(), Cause::S8(Limit::Text)),
-        (b"y\x7f", Cause::S5),
-        (b" y # Y", Cause::S8(Limit::Text)),
-    ];
-    stands_at(&rt, rt.alloc(), Kind::Script, &post, &more)?;
-    Ok(())
+    let pieces: [&[u8]; 4] = [b"0 a post X=\"", &text, b"\"\n0 a post X=", &text];
+    let post = joined(&rt, rt.alloc(), &pieces);
+    stands_at(&rt, rt.alloc(), Kind::Script, &post, MORE_BYTES);
 }
 
-#[test]
-fn most_variables(rt: HostRuntime) -> Result<(), Fail> {
-    let mut posts = Vec::new(rt.alloc());
-    count(&mut posts, 4096, b"0 a post X", b"=1\n")?;
-    let too_many = Cause::S8(Limit::Variables);
-    let more = [
-        (b"0 a post X4096=1".as_slice(), too_many),
-        (b"0 a post X0=1 # Y=1 # Z", too_many),
-        (b"0 b post X4095=1\n0 b post Y=2", too_many),
-        (b"0 a post Y=", Cause::S5),
-    ];
-    stands_at(&rt, rt.alloc(), Kind::Script, &posts, &more)?;
-    Ok(())
-}
+const MORE_VARIABLES: &[(&[u8], Cause)] = &[
+    (b"0 a post X4096=1", Cause::S8(Limit::Variables)),
+    (b"0 a post X0=1 # Y=1 # Z", Cause::S8(Limit::Variables)),
+    (
+        b"0 b post X4095=1\n0 b post Y=2",
+        Cause::S8(Limit::Variables),
+    ),
+    (b"0 a post Y=", Cause::S5),
+];
 
 #[test]
-fn most_lines(rt: HostRuntime) -> Result<(), Fail> {
-    let alloc = rt.alloc();
-    let mut lines = Vec::new(alloc);
+fn most_variables(rt: HostRuntime) {
+    let posts = counted(&rt, rt.alloc(), b"", 4096, b"0 a post X", b"=1\n");
+    stands_at(&rt, rt.alloc(), Kind::Script, &posts, MORE_VARIABLES);
+}
+
+const MORE_LINES: &[(&[u8], Cause)] = &[
+    (b"// the end\n\n\"\n", Cause::S8(Limit::Lines)),
+    (b"0 until", Cause::S8(Limit::Lines)),
+];
+
+#[test]
+fn most_lines(rt: HostRuntime) {
+    let mut lines = Vec::new(rt.alloc());
     for _ in 0..50_000 {
-        lines.extend_from_slice(b"\n0 a fetch\n0 until\n")?;
+        append(&rt, &mut lines, &[b"\n0 a fetch\n0 until\n"]);
     }
-    let too_many = Cause::S8(Limit::Lines);
-    let more = [
-        (b"// the end\n\n\"\n".as_slice(), too_many),
-        (b"0 until", too_many),
-    ];
-    stands_at(&rt, alloc, Kind::Script, &lines, &more)?;
-    Ok(())
+    stands_at(&rt, rt.alloc(), Kind::Script, &lines, MORE_LINES);
 }
 
 #[test]
-fn lines_of_refusals_are_counted_from_1(rt: HostRuntime) -> Result<(), Fail> {
-    let mut clients = Vec::new(rt.alloc());
-    count(&mut clients, 65, b"0 c", b" fetch\n")?;
+fn lines_of_refusals_are_counted_from_1(rt: HostRuntime) {
+    let clients = counted(&rt, rt.alloc(), b"", 65, b"0 c", b" fetch\n");
     let fault = refusal(&rt, rt.alloc(), Kind::Script, &clients);
     let cause = Cause::S8(Limit::Clients);
     assert_eq!(rt; fault, Some(ReadFault::At { line: 65, cause }));
-    Ok(())
+}
+
+fn fetch_at(stamp: u64) -> Entry {
+    Entry {
+        stamp,
+        client: 0,
+        call: Call::Fetch,
+    }
 }
 
 #[test]
-fn lines_are_a_list(rt: HostRuntime) -> Result<(), Fail> {
+fn lines_are_a_list(rt: HostRuntime) {
     let mut lines = Lines::new(rt.alloc());
     for stamp in [5, 7] {
-        lines.push(Entry {
-            stamp,
-            client: 0,
-            call: Call::Fetch,
-        })?;
+        assert!(rt; lines.push(fetch_at(stamp)).is_ok());
     }
     assert!(rt; lines.len() == 2);
     assert!(rt; lines.get(1).stamp == 7);
     assert!(rt; lines.all().iter().map(|line| line.stamp).eq([5, 7]));
-    Ok(())
 }

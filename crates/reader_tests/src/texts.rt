@@ -4,7 +4,6 @@ use moos_text::{
     Cause, Limit, Line, LineFault, Part, ReadFault, next_line, next_part, next_whole_line,
     print_milli, print_seconds, read_milli, trimmed,
 };
-use std::test::Fail;
 
 #[test]
 fn numbers(rt: HostRuntime) {
@@ -46,7 +45,7 @@ fn numbers(rt: HostRuntime) {
 }
 
 #[test]
-fn printed(rt: HostRuntime) -> Result<(), Fail> {
+fn printed(rt: HostRuntime) {
     for (thousandths, text) in [
         (0, b"0".as_slice()),
         (7, b"0.007"),
@@ -58,11 +57,10 @@ fn printed(rt: HostRuntime) -> Result<(), Fail> {
         (1_000_000_000_000, b"1000000000"),
         (-999_999_999_999, b"-999999999.999"),
     ] {
-        let number = Milli::new(thousandths).ok_or("no number")?;
+        let number = Milli::new(thousandths).expect(&rt, "a number");
         let printed = print_milli(number);
         assert_eq!(rt; printed.bytes(), text);
     }
-    Ok(())
 }
 
 #[test]
