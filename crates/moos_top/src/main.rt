@@ -35,7 +35,7 @@ fn main(rt: HostRuntime) -> ExitCode {
     // A law does nothing. That the program calls it is why it is proved with the program.
     run_law();
     // Where standard error fails too, the exit status still tells.
-    let _ = tell(&rt, &status);
+    let _ = print_failure(&rt, &status);
     ExitCode::from(code(&status))
 }
 
@@ -56,7 +56,7 @@ fn command_line(rt: &HostRuntime) -> Result<Words, Status> {
 }
 
 // The line that standard error gets where the run didn't end well.
-fn tell(rt: &impl Eprint, status: &Status) -> io::Result<()> {
+fn print_failure(rt: &impl Eprint, status: &Status) -> io::Result<()> {
     match status {
         Status::Done | Status::CheckNo => Ok(()),
         Status::Usage => eprintln!(rt; "moos: usage"),

@@ -7,7 +7,6 @@ use moos_text::Cause;
 use std::alloc::Global;
 use std::process::Abort;
 use std::sync::Wait;
-use std::test::Fail;
 use std::thread::Threads;
 
 const FIRST_SCRIPT: &str = "0 pA register X\n1 pA post X=5\n2 pA fetch\n3 pA fetch\n";
@@ -16,13 +15,13 @@ const FIRST_REPORT: &str =
     "%% moosdb play 1\n%% client 0 pA\n%% entry 0 0 pA register\n%% reg X * 0\n\
     %% entry 1 1 pA post 0 1\n1 X pA 5\n%% entry 2 2 pA fetch\n%% mail 0 1 X pA 5\n%% entry 3 3 pA fetch\n%% end 4 1\n";
 
-fn command_line(rt: &impl Abort, alloc: Global, line: &[&str]) -> Result<Words, Fail> {
+fn command_line(rt: &impl Abort, alloc: Global, line: &[&str]) -> Words {
     let mut words = Words::new(alloc);
     for word in line {
-        let pushed = words.push(Word::new(word.to_string(alloc)?));
-        assert!(rt; pushed.is_ok());
+        let text = word.to_string(alloc).expect(rt, "memory");
+        words.push(Word::new(text)).expect(rt, "memory");
     }
-    Ok(words)
+    words
 }
 
 const FIRST_PROBLEM: &str = "ivp 1\ndomain course:0:359:360\nfunction 100\npiece 0 359 7 0\nend\n";
@@ -38,32 +37,38 @@ const SECOND_DECISION: &str = "decision 0 1 0 75\ncut 0 0 : 75 2\ncut 0 1 : 55 1
 const LEVELS_DECISION: &str = "decision 0 64000000000\ncut : 64000000000 0\ndone\n";
 
 // The lines of a problem and those of its decision.
-fn decided(alloc: Global, problem: &str, decision: &str) -> Result<String, Fail> {
-    let mut text = problem.to_string(alloc)?;
-    text.push_str(decision)?;
-    Ok(text)
+fn decided(rt: &impl Abort, alloc: Global, problem: &str, decision: &str) -> String {
+    let mut text = problem.to_string(alloc).expect(rt, "memory");
+    append(rt, &mut text, &[decision]);
+    text
+}
+
+fn append(rt: &impl Abort, text: &mut String, pieces: &[&str]) {
+    for piece in pieces {
+        text.push_str(piece).expect(rt, "memory");
+    }
 }
 
 // 64 functions over the course, each of value 100,000 everywhere: this weight, and then 10,000.
-fn levels(alloc: Global, first: &str) -> Result<String, Fail> {
+fn levels(rt: &impl Abort, alloc: Global, first: &str) -> String {
     let mut text = String::new(alloc);
-    text.push_str("ivp 1\ndomain course:0:359:360\n")?;
+    append(rt, &mut text, &["ivp 1\ndomain course:0:359:360\n"]);
     for number in 0..64 {
         let weight = if number == 0 { first } else { "10000" };
-        text.push_str("function ")?;
-        text.push_str(weight)?;
-        text.push_str("\npiece 0 359 100000 0\n")?;
+        let function = ["function ", weight, "\npiece 0 359 100000 0\n"];
+        append(rt, &mut text, &function);
     }
-    text.push_str("end\n")?;
-    Ok(text)
+    append(rt, &mut text, &["end\n"]);
+    text
 }
 
 // A folder with the file `f.txt` alone.
-fn folder_of(rt: &impl Abort, alloc: Global, text: &str) -> Result<MemFolder, Fail> {
+fn folder_of(rt: &impl Abort, alloc: Global, text: &str) -> MemFolder {
     let mut folder = MemFolder::make(alloc);
     assert!(rt; text.len() < 10_000);
-    folder.add(alloc, b"f.txt", text.as_bytes())?;
-    Ok(folder)
+    let added = folder.add(alloc, b"f.txt", text.as_bytes());
+    added.expect(rt, "memory");
+    folder
 }
 
 // Runs a command line beside that file, into a sink with room to spare.
@@ -72,7 +77,7 @@ fn run_on<R: Threads + Wait + Sync + Abort>(
     alloc: Global,
     line: &[&str],
     text: &str,
-) -> Result<(Status, MemSink), Fail> {
+) -> (Status, MemSink) {
     run_under(rt, alloc, line, text, &NoGate)
 }
 
@@ -83,12 +88,12 @@ fn run_under<R: Threads + Wait + Sync + Abort, G: Gate>(
     line: &[&str],
     text: &str,
     gate: &G,
-) -> Result<(Status, MemSink), Fail> {
-    let words = command_line(rt, alloc, line)?;
-    let mut folder = folder_of(rt, alloc, text)?;
-    let mut out = MemSink::make(alloc, 10_000, 10_000)?;
+) -> (Status, MemSink) {
+    let words = command_line(rt, alloc, line);
+    let mut folder = folder_of(rt, alloc, text);
+    let mut out = MemSink::make(alloc, 10_000, 10_000).expect(rt, "memory");
     let status = run(rt, alloc, &words, &mut folder, &mut out, gate);
-    Ok((status, out))
+    (status, out)
 }
 
 // Such a run ends so, and writes this.
@@ -99,39 +104,31 @@ fn ends_so<R: Threads + Wait + Sync + Abort>(
     text: &str,
     status: Status,
     written: &str,
-) -> Result<(), Fail> {
-    let (ended, out) = run_on(rt, alloc, line, text)?;
+) {
+    let (ended, out) = run_on(rt, alloc, line, text);
     assert_eq!(rt; ended, status, "{line:?}: {text}");
     assert_eq!(rt; out.bytes(), written.as_bytes(), "{line:?}: {text}");
-    Ok(())
 }
 
 // The problem's decision is this, by any number of workers.
-fn is_solved<R: Threads + Wait + Sync + Abort>(
-    rt: &R,
-    alloc: Global,
-    text: &str,
-    decision: &str,
-) -> Result<(), Fail> {
-    let wanted = decided(alloc, text, decision)?;
+fn is_solved<R: Threads + Wait + Sync + Abort>(rt: &R, alloc: Global, text: &str, decision: &str) {
+    let wanted = decided(rt, alloc, text, decision);
     for workers in ["1", "2", "16"] {
         let line = ["solve", "f.txt", "--workers", workers];
-        ends_so(rt, alloc, &line, text, Status::Done, wanted.as_str())?;
+        ends_so(rt, alloc, &line, text, Status::Done, wanted.as_str());
     }
-    Ok(())
 }
 
 #[test]
-fn good_problems_are_solved_by_any_number_of_workers(rt: HostRuntime) -> Result<(), Fail> {
-    let levels = levels(rt.alloc(), "10000")?;
+fn good_problems_are_solved_by_any_number_of_workers(rt: HostRuntime) {
+    let levels = levels(&rt, rt.alloc(), "10000");
     for (text, decision) in [
         (FIRST_PROBLEM, FIRST_DECISION),
         (SECOND_PROBLEM, SECOND_DECISION),
         (levels.as_str(), LEVELS_DECISION),
     ] {
-        is_solved(&rt, rt.alloc(), text, decision)?;
+        is_solved(&rt, rt.alloc(), text, decision);
     }
-    Ok(())
 }
 
 // A check of the second problem with this decision ends so, and writes this.
@@ -141,14 +138,14 @@ fn is_checked<R: Threads + Wait + Sync + Abort>(
     decision: &str,
     status: Status,
     written: &str,
-) -> Result<(), Fail> {
-    let text = decided(alloc, SECOND_PROBLEM, decision)?;
+) {
+    let text = decided(rt, alloc, SECOND_PROBLEM, decision);
     let line = ["check", "f.txt"];
-    ends_so(rt, alloc, &line, text.as_str(), status, written)
+    ends_so(rt, alloc, &line, text.as_str(), status, written);
 }
 
 #[test]
-fn decisions_are_checked(rt: HostRuntime) -> Result<(), Fail> {
+fn decisions_are_checked(rt: HostRuntime) {
     for (decision, status, written) in [
         (SECOND_DECISION, Status::Done, "accepted\n"),
         (
@@ -181,14 +178,13 @@ fn decisions_are_checked(rt: HostRuntime) -> Result<(), Fail> {
             "",
         ),
     ] {
-        is_checked(&rt, rt.alloc(), decision, status, written)?;
+        is_checked(&rt, rt.alloc(), decision, status, written);
     }
-    Ok(())
 }
 
 #[test]
-fn bad_files_are_refused(rt: HostRuntime) -> Result<(), Fail> {
-    let heavy = levels(rt.alloc(), "10001")?;
+fn bad_files_are_refused(rt: HostRuntime) {
+    let heavy = levels(&rt, rt.alloc(), "10001");
     for (job, text, file, line, cause) in [
         (
             "play",
@@ -221,28 +217,23 @@ fn bad_files_are_refused(rt: HostRuntime) -> Result<(), Fail> {
         ),
     ] {
         let status = Status::Refused(Refusal { file, line, cause });
-        ends_so(&rt, rt.alloc(), &[job, "f.txt"], text, status, "")?;
+        ends_so(&rt, rt.alloc(), &[job, "f.txt"], text, status, "");
     }
-    Ok(())
 }
 
 // How a run ends beside an empty script `s.txt`, where nothing is to be written.
-fn ends<R: Threads + Wait + Sync + Abort>(
-    rt: &R,
-    alloc: Global,
-    words: &Words,
-) -> Result<Status, Fail> {
+fn ends<R: Threads + Wait + Sync + Abort>(rt: &R, alloc: Global, words: &Words) -> Status {
     let mut folder = MemFolder::make(alloc);
-    folder.add(alloc, b"s.txt", b"")?;
-    let mut out = MemSink::make(alloc, 100, 100)?;
+    folder.add(alloc, b"s.txt", b"").expect(rt, "memory");
+    let mut out = MemSink::make(alloc, 100, 100).expect(rt, "memory");
     let status = run(rt, alloc, words, &mut folder, &mut out, &NoGate);
     assert_eq!(rt; out.bytes(), b"".as_slice());
-    Ok(status)
+    status
 }
 
 #[test]
-fn words_that_are_taken(rt: HostRuntime) -> Result<(), Fail> {
-    let decided = decided(rt.alloc(), FIRST_PROBLEM, FIRST_DECISION)?;
+fn words_that_are_taken(rt: HostRuntime) {
+    let decided = decided(&rt, rt.alloc(), FIRST_PROBLEM, FIRST_DECISION);
     for (line, text, written) in [
         (
             ["play", "f.txt", "--race"].as_slice(),
@@ -268,13 +259,12 @@ fn words_that_are_taken(rt: HostRuntime) -> Result<(), Fail> {
             decided.as_str(),
         ),
     ] {
-        ends_so(&rt, rt.alloc(), line, text, Status::Done, written)?;
+        ends_so(&rt, rt.alloc(), line, text, Status::Done, written);
     }
-    Ok(())
 }
 
 #[test]
-fn other_words_are_usage(rt: HostRuntime) -> Result<(), Fail> {
+fn other_words_are_usage(rt: HostRuntime) {
     for line in [
         [].as_slice(),
         &["play"],
@@ -299,37 +289,34 @@ fn other_words_are_usage(rt: HostRuntime) -> Result<(), Fail> {
         &["check", "d.txt", "--workers", "2"],
         &["--help"],
     ] {
-        let words = command_line(&rt, rt.alloc(), line)?;
-        assert_eq!(rt; ends(&rt, rt.alloc(), &words)?, Status::Usage, "{line:?}");
+        let words = command_line(&rt, rt.alloc(), line);
+        assert_eq!(rt; ends(&rt, rt.alloc(), &words), Status::Usage, "{line:?}");
     }
-    Ok(())
 }
 
 #[test]
-fn a_name_that_is_no_text_is_usage(rt: HostRuntime) -> Result<(), Fail> {
-    let mut words = command_line(&rt, rt.alloc(), &["play"])?;
-    let long = Word::new("x".repeat(rt.alloc(), 4097)?);
-    assert!(rt; words.push(long).is_ok());
+fn a_name_that_is_no_text_is_usage(rt: HostRuntime) {
+    let mut words = command_line(&rt, rt.alloc(), &["play"]);
+    let long = "x".repeat(rt.alloc(), 4097).expect(&rt, "memory");
+    words.push(Word::new(long)).expect(&rt, "memory");
     assert!(rt; words.len() == 2);
     assert_eq!(rt; words.get(1).bytes().len(), 4097);
-    assert_eq!(rt; ends(&rt, rt.alloc(), &words)?, Status::Usage);
-    Ok(())
+    assert_eq!(rt; ends(&rt, rt.alloc(), &words), Status::Usage);
 }
 
 #[test]
-fn an_absent_file_is_a_load_fault(rt: HostRuntime) -> Result<(), Fail> {
+fn an_absent_file_is_a_load_fault(rt: HostRuntime) {
     for job in ["play", "solve", "check"] {
-        let words = command_line(&rt, rt.alloc(), &[job, "absent.txt"])?;
-        assert_eq!(rt; ends(&rt, rt.alloc(), &words)?, Status::LoadFault);
+        let words = command_line(&rt, rt.alloc(), &[job, "absent.txt"]);
+        assert_eq!(rt; ends(&rt, rt.alloc(), &words), Status::LoadFault);
     }
-    Ok(())
 }
 
 // A sink of which each put takes 7 bytes, and the second one fails.
-fn failing_sink(alloc: Global) -> Result<MemSink, Fail> {
-    let mut out = MemSink::make(alloc, 10_000, 7)?;
-    out.fail_at(1)?;
-    Ok(out)
+fn failing_sink(rt: &impl Abort, alloc: Global) -> MemSink {
+    let mut out = MemSink::make(alloc, 10_000, 7).expect(rt, "memory");
+    out.fail_at(1).expect(rt, "memory");
+    out
 }
 
 // Into such a sink a run of the job writes this front.
@@ -339,20 +326,19 @@ fn leaves<R: Threads + Wait + Sync + Abort>(
     job: &str,
     text: &str,
     front: &str,
-) -> Result<(), Fail> {
-    let words = command_line(rt, alloc, &[job, "f.txt"])?;
-    let mut folder = folder_of(rt, alloc, text)?;
-    let mut out = failing_sink(alloc)?;
+) {
+    let words = command_line(rt, alloc, &[job, "f.txt"]);
+    let mut folder = folder_of(rt, alloc, text);
+    let mut out = failing_sink(rt, alloc);
     let status = run(rt, alloc, &words, &mut folder, &mut out, &NoGate);
     assert_eq!(rt; status, Status::WriteFault);
     assert_eq!(rt; out.bytes(), front.as_bytes());
-    Ok(())
 }
 
 #[test]
-fn a_failed_put_leaves_a_front(rt: HostRuntime) -> Result<(), Fail> {
-    leaves(&rt, rt.alloc(), "play", FIRST_SCRIPT, "%% moos")?;
-    leaves(&rt, rt.alloc(), "solve", FIRST_PROBLEM, "ivp 1\nd")
+fn a_failed_put_leaves_a_front(rt: HostRuntime) {
+    leaves(&rt, rt.alloc(), "play", FIRST_SCRIPT, "%% moos");
+    leaves(&rt, rt.alloc(), "solve", FIRST_PROBLEM, "ivp 1\nd");
 }
 
 mod behaviors;

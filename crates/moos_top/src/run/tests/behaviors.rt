@@ -7,7 +7,6 @@ use std::alloc::Global;
 use std::process::Abort;
 use std::str;
 use std::sync::Wait;
-use std::test::Fail;
 use std::thread::Threads;
 
 const COURSE_AND_SPEED: &str = "ProcessConfig = pHelmIvP\n{\nAppTick = 4\nbehaviors = alpha.bhv\n\
@@ -44,21 +43,20 @@ fn comes_to<R: Threads + Wait + Sync + Abort>(
     alloc: Global,
     files: [&str; 3],
     parts: &[&str],
-) -> Result<(), Fail> {
-    let (status, first) = run_beside(rt, alloc, &["play", "s.txt", "m.moos"], files)?;
+) {
+    let (status, first) = run_beside(rt, alloc, &["play", "s.txt", "m.moos"], files);
     assert_eq!(rt; status, Status::Done);
-    let report = str::from_utf8(first.bytes())?;
+    let report = str::from_utf8(first.bytes()).expect(rt, "a text");
     assert!(rt; has_parts(report, parts), "{report}");
     for workers in ["2", "16"] {
         let line = ["play", "s.txt", "m.moos", "--workers", workers];
-        let (_, out) = run_beside(rt, alloc, &line, files)?;
+        let (_, out) = run_beside(rt, alloc, &line, files);
         assert!(rt; out.bytes() == first.bytes());
     }
-    Ok(())
 }
 
 #[test]
-fn behaviors_live_and_decide(rt: HostRuntime) -> Result<(), Fail> {
+fn behaviors_live_and_decide(rt: HostRuntime) {
     for (files, parts) in [
         // A timer ends for good.
         (
@@ -163,20 +161,17 @@ fn behaviors_live_and_decide(rt: HostRuntime) -> Result<(), Fail> {
             ],
         ),
     ] {
-        comes_to(&rt, rt.alloc(), files, parts)?;
+        comes_to(&rt, rt.alloc(), files, parts);
     }
-    Ok(())
 }
 
 // As it stands in a report, with the marks before its lines.
 #[test]
-fn a_decision_of_a_report_is_accepted(rt: HostRuntime) -> Result<(), Fail> {
-    let (_, out) = run_beside(&rt, rt.alloc(), &["play", "s.txt", "m.moos"], ALPHA)?;
-    let (_, report) = parted(
-        str::from_utf8(out.bytes())?,
-        "%% behavior const_depth active\n",
-    );
+fn a_decision_of_a_report_is_accepted(rt: HostRuntime) {
+    let (_, out) = run_beside(&rt, rt.alloc(), &["play", "s.txt", "m.moos"], ALPHA);
+    let report = str::from_utf8(out.bytes()).expect(&rt, "a text");
+    let (_, report) = parted(report, "%% behavior const_depth active\n");
     let (lines, _) = parted(report, "%% entry ");
     let line = ["check", "f.txt"];
-    ends_so(&rt, rt.alloc(), &line, lines, Status::Done, "accepted\n")
+    ends_so(&rt, rt.alloc(), &line, lines, Status::Done, "accepted\n");
 }

@@ -5,11 +5,9 @@ use crate::run::run;
 use crate::status::{FileKind, Refusal, Status};
 use moos_io::{MemFolder, MemSink, NoGate};
 use moos_text::Cause;
-use std::alloc::{AllocError, Global};
+use std::alloc::Global;
 use std::process::Abort;
-use std::str;
 use std::sync::Wait;
-use std::test::Fail;
 use std::thread::Threads;
 
 pub(super) const SCRIPT: &str = "0 nav post DEPLOY=true # MOOS_MANUAL_OVERRIDE=false\n0.25 until\n";
@@ -77,53 +75,52 @@ pub(super) fn run_beside<R: Threads + Wait + Sync + Abort>(
     alloc: Global,
     line: &[&str],
     files: [&str; 3],
-) -> Result<(Status, MemSink), Fail> {
-    let words = command_line(rt, alloc, line)?;
+) -> (Status, MemSink) {
+    let words = command_line(rt, alloc, line);
     let mut folder = MemFolder::make(alloc);
     for (name, text) in ["s.txt", "m.moos", "alpha.bhv"].into_iter().zip(files) {
         assert!(rt; text.len() < 10_000);
         if text.len() > 0 {
-            folder.add(alloc, name.as_bytes(), text.as_bytes())?;
+            let added = folder.add(alloc, name.as_bytes(), text.as_bytes());
+            added.expect(rt, "memory");
         }
     }
-    let mut out = MemSink::make(alloc, 1_000_000, 10_000)?;
+    let mut out = MemSink::make(alloc, 1_000_000, 10_000).expect(rt, "memory");
     let status = run(rt, alloc, &words, &mut folder, &mut out, &NoGate);
-    Ok((status, out))
+    (status, out)
 }
 
 // Which of the texts that may follow the head does.
-fn end_of(report: &[u8], alloc: Global) -> Result<Option<usize>, Fail> {
+fn end_of(rt: &impl Abort, alloc: Global, report: &[u8]) -> Option<usize> {
     for (number, end) in ENDS.iter().enumerate() {
-        let text = format!(in alloc; "{HEAD}{end}")?;
+        let text = format!(in alloc; "{HEAD}{end}").expect(rt, "memory");
         if report == text.as_bytes() {
-            return Ok(Some(number));
+            return Some(number);
         }
     }
-    Ok(None)
+    None
 }
 
 #[test]
-fn a_helm_hears_the_client_of_its_stamp(rt: HostRuntime) -> Result<(), Fail> {
+fn a_helm_hears_the_client_of_its_stamp(rt: HostRuntime) {
     for line in [
         ["play", "s.txt", "m.moos"].as_slice(),
         &["play", "--workers", "16", "s.txt", "m.moos"],
     ] {
-        let (status, out) = run_beside(&rt, rt.alloc(), line, [SCRIPT, MISSION, MODES])?;
+        let (status, out) = run_beside(&rt, rt.alloc(), line, [SCRIPT, MISSION, MODES]);
         assert_eq!(rt; status, Status::Done);
-        assert_eq!(rt; end_of(out.bytes(), rt.alloc())?, Some(0));
+        assert_eq!(rt; end_of(&rt, rt.alloc(), out.bytes()), Some(0));
     }
-    Ok(())
 }
 
 #[test]
-fn in_a_race_the_helm_hears_what_came(rt: HostRuntime) -> Result<(), Fail> {
+fn in_a_race_the_helm_hears_what_came(rt: HostRuntime) {
     for _ in 0..50 {
         let line = ["play", "s.txt", "m.moos", "--race"];
-        let (status, out) = run_beside(&rt, rt.alloc(), &line, [SCRIPT, MISSION, MODES])?;
+        let (status, out) = run_beside(&rt, rt.alloc(), &line, [SCRIPT, MISSION, MODES]);
         assert_eq!(rt; status, Status::Done);
-        assert!(rt; end_of(out.bytes(), rt.alloc())?.is_some());
+        assert!(rt; end_of(&rt, rt.alloc(), out.bytes()).is_some());
     }
-    Ok(())
 }
 
 fn refused(file: FileKind, line: u32, cause: Cause) -> Status {
@@ -136,15 +133,14 @@ fn is_told<R: Threads + Wait + Sync + Abort>(
     alloc: Global,
     files: [&str; 3],
     status: Status,
-) -> Result<(), Fail> {
-    let (ended, out) = run_beside(rt, alloc, &["play", "s.txt", "m.moos"], files)?;
+) {
+    let (ended, out) = run_beside(rt, alloc, &["play", "s.txt", "m.moos"], files);
     assert_eq!(rt; ended, status);
     assert_eq!(rt; out.bytes().len(), 0);
-    Ok(())
 }
 
 #[test]
-fn the_first_file_that_fails_is_told(rt: HostRuntime) -> Result<(), Fail> {
+fn the_first_file_that_fails_is_told(rt: HostRuntime) {
     for (files, status) in [
         (["0 a", "", ""], refused(FileKind::Script, 1, Cause::S3)),
         ([SCRIPT, "", MODES], Status::LoadFault),
@@ -163,18 +159,18 @@ fn the_first_file_that_fails_is_told(rt: HostRuntime) -> Result<(), Fail> {
         ),
         (["19.999 until\n", FAST, ""], Status::LoadFault),
     ] {
-        is_told(&rt, rt.alloc(), files, status)?;
+        is_told(&rt, rt.alloc(), files, status);
     }
-    Ok(())
 }
 
 // A text with the first of these words made another one, or ended before them.
-fn changed(alloc: Global, text: &str, old: &str, new: Option<&str>) -> Result<String, AllocError> {
-    match (text.split_once(old), new) {
+fn changed(rt: &impl Abort, alloc: Global, text: &str, old: &str, new: Option<&str>) -> String {
+    let changed = match (text.split_once(old), new) {
         (Some((before, behind)), Some(new)) => format!(in alloc; "{before}{new}{behind}"),
         (Some((before, _)), None) => before.to_string(alloc),
         (None, _) => text.to_string(alloc),
-    }
+    };
+    changed.expect(rt, "memory")
 }
 
 // The survey, each of its files changed so, ends so.
@@ -184,20 +180,16 @@ fn survey_ends<R: Threads + Wait + Sync + Abort>(
     old: &str,
     new: Option<&str>,
     status: Status,
-) -> Result<(), Fail> {
-    let script = changed(alloc, ALPHA[0], old, new)?;
-    let mission = changed(alloc, ALPHA[1], old, new)?;
-    let behaviors = changed(alloc, ALPHA[2], old, new)?;
-    is_told(
-        rt,
-        alloc,
-        [script.as_str(), mission.as_str(), behaviors.as_str()],
-        status,
-    )
+) {
+    let script = changed(rt, alloc, ALPHA[0], old, new);
+    let mission = changed(rt, alloc, ALPHA[1], old, new);
+    let behaviors = changed(rt, alloc, ALPHA[2], old, new);
+    let files = [script.as_str(), mission.as_str(), behaviors.as_str()];
+    is_told(rt, alloc, files, status);
 }
 
 #[test]
-fn a_changed_survey_is_refused(rt: HostRuntime) -> Result<(), Fail> {
+fn a_changed_survey_is_refused(rt: HostRuntime) {
     for (old, new, file, line, cause) in [
         (
             "  capture_radius = 2.0\n",
@@ -221,24 +213,16 @@ fn a_changed_survey_is_refused(rt: HostRuntime) -> Result<(), Fail> {
             Cause::M3,
         ),
     ] {
-        survey_ends(&rt, rt.alloc(), old, new, refused(file, line, cause))?;
+        survey_ends(&rt, rt.alloc(), old, new, refused(file, line, cause));
     }
-    Ok(())
 }
 
 #[test]
-fn a_number_counts_the_same_each_time(rt: HostRuntime) -> Result<(), Fail> {
+fn a_number_counts_the_same_each_time(rt: HostRuntime) {
     let counts =
         "generated 7\nentries 9062\nposts 9610\nmailed 31020\niterations 1201\ndecisions 1199\ntotal 23970000000\n";
     for _ in 0..2 {
-        ends_so(
-            &rt,
-            rt.alloc(),
-            &["generate", "7"],
-            "",
-            Status::Done,
-            counts,
-        )?;
+        let line = ["generate", "7"];
+        ends_so(&rt, rt.alloc(), &line, "", Status::Done, counts);
     }
-    Ok(())
 }

@@ -6,10 +6,9 @@ use crate::run::run;
 use crate::status::Status;
 use moos_io::{Failed, Gate, Sink};
 use std::sync::atomic::{AtomicBool, AtomicUsize, Ordering};
-use std::test::Fail;
 
 #[test]
-fn good_scripts_are_played(rt: HostRuntime) -> Result<(), Fail> {
+fn good_scripts_are_played(rt: HostRuntime) {
     for (script, report) in [
         ("", "%% moosdb play 1\n%% end 0 0\n"),
         (FIRST_SCRIPT, FIRST_REPORT),
@@ -58,9 +57,8 @@ fn good_scripts_are_played(rt: HostRuntime) -> Result<(), Fail> {
         ),
     ] {
         let line = ["play", "f.txt"];
-        ends_so(&rt, rt.alloc(), &line, script, Status::Done, report)?;
+        ends_so(&rt, rt.alloc(), &line, script, Status::Done, report);
     }
-    Ok(())
 }
 
 // A sink that lets others see how many bytes it has taken.
@@ -102,18 +100,17 @@ impl<'a> Gate for Between<'a> {
 }
 
 #[test]
-fn written_between(rt: HostRuntime) -> Result<(), Fail> {
+fn written_between(rt: HostRuntime) {
     let taken = AtomicUsize::new(0);
     let gate = Between {
         taken: &taken,
         missed: AtomicBool::new(false),
     };
-    let words = command_line(&rt, rt.alloc(), &["play", "f.txt"])?;
-    let mut folder = folder_of(&rt, rt.alloc(), FIRST_SCRIPT)?;
+    let words = command_line(&rt, rt.alloc(), &["play", "f.txt"]);
+    let mut folder = folder_of(&rt, rt.alloc(), FIRST_SCRIPT);
     let mut out = Counter { taken: &taken };
     let status = run(&rt, rt.alloc(), &words, &mut folder, &mut out, &gate);
     assert_eq!(rt; status, Status::Done);
     assert!(rt; !gate.missed.load(Ordering::SeqCst));
     assert_eq!(rt; taken.load(Ordering::SeqCst), FIRST_REPORT.len());
-    Ok(())
 }
