@@ -51,19 +51,21 @@ impl Allstop {
     }
 }
 
-// Each is the definition of its name.
+// Whether a behaviour raised a fault.
 fn some_fault(showings: &[Showing]) -> bool
     ensures { result ≡ some_fault showings.now }
 {
     showings.iter().any(|one| one.out.fault.is_some())
 }
 
+// Whether a behaviour is active.
 pub(crate) fn some_active(showings: &[Showing]) -> bool
     ensures { result ≡ some_active showings.now }
 {
     showings.iter().any(|one| one.active)
 }
 
+// Whether the domain has course or speed, and no active behaviour's function mentions it.
 fn lacks_decision(domain: &Domain, showings: &[Showing]) -> bool
     ensures { result ≡ lacks_decision domain.now showings.now }
 {

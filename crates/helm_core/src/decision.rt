@@ -76,7 +76,7 @@ fn add_term(terms: &mut Vec<Term>, showing: Showing) -> Result<(), NoMemory>
 }
 
 /// The decision on a problem: its best point and the sum there, with the certificate that shows it. It is the same for each
-/// number of workers.
+/// number of workers, which are 1 to 16.
 pub fn decide<R: Threads + Wait + Sync, G: Gate>(
     rt: &R,
     alloc: Global,

@@ -1,9 +1,10 @@
-ghost use Rattle.std.specs.Prelude.{◌≡◌, ◌≤◌, [], length, IfOk, OnErr, IsTrue, option_copied, option_map, unwrap_or};
-ghost use Rattle.std.specs.List.{All};
+ghost use Rattle.std.specs.Prelude.{◌≡◌, ◌≤◌, ◌++◌, [], codes, fold, length, IfOk, IfSome, OnErr, OnOk, IsTrue, option_copied, option_map, unwrap_or};
+ghost use Rattle.std.specs.List.{All, flat_map};
 ghost use Rattle.bhv_reader.specs.Validity.{IsValidFile, serves};
 ghost use Rattle.mission_reader.specs.Validity.{IsValidMission};
-ghost use Rattle.helm_core.specs.Plans.{plan_made, wants_of};
-ghost use Rattle.helm_core.specs.Posts.{allstop_by};
+ghost use Rattle.ivp_domain.specs.Domains.{is_point};
+ghost use Rattle.helm_core.specs.Plans.{block_names, decl_names, plan_made, wants_of, with_wanted};
+ghost use Rattle.helm_core.specs.Posts.{allstop_by, changed, desired, desired_speed};
 ghost use Rattle.helm_core.specs.Standings.{IsFit, IsReady};
 ghost use Rattle.helm_core.specs.Helms.{allstop_text, clock_of, plan_of, HasLearnt, IsTicked, StandsFor};
 ghost use Rattle.helm_core.specs.Kept.{first_posts, helm_after, iteration_by, said_before};
@@ -17,10 +18,11 @@ use crate::outlook::Outlook;
 use crate::own_names::OwnNames;
 use crate::posts::add_changed;
 use crate::showing::Showing;
-use crate::telling::{add_flags, faults_of, states_of, updates_of};
+use crate::telling::{add_flags, told_of};
 use crate::turned::Turned;
 use crate::wanted::Wanted;
 use bhv_reader::BhvFile;
+use ivp_cert::Decision;
 use mission_reader::Mission;
 use mode_tree::ModeTree;
 use moos_db::{Letter, Mail};
@@ -47,7 +49,7 @@ pub struct Helm {
 
 impl Helm {
     /// The helm of a mission and its behaviour file, which has heard nothing. The mission's domain has the axes that the
-    /// behaviours need.
+    /// behaviours need. NoMemory is answered only where memory is missing.
     pub fn make(alloc: Global, mission: &Mission, file: BhvFile) -> Result<Helm, NoMemory>
         requires mission { IsValidMission mission.now }
         requires file { IsValidFile file }
@@ -61,7 +63,7 @@ impl Helm {
             blocks,
             ..
         } = file;
-        let own = Box::new(alloc, OwnNames::make(alloc)?)?;
+        let own = OwnNames::boxed(alloc)?;
         let modes = ModeTree::make(decls);
         let outlook = Outlook::blank(alloc, &modes)?;
         let crew = Crew::make(alloc, mission.domain, blocks)?;
@@ -76,22 +78,31 @@ impl Helm {
         })
     }
 
-    /// What the helm registers for, each variable once: the override in both spellings, the position, the variables of
-    /// the modes' conditions, and of each behaviour those of its conditions and the one of its updates.
+    /// What the helm registers for, each variable once: the override in both spellings, the position (NAV_X, NAV_Y and
+    /// NAV_DEPTH), the variables of the modes' conditions, and of each behaviour those of its conditions and the one of its
+    /// updates. MODE is never among them, as it is the helm's own. NoMemory is answered only where memory is missing.
     pub fn wants(&self, alloc: Global) -> Result<Regs, NoMemory>
         ensures { IfOk result (λ regs. regs ≡ wants_of (plan_of self.now)) }
     {
         let mut wanted = Wanted::always(alloc)?;
+        self.want_all(alloc, &mut wanted)?;
+        wanted.regs(alloc)
+    }
+
+    // Those of the modes and of the behaviours too.
+    fn want_all(&self, alloc: Global, wanted: &mut Wanted) -> Result<(), NoMemory>
+        ensures { OnOk result (wanted.new ≡ fold with_wanted wanted.old (flat_map decl_names self.now.modes ++ flat_map block_names self.now.crew.blocks)) }
+    {
         for decl in self.modes.decls() {
             wanted.want_decl(alloc, decl)?;
         }
         for block in self.crew.blocks() {
             wanted.want_block(alloc, block)?;
         }
-        wanted.regs(alloc)
+        Ok(())
     }
 
-    /// The pairs that the helm posts before its first iteration.
+    /// The pairs that the helm posts before its first iteration. NoMemory is answered only where memory is missing.
     pub fn opening(&self, alloc: Global) -> Result<Batch, NoMemory>
         ensures { IfOk result (λ pairs. pairs ≡ (plan_of self.now).opening) }
     {
@@ -182,9 +193,7 @@ impl Helm {
     {
         let all = showings.as_slice();
         let mode = now.mode.copy(alloc)?;
-        let updates = updates_of(alloc, all)?;
-        let states = states_of(alloc, all)?;
-        let faults = faults_of(alloc, all)?;
+        let (updates, states, faults) = told_of(alloc, all)?;
         let mut posts = self.first_posts(alloc, now, all)?;
         let (course, speed, depth) = (
             mentions_course(all),
@@ -193,12 +202,7 @@ impl Helm {
         );
         let domain = self.crew.domain();
         let decision = decision_made(rt, alloc, domain, showings, workers, gate)?;
-        let own = &self.own;
-        add_heading(alloc, &mut posts, own, course, &decision)?;
-        add_speed(alloc, &mut posts, own, allstop, speed, &decision)?;
-        add_depth(alloc, &mut posts, own, depth, &decision)?;
-        let before = self.last_allstop();
-        add_changed(alloc, &mut posts, own.allstop(), before, allstop.text())?;
+        self.add_decided(alloc, &mut posts, allstop, course, speed, depth, &decision)?;
         Ok(Iteration {
             stamp,
             parked: now.parked,
@@ -209,6 +213,28 @@ impl Helm {
             decision,
             posts,
         })
+    }
+
+    // Adds the numbers that are decided on, where functions mention them, and the reason to stop, where it changed.
+    fn add_decided(
+        &self,
+        alloc: Global,
+        posts: &mut Batch,
+        allstop: Allstop,
+        course: bool,
+        speed: bool,
+        depth: bool,
+        decision: &Option<Decision>,
+    ) -> Result<(), NoMemory>
+        requires point { IfSome decision.now (λ made. IsTrue (is_point made.problem.axes made.claim.point)) }
+        ensures { OnOk result (posts.new ≡ posts.old ++ desired (codes "DESIRED_HEADING") (codes "course") course decision.now ++ desired_speed (allstop_text allstop) speed decision.now ++ desired (codes "DESIRED_DEPTH") (codes "depth") depth decision.now ++ changed (codes "IVPHELM_ALLSTOP") (option_map allstop_text self.now.allstop) (allstop_text allstop)) }
+    {
+        let own = &self.own;
+        add_heading(alloc, posts, own, course, decision)?;
+        add_speed(alloc, posts, own, allstop, speed, decision)?;
+        add_depth(alloc, posts, own, depth, decision)?;
+        let before = self.last_allstop();
+        add_changed(alloc, posts, own.allstop(), before, allstop.text())
     }
 
     // What is posted before the numbers that are decided on.

@@ -1,16 +1,16 @@
-// One iteration of the helm: what it learns of its mail, whether it is parked, its mode, what its behaviours do, what they
-// decide together, and what it posts.
-//
-// The layer above relies on this: a `Helm` stands for the list of mails that it has heard, each with the stamp of its
-// iteration, and `tick` gives the iteration that `iteration_at` of specs/ says of that list with one mail more. After want
-// of memory the helm is as it was. `decide` gives the decision on a problem, the helm's or any other.
-//
-// Read `iteration`, `allstop`, `outlook` for what is kept of the mails, `behavior` for what is kept of a behaviour, `judging`,
-// `stepping` and `begun` for its turn, `turned` and `crew` for the turns of all, `showing` and `telling` for what is said of
-// them, `decision` for what they decide, `own_names` and `posts` for what is posted, `wanted` for the variables that are registered for, and
-// `helm` last; `law` says that no iteration depends on a later mail, and that what is said is well formed. Of specs/ read `Plans`,
-// `Ticks`, `Behaviors`, `Moments`, `Decisions`, `Posts`, `Iterations`, `WellFormed`, `Standings` and `Helms`; `Kept` serves the
-// files of the crate.
+//! One iteration of the helm: what it learns of its mail, whether it is parked, its mode, what its behaviours do, what they
+//! decide together, and what it posts.
+//!
+//! The layer above relies on this: a `Helm` stands for the list of mails that it has heard, each with the stamp of its
+//! iteration, and `tick` gives the iteration that `iteration_at` of specs/ says of that list with one mail more. After want
+//! of memory the helm is as it was. `decide` gives the decision on a problem, the helm's or any other.
+//!
+//! Read `iteration`, `allstop`, `outlook` for what is kept of the mails, `behavior` for what is kept of a behaviour, `judging`,
+//! `stepping` and `begun` for its turn, `turned` and `crew` for the turns of all, `showing` and `telling` for what is said of
+//! them, `decision` for what they decide, `own_names` and `posts` for what is posted, `wanted` for the variables that are registered for, and
+//! `helm` last; `law` says that no iteration depends on a later mail, and that what is said is well formed. Of specs/ read `Plans`,
+//! `Ticks`, `Behaviors`, `Moments`, `Decisions`, `Posts`, `Iterations`, `WellFormed`, `Standings` and `Helms`; `Kept` serves the
+//! files of the crate.
 #![tactic(auto)]
 
 mod allstop;

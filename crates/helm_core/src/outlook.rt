@@ -105,7 +105,7 @@ fn parked_with(parked: bool, post: &Post) -> bool
     }
 }
 
-// Each is the definition of its name.
+// Whether the variable is the override's, in either spelling.
 fn is_override(var: &[u8]) -> bool
     ensures { result ≡ is_override var.now }
 {

@@ -40,7 +40,13 @@ pub(crate) fn name_of(alloc: Global, bytes: &[u8]) -> Result<Name, NoMemory>
 }
 
 impl OwnNames {
-    pub fn make(alloc: Global) -> Result<OwnNames, NoMemory> {
+    // Them on the heap, so that a helm is moved without them.
+    pub fn boxed(alloc: Global) -> Result<Box<OwnNames>, NoMemory> {
+        let own = OwnNames::make(alloc)?;
+        Ok(Box::new(alloc, own)?)
+    }
+
+    fn make(alloc: Global) -> Result<OwnNames, NoMemory> {
         let state = name_of(alloc, b"IVPHELM_STATE")?;
         let mode = name_of(alloc, b"MODE")?;
         let heading = name_of(alloc, b"DESIRED_HEADING")?;

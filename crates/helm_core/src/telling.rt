@@ -10,8 +10,24 @@ use crate::showing::Showing;
 use moos_post::{Batch, NoMemory};
 use std::alloc::{AllocError, Global};
 
+// The updates, the states and the faults of all behaviours.
+pub(crate) fn told_of(
+    alloc: Global,
+    showings: &[Showing],
+) -> Result<(Updates, States, Faults), NoMemory>
+    requires few { length showings.now ≤ 64 }
+    ensures updates { IfOk result (λ told. told.0 ≡ all_updates showings.now) }
+    ensures states { IfOk result (λ told. told.1 ≡ all_states showings.now) }
+    ensures faults { IfOk result (λ told. told.2 ≡ all_faults showings.now) }
+{
+    let updates = updates_of(alloc, showings)?;
+    let states = states_of(alloc, showings)?;
+    let faults = faults_of(alloc, showings)?;
+    Ok((updates, states, faults))
+}
+
 // The updates of all behaviours, in file order.
-pub(crate) fn updates_of(alloc: Global, showings: &[Showing]) -> Result<Updates, NoMemory>
+fn updates_of(alloc: Global, showings: &[Showing]) -> Result<Updates, NoMemory>
     requires few { length showings.now ≤ 64 }
     ensures { IfOk result (λ updates. updates ≡ all_updates showings.now) }
 {
@@ -39,7 +55,7 @@ fn add_updates(updates: &mut Updates, behavior: u32, taken: &[bool]) -> Result<(
 }
 
 // What each behaviour is.
-pub(crate) fn states_of(alloc: Global, showings: &[Showing]) -> Result<States, NoMemory>
+fn states_of(alloc: Global, showings: &[Showing]) -> Result<States, NoMemory>
     ensures { IfOk result (λ states. states ≡ all_states showings.now) }
 {
     let mut states = States::new(alloc);
@@ -53,7 +69,7 @@ pub(crate) fn states_of(alloc: Global, showings: &[Showing]) -> Result<States, N
 }
 
 // The faults that behaviours raised, in file order.
-pub(crate) fn faults_of(alloc: Global, showings: &[Showing]) -> Result<Faults, NoMemory>
+fn faults_of(alloc: Global, showings: &[Showing]) -> Result<Faults, NoMemory>
     requires few { length showings.now ≤ 64 }
     ensures { IfOk result (λ faults. faults ≡ all_faults showings.now) }
 {

@@ -34,12 +34,18 @@ impl Wanted {
         let mut wanted = Wanted {
             names: IndexSet::new(alloc),
         };
-        wanted.want_bytes(alloc, b"MOOS_MANUAL_OVERRIDE")?;
-        wanted.want_bytes(alloc, b"MOOS_MANUAL_OVERIDE")?;
-        wanted.want_bytes(alloc, b"NAV_X")?;
-        wanted.want_bytes(alloc, b"NAV_Y")?;
-        wanted.want_bytes(alloc, b"NAV_DEPTH")?;
+        wanted.want_always(alloc)?;
         Ok(wanted)
+    }
+
+    fn want_always(&mut self, alloc: Global) -> Result<(), NoMemory>
+        ensures { OnOk result (self.new ≡ fold with_wanted self.old always_read) }
+    {
+        self.want_bytes(alloc, b"MOOS_MANUAL_OVERRIDE")?;
+        self.want_bytes(alloc, b"MOOS_MANUAL_OVERIDE")?;
+        self.want_bytes(alloc, b"NAV_X")?;
+        self.want_bytes(alloc, b"NAV_Y")?;
+        self.want_bytes(alloc, b"NAV_DEPTH")
     }
 
     // Those of a declaration's conditions too.

@@ -11,8 +11,8 @@ use Rattle.helm_core.proofs.helm.Helm.make.Goals as goal
 pub make-modes-requires-clause-rooted : goal.make-modes-requires-clause-rooted
 make-modes-requires-clause-rooted c = rooted_behind [] c.args.file.decls c.requires.file.decls
 
-pub make-requires-2-clause-may_step : goal.make-requires-2-clause-may_step
-make-requires-2-clause-may_step c = all_may_step c.args.mission.now.domain [] c.args.file.blocks c.requires.file.blocks c.requires.served
+pub make-requires-clause-may_step : goal.make-requires-clause-may_step
+make-requires-clause-may_step c = all_may_step c.args.mission.now.domain [] c.args.file.blocks c.requires.file.blocks c.requires.served
 
 pub returns-clause-plan : goal.returns-clause-plan
 returns-clause-plan c = same_plan _ c.args.file.opening _ _ _ _ _ c.in_ok-crew.ensures.axes c.make-modes.ensures c.in_ok-crew.ensures.blocks
