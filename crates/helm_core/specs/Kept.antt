@@ -86,6 +86,14 @@ iteration_by helm stamp now showings = record {
   posts = posts_by helm now showings;
 }
 
+-- the iteration, what is kept of the behaviours, and why the vehicle has to stop are what turns at this outlook came to
+pub record HasIterated (helm : Helm) (stamp : ℕ) (letters : List Pair) (now : Outlook) (iteration : Iteration) (kept : List Behavior) (allstop : Allstop) : Type 0 where
+  pub turned : Turned
+  pub turns : HasTurned helm.crew stamp letters now turned
+  pub is : iteration ≡ iteration_by helm stamp now turned.showings.items
+  pub keeps : kept ≡ turned.kept.items
+  pub stops : allstop_text allstop ≡ allstop_by helm.crew.axes now.parked turned.showings.items
+
 -- the helm after it
 abbrev pub helm_after : Helm → ℕ → Outlook → List Behavior → Allstop → Helm
 helm_after helm stamp now kept allstop = record helm {

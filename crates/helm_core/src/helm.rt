@@ -7,7 +7,8 @@ ghost use Rattle.helm_core.specs.Plans.{block_names, decl_names, plan_made, want
 ghost use Rattle.helm_core.specs.Posts.{allstop_by, changed, desired, desired_speed};
 ghost use Rattle.helm_core.specs.Standings.{IsFit, IsReady};
 ghost use Rattle.helm_core.specs.Helms.{allstop_text, clock_of, plan_of, HasLearnt, IsTicked, StandsFor};
-ghost use Rattle.helm_core.specs.Kept.{first_posts, helm_after, iteration_by, said_before};
+ghost use Rattle.helm_core.specs.Kept.{first_posts, HasIterated, helm_after, iteration_by, said_before};
+ghost use Rattle.helm_core.specs.Ticks.{pairs_mailed};
 
 use crate::allstop::{Allstop, mentions_course, mentions_depth, mentions_speed};
 use crate::behavior::Behavior;
@@ -130,11 +131,41 @@ impl Helm {
     {
         let fresh = self.outlook_after(alloc, mail.all())?;
         let now = self.now(&fresh);
-        let Turned { kept, showings } = self.crew.turned(alloc, stamp, mail.all(), now)?;
-        let allstop = Allstop::of(&self.crew.domain(), now.parked, showings.as_slice());
-        let iteration = self.iteration(rt, alloc, stamp, now, showings, allstop, workers, gate)?;
+        let (iteration, kept, allstop) = self.iterate(
+            rt,
+            alloc,
+            stamp,
+            mail.all(),
+            now,
+            workers,
+            gate,
+        )?;
         self.end(stamp, fresh, kept, allstop);
         Ok(iteration)
+    }
+
+    // The turns of the behaviours at this outlook: the iteration that they come to, what is kept of them, and why the vehicle
+    // has to stop.
+    fn iterate<R: Threads + Wait + Sync, G: Gate>(
+        &self,
+        rt: &R,
+        alloc: Global,
+        stamp: u64,
+        letters: &[Letter],
+        now: &Outlook,
+        workers: u32,
+        gate: &G,
+    ) -> Result<(Iteration, Vec<Behavior>, Allstop), NoMemory>
+        requires some_worker { 1 ≤ workers }
+        requires few_workers { workers ≤ 16 }
+        ensures iterated { IfOk result (λ made. HasIterated self.now stamp (pairs_mailed letters.now) now.now made.0 made.1.items made.2) }
+        ensures one_each { IfOk result (λ made. length made.1.items ≡ length self.now.crew.blocks) }
+        ensures ready { IfOk result (λ made. All (λ kept. IsReady self.now.crew.axes kept.kind) made.1.items) }
+    {
+        let Turned { kept, showings } = self.crew.turned(alloc, stamp, letters, now)?;
+        let allstop = Allstop::of(&self.crew.domain(), now.parked, showings.as_slice());
+        let iteration = self.iteration(rt, alloc, stamp, now, showings, allstop, workers, gate)?;
+        Ok((iteration, kept, allstop))
     }
 
     // What the helm makes of these letters too, or None where there is none and all stays as it is.
