@@ -87,7 +87,7 @@ iteration_by helm stamp now showings = record {
 }
 
 -- the iteration, what is kept of the behaviours, and why the vehicle has to stop are what turns at this outlook came to
-pub record HasIterated (helm : Helm) (stamp : ℕ) (letters : List Pair) (now : Outlook) (iteration : Iteration) (kept : List Behavior) (allstop : Allstop) : Type 0 where
+pub record IsIterationOfTurns (helm : Helm) (stamp : ℕ) (letters : List Pair) (now : Outlook) (iteration : Iteration) (kept : List Behavior) (allstop : Allstop) : Type 0 where
   pub turned : Turned
   pub turns : HasTurned helm.crew stamp letters now turned
   pub is : iteration ≡ iteration_by helm stamp now turned.showings.items

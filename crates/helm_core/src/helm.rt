@@ -7,7 +7,7 @@ ghost use Rattle.helm_core.specs.Plans.{block_names, decl_names, plan_made, want
 ghost use Rattle.helm_core.specs.Posts.{allstop_by, changed, desired, desired_speed};
 ghost use Rattle.helm_core.specs.Standings.{IsFit, IsReady};
 ghost use Rattle.helm_core.specs.Helms.{allstop_text, clock_of, plan_of, HasLearnt, IsTicked, StandsFor};
-ghost use Rattle.helm_core.specs.Kept.{first_posts, HasIterated, helm_after, iteration_by, said_before};
+ghost use Rattle.helm_core.specs.Kept.{first_posts, IsIterationOfTurns, helm_after, iteration_by, said_before};
 ghost use Rattle.helm_core.specs.Ticks.{pairs_mailed};
 
 use crate::allstop::{Allstop, mentions_course, mentions_depth, mentions_speed};
@@ -158,7 +158,7 @@ impl Helm {
     ) -> Result<(Iteration, Vec<Behavior>, Allstop), NoMemory>
         requires some_worker { 1 ≤ workers }
         requires few_workers { workers ≤ 16 }
-        ensures iterated { IfOk result (λ made. HasIterated self.now stamp (pairs_mailed letters.now) now.now made.0 made.1.items made.2) }
+        ensures iterated { IfOk result (λ made. IsIterationOfTurns self.now stamp (pairs_mailed letters.now) now.now made.0 made.1.items made.2) }
         ensures one_each { IfOk result (λ made. length made.1.items ≡ length self.now.crew.blocks) }
         ensures ready { IfOk result (λ made. All (λ kept. IsReady self.now.crew.axes kept.kind) made.1.items) }
     {
