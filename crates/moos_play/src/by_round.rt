@@ -21,7 +21,7 @@ use turn_lock::Held;
 impl<'a> Play<'a> {
     /// Plays the next round: in order Stamp the lines and the tick of the next stamp, and in order Race everything. None
     /// where nothing is left. After want of memory the run stands at a moment of a lawful history still, perhaps within a round,
-    /// and only `hold`, `put_back` and `end` may be called.
+    /// and only `hold`, `put_back` and `end` may be called. There are 1 to 16 workers for what the helm solves.
     pub fn round<R: Threads + Wait + Sync, G: Gate>(
         &mut self,
         rt: &R,

@@ -8,8 +8,8 @@
 //!
 //! Reading order: `player`, one client's calls; `round`, the clients of a round beside each other; `steersman`, the helm's
 //! calls; `race`, the helm beside the clients; `seats`, how a run begins; `stamps`, what is next; `playing`, from one step to
-//! the next; `by_round`, a run that is played round by round; `entering`, what further clients do between
-//! rounds; `run`, the whole.
+//! the next; `round_made`, what a round leaves; `by_round`, a run that is played round by round; `entering`, what further
+//! clients do between rounds; `run`, the whole.
 #![tactic(auto)]
 
 mod by_round;

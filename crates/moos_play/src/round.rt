@@ -15,7 +15,7 @@ use std::alloc::{AllocError, Global};
 use std::sync::Wait;
 use std::thread::{Threads, for_each_mut, join_mut};
 
-/// Plays these lines in one round. A client without lines leaves its seat with the first, and one that alone has lines
+/// Plays these lines in one step. A client without lines leaves its seat with the first, and one that alone has lines
 /// plays without a thread. Also where memory is missing the first has all seats again, and each client has played a front
 /// of its lines.
 pub(crate) fn play_round<R: Threads + Wait + Sync, G: Gate>(
