@@ -1,13 +1,13 @@
-// Conditions, and what the helm has learnt.
-//
-// The layer above relies on this: a `Cond` is the condition that the grammar of specs/ gives of the bytes that it was read
-// from, an `Info` knows the latest value of each variable that it has learnt, and `holds` says whether a condition holds
-// of what is known and of the mode, as the definition of that name does.
-//
-// Read `comparison` and `operator`, `info`, and `cond`. `token`, `reading` and `cursor` serve its reader: the tokens of a
-// text, the symbols that they make, and where which may stand. `level` and `levels` serve `holds`: what was read of each
-// level of parentheses; `compare` and `mode` say whether one comparison holds. Of specs/ read `Conditions`, `Grammar`,
-// `Learnt` and `Infos`; the others serve the files of their names.
+//! Conditions, and what the helm has learnt.
+//!
+//! The layer above relies on this: a `Cond` is the condition that the grammar of specs/ gives of the bytes that it was read
+//! from, an `Info` knows the latest value of each variable that it has learnt, and `holds` says whether a condition holds
+//! of what is known and of the mode, as the definition of that name does.
+//!
+//! Read `comparison` and `operator`, `info`, and `cond`. `token`, `reading` and `cursor` serve its reader: the tokens of a
+//! text, the symbols that they make, and where which may stand. `level` and `levels` serve `holds`: what was read of each
+//! level of parentheses; `compare` and `mode` say whether one comparison holds. Of specs/ read `Conditions`, `Grammar`,
+//! `Learnt` and `Infos`; the others serve the files of their names.
 #![tactic(auto)]
 
 mod compare;

@@ -1,13 +1,13 @@
-// What is mailed to one client: the numbers of the posts that wait for its next fetch, and of all that were ever mailed.
-//
-// The contract for the layers above: a mailbox is the list that waits, the list of all numbers ever mailed, and how many
-// more can be mailed without memory. Memory is taken by `reserve` alone, so that a caller can take it for a whole call
-// before anything changes. The numbers ever mailed are kept as stretches of numbers that follow one another, in rising
-// order, so that one is found by halves.
-//
-// `delivery_law` says the delivery rule over again, in sentences about the places of a history.
-//
-// Reading order: `stretches`, `mailbox`, then `law`, the sentences.
+//! What is mailed to one client: the numbers of the posts that wait for its next fetch, and of all that were ever mailed.
+//!
+//! The contract for the layers above: a mailbox is the list that waits, the list of all numbers ever mailed, and how many
+//! more can be mailed without memory. Memory is taken by `reserve` alone, so that a caller can take it for a whole call
+//! before anything changes. The numbers ever mailed are kept as stretches of numbers that follow one another, in rising
+//! order, so that one is found by halves.
+//!
+//! `delivery_law` says the delivery rule over again, in sentences about the places of a history.
+//!
+//! Reading order: `stretches`, `mailbox`, then `law`, the sentences.
 #![tactic(auto)]
 
 mod law;

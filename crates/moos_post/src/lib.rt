@@ -1,9 +1,9 @@
-// What a community is made of: numbers, names, texts, patterns, values, posts, registrations and the entries of the
-// database's history, each seen by contracts as its bytes or its number, and each list as a list. The delivery rule
-// itself stands in specs/: which posts are mailed to which client under any history.
-//
-// Read `copied` and `list` first, one list for all, then `milli`, `name`, `txt` and `pattern`, then `value` and
-// `registration`, and `entry` last. Of specs/ read `Words`, `Patterns`, `History`, `Delivery`.
+//! What a community is made of: numbers, names, texts, patterns, values, posts, registrations and the entries of the
+//! database's history, each seen by contracts as its bytes or its number, and each list as a list. The delivery rule
+//! itself stands in specs/: which posts are mailed to which client under any history.
+//!
+//! Read `copied` and `list` first, one list for all, then `milli`, `name`, `txt` and `pattern`, then `value` and
+//! `registration`, and `entry` last. Of specs/ read `Words`, `Patterns`, `History`, `Delivery`.
 #![tactic(auto)]
 
 mod copied;

@@ -1,14 +1,14 @@
-// The report of a database's history: what is printed of its clients, of each entry, of what each fetch gave, and of each
-// iteration of the helm.
-//
-// The contract for the layers above: the report, or a part of one, goes to a sink whole, or a front of it where the sink
-// fails, and then the sink's faults rose. No memory is taken: the text is gathered in a buffer on the stack, and what is full
-// goes on.
-//
-// Reading order: `specs/Report` and `specs/IterationLines` say what each line is; here are the entries and their parts, in
-// `iterations` what follows an entry of the helm, in `behaviors` what an iteration tells of its behaviours, in `lines` the
-// lines; `parts` has the report at once, and piece by piece while its history grows. `law` says that a report tells its
-// history, and that what is written so far is how the report of each longer history begins.
+//! The report of a database's history: what is printed of its clients, of each entry, of what each fetch gave, and of each
+//! iteration of the helm.
+//!
+//! The contract for the layers above: the report, or a part of one, goes to a sink whole, or a front of it where the sink
+//! fails, and then the sink's faults rose. No memory is taken: the text is gathered in a buffer on the stack, and what is full
+//! goes on.
+//!
+//! Reading order: `specs/Report` and `specs/IterationLines` say what each line is; here are the entries and their parts, in
+//! `iterations` what follows an entry of the helm, in `behaviors` what an iteration tells of its behaviours, in `lines` the
+//! lines; `parts` has the report at once, and piece by piece while its history grows. `law` says that a report tells its
+//! history, and that what is written so far is how the report of each longer history begins.
 #![tactic(auto)]
 
 ghost use Rattle.std.specs.Prelude.{◌≡◌, ◌≤◌, ◌++◌, [], ◌∷◌, Some, length, take, drop, flat_map, codes, decimal, slice_get};

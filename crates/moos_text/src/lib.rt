@@ -1,11 +1,11 @@
-// Text: the lines of a file and what of each counts, its words, numbers in thousandths as they are read and printed,
-// pairs of a variable and its value, and the causes for which a reader of a file refuses it.
-//
-// The layer above relies on this: each call gives what the definition of specs/ says of the same bytes, and a number
-// that was printed is read back as it was.
-//
-// Read `line`, `word`, `number`, `milli_text`, `pair` and `part`; `end` and `trim` serve them, and `cause` names the
-// refusals. Of specs/ read `Lines`, `Numbers`, `Pairs` and `Refusals`; `Reading` serves `number` alone.
+//! Text: the lines of a file and what of each counts, its words, numbers in thousandths as they are read and printed,
+//! pairs of a variable and its value, and the causes for which a reader of a file refuses it.
+//!
+//! The layer above relies on this: each call gives what the definition of specs/ says of the same bytes, and a number
+//! that was printed is read back as it was.
+//!
+//! Read `line`, `word`, `number`, `milli_text`, `pair` and `part`; `end` and `trim` serve them, and `cause` names the
+//! refusals. Of specs/ read `Lines`, `Numbers`, `Pairs` and `Refusals`; `Reading` serves `number` alone.
 #![tactic(auto)]
 
 mod cause;
