@@ -1,9 +1,9 @@
 // One behaviour, line by line.
-ghost use Rattle.std.specs.Prelude.{◌≡◌, ◌<◌, ◌^◌, ◌++◌, ◌∷◌, [], length, ok_or, Ok, Err, IfOk, OnOk, IfErr, Some, None, true, false, if◌then◌else◌};
+ghost use Rattle.std.specs.Prelude.{◌≡◌, ◌<◌, ◌^◌, ◌++◌, ◌∷◌, [], length, ok_or, Ok, Err, IfOk, OnOk, IfErr, Some, None, option_map, true, false, if◌then◌else◌};
 ghost use Rattle.moos_post.specs.Words.{is_name};
 ghost use Rattle.moos_text.specs.Pairs.{pair_of, sides_of};
 ghost use Rattle.moos_text.specs.Refusals.{and_then, IsLineFault};
-ghost use Rattle.bhv_reader.specs.Blocks.{behavior_closed, closing_fault, with_block, behavior_of_type, flag_value, flags_in, is_taken, name_value, one_flag, with_behavior_condition, with_behavior_name, with_common, with_parameter, with_sides};
+ghost use Rattle.bhv_reader.specs.Blocks.{behavior_closed, block_of, closing_fault, with_block, behavior_of_type, flag_value, flags_in, is_taken, name_value, one_flag, with_behavior_condition, with_behavior_name, with_common, with_parameter, with_sides};
 ghost use Rattle.helm_cond.specs.Grammar.{condition_of};
 ghost use Rattle.bhv_reader.specs.Places.{behavior_block};
 
@@ -147,44 +147,40 @@ impl Behavior {
         ensures refused { IfErr result (λ fault. IsLineFault fault (with_block (behavior_block file.old self) self.name)) }
         ensures decls { file.new.decls ≡ file.old.decls }
     {
-        let Behavior {
-            name,
-            conds,
-            runflags,
-            idleflags,
-            activeflags,
-            inactiveflags,
-            endflags,
-            updates,
-            duration,
-            idle_decay,
-            perpetual,
-            given: _,
-            spec,
-        } = self;
-        let Some(name) = name else {
+        let Some(block) = self.block() else {
             return Err(LineFault::Refused(Cause::B11));
         };
         if file.blocks.len() >= MOST_BEHAVIORS {
             return Err(LineFault::Refused(Cause::B9));
         }
-        let common = Common {
-            name,
-            conds,
-            runflags,
-            idleflags,
-            activeflags,
-            inactiveflags,
-            endflags,
-            updates,
-            duration,
-            idle_decay,
-            perpetual,
-        };
-        match file.blocks.push(Block { common, spec }) {
+        match file.blocks.push(block) {
             Ok(()) => Ok(()),
             Err(_) => Err(LineFault::NoMemory),
         }
+    }
+
+    // The whole of it, where it has a name.
+    fn block(self) -> Option<Block>
+        ensures { result ≡ option_map (block_of self) self.name }
+    {
+        let name = self.name?;
+        let common = Common {
+            name,
+            conds: self.conds,
+            runflags: self.runflags,
+            idleflags: self.idleflags,
+            activeflags: self.activeflags,
+            inactiveflags: self.inactiveflags,
+            endflags: self.endflags,
+            updates: self.updates,
+            duration: self.duration,
+            idle_decay: self.idle_decay,
+            perpetual: self.perpetual,
+        };
+        Some(Block {
+            common,
+            spec: self.spec,
+        })
     }
 
     // A parameter of its type.

@@ -117,8 +117,8 @@ impl Db {
             &mut parts.clients,
             client,
             stamp,
-            var,
-            source,
+            &var,
+            &source,
         )?;
         Ok(())
     }

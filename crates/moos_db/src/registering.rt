@@ -293,12 +293,12 @@ pub(crate) fn unregister(
     clients: &mut Vec<Client>,
     client: u32,
     stamp: u64,
-    var: Pattern,
-    source: Pattern,
+    var: &Pattern,
+    source: &Pattern,
 ) -> Result<(), NoMemory>
     requires within { client < length clients.old.items }
     ensures ok { OnOk result (log.new ≡ record {
-      entries = log.old.entries ++ record { stamp = stamp; client = client; call = Call.Unregister var source } ∷ [];
+      entries = log.old.entries ++ record { stamp = stamp; client = client; call = Call.Unregister var.now source.now } ∷ [];
       letters = log.old.letters ++ [] ∷ [];
     }) }
     ensures same { OnErr result (log.new ≡ log.old) }
@@ -313,6 +313,6 @@ pub(crate) fn unregister(
             call: Call::Unregister(var.copy(alloc)?, source.copy(alloc)?),
         },
     )?;
-    withdraw(variables, clients, client, &var, &source);
+    withdraw(variables, clients, client, var, source);
     Ok(())
 }

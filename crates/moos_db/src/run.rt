@@ -1,4 +1,4 @@
-ghost use Rattle.std.specs.Prelude.{◌≡◌, ◌^◌, ◌<◌, length, All, IfOk, OnOk, Some};
+ghost use Rattle.std.specs.Prelude.{◌≡◌, ◌^◌, ◌<◌, [], length, All, IfOk, OnOk, Some};
 ghost use Rattle.moos_post.specs.Delivery.{mail_of_entry};
 ghost use Rattle.moos_post.specs.History.{posts_of};
 ghost use Rattle.moos_db.specs.Database.{after_entry, AreLetters, AreMails};
@@ -20,12 +20,13 @@ fn mail_of(alloc: Global, db: &mut Db, entry: Entry) -> Result<Mail, NoMemory>
         client,
         call,
     } = entry;
-    match call {
-        Call::Register(regs) => db.register(alloc, client, stamp, regs)?,
-        Call::Unregister(var, source) => db.unregister(alloc, client, stamp, var, source)?,
-        Call::Post(batch) => db.post(alloc, client, stamp, batch)?,
+    let made = match call {
+        Call::Register(regs) => db.register(alloc, client, stamp, regs),
+        Call::Unregister(var, source) => db.unregister(alloc, client, stamp, var, source),
+        Call::Post(batch) => db.post(alloc, client, stamp, batch),
         Call::Fetch => return db.fetch(alloc, client, stamp),
-    }
+    };
+    made?;
     Ok(Mail::new(alloc))
 }
 
@@ -36,10 +37,20 @@ pub fn mails_of(alloc: Global, names: Names, calls: Vec<Entry>) -> Result<Vec<Ma
     requires clients { All (λ call. call.client < length names) calls.items }
     ensures { IfOk result (λ mails. AreMails names calls.items mails.items) }
 {
-    let mut mails = Vec::with_capacity(alloc, calls.len())?;
     let mut db = Db::make(alloc, names)?;
+    mails_by(alloc, &mut db, calls)
+}
+
+// The mail of each of these calls, made of this database, to which none was made yet.
+fn mails_by(alloc: Global, db: &mut Db, calls: Vec<Entry>) -> Result<Vec<Mail>, NoMemory>
+    requires new { db.old.history ≡ [] }
+    requires clients { All (λ call. call.client < length db.old.names) calls.items }
+    ensures { IfOk result (λ mails. AreMails db.old.names calls.items mails.items) }
+{
+    let mut mails = Vec::with_capacity(alloc, calls.len())?;
     for call in calls {
-        mails.push(mail_of(alloc, &mut db, call)?)?;
+        let mail = mail_of(alloc, db, call)?;
+        mails.push(mail)?;
     }
     Ok(mails)
 }
