@@ -25,7 +25,7 @@ use moos_post::{Copied, NoMemory, Txt};
 use std::alloc::{AllocError, Global};
 
 /// A behaviour by its type: its parameters, and as much of its updates and steps as its next step needs.
-#[derive(Debug, Drop)]
+#[derive(Drop)]
 pub struct Kind {
     pub(crate) params: Spec,
     /// How many points of a waypoint behaviour's list are captured.

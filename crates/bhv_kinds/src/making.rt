@@ -14,14 +14,14 @@ use std::alloc::Global;
 use std::marker::Model;
 
 /// A function, and what it was made of.
-#[derive(Debug, Drop)]
+#[derive(Drop)]
 pub struct Made {
     pub want: Want,
     pub func: Func,
 }
 
 /// The function that was made last, if any is kept. It only saves the making of it: contracts don't see which one it is.
-#[derive(Debug, Drop)]
+#[derive(Drop)]
 pub struct Kept {
     last: Option<Made>,
 }

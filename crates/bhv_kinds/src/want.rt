@@ -3,7 +3,7 @@ use ivp_build::Peak;
 
 /// What a behaviour wants in a step, by the few numbers that its function is made of: a peak on one axis, a greatest depth, to
 /// go on a course in whole degrees at a speed, or to stay. All but the degrees are in thousandths.
-#[derive(Clone, Copy, Debug)]
+#[derive(Clone, Copy)]
 pub enum Want {
     OnCourse(Peak),
     OnSpeed(Peak),

@@ -9,7 +9,7 @@ use bhv_reader::Shape;
 use helm_geo::{Spot, distance_squared, within};
 
 /// How far a waypoint behaviour has come: the captured points of its list, and how often it began the list again.
-#[derive(Clone, Copy, Debug)]
+#[derive(Clone, Copy)]
 pub struct Headway {
     pub captured: usize,
     pub again: u32,

@@ -1,11 +1,12 @@
 // One behaviour, line by line.
-ghost use Rattle.std.specs.Prelude.{◌≡◌, ◌<◌, ◌^◌, ◌++◌, ◌∷◌, [], length, ok_or, Ok, Err, IfOk, OnOk, IfErr, Some, None, option_map, true, false, if◌then◌else◌};
+ghost use Rattle.std.specs.Prelude.{◌≡◌, ◌<◌, ◌^◌, ◌++◌, ◌∷◌, [], length, nat_le, ok_or, Ok, Err, IfOk, OnOk, IfErr, Some, None, option_map, true, false, if◌then◌else◌};
 ghost use Rattle.moos_post.specs.Words.{is_name};
 ghost use Rattle.moos_text.specs.Pairs.{pair_of, sides_of};
 ghost use Rattle.moos_text.specs.Refusals.{and_then, IsLineFault};
 ghost use Rattle.bhv_reader.specs.Blocks.{behavior_closed, block_of, closing_fault, with_block, behavior_of_type, flag_value, flags_in, is_taken, name_value, one_flag, with_behavior_condition, with_behavior_name, with_common, with_parameter, with_sides};
 ghost use Rattle.helm_cond.specs.Grammar.{condition_of};
 ghost use Rattle.bhv_reader.specs.Places.{behavior_block};
+ghost use Rattle.bhv_reader.specs.declared.file.BhvFile.{BhvFile};
 
 use crate::common::Common;
 use crate::decl::Conds;
@@ -18,6 +19,7 @@ use crate::setting::{read_duration, read_flag, read_weight};
 use crate::spec::Spec;
 use crate::table::{CommonParameter, Parameter, common_named, is_needed, parameter_named};
 use crate::types::{defaults, needs_number};
+use helm_cond::Cond;
 use ivp_domain::Domain;
 use moos_post::{Batch, Name, NameFault, Pair, Txt};
 use moos_text::{Cause, LineFault, PairFault, cut_at_equals, read_pair};
@@ -115,13 +117,22 @@ impl Behavior {
         ensures refused { IfErr result (λ fault. IsLineFault fault (behavior_closed domain.now (behavior_block file.old self) behind.now)) }
         ensures decls { file.new.decls ≡ file.old.decls }
     {
+        self.judge(domain, behind)?;
+        self.add_to(file)
+    }
+
+    // Refuses it at the end of its block, behind whose `}` this stands, where it isn't good.
+    fn judge(&self, domain: &Domain, behind: &[u8]) -> Result<(), LineFault>
+        ensures good { OnOk result ((behind.now ≡ []) × (closing_fault domain.now self.now ≡ None)) }
+        ensures refused { (file : BhvFile) → IfErr result (λ fault. IsLineFault fault (behavior_closed domain.now (behavior_block file self.now) behind.now)) }
+    {
         if behind.len() > 0 {
             return Err(LineFault::Refused(Cause::B1));
         }
-        if let Some(cause) = self.closing_fault(domain) {
-            return Err(LineFault::Refused(cause));
+        match self.closing_fault(domain) {
+            Some(cause) => Err(LineFault::Refused(cause)),
+            None => Ok(()),
         }
-        self.add_to(file)
     }
 
     // Why it is refused at the end of its block, where it is.
@@ -153,10 +164,8 @@ impl Behavior {
         if file.blocks.len() >= MOST_BEHAVIORS {
             return Err(LineFault::Refused(Cause::B9));
         }
-        match file.blocks.push(block) {
-            Ok(()) => Ok(()),
-            Err(_) => Err(LineFault::NoMemory),
-        }
+        file.blocks.add(block)?;
+        Ok(())
     }
 
     // The whole of it, where it has a name.
@@ -286,13 +295,7 @@ impl Behavior {
         ensures refused { IfErr result (λ fault. IsLineFault fault (and_then (with_behavior_condition self.old) (ok_or (condition_of value.now) Cause.B5))) }
     {
         let cond = condition_in(alloc, value)?;
-        if self.conds.len() >= MOST_CONDITIONS {
-            return Err(LineFault::Refused(Cause::B9));
-        }
-        match self.conds.push(cond) {
-            Ok(()) => Ok(()),
-            Err(_) => Err(LineFault::NoMemory),
-        }
+        add_cond(&mut self.conds, cond)
     }
 
     // One flag more, for which there is room.
@@ -348,14 +351,24 @@ fn flag_in(alloc: Global, value: &[u8]) -> Result<Pair, LineFault>
     }
 }
 
+// One condition more, where there is room.
+fn add_cond(conds: &mut Conds, cond: Cond) -> Result<(), LineFault>
+    ensures ok { OnOk result ((if nat_le 64 (length conds.old) then Err Cause.B9 else Ok (conds.old ++ cond ∷ [])) ≡ Ok conds.new) }
+    ensures refused { IfErr result (λ fault. IsLineFault fault (if nat_le 64 (length conds.old) then Err Cause.B9 else Ok (conds.old ++ cond ∷ []))) }
+{
+    if conds.len() >= MOST_CONDITIONS {
+        return Err(LineFault::Refused(Cause::B9));
+    }
+    conds.add(cond)?;
+    Ok(())
+}
+
 fn add_flag(flags: &mut Batch, pair: Pair) -> Result<(), LineFault>
     ensures ok { OnOk result (flags.new ≡ flags.old ++ pair ∷ []) }
     ensures refused { IfErr result (λ fault. fault ≡ LineFault.NoMemory) }
 {
-    match flags.push(pair) {
-        Ok(()) => Ok(()),
-        Err(_) => Err(LineFault::NoMemory),
-    }
+    flags.add(pair)?;
+    Ok(())
 }
 
 // Whether one of these behaviours has this name.
@@ -376,8 +389,6 @@ fn add_unused(alloc: Global, file: &mut BhvFile, line: u32, name: &[u8]) -> Resu
     let Ok(name) = Txt::new(alloc, name) else {
         return Err(LineFault::NoMemory);
     };
-    match file.unused.push(Unused { line, name }) {
-        Ok(()) => Ok(()),
-        Err(_) => Err(LineFault::NoMemory),
-    }
+    file.unused.add(Unused { line, name })?;
+    Ok(())
 }

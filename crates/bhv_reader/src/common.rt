@@ -3,7 +3,7 @@ use moos_post::{Batch, Copied, Name, NoMemory};
 use std::alloc::Global;
 
 /// The parameters that all types of behaviours have, without the weight.
-#[derive(Debug, Drop)]
+#[derive(Drop)]
 pub struct Common {
     pub name: Name,
     /// Its conditions, of which all are required.

@@ -8,7 +8,7 @@ pub type Conds = List<Cond>;
 pub type Decls = List<Decl>;
 
 /// A mode declaration.
-#[derive(Debug, Drop)]
+#[derive(Drop)]
 pub struct Decl {
     pub name: Name,
     /// The number of the declaration under which it stands, or None of a root.

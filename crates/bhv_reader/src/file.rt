@@ -4,7 +4,7 @@ use crate::spec::Spec;
 use moos_post::{Batch, List, Txt};
 
 /// A behaviour.
-#[derive(Debug, Drop)]
+#[derive(Drop)]
 pub struct Block {
     pub common: Common,
     pub spec: Spec,
@@ -14,7 +14,7 @@ pub struct Block {
 pub type Blocks = List<Block>;
 
 /// A parameter that the type of its behaviour doesn't have.
-#[derive(Debug, Drop)]
+#[derive(Drop)]
 pub struct Unused {
     /// The number of its line, counted from 1.
     pub line: u32,

@@ -74,9 +74,7 @@ impl Mode {
             Ok(parent) => parent,
             Err(cause) => return Err(LineFault::Refused(cause)),
         };
-        if self.conds.push(cond).is_err() {
-            return Err(LineFault::NoMemory);
-        }
+        self.conds.add(cond)?;
         self.parent = parent;
         Ok(())
     }
@@ -101,10 +99,8 @@ impl Mode {
             conds,
             other,
         };
-        match file.decls.push(decl) {
-            Ok(()) => Ok(()),
-            Err(_) => Err(LineFault::NoMemory),
-        }
+        file.decls.add(decl)?;
+        Ok(())
     }
 }
 

@@ -324,10 +324,8 @@ fn add_pair(file: &mut BhvFile, pair: Pair) -> Result<(), LineFault>
     if file.opening.len() >= MOST_PAIRS {
         return Err(LineFault::Refused(Cause::B9));
     }
-    match file.opening.push(pair) {
-        Ok(()) => Ok(()),
-        Err(_) => Err(LineFault::NoMemory),
-    }
+    file.opening.add(pair)?;
+    Ok(())
 }
 
 /// The file, where the lines end outside blocks; else its last line is refused.

@@ -8,7 +8,7 @@ use std::alloc::Global;
 pub type Spots = List<Spot>;
 
 /// A behaviour's weight and the parameters of its type.
-#[derive(Debug, Drop)]
+#[derive(Drop)]
 pub struct Spec {
     /// Its weight beside the other behaviours, at most 10,000.
     pub weight: u32,
@@ -16,7 +16,7 @@ pub struct Spec {
 }
 
 /// The type of a behaviour with its parameters. Each i64 is in thousandths of its unit, and each u64 a time in milliseconds.
-#[derive(Debug, Drop)]
+#[derive(Drop)]
 pub enum Shape {
     Heading {
         heading: i64,

@@ -1,6 +1,6 @@
 // The types of behaviours, and what their parameters are where they aren't given.
-ghost use Rattle.std.specs.Prelude.{◌≡◌};
-ghost use Rattle.bhv_reader.specs.Table.{defaults_of, needs_number};
+ghost use Rattle.std.specs.Prelude.{◌≡◌, drop, take};
+ghost use Rattle.bhv_reader.specs.Table.{defaults_among, defaults_of, needs_number, types};
 
 use crate::spec::{Shape, Spots};
 use std::alloc::Global;
@@ -8,6 +8,16 @@ use std::alloc::Global;
 /// A behaviour of the type of this name before its first parameter. None exactly where no type has it.
 pub fn defaults(alloc: Global, name: &[u8]) -> Option<Shape>
     ensures { result ≡ defaults_of name.now }
+{
+    match plain_defaults(name) {
+        Some(shape) => Some(shape),
+        None => placed_defaults(alloc, name),
+    }
+}
+
+// The same for the types that have no place.
+fn plain_defaults(name: &[u8]) -> Option<Shape>
+    ensures { result ≡ defaults_among name.now (take 5 types) }
 {
     if name == b"BHV_ConstantHeading".as_slice() {
         Some(Shape::Heading {
@@ -37,7 +47,16 @@ pub fn defaults(alloc: Global, name: &[u8]) -> Option<Shape>
         })
     } else if name == b"BHV_Timer".as_slice() {
         Some(Shape::Timer)
-    } else if name == b"BHV_Waypoint".as_slice() {
+    } else {
+        None
+    }
+}
+
+// The same for the types that have places.
+fn placed_defaults(alloc: Global, name: &[u8]) -> Option<Shape>
+    ensures { result ≡ defaults_among name.now (drop 5 types) }
+{
+    if name == b"BHV_Waypoint".as_slice() {
         Some(Shape::Waypoint {
             points: Spots::new(alloc),
             speed: 0,

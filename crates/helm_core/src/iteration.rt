@@ -27,7 +27,7 @@ pub type States = List<BhvState>;
 pub type Faults = List<BhvError>;
 
 /// What an iteration of the helm came to.
-#[derive(Debug, Drop)]
+#[derive(Drop)]
 pub struct Iteration {
     /// When it was, in milliseconds.
     pub stamp: u64,

@@ -13,7 +13,7 @@ use bhv_kinds::Kind;
 use bhv_life::Phase;
 use moos_db::Letter;
 use moos_post::{List, Name, NoMemory, Post, Value};
-use std::alloc::{AllocError, Global};
+use std::alloc::Global;
 
 // Judges the updates among these letters, in order, unless the behaviour completed for good. Gives of each whether it was
 // good.
@@ -68,10 +68,8 @@ fn hear(
         return Ok(());
     }
     let good = judge(alloc, &post.value, kind)?;
-    match taken.push(good) {
-        Ok(()) => Ok(()),
-        Err(_) => Err(AllocError),
-    }
+    taken.add(good)?;
+    Ok(())
 }
 
 // Whether a letter of this variable is an update.

@@ -54,10 +54,7 @@ fn add(alloc: Global, posts: &mut Batch, var: &Name, value: Value) -> Result<(),
     ensures { OnOk result (posts.new ≡ posts.old ++ record { var = var.now; value = value } ∷ []) }
 {
     let var = var.copy(alloc)?;
-    match posts.push(Pair { var, value }) {
-        Ok(()) => Ok(()),
-        Err(_) => Err(AllocError),
-    }
+    posts.add(Pair { var, value })
 }
 
 // Adds copies of these pairs.
@@ -65,10 +62,7 @@ pub(crate) fn add_pairs(alloc: Global, posts: &mut Batch, pairs: &[Pair]) -> Res
     ensures { OnOk result (posts.new ≡ posts.old ++ pairs.now) }
 {
     for pair in pairs {
-        match posts.push(pair.copy(alloc)?) {
-            Ok(()) => {},
-            Err(_) => return Err(AllocError),
-        }
+        posts.add(pair.copy(alloc)?)?;
     }
     Ok(())
 }

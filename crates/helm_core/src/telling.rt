@@ -8,7 +8,7 @@ use crate::iteration::{BhvError, Faults, States, Update, Updates};
 use crate::posts::add_pairs;
 use crate::showing::Showing;
 use moos_post::{Batch, NoMemory};
-use std::alloc::{AllocError, Global};
+use std::alloc::Global;
 
 // The updates, the states and the faults of all behaviours.
 pub(crate) fn told_of(
@@ -46,10 +46,7 @@ fn add_updates(updates: &mut Updates, behavior: u32, taken: &[bool]) -> Result<(
             behavior,
             taken: *answer,
         };
-        match updates.push(update) {
-            Ok(()) => {},
-            Err(_) => return Err(AllocError),
-        }
+        updates.add(update)?;
     }
     Ok(())
 }
@@ -60,10 +57,7 @@ fn states_of(alloc: Global, showings: &[Showing]) -> Result<States, NoMemory>
 {
     let mut states = States::new(alloc);
     for showing in showings {
-        match states.push(showing.outcome.now) {
-            Ok(()) => {},
-            Err(_) => return Err(AllocError),
-        }
+        states.add(showing.outcome.now)?;
     }
     Ok(states)
 }
@@ -86,10 +80,7 @@ fn add_fault(faults: &mut Faults, behavior: u32, showing: &Showing) -> Result<()
     let Some(fault) = showing.out.fault else {
         return Ok(());
     };
-    match faults.push(BhvError { behavior, fault }) {
-        Ok(()) => Ok(()),
-        Err(_) => Err(AllocError),
-    }
+    faults.add(BhvError { behavior, fault })
 }
 
 // Adds the flags of all behaviours, in file order.

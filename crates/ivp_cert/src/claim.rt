@@ -19,7 +19,7 @@ pub struct Claim {
 }
 
 /// A problem, what is claimed of it, and the certificate that is to show it.
-#[derive(Debug, Drop)]
+#[derive(Drop)]
 pub struct Decision {
     pub problem: Problem,
     pub claim: Claim,
@@ -53,9 +53,7 @@ pub fn spelled_in(alloc: Global, text: &[u8]) -> Result<Spelled, LineFault>
         let Some(place) = place_of(word) else {
             return Err(LineFault::Refused(Cause::P1));
         };
-        if places.push(place).is_err() {
-            return Err(LineFault::NoMemory);
-        }
+        places.add(place)?;
         word = next;
         left = rest;
     }

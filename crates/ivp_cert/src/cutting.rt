@@ -9,7 +9,7 @@ use crate::path::Path;
 use crate::trail::Trail;
 use ivp_problem::{Key, Node, Problem, bound_of, index_of_key, problem_law, sum_of};
 use moos_post::NoMemory;
-use std::alloc::{AllocError, Global};
+use std::alloc::Global;
 
 /// How many lines a certificate has room for at first: that of a small problem seldom has more.
 const ROOM: usize = 16;
@@ -44,10 +44,7 @@ fn add_line(alloc: Global, numbers: &[u32], bound: Key, cert: &mut Cert) -> Resu
         sum: sum_of(bound),
         index: index_of_key(bound),
     };
-    match cert.push(line) {
-        Ok(()) => Ok(()),
-        Err(_) => Err(AllocError),
-    }
+    cert.add(line)
 }
 
 // Adds the lines of the topmost nodes, from this node on, whose bound is at most the key.

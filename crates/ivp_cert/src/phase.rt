@@ -147,22 +147,11 @@ fn claimed(alloc: Global, problem: Problem, of: &Spelled) -> Result<Decision, Ca
 }
 
 // The decision with one line of its certificate more, if memory is left for it.
-fn with_line(decision: Decision, line: Line) -> Option<Decision>
+fn with_line(mut decision: Decision, line: Line) -> Option<Decision>
     ensures { IfSome result (λ more. more ≡ with_line decision line) }
 {
-    let Decision {
-        problem,
-        claim,
-        mut cert,
-    } = decision;
-    if cert.push(line).is_err() {
-        return None;
-    }
-    Some(Decision {
-        problem,
-        claim,
-        cert,
-    })
+    decision.cert.add(line).ok()?;
+    Some(decision)
 }
 
 // In a certificate stands one line more, or its end.

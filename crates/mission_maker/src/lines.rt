@@ -1,5 +1,5 @@
 // The lines of a generated script.
-ghost use Rattle.std.specs.Prelude.{◌≡◌, ◌<◌, ◌++◌, ◌∷◌, [], pos, neg_ℤ, ◌≤ℤ◌, IsTrue, IfOk, OnOk};
+ghost use Rattle.std.specs.Prelude.{◌≡◌, ◌<◌, ◌++◌, pos, neg_ℤ, ◌≤ℤ◌, IsTrue, IfOk, OnOk};
 ghost use Rattle.moos_post.specs.Words.{is_name, is_pattern, is_text};
 ghost use Rattle.moos_post.specs.declared.value.Value.TheVariants.{Text};
 ghost use Rattle.mission_maker.specs.Generated.{draws_before, fetch_behind, position_told, registration, saying, start, talk, talked_of, turn_stamp, whole_number};
@@ -14,16 +14,6 @@ use std::alloc::{AllocError, Global};
 
 // The number of the client that tells where the vehicle is.
 const NAV: u32 = 8;
-
-/// Adds a line at the end.
-pub fn push(lines: &mut Lines, line: Entry) -> Result<(), NoMemory>
-    ensures { OnOk result (lines.new ≡ lines.old ++ line ∷ []) }
-{
-    match lines.push(line) {
-        Ok(()) => Ok(()),
-        Err(_) => Err(AllocError),
-    }
-}
 
 /// The line with which client `k` registers.
 pub fn registration(alloc: Global, number: u64, k: u32) -> Result<Entry, NoMemory>
@@ -93,7 +83,7 @@ pub fn add_fetch(lines: &mut Lines, number: u64, second: u64, k: u32) -> Result<
         client: k,
         call: Call::Fetch,
     };
-    push(lines, line)
+    lines.add(line)
 }
 
 /// The line that tells where the vehicle is, behind the turns of a second.

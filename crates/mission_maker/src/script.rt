@@ -5,10 +5,10 @@ ghost use Rattle.mission_maker.specs.Generated.{generated_script, registrations,
 ghost use Rattle.mission_maker.specs.Stamps.{rise_within};
 ghost use Rattle.script_reader.specs.Validity.{IsValid};
 
-use crate::lines::{add_fetch, name_of, position, push, registration, start, talk};
+use crate::lines::{add_fetch, name_of, position, registration, start, talk};
 use moos_post::{Names, NoMemory};
 use script_reader::{Lines, Script};
-use std::alloc::{AllocError, Global};
+use std::alloc::Global;
 
 /// The script of the mission with this number: eight clients talk to each other for ten minutes, each of which registers for all
 /// that the others say, and one tells where the vehicle is.
@@ -25,7 +25,7 @@ pub fn make_script(alloc: Global, number: u64) -> Result<Script, NoMemory>
         ],
     )?;
     let mut lines = registrations(alloc, number)?;
-    push(&mut lines, start(alloc)?)?;
+    lines.add(start(alloc)?)?;
     add_seconds(alloc, number, &mut lines)?;
     lines.shrink_to_fit();
     Ok(Script {
@@ -41,7 +41,7 @@ fn registrations(alloc: Global, number: u64) -> Result<Lines, NoMemory>
 {
     let mut lines = Lines::new(alloc);
     for k in 0..8 {
-        push(&mut lines, registration(alloc, number, k)?)?;
+        lines.add(registration(alloc, number, k)?)?;
     }
     Ok(lines)
 }
@@ -53,7 +53,7 @@ fn add_seconds(alloc: Global, number: u64, lines: &mut Lines) -> Result<(), NoMe
     let variables = talked_of(alloc)?;
     for second in 0..600 {
         add_turns(alloc, number, second, &variables, lines)?;
-        push(lines, position(alloc, number, second)?)?;
+        lines.add(position(alloc, number, second)?)?;
     }
     Ok(())
 }
@@ -72,7 +72,7 @@ fn add_turns(
     ensures { OnOk result (lines.new ≡ lines.old ++ turns number second 8) }
 {
     for k in 0..8 {
-        push(lines, talk(alloc, number, second, k, variables)?)?;
+        lines.add(talk(alloc, number, second, k, variables)?)?;
         add_fetch(lines, number, second, k)?;
     }
     Ok(())
@@ -97,9 +97,7 @@ fn names_of(alloc: Global, spelled: &[&[u8]]) -> Result<Names, NoMemory>
 {
     let mut names = Names::new(alloc);
     for bytes in spelled {
-        if names.push(name_of(alloc, bytes)?).is_err() {
-            return Err(AllocError);
-        }
+        names.add(name_of(alloc, bytes)?)?;
     }
     Ok(names)
 }

@@ -78,6 +78,17 @@ impl<T> List<T> {
     }
 }
 
+impl<T: Drop> List<T> {
+    /// Adds the item at the end. Where no memory is left it is dropped, and the list stays as it was.
+    pub fn add(&mut self, item: T) -> Result<(), NoMemory>
+        ensures ok { OnOk result (self.new ≡ self.old ++ item ∷ []) }
+        ensures same { OnErr result (self.new ≡ self.old) }
+    {
+        self.items.push(item)?;
+        Ok(())
+    }
+}
+
 impl<T: Copied + Drop> Copied for List<T> {
     fn copy(&self, alloc: Global) -> Result<List<T>, NoMemory> {
         let items = copies(alloc, self.all())?;

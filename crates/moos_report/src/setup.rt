@@ -2,7 +2,7 @@ use bhv_reader::UnusedList;
 use moos_post::Names;
 
 /// What a report tells of a community's setup, beside its clients.
-#[derive(Debug, Drop)]
+#[derive(Drop)]
 pub struct Setup {
     /// The parameters of the behaviour file that no behaviour uses, in order.
     pub unused: UnusedList,

@@ -82,10 +82,8 @@ fn add_pair(
     let Pair { var, value } = pair;
     let var = variables.add(alloc, var)?;
     make_room(alloc, batch)?;
-    match batch.push(Pair { var, value }) {
-        Ok(()) => Ok(()),
-        Err(_) => Err(LineFault::NoMemory),
-    }
+    batch.add(Pair { var, value })?;
+    Ok(())
 }
 
 // Room for the first pair alone, since most posts have no other: what is taken and given back would leave gaps in memory.

@@ -87,10 +87,8 @@ fn register_one(alloc: Global, made: u32, reg: Reg) -> Result<Call, LineFault>
         return Err(LineFault::Refused(Cause::S8(Limit::Registrations)));
     }
     let mut regs = Regs::of(Vec::with_capacity(alloc, 1)?);
-    match regs.push(reg) {
-        Ok(()) => Ok(Call::Register(regs)),
-        Err(_) => Err(LineFault::NoMemory),
-    }
+    regs.add(reg)?;
+    Ok(Call::Register(regs))
 }
 
 // VARPATTERN [SOURCEPATTERN]

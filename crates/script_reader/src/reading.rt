@@ -12,7 +12,7 @@ use crate::variables::Variables;
 use crate::word::{split_word, time_of, with_none_behind};
 use moos_post::{Call, Entry, Name, NameFault, Names, NoMemory};
 use moos_text::{Cause, Limit, LineFault};
-use std::alloc::{AllocError, Global};
+use std::alloc::Global;
 
 // The most lines that aren't blank, and the most clients.
 const MAX_LINES: usize = 100_000;
@@ -244,9 +244,7 @@ fn add_call(script: &mut Script, stamp: u64, number: usize, call: Call) -> Resul
         client: number as u32,
         call,
     };
-    if script.lines.push(line).is_err() {
-        return Err(AllocError);
-    }
+    script.lines.add(line)?;
     script.stop = stamp;
     Ok(())
 }

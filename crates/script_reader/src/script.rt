@@ -5,7 +5,7 @@ pub type Lines = List<Entry>;
 
 /// A script: the clients' names in the order in which they are first seen, the lines that make a call, and the stamp of
 /// the last line in milliseconds, `until` lines included, which is 0 without lines.
-#[derive(Debug, Drop)]
+#[derive(Drop)]
 pub struct Script {
     pub names: Names,
     pub lines: Lines,

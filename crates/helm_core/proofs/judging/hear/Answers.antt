@@ -5,8 +5,8 @@ use Rattle.std.proofs.Common.{subst}
 use Rattle.helm_core.proofs.Hearing.{heard_one, judged_by}
 use Rattle.helm_core.proofs.judging.hear.Goals as goal
 
-pub returns-in-Ok-clause-judged : goal.returns-in-Ok-clause-judged
-returns-in-Ok-clause-judged c spec turns is =
-    heard_one _ spec (judged_by turns c.args.taken.now) c.args.post.now.value c.judge.new.kind c.push.new.self (sym c.is_for.ensures ∙ c.if-not-is_for.false)
-    (subst (IsJudged spec (judged_with spec (judged_by turns c.args.taken.now) c.args.post.now.value) c.judge.new.kind) (sym c.in-Ok.ensures.ok)
+pub returns-clause-judged : goal.returns-clause-judged
+returns-clause-judged c spec turns is =
+    heard_one _ spec (judged_by turns c.args.taken.now) c.args.post.now.value c.judge.new.kind c.add.new.self (sym c.is_for.ensures ∙ c.if-not-is_for.false)
+    (subst (IsJudged spec (judged_with spec (judged_by turns c.args.taken.now) c.args.post.now.value) c.judge.new.kind) (sym c.in_ok-add.ensures.ok)
     (c.in_ok-good.ensures.judged spec turns c.args.taken.now is))

@@ -7,5 +7,5 @@ loop-second-init c = sym (append-nil c.args.lines.now) ∙ ap (λ lines. c.args.
 
 pub loop-second-preserved : goal.loop-second-preserved
 loop-second-preserved c =
-    seconds_on c.args.number c.loop-second.second c.args.lines.now c.loop-second.lines c.add_turns.new.lines c.push.new.lines c.loop-second.invariant c.in_ok-add_turns.ensures
-    (c.in_ok-push.ensures ∙ ap (λ line. c.add_turns.new.lines ++ line ∷ []) c.in_ok-position.ensures)
+    seconds_on c.args.number c.loop-second.second c.args.lines.now c.loop-second.lines c.add_turns.new.lines c.add.new.self c.loop-second.invariant c.in_ok-add_turns.ensures
+    (c.in_ok-add.ensures.ok ∙ ap (λ line. c.add_turns.new.lines ++ line ∷ []) c.in_ok-position.ensures)

@@ -7,5 +7,5 @@ loop-k-init c = sym (append-nil c.args.lines.now) ∙ ap (λ lines. c.args.lines
 
 pub loop-k-preserved : goal.loop-k-preserved
 loop-k-preserved c =
-    turns_on c.args.number c.args.second c.loop-k.k c.args.lines.now c.loop-k.lines c.push.new.lines c.add_fetch.new.lines c.loop-k.invariant
-    (c.in_ok-push.ensures ∙ ap (λ line. c.loop-k.lines ++ line ∷ []) c.in_ok-talk.ensures) c.in_ok-add_fetch.ensures
+    turns_on c.args.number c.args.second c.loop-k.k c.args.lines.now c.loop-k.lines c.add.new.self c.add_fetch.new.lines c.loop-k.invariant
+    (c.in_ok-add.ensures.ok ∙ ap (λ line. c.loop-k.lines ++ line ∷ []) c.in_ok-talk.ensures) c.in_ok-add_fetch.ensures

@@ -19,14 +19,14 @@ made number first behind all kept line registered starts pushed added same =
 
 pub returns-clause-valid : goal.returns-clause-valid
 returns-clause-valid c =
-    let lines = made c.args.number c.in_ok-lines.lines c.push.new.lines c.add_seconds.new.lines c.shrink_to_fit.new.self c.in_ok-start.field-0 c.in_ok-lines.ensures c.in_ok-start.ensures
-    c.in_ok-push.ensures c.in_ok-add_seconds.ensures c.shrink_to_fit.ensures in
+    let lines = made c.args.number c.in_ok-lines.lines c.add.new.self c.add_seconds.new.lines c.shrink_to_fit.new.self c.in_ok-start.field-0 c.in_ok-lines.ensures c.in_ok-start.ensures
+    c.in_ok-add.ensures.ok c.in_ok-add_seconds.ensures c.shrink_to_fit.ensures in
     let named : c.in_ok-names.names ≡ generated_names = c.in_ok-names.ensures in
     subst (λ (names : List (List ℕ)). IsValid (record { names = names; lines = c.shrink_to_fit.new.self; stop = 600000 })) (sym named)
     (subst (λ (lines : List Entry). IsValid (record { names = generated_names; lines = lines; stop = 600000 })) (sym lines) (generated_valid c.args.number))
 
 pub returns-clause-rises : goal.returns-clause-rises
 returns-clause-rises c =
-    let lines = made c.args.number c.in_ok-lines.lines c.push.new.lines c.add_seconds.new.lines c.shrink_to_fit.new.self c.in_ok-start.field-0 c.in_ok-lines.ensures c.in_ok-start.ensures
-    c.in_ok-push.ensures c.in_ok-add_seconds.ensures c.shrink_to_fit.ensures in
+    let lines = made c.args.number c.in_ok-lines.lines c.add.new.self c.add_seconds.new.lines c.shrink_to_fit.new.self c.in_ok-start.field-0 c.in_ok-lines.ensures c.in_ok-start.ensures
+    c.in_ok-add.ensures.ok c.in_ok-add_seconds.ensures c.shrink_to_fit.ensures in
     subst (λ (lines : List Entry). rise_within 0 600000 lines ≡ true) (sym lines) (generated_rise c.args.number)
