@@ -1,6 +1,7 @@
-ghost use Rattle.std.specs.Prelude.{◌≡◌, ◌<◌, ◌^◌, length, Ok, IfOk, IfErr};
+ghost use Rattle.std.specs.Prelude.{◌≡◌, ◌<◌, ◌^◌, length, Ok, IfOk, IfErr, OnOk};
 ghost use Rattle.moos_text.specs.Refusals.{IsFirst};
-ghost use Rattle.script_reader.specs.Script.{script_of};
+ghost use Rattle.script_reader.specs.Script.{nothing_read, progress, script_of};
+ghost use Rattle.script_reader.specs.Counts.{AreCounts};
 ghost use Rattle.script_reader.specs.Validity.{IsValid};
 
 use crate::reading::Reading;
@@ -16,6 +17,19 @@ pub fn read_script(alloc: Global, bytes: &[u8]) -> Result<Script, ReadFault>
     ensures valid { IfOk result IsValid }
 {
     let mut reading = Reading::new(alloc);
+    read_lines(alloc, bytes, &mut reading)?;
+    Ok(reading.script)
+}
+
+// Reads all lines, of which none was read yet.
+fn read_lines(alloc: Global, bytes: &[u8], reading: &mut Reading) -> Result<(), ReadFault>
+    requires short { length bytes.now < 2 ^ 32 }
+    requires new { progress reading.old.script reading.old.filled ≡ nothing_read }
+    requires counted { AreCounts reading.old.script reading.old.made reading.old.variables reading.old.clients }
+    ensures read { OnOk result (script_of bytes.now ≡ Ok reading.new.script) }
+    ensures refused { IfErr result (λ fault. IsFirst fault (script_of bytes.now)) }
+    ensures valid { OnOk result (IsValid reading.new.script) }
+{
     let mut from = 0;
     let mut number = 0;
     while from < bytes.len() {
@@ -27,5 +41,5 @@ pub fn read_script(alloc: Global, bytes: &[u8]) -> Result<Script, ReadFault>
         }
         from = line.next;
     }
-    Ok(reading.script)
+    Ok(())
 }

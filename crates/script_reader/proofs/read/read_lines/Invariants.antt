@@ -2,7 +2,7 @@ use Rattle.std.proofs.Common.{◌≡◌, ◌≤◌, suc, length, ◌-◌, drop}
 use Rattle.moos_text.specs.Lines.{raw_lines}
 use Rattle.script_reader.specs.Script.{nothing_read, progress_from, progress}
 use Rattle.script_reader.specs.Counts.{AreCounts}
-use Rattle.script_reader.proofs.read.read_script.Given as goal
+use Rattle.script_reader.proofs.read.read_lines.Given as goal
 
 abbrev pub invariant-loop-from : goal.invariant-loop-from
 invariant-loop-from l = record {

@@ -1,6 +1,6 @@
 use Rattle.script_reader.specs.Script.{progress}
 use Rattle.script_reader.proofs.Sound.{read_valid}
-use Rattle.script_reader.proofs.read.read_script.Goals as goal
+use Rattle.script_reader.proofs.read.read_lines.Goals as goal
 
 pub returns-clause-valid : goal.returns-clause-valid
 returns-clause-valid c =
