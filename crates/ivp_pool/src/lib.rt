@@ -24,6 +24,3 @@ pub use law::{core_law, parts_law, tally_law};
 pub use solved::{Solved, solve};
 pub use tray::Tray;
 pub use work::{Work, Works};
-
-#[cfg(test)]
-mod tests;

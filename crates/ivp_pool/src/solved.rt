@@ -121,6 +121,3 @@ fn best_point(problem: &Problem, key: Key) -> Point
     best_law(problem);
     problem.domain().point_at(index_of_key(key))
 }
-
-#[cfg(test)]
-mod tests;

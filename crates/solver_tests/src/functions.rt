@@ -1,7 +1,7 @@
 ghost use Rattle.std.specs.Prelude.{◌≡◌, ◌<◌, IsTrue};
 ghost use Rattle.ivp_domain.specs.Domains.{is_point};
 
-use crate::made::{axis, domain_of};
+use crate::made::{axis, domain_of, piece};
 use ivp_domain::{BoxN, Domain, Point, Steps};
 use ivp_func::{Func, FuncFault, Piece, are_pieces_of, is_box_of, is_piece_of, tests_law};
 use std::alloc::Global;
@@ -18,18 +18,6 @@ fn made(rt: &impl Abort, alloc: Global, domain: &Domain, pieces: Vec<Piece>) -> 
 /// A domain of one axis.
 fn line(rt: &impl Abort, points: u32) -> Domain {
     domain_of(rt, &[axis(rt, b"a", 1000, points)])
-}
-
-/// The piece `LOW HIGH BASE SLOPE` on one axis.
-fn piece(low: u32, high: u32, base: i64, slope: i64) -> Piece {
-    Piece {
-        area: BoxN {
-            low: [low, 0, 0, 0],
-            high: [high, 0, 0, 0],
-        },
-        base,
-        slope: [slope, 0, 0, 0],
-    }
 }
 
 fn at(place: u32) -> Point {

@@ -1,11 +1,13 @@
 //! What tests alone show of the solver: that its calls succeed with ample memory, and give what was worked by hand.
 //!
-//! The tests of all crates of the solver but `ivp_pool` stand here, since a crate with tests of its own is proved once more with
-//! them. One module for each subject, by the layers from the lowest, and `made`, which makes problems for them: `domains`,
-//! `functions`, `problems`, `shared_word`, `search`, `shapes` and `formulas` of the builders, `problem_files` and `decisions` of
-//! the texts.
+//! The tests of all crates of the solver stand here, since a crate with tests of its own is proved once more with them. One
+//! module for each subject, by the layers from the lowest, and `made`, which makes problems for them: `domains`, `functions`,
+//! `problems`, `shared_word`, `search` by one, `closing` of nodes, `whole_searches` by several workers and their `teams`, `shapes`
+//! and `formulas` of the builders, `problem_files` and `decisions` of the texts.
 #![tactic(auto)]
 
+#[cfg(test)]
+mod closing;
 #[cfg(test)]
 mod decisions;
 #[cfg(test)]
@@ -26,3 +28,7 @@ mod search;
 mod shapes;
 #[cfg(test)]
 mod shared_word;
+#[cfg(test)]
+mod teams;
+#[cfg(test)]
+mod whole_searches;

@@ -1,7 +1,7 @@
 // Problems and their parts, as several tests make them, where memory is left.
 use ivp_domain::{Axis, AxisName, BoxN, Domain};
 use ivp_func::{Func, Piece, are_pieces_of};
-use ivp_problem::{Problem, Term, sum_at};
+use ivp_problem::{Key, Problem, Term, key_of, sum_at};
 use std::alloc::Global;
 use std::process::Abort;
 
@@ -22,6 +22,22 @@ pub(crate) fn term(
 /// The problem of these terms.
 pub(crate) fn problem(rt: &impl Abort, domain: Domain, terms: Vec<Term>) -> Problem {
     Problem::make(domain, terms).expect(rt, "a problem")
+}
+
+/// The problem over a domain whose functions have these weights and pieces.
+pub(crate) fn problem_of(
+    rt: &impl Abort,
+    alloc: Global,
+    domain: Domain,
+    all: &[(u32, &[Piece])],
+) -> Problem {
+    let mut terms = Vec::new(alloc);
+    for (weight, pieces) in all {
+        terms
+            .push(term(rt, alloc, &domain, *weight, *pieces))
+            .expect(rt, "memory");
+    }
+    problem(rt, domain, terms)
 }
 
 /// An axis of a name.
@@ -60,6 +76,46 @@ pub(crate) fn course(rt: &impl Abort) -> Domain {
     domain_of(rt, &[axis(rt, b"course", 359_000, 360)])
 }
 
+/// The piece `LOW HIGH BASE SLOPE` on one axis.
+pub(crate) fn piece(low: u32, high: u32, base: i64, slope: i64) -> Piece {
+    Piece {
+        area: BoxN {
+            low: [low, 0, 0, 0],
+            high: [high, 0, 0, 0],
+        },
+        base,
+        slope: [slope, 0, 0, 0],
+    }
+}
+
+/// Terms of one weight and one value over the course.
+pub(crate) fn level_terms(
+    rt: &impl Abort,
+    alloc: Global,
+    count: u32,
+    weight: u32,
+    value: i64,
+) -> Vec<Term> {
+    let mut terms = Vec::new(alloc);
+    for _ in 0..count {
+        let one = term(rt, alloc, &course(rt), weight, &[piece(0, 359, value, 0)]);
+        terms.push(one).expect(rt, "memory");
+    }
+    terms
+}
+
+/// The problem of some functions of one weight and one value over the course.
+pub(crate) fn levels(
+    rt: &impl Abort,
+    alloc: Global,
+    count: u32,
+    weight: u32,
+    value: i64,
+) -> Problem {
+    let terms = level_terms(rt, alloc, count, weight, value);
+    problem(rt, course(rt), terms)
+}
+
 /// A piece over these places of the first axis, and all of two axes of two points.
 pub(crate) fn slab(low: u32, high: u32, base: i64, slope: [i64; 4]) -> Piece {
     Piece {
@@ -72,6 +128,15 @@ pub(crate) fn slab(low: u32, high: u32, base: i64, slope: [i64; 4]) -> Piece {
     }
 }
 
+/// The problem of a function in one piece and one in two: the root, its child, and two leaves, of which the first has the
+/// best point, of sum 75 at index 2, and the second has 55 at index 10.
+pub(crate) fn two(rt: &impl Abort, alloc: Global) -> Problem {
+    let rising = [slab(0, 2, 0, [10, 0, 0, 0])];
+    let split = [slab(0, 0, 20, [0, 5, 0, 0]), slab(1, 2, 0, [0, 5, 0, 0])];
+    let all = [(2, rising.as_slice()), (3, split.as_slice())];
+    problem_of(rt, alloc, twelve(rt), &all)
+}
+
 /// The sum at the point of an index, where the domain has it.
 pub(crate) fn sum(problem: &Problem, index: u32) -> Option<u64> {
     let domain = problem.domain();
@@ -81,4 +146,25 @@ pub(crate) fn sum(problem: &Problem, index: u32) -> Option<u64> {
     } else {
         None
     }
+}
+
+/// The key at the point of an index, where the domain has it.
+pub(crate) fn key_at(problem: &Problem, index: u32) -> Option<Key> {
+    let domain = problem.domain();
+    if index >= domain.points() {
+        return None;
+    }
+    let point = domain.point_at(index);
+    Some(key_of(sum_at(problem, &point), index))
+}
+
+/// The greatest key, by a look at every point.
+pub(crate) fn listed(problem: &Problem) -> Key {
+    let mut most = 0;
+    for index in 0..problem.domain().points() {
+        if let Some(key) = key_at(problem, index) {
+            most = most.max(key);
+        }
+    }
+    most
 }

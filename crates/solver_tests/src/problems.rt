@@ -1,9 +1,10 @@
 ghost use Rattle.std.specs.Prelude.{IfSome};
 ghost use Rattle.ivp_problem.specs.Trees.{IsNode};
 
-use crate::made::{axis, course, domain_of, problem, slab, sum, term, twelve};
-use ivp_domain::{BoxN, Domain, Point};
-use ivp_func::Piece;
+use crate::made::{
+    axis, course, domain_of, level_terms, piece, problem, problem_of, slab, sum, term, twelve, two,
+};
+use ivp_domain::{BoxN, Domain};
 use ivp_problem::{
     Node, Problem, ProblemFault, Term, best_law, bound_law, bound_of, children_law, index_of_key,
     key_of, keys_law, sum_of,
@@ -16,39 +17,13 @@ fn rising(rt: &impl Abort, alloc: Global) -> Term {
     term(rt, alloc, &twelve(rt), 2, &[slab(0, 2, 0, [10, 0, 0, 0])])
 }
 
-/// The term of weight 3 in two pieces.
-fn split(rt: &impl Abort, alloc: Global) -> Term {
-    let pieces = [slab(0, 0, 20, [0, 5, 0, 0]), slab(1, 2, 0, [0, 5, 0, 0])];
-    term(rt, alloc, &twelve(rt), 3, &pieces)
-}
-
 /// A term whose value is 100,000 everywhere on the course.
 fn level(rt: &impl Abort, alloc: Global, weight: u32) -> Term {
-    let piece = Piece {
-        area: BoxN {
-            low: [0; 4],
-            high: [359, 0, 0, 0],
-        },
-        base: 100_000,
-        slope: [0; 4],
-    };
-    term(rt, alloc, &course(rt), weight, &[piece])
+    term(rt, alloc, &course(rt), weight, &[piece(0, 359, 100_000, 0)])
 }
 
 fn levels(rt: &impl Abort, alloc: Global, count: u32, weight: u32) -> Vec<Term> {
-    let mut terms = Vec::new(alloc);
-    for _ in 0..count {
-        terms.push(level(rt, alloc, weight)).expect(rt, "memory");
-    }
-    terms
-}
-
-/// The problem of these two terms.
-fn both(rt: &impl Abort, alloc: Global, one: Term, other: Term) -> Problem {
-    let mut terms = Vec::new(alloc);
-    terms.push(one).expect(rt, "memory");
-    terms.push(other).expect(rt, "memory");
-    problem(rt, twelve(rt), terms)
+    level_terms(rt, alloc, count, weight, 100_000)
 }
 
 /// These terms and one more.
@@ -115,12 +90,7 @@ fn child(problem: &Problem, node: &Node, piece: u32) -> Option<Node>
 
 #[test]
 fn two_functions(rt: HostRuntime) {
-    let problem = both(
-        &rt,
-        rt.alloc(),
-        rising(&rt, rt.alloc()),
-        split(&rt, rt.alloc()),
-    );
+    let problem = two(&rt, rt.alloc());
     keys_law(&problem);
     best_law(&problem);
     assert!(rt; problem.domain() == twelve(&rt));
@@ -154,12 +124,9 @@ fn two_functions(rt: HostRuntime) {
 
 #[test]
 fn pieces_apart(rt: HostRuntime) {
-    let problem = both(
-        &rt,
-        rt.alloc(),
-        split(&rt, rt.alloc()),
-        split(&rt, rt.alloc()),
-    );
+    let split = [slab(0, 0, 20, [0, 5, 0, 0]), slab(1, 2, 0, [0, 5, 0, 0])];
+    let all = [(3, split.as_slice()), (3, split.as_slice())];
+    let problem = problem_of(&rt, rt.alloc(), twelve(&rt), &all);
     let root = problem.root();
     let first = child(&problem, &root, 0).expect(&rt, "a child");
     if first.depth < problem.len() {

@@ -3,31 +3,21 @@ ghost use Rattle.std.specs.Prelude.{◌≡◌, IfSome, IsTrue};
 ghost use Rattle.ivp_domain.specs.Domains.{is_point};
 ghost use Rattle.ivp_problem.specs.Sums.{key_at};
 
-use crate::made::{course, problem, term};
+use crate::made::{course, piece, problem_of};
 use best_word::Best;
-use ivp_domain::{BoxN, Point};
-use ivp_func::Piece;
+use ivp_domain::Point;
 use ivp_problem::{Key, Problem, index_of_key, key_of, sum_at, sum_of};
 use std::alloc::Global;
 use std::process::Abort;
 
 /// One function of weight 100 over course:0:359:360, which rises by one at each place.
 fn rising(rt: &impl Abort, alloc: Global) -> Problem {
-    let domain = course(rt);
-    let area = BoxN {
-        low: [0; 4],
-        high: [359, 0, 0, 0],
-    };
-    let piece = Piece {
-        area,
-        base: 7,
-        slope: [1, 0, 0, 0],
-    };
-    let mut terms = Vec::new(alloc);
-    terms
-        .push(term(rt, alloc, &domain, 100, &[piece]))
-        .expect(rt, "memory");
-    problem(rt, domain, terms)
+    problem_of(
+        rt,
+        alloc,
+        course(rt),
+        &[(100, [piece(0, 359, 7, 1)].as_slice())],
+    )
 }
 
 /// A point and its key.

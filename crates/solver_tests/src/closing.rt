@@ -1,0 +1,112 @@
+// One problem of twelve points, whose nodes go to trays that take all, none, or every second of them.
+use crate::made::{key_at, two};
+use best_word::Best;
+use ivp_pool::{Tray, close_one, parts_law, tally_law};
+use ivp_problem::{Key, Node, Problem, key_of};
+use std::alloc::Global;
+use std::process::Abort;
+
+/// A pile of nodes. It takes the first of each two or not, and the second.
+#[derive(Drop)]
+struct Pile<'a> {
+    problem: &'a Problem,
+    nodes: Vec<Node>,
+    first: bool,
+    second: bool,
+}
+
+impl<'a> Tray for Pile<'a> {
+    ghost problem = { λ pile. pile.problem.now };
+
+    ghost took = { λ pile. pile.nodes.items };
+
+    fn push(&mut self, node: Node) -> Option<Node> {
+        let takes = self.first;
+        self.first = self.second;
+        self.second = takes;
+        if !takes {
+            return Some(node);
+        }
+        match self.nodes.push(node) {
+            Ok(()) => None,
+            Err(refused) => Some(refused.value),
+        }
+    }
+}
+
+/// The greatest key of the points whose first place is in none of these nodes, by a look at every point.
+fn greatest_outside(problem: &Problem, nodes: &[Node]) -> Key {
+    let mut most = 0;
+    for index in 0..problem.domain().points() {
+        let place = index / 4;
+        let taken = nodes.iter().any(|node| node.area.low[0] <= place
+            && place <= node.area.high[0]);
+        if let Some(key) = key_at(problem, index)
+            && !taken
+        {
+            most = most.max(key);
+        }
+    }
+    most
+}
+
+/// What is left after the root was closed.
+#[derive(Drop)]
+struct Outcome {
+    closed: u64,
+    known: Key,
+    nodes: Vec<Node>,
+}
+
+fn close_root(
+    rt: &impl Abort,
+    alloc: Global,
+    problem: &Problem,
+    first: bool,
+    second: bool,
+) -> Outcome {
+    let (best, mut scout) = Best::make(alloc, problem).expect(rt, "memory");
+    let nodes = Vec::new(alloc);
+    let mut pile = Pile {
+        problem,
+        nodes,
+        first,
+        second,
+    };
+    let root = problem.root();
+    parts_law(problem, &root);
+    tally_law();
+    let closed = close_one(problem, &best, &mut scout, root, &mut pile);
+    let known = best.known(&mut scout);
+    Outcome {
+        closed,
+        known,
+        nodes: pile.nodes,
+    }
+}
+
+/// A pile that takes these is left with so many nodes, where so many were closed and this key is known.
+fn leaves(rt: &impl Abort, alloc: Global, takes: [bool; 2], left: usize, closed: u64, known: Key) {
+    let problem = two(rt, alloc);
+    let outcome = close_root(rt, alloc, &problem, takes[0], takes[1]);
+    assert_eq!(rt; outcome.nodes.len(), left);
+    assert_eq!(rt; outcome.closed, closed);
+    assert_eq!(rt; outcome.known, known);
+    assert_eq!(rt; greatest_outside(&problem, &outcome.nodes), known);
+}
+
+#[test]
+fn all_come_back(rt: HostRuntime) {
+    leaves(&rt, rt.alloc(), [false, false], 0, 4, key_of(75, 2));
+}
+
+#[test]
+fn all_are_taken(rt: HostRuntime) {
+    leaves(&rt, rt.alloc(), [true, true], 1, 1, 0);
+}
+
+/// The root's child comes back, its first child is taken, and the second comes back.
+#[test]
+fn every_second_is_taken(rt: HostRuntime) {
+    leaves(&rt, rt.alloc(), [false, true], 1, 3, key_of(55, 10));
+}
