@@ -1,26 +1,9 @@
-//! The program: a command line's job from its files to what is written, and how it ended.
-//!
-//! The contract that all below serves is that of `run`: whatever the words, the files and the sink, the status tells
-//! what was written. With `Done` that is the report of a lawful history of the script that the words name, or the
-//! decision on the problem with its certificate, or that the decision is accepted, or the counts of a generated mission.
-//!
-//! Reading order: `words`, `commands`, `job` and `status`, `telling`, `play_job`, `generate_job`, and `run` last. `main` is the trusted
-//! edge, which hands the real command line, files and standard output to `run`.
+//! The program: the trusted edge, which hands the real command line, files and standard output to `run` of `moos_jobs`, and
+//! tells by a line on standard error and the exit status how the run ended.
 #![tactic(auto)]
 
-mod commands;
-mod generate_job;
-mod job;
-mod play_job;
-mod run;
-mod status;
-mod telling;
-mod words;
-
-use crate::run::{run, run_law};
-use crate::status::{Status, code};
-use crate::words::{Word, Words};
 use moos_io::{DirFolder, NoGate, OutSink};
+use moos_jobs::{Status, Word, Words, code, run, run_law};
 use std::process::ExitCode;
 use std::{env, io};
 
@@ -32,7 +15,7 @@ fn main(rt: HostRuntime) -> ExitCode {
         }
         Err(status) => status,
     };
-    // A law does nothing. That the program calls it is why it is proved with the program.
+    // A law does nothing. What this one says of runs holds of this run.
     run_law();
     // Where standard error fails too, the exit status still tells.
     let _ = print_failure(&rt, &status);

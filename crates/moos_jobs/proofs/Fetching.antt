@@ -1,0 +1,239 @@
+-- How often the helm of a run has fetched, and which iterations stand in a part of its history.
+use Rattle.std.proofs.Common.{◌≡◌, ℕ, zero, suc, ◌+◌, ◌*◌, ◌<◌, ◌≤◌, ◌==◌, ◌&&◌, Bool, true, false, cond, nat_le, List, [], ◌∷◌, ◌++◌, length, drop, filter, Option, None, Some, inl, inr, refl, ap, sym, ◌∙◌, subst, arith, length-append, append_assoc}
+use Rattle.std.specs.Prelude.{◌⊎◌}
+use Rattle.std.proofs.Math.Dec.{eqb-suc-suc, eqb-suc-zero, eqb-zero-suc}
+use Rattle.std.proofs.lemmas.Bool.{and_parts}
+use Rattle.std.proofs.lemmas.Bool.Decides.{nat_tests}
+use Rattle.std.proofs.lemmas.List.{drop_all, drop_at, drop-append-le, drop-drop}
+use Rattle.std.proofs.lemmas.List.Elements.{filter-append}
+use Rattle.std.proofs.lemmas.List.Sums.{length-filter, sum_by-append, sum_by_push}
+use Rattle.helm_core.specs.Helms.{plan_of}
+use Rattle.helm_core.specs.Ticks.{Tick, tick_of}
+use Rattle.moos_client.specs.Calls.{entries_of}
+use Rattle.moos_db.specs.Database.{letters_after}
+use Rattle.moos_post.specs.declared.entry.Call.{Call}
+use Rattle.moos_post.specs.declared.entry.Call.TheVariants.{Register, Unregister, Post as Posts, Fetch}
+use Rattle.moos_post.specs.declared.entry.Entry.{Entry}
+use Rattle.moos_post.specs.Delivery.{is_fetch}
+use Rattle.moos_post.specs.History.{History}
+use Rattle.moos_play.specs.declared.playing.Play.{Play}
+use Rattle.moos_play.specs.declared.steersman.Steersman.{Steersman}
+use Rattle.moos_play.specs.Lawful.{heard_in, heard_of, helm_number, names_with, opening_of, Steering, tick_entries, ticks_of}
+use Rattle.moos_play.specs.Plays.{clients_in, helm_in, history_in, IsBetween, iterations_made, made_by}
+use Rattle.moos_play.specs.Steered.{GoesOnWith, helm_of, opened_by, StandsAt, steering_of, Steers}
+use Rattle.moos_play.proofs.Hearing.{iterations_many}
+use Rattle.moos_report.specs.IterationLines.{helm_fetches, is_helm, is_helm_fetch, is_helm_post, is_posting}
+use Rattle.moos_report.specs.Parts.{EndsWithin}
+use Rattle.moos_jobs.proofs.Communities.{helm_name, not_true}
+use Rattle.script_reader.specs.declared.script.Script.{Script}
+use Rattle.script_reader.specs.Validity.{are_clients, IsValid}
+
+-- no client of a script has the helm's name
+none_named : (names : List (List ℕ)) → are_clients names ≡ true → (client : ℕ) → is_helm names client ≡ false
+none_named [] good client = refl
+none_named (name ∷ names) good zero = not_true _ (and_parts _ _ (and_parts _ (are_clients names) good).0).0
+none_named (name ∷ names) good (suc client) = none_named names (and_parts _ (are_clients names) good).1 client
+
+-- and behind them the helm alone has it
+helm_named : (names : List (List ℕ)) → are_clients names ≡ true → (client : ℕ) → is_helm (names ++ helm_name ∷ []) client ≡ (client == length names)
+helm_named [] good zero = refl
+helm_named [] good (suc client) = sym (eqb-suc-zero client)
+helm_named (name ∷ names) good zero = not_true _ (and_parts _ _ (and_parts _ (are_clients names) good).0).0 ∙ sym (eqb-zero-suc (length names))
+helm_named (name ∷ names) good (suc client) = helm_named names (and_parts _ (are_clients names) good).1 client ∙ sym (eqb-suc-suc client (length names))
+
+-- one entry more
+fetches_push : (names : List (List ℕ)) (past : History) (entry : Entry) → helm_fetches names (past ++ entry ∷ []) ≡ helm_fetches names past + cond (is_helm_fetch names entry) 1 0
+fetches_push names past entry = sum_by_push (λ entry. cond (is_helm_fetch names entry) 1 0) past entry
+
+-- some entries more
+fetches_later : (names : List (List ℕ)) (past part : History) → helm_fetches names past ≤ helm_fetches names (past ++ part)
+fetches_later names past part = omega (arith, sum_by-append (λ entry. cond (is_helm_fetch names entry) 1 0) past part)
+
+fetches_next : (names : List (List ℕ)) (past part : History) (entry : Entry) (limit : ℕ) → helm_fetches names (past ++ entry ∷ part) ≤ limit → helm_fetches names ((past ++ entry ∷ []) ++ part) ≤ limit
+fetches_next names past part entry limit up = subst (λ history. helm_fetches names history ≤ limit) (sym (append_assoc past (entry ∷ []) part)) up
+
+-- an iteration whose Post entry stands here has a number up to that of the last fetch
+ends_so_far : (names : List (List ℕ)) (past part : History) (limit : ℕ) → helm_fetches names (past ++ part) ≤ limit → EndsWithin names past 0 limit part
+ends_so_far names past [] limit up = tt
+ends_so_far names past (entry ∷ part) limit up =
+    ((λ post some. (some, omega (arith, up, fetches_later names past (entry ∷ part)))), ends_so_far names (past ++ entry ∷ []) part limit (fetches_next names past part entry limit up))
+
+-- without a helm nothing ends
+ends_none : (names : List (List ℕ)) (past part : History) (first limit : ℕ) → ((client : ℕ) → is_helm names client ≡ false) → EndsWithin names past first limit part
+ends_none names past [] first limit none = tt
+ends_none names past (entry ∷ part) first limit none = (
+  (λ post some. let both : false ≡ true = sym (none entry.client) ∙ (and_parts (is_posting entry.call) (is_helm names entry.client) post).1 in absurd cc),
+  ends_none names (past ++ entry ∷ []) part first limit none,
+)
+
+-- a helm's calls that begin with a fetch, if any is there
+abbrev BeginsFetching : List Entry → Type 0
+BeginsFetching [] = Unit {0}
+BeginsFetching (entry ∷ entries) = is_fetch entry.call ≡ true
+
+-- what posts doesn't fetch
+no_fetch : (call : Call) → is_posting call ≡ true → is_fetch call ≡ true → ⊥
+no_fetch (Register regs) posts fetches = cc
+no_fetch (Unregister var source) posts fetches = cc
+no_fetch (Posts batch) posts fetches = cc
+no_fetch Fetch posts fetches = cc
+
+-- the helm has fetched since, or will before it posts
+abbrev IsAhead : ℕ → ℕ → List Entry → Type 0
+IsAhead first fetches entries = (first < fetches) ⊎ ((first ≤ fetches) × BeginsFetching entries)
+
+module _ (names : List (List ℕ)) (number : ℕ) (named : (client : ℕ) → is_helm names client ≡ (client == number)) where
+  -- the helm has fetched as often as it has heard
+  fetched_heard : (past some : History) → length (filter (is_helm_fetch names) some) ≡ length (heard_in names number past some)
+  fetched_heard past [] = refl
+  fetched_heard past (entry ∷ some) = by (is_helm names entry.client) (entry.client == number) (is_fetch entry.call) (named entry.client) (fetched_heard (past ++ entry ∷ []) some)
+    where
+      one : Tick
+      one = tick_of entry.stamp (letters_after names number past)
+
+      fetched : History
+      fetched = filter (is_helm_fetch names) some
+
+      heard : List Tick
+      heard = heard_in names number (past ++ entry ∷ []) some
+
+      by : (h c f : Bool) → h ≡ c → length fetched ≡ length heard → length (cond (f && h) (entry ∷ fetched) fetched) ≡ length (cond (c && f) (one ∷ heard) heard)
+      by true true true e so = ap suc so
+      by true true false e so = so
+      by false false true e so = so
+      by false false false e so = so
+      by true false f e so = absurd cc
+      by false true f e so = absurd cc
+
+  ahead_on : (first fetches : ℕ) (entry : Entry) (entries : List Entry) (h c f : Bool) → h ≡ c → is_fetch entry.call ≡ f → IsAhead first fetches (cond c (entry ∷ entries) entries) → IsAhead first (fetches + cond (f && h) 1 0) entries
+  ahead_on first fetches entry entries h c f same is (inl more) = inl (omega (arith, more))
+  ahead_on first fetches entry entries true true true same is (inr (few, begins)) = inl (omega (arith, few))
+  ahead_on first fetches entry entries true true false same is (inr (few, begins)) = let both : true ≡ false = sym begins ∙ is in absurd cc
+  ahead_on first fetches entry entries false false true same is (inr (few, begins)) = inr (omega (arith, few), begins)
+  ahead_on first fetches entry entries false false false same is (inr (few, begins)) = inr (omega (arith, few), begins)
+  ahead_on first fetches entry entries true false f same is (inr both) = absurd cc
+  ahead_on first fetches entry entries false true f same is (inr both) = absurd cc
+
+  posts_ahead : (first fetches : ℕ) (entry : Entry) (entries : List Entry) → is_helm_post names entry ≡ true → IsAhead first fetches (cond (entry.client == number) (entry ∷ entries) entries) → first < fetches
+  posts_ahead first fetches entry entries post (inl more) = more
+  posts_ahead first fetches entry entries post (inr (few, begins)) =
+      let both = and_parts (is_posting entry.call) (is_helm names entry.client) post in
+      absurd (no_fetch entry.call both.0 (subst (λ b. BeginsFetching (cond b (entry ∷ entries) entries)) (sym (named entry.client) ∙ both.1) begins))
+
+  -- an iteration whose Post entry stands in a part in which the helm fetches first has a number from there on
+  ends_here : (past part : History) (first limit : ℕ) → helm_fetches names (past ++ part) ≤ limit → IsAhead first (helm_fetches names past) (entries_of number part) → EndsWithin names past first limit part
+  ends_here past [] first limit up ahead = tt
+  ends_here past (entry ∷ part) first limit up ahead = (
+    (λ post some. (posts_ahead first (helm_fetches names past) entry (entries_of number part) post ahead, omega (arith, up, fetches_later names past (entry ∷ part)))),
+    ends_here (past ++ entry ∷ []) part first limit (fetches_next names past part entry limit up)
+        (subst (λ fetches. IsAhead first fetches (entries_of number part)) (sym (fetches_push names past entry))
+        (ahead_on first (helm_fetches names past) entry (entries_of number part) (is_helm names entry.client) (entry.client == number) (is_fetch entry.call) (named entry.client) refl ahead)),
+  )
+
+-- each tick has two entries, of which the first is a fetch
+ticks_many : (helm : Steering) (heard : List Tick) (n : ℕ) → length (ticks_of helm heard n) ≡ 2 * n
+ticks_many helm heard zero = refl
+ticks_many helm heard (suc n) = omega (arith, length-append (ticks_of helm heard n) (tick_entries helm heard n), ticks_many helm heard n)
+
+fetching_more : (helm : Steering) (heard : List Tick) (n : ℕ) (entries : List Entry) → BeginsFetching entries → BeginsFetching (entries ++ tick_entries helm heard n)
+fetching_more helm heard n [] begins = refl
+fetching_more helm heard n (entry ∷ entries) begins = begins
+
+ticks_begin : (helm : Steering) (heard : List Tick) (first n : ℕ) → BeginsFetching (drop (2 * first) (ticks_of helm heard n))
+ticks_begin helm heard first zero = subst BeginsFetching (sym (drop_all {X = Entry} (2 * first) [] (omega arith))) tt
+ticks_begin helm heard first (suc n) = by (nat_le first n) refl (ticks_begin helm heard first n)
+  where
+    front : History
+    front = ticks_of helm heard n
+
+    by : (b : Bool) → nat_le first n ≡ b → BeginsFetching (drop (2 * first) front) → BeginsFetching (drop (2 * first) (front ++ tick_entries helm heard n))
+    by true e begins =
+        let few : first ≤ n = grind (arith, nat_tests) in
+        subst BeginsFetching (sym (drop-append-le (2 * first) front (tick_entries helm heard n) (omega (arith, few, ticks_many helm heard n))))
+        (fetching_more helm heard n (drop (2 * first) front) begins)
+    by false e begins =
+        let past : n < first = grind (arith, nat_tests) in
+        subst BeginsFetching (sym (drop_all (2 * first) (front ++ tick_entries helm heard n) (omega (arith, past, ticks_many helm heard (suc n))))) tt
+
+-- from one stand of the helm to a later one it fetches first
+steered_on : (names : List (List ℕ)) (s t : Steersman) (history part : History) → steering_of t ≡ steering_of s → s.opened ≡ true → t.opened ≡ true → Steers names s history → Steers names t (history ++ part)
+    → BeginsFetching (entries_of s.number part)
+steered_on names s t history part same opened also before after =
+    subst BeginsFetching (sym parts) (ticks_begin (steering_of s) heard s.ticks t.ticks)
+  where
+    heard : List Tick
+    heard = heard_of names s.number (history ++ part)
+
+    front : List Entry
+    front = opening_of (steering_of s)
+
+    many : length (entries_of s.number history) ≡ length front + 2 * s.ticks
+    many = ap length (before.own ∙ ap (λ b. opened_by b (steering_of s) ++ ticks_of (steering_of s) (heard_of names s.number history) s.ticks) opened)
+        ∙ length-append front (ticks_of (steering_of s) (heard_of names s.number history) s.ticks) ∙ ap (λ n. length front + n) (ticks_many (steering_of s) (heard_of names s.number history) s.ticks)
+
+    own : entries_of s.number (history ++ part) ≡ front ++ ticks_of (steering_of s) heard t.ticks
+    own = subst (λ (helm : Steering). entries_of helm.client (history ++ part) ≡ opening_of helm ++ ticks_of helm (heard_of names helm.client (history ++ part)) t.ticks) same
+        (after.own ∙ ap (λ b. opened_by b (steering_of t) ++ ticks_of (steering_of t) (heard_of names t.number (history ++ part)) t.ticks) also)
+
+    parts : entries_of s.number part ≡ drop (2 * s.ticks) (ticks_of (steering_of s) heard t.ticks)
+    parts =
+        sym (drop_at (entries_of s.number history) (entries_of s.number part) (length front + 2 * s.ticks) many)
+        ∙ ap (drop (length front + 2 * s.ticks)) (sym (filter-append (λ entry. entry.client == s.number) history part) ∙ own)
+        ∙ sym (drop-drop (2 * s.ticks) (length front) (front ++ ticks_of (steering_of s) heard t.ticks))
+        ∙ ap (drop (2 * s.ticks)) (drop_at front (ticks_of (steering_of s) heard t.ticks) (length front) refl)
+
+-- the helm of a script has fetched as often as it has made iterations
+counted : (script : Script) (names : List (List ℕ)) (s : Option Steersman) (history : History) → IsValid script → names ≡ names_with script (helm_of s) → StandsAt names (helm_number script) s history
+    → helm_fetches names history ≡ length (made_by names history s)
+counted script names None history valid is stands =
+    ap (λ names. helm_fetches names history) is ∙ none history
+  where
+    none : (history : History) → helm_fetches script.names history ≡ 0
+    none history = sym (length-filter (is_helm_fetch script.names) history) ∙ none_in history
+      where
+        none_in : (history : History) → length (filter (is_helm_fetch script.names) history) ≡ 0
+        none_in [] = refl
+        none_in (entry ∷ history) = by (is_helm script.names entry.client) (is_fetch entry.call) (none_named script.names valid.clients entry.client) (none_in history)
+          where
+            by : (h f : Bool) → h ≡ false → length (filter (is_helm_fetch script.names) history) ≡ 0
+                → length (cond (f && h) (entry ∷ filter (is_helm_fetch script.names) history) (filter (is_helm_fetch script.names) history)) ≡ 0
+            by true f e so = absurd cc
+            by false true e so = so
+            by false false e so = so
+counted script names (Some s) history valid is stands =
+    sym (length-filter (is_helm_fetch names) history)
+    ∙ fetched_heard names (helm_number script) (subst (λ names. (client : ℕ) → is_helm names client ≡ (client == helm_number script)) (sym is) (helm_named script.names valid.clients)) [] history
+    ∙ ap (λ number. length (heard_of names number history)) (sym stands.0) ∙ stands.2.many
+    ∙ sym (iterations_many (plan_of s.helm) (heard_of names s.number history) s.ticks)
+
+-- the part between two rounds has the iterations that are made in it
+pub part_ends : (script : Script) (names : List (List ℕ)) (s t : Option Steersman) (history part : History) → IsValid script → names ≡ names_with script (helm_of s) → helm_of t ≡ helm_of s
+    → StandsAt names (helm_number script) s history → StandsAt names (helm_number script) t (history ++ part)
+    → EndsWithin names history (length (made_by names history s)) (length (made_by names (history ++ part) t)) part
+part_ends script names None None history part valid is same before after =
+    ends_none names history part 0 0 (subst (λ names. (client : ℕ) → is_helm names client ≡ false) (sym is) (none_named script.names valid.clients))
+part_ends script names None (Some t) history part valid is same before after = absurd cc
+part_ends script names (Some s) None history part valid is same before after = absurd cc
+part_ends script names (Some s) (Some t) history part valid is same before after =
+    let first = counted script names (Some s) history valid is before in
+    let last = counted script names (Some t) (history ++ part) valid (is ∙ ap (λ helm. names_with script helm) (sym same)) after in
+    let one : steering_of t ≡ steering_of s = cc in
+    let begins = subst (λ n. BeginsFetching (entries_of n part)) before.0 (steered_on names s t history part one before.1 after.1 before.2 after.2) in
+    ends_here names (helm_number script) (subst (λ names. (client : ℕ) → is_helm names client ≡ (client == helm_number script)) (sym is) (helm_named script.names valid.clients))
+    history part (length (made_by names history (Some s))) (length (made_by names (history ++ part) (Some t))) (omega (arith, last)) (inr (omega (arith, first), begins))
+
+-- the names of a run's clients are those of its script, and its helm's
+abbrev pub IsNamed : Play → Type 0
+IsNamed play = clients_in play ≡ names_with play.script.now (helm_in play)
+
+pub named_on : (before after : Play) → GoesOnWith before after → IsNamed before → IsNamed after
+named_on before after on named =
+    ap (λ lock. lock.base) on.lock ∙ named ∙ (λ i. names_with (sym on.script i) (sym on.helm i))
+
+pub fetched : (play : Play) → IsBetween play → IsNamed play → helm_fetches (clients_in play) (history_in play) ≡ length (iterations_made play)
+fetched play between named = counted play.script.now play.lock.base play.steersman play.first.seat.seen between.valid named between.at_play.under.steered
+
+-- what was written so far has no iteration that isn't made
+pub ends_far : (play : Play) → IsBetween play → IsNamed play → EndsWithin (clients_in play) [] 0 (length (iterations_made play)) (history_in play)
+ends_far play between named =
+    ends_so_far (clients_in play) [] (history_in play) (length (iterations_made play)) (omega (arith, fetched play between named))

@@ -1,0 +1,90 @@
+-- From a lawful history to its report.
+use Rattle.std.proofs.Common.{◌≡◌, nat_lt, List, [], ◌∷◌, length, refl, ap, sym, ◌∙◌, subst, arith, Option, None, Some, ℕ, inl, inr}
+use Rattle.std.specs.Prelude.{IfSome, option_map}
+use Rattle.std.proofs.lemmas.Bool.{lt-ltb}
+use Rattle.moos_post.specs.History.{History}
+use Rattle.bhv_reader.specs.declared.decl.Decl.{Decl}
+use Rattle.helm_core.specs.Helms.{plan_of}
+use Rattle.helm_core.specs.Posts.{are_declared_modes}
+use Rattle.helm_core.specs.Plans.{plan_made}
+use Rattle.helm_core.specs.Ticks.{Tick}
+use Rattle.moos_play.specs.declared.run.HelmRun.{HelmRun}
+use Rattle.moos_play.specs.Lawful.{IsLawful, heard_of, helm_number, iterations, names_with, Steering, steering_with}
+use Rattle.moos_report.specs.declared.setup.Setup.{Setup}
+use Rattle.moos_report.specs.Report.{report_text, ReportsTell}
+use Rattle.moos_jobs.specs.Jobs.{HelmFiles, IsLawfulWith, IsReport, no_modes, Ready, report_on, setup_of, steering_by}
+use Rattle.moos_jobs.specs.Jobs.Task.{Playing}
+use Rattle.moos_jobs.specs.declared.status.Status.{Status}
+use Rattle.moos_jobs.specs.declared.status.Status.TheVariants.{Done, CheckNo, Usage, LoadFault, WriteFault, Refused, NoMemory}
+use Rattle.moos_jobs.specs.Steps.{Ended, IsToPlay, Sinking, WroteAll, WroteFront}
+use Rattle.moos_jobs.specs.Telling.{IsOfLawful, Tells, ToldAll, ToldFront}
+use Rattle.moos_jobs.proofs.Communities.{AreGoodFiles, lawful_community, stand_on_lines}
+use Rattle.script_reader.specs.declared.script.Order.{Order}
+use Rattle.script_reader.specs.declared.script.Script.{Script}
+use Rattle.script_reader.specs.Validity.{IsValid}
+
+-- no other lawful history has the report of one
+told_apart : (order : Order) (script : Script) (helm : Option HelmFiles) (history other : History) → ReportsTell → IsValid script → IfSome helm AreGoodFiles
+    → IsLawfulWith order script helm history → IsLawfulWith order script helm other → report_on script helm other ≡ report_on script helm history → other ≡ history
+told_apart order script helm history other tell valid files lawful is same =
+    let names = names_with script helm in
+    let setup = setup_of helm in
+    let heard : History → List Tick = heard_of names (helm_number script) in
+    (tell setup setup names names history other _ _ (lawful_community order script helm history valid files lawful) (lawful_community order script helm other valid files is)
+    (stand_on_lines script helm (heard history) files) (stand_on_lines script helm (heard other) files) same).1
+
+reported_as : (order : Order) (script : Script) (helm : Option HelmFiles) (text : List ℕ) (history : History) → ReportsTell → IsValid script → IfSome helm AreGoodFiles
+    → IsLawfulWith order script helm history → text ≡ report_on script helm history → IsReport order script helm text
+reported_as order script helm text history tell valid files lawful printed = record {
+  history = history;
+  lawful = lawful;
+  printed = printed;
+  listed = λ other is also. told_apart order script helm history other tell valid files lawful is (sym also ∙ printed);
+}
+
+-- the report of a lawful history of the script, which no helm runs beside
+pub reported : (order : Order) (script : Script) (setup : Setup) (names : List (List ℕ)) (history : History) → ReportsTell → IsValid script → setup ≡ no_modes → names ≡ script.names
+    → IsLawful order script None names history → IsReport order script None (report_text setup names history [])
+reported order script setup names history tell valid plain same lawful =
+    reported_as order script None (report_text setup names history []) history tell valid tt (subst (λ names. IsLawful order script None names history) same lawful)
+    (ap (λ setup. report_text setup names history []) plain ∙ ap (λ names. report_text no_modes names history []) same)
+
+-- a helm that was made of these files is run as they say
+pub steered_by : (script : Script) (files : HelmFiles) (run : HelmRun) → plan_of run.helm ≡ plan_made files.mission files.file → run.period ≡ files.mission.period → steering_with script run ≡ steering_by script files
+steered_by script files run plan period = λ i. record { client = helm_number script; plan = plan i; period = period i }
+
+-- what was told of a run, with a helm of these files or without one, is what its job may write
+module _ (order : Order) (script : Script) (files : Option HelmFiles) (helm : Option Steering) (setup : Setup) (tell : ReportsTell) (valid : IsValid script) (good : IfSome files AreGoodFiles)
+    (steered : helm ≡ option_map (steering_by script) files) (told : setup ≡ setup_of files) where
+  output_as : (text : List ℕ) → IsOfLawful order script helm setup text → IsReport order script files text
+  output_as text is = of (subst (λ helm. IsOfLawful order script helm setup text) steered is)
+    where
+      names : (files : Option HelmFiles) → names_with script (option_map (steering_by script) files) ≡ names_with script files
+      names None = refl
+      names (Some files) = refl
+
+      of : IsOfLawful order script (option_map (steering_by script) files) setup text → IsReport order script files text
+      of is = reported_as order script files text is.history tell valid good
+          (subst (λ names. IsLawful order script (option_map (steering_by script) files) names is.history) (names files) is.lawful)
+          (is.printed ∙ (λ i. report_text (told i) (names files i) is.history (iterations (option_map (steering_by script) files) script.stop (heard_of (names files i) (helm_number script) is.history))))
+
+  all_told : (sink : Sinking) → ToldAll order script helm setup sink → WroteAll (Ready (Playing order script files)) Done sink
+  all_told sink all = record { task = Playing order script files; good = refl; text = all.text; output = output_as all.text all.lawful; took = all.took }
+
+  front_told : (sink : Sinking) → ToldFront order script helm setup sink → (wrote : WroteFront (Ready (Playing order script files)) sink) × IsToPlay wrote.task
+  front_told sink front = (record { task = Playing order script files; good = refl; status = Done; text = front.text; output = output_as front.text front.lawful; took = front.took }, tt)
+
+  pub told_ended : (sink : Sinking) (status : Status) → Tells order script helm setup sink status → Ended (Ready (Playing order script files)) sink status
+  told_ended sink Done tells = all_told sink tells
+  told_ended sink CheckNo tells = absurd tells
+  told_ended sink Usage tells = absurd tells
+  told_ended sink LoadFault tells = absurd tells
+  told_ended sink WriteFault tells = ((front_told sink tells.0).0, tells.1)
+  told_ended sink (Refused refusal) tells = absurd tells
+  told_ended sink NoMemory (inl untouched) = inl untouched
+  told_ended sink NoMemory (inr front) = inr (front_told sink front)
+
+-- modes are declared where there is a declaration
+pub declared : (decls : List Decl) → nat_lt 0 (length decls) ≡ are_declared_modes decls
+declared [] = refl
+declared (decl ∷ decls) = lt-ltb 0 (length (decl ∷ decls)) (omega arith)

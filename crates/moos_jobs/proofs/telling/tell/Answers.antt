@@ -1,0 +1,88 @@
+-- The run is told from its opening, round by round, to its end.
+use Rattle.std.proofs.Common.{◌≡◌, ◌+◌, ◌∙◌, ap, arith, length, refl, subst, sym, List, ℕ, Option}
+use Rattle.std.specs.Prelude.{IfNone, IfSome}
+use Rattle.moos_io.specs.Pieces.{Took, TookFront}
+use Rattle.moos_play.specs.declared.playing.Play.{Play}
+use Rattle.moos_play.specs.Plays.{clients_in, HasCompletion, history_in, IsBetween, IsPlayedOut, iterations_made}
+use Rattle.moos_play.specs.Steered.{GoesOnWith}
+use Rattle.moos_play.proofs.Handing.{goes_on_twice}
+use Rattle.moos_report.specs.Parts.{front_text}
+use Rattle.moos_jobs.specs.Steps.{sinking}
+use Rattle.moos_jobs.specs.Telling.{IsToldSoFar, Tells}
+use Rattle.moos_jobs.proofs.Fetching.{IsNamed, named_on}
+use Rattle.moos_jobs.proofs.Rounds.{end_told, few_made, none_made, run_as, told_front}
+use Rattle.moos_jobs.proofs.telling.tell.Goals as goal
+
+pub returns-in-Err : goal.returns-in-Err
+returns-in-Err g c =
+    let play = c.args.play.now in
+    let before = g.K.Sink.taken c.args.out.now in
+    let after = g.K.Sink.taken c.tell_opening.new.out in
+    let none = none_made play c.requires.between c.requires.named c.requires.begun in
+    let front = subst (λ made. TookFront before after (front_text c.args.setup.now (clients_in play) (history_in play) made)) (sym none) c.in-Err.ensures.front in
+    (told_front c.args.setup.now play c.parts_law.ensures.fronts c.requires.between c.requires.named c.front_law.ensures before after _ _ front, c.in-Err.ensures.rose)
+
+pub loop-more-init : goal.loop-more-init
+loop-more-init g c =
+    let play = c.args.play.now in
+    let before = g.K.Sink.taken c.args.out.now in
+    let after = g.K.Sink.taken c.tell_opening.new.out in
+    let same = sym c.tell_opening.ensures.same in
+    let none = none_made play c.requires.between c.requires.named c.requires.begun in
+    record {
+      empty = c.new-buffer.ensures;
+      between = subst IsBetween same c.requires.between;
+      named = subst IsNamed same c.requires.named;
+      on = subst HasCompletion same c.front_law.ensures;
+      same = subst (GoesOnWith play) same (record { script = refl; lock = refl; order = refl; helm = refl });
+      made = sym (ap length none) ∙ ap (λ (play : Play). length (iterations_made play)) same;
+      told = subst (IsToldSoFar c.args.setup.now before after) same
+          (subst (λ made. Took before after (front_text c.args.setup.now (clients_in play) (history_in play) made)) (sym none) c.in_default.ensures.ok);
+      later = c.tell_opening.ensures.later;
+    }
+
+pub overflow_add-made : goal.overflow_add-made
+overflow_add-made g c =
+    let made = subst (λ more. IfSome more (λ more. length (iterations_made c.tell_round.new.play) ≡ c.loop-more.made + more)) c.in-Ok-Some.field-0-is c.in-Ok-Some.ensures.made in
+    omega (arith, few_made c.tell_round.new.play c.in-Ok-Some.ensures.between, made)
+
+pub loop-more-preserved : goal.loop-more-preserved
+loop-more-preserved g c =
+    let old = c.loop-more.play in
+    let new = c.tell_round.new.play in
+    let kept = c.loop-more.invariant in
+    let is = c.in-Ok-Some.field-0-is in
+    let on = c.in-Ok-Some.ensures.same in
+    record {
+      empty = c.in-Ok-Some.ensures.empty;
+      between = c.in-Ok-Some.ensures.between;
+      named = named_on old new on kept.named;
+      on = subst (λ more. IfSome more (λ _. HasCompletion new)) is c.in-Ok-Some.ensures.on;
+      same = goes_on_twice c.args.play.now old new kept.same on;
+      made = sym (subst (λ more. IfSome more (λ more. length (iterations_made new) ≡ c.loop-more.made + more)) is c.in-Ok-Some.ensures.made);
+      told = (subst (λ more. IfSome more (λ _. (before : Option (List ℕ)) → IsToldSoFar c.args.setup.now before (g.K.Sink.taken c.loop-more.out) old → IsToldSoFar c.args.setup.now before (g.K.Sink.taken c.tell_round.new.out) new))
+          is c.in-Ok-Some.ensures.told) (g.K.Sink.taken c.args.out.now) kept.told;
+      later = omega (arith, kept.later, c.in-Ok-Some.ensures.later);
+    }
+
+pub returns-in-Ok-None : goal.returns-in-Ok-None
+returns-in-Ok-None g c =
+    let old = c.loop-more.play in
+    let new = c.tell_round.new.play in
+    let kept = c.loop-more.invariant in
+    let before = g.K.Sink.taken c.args.out.now in
+    let between = g.K.Sink.taken c.tell_round.new.out in
+    let sink = sinking before (g.K.Sink.taken c.tell_end.new.out) (g.K.Sink.faults c.args.out.now) (g.K.Sink.faults c.tell_end.new.out) in
+    let over = subst (λ more. IfNone more (IsPlayedOut new × (new ≡ old) × (between ≡ g.K.Sink.taken c.loop-more.out))) c.in-Ok-None.field-0-is c.in-Ok-None.ensures.over in
+    let on = goes_on_twice c.args.play.now old new kept.same c.in-Ok-None.ensures.same in
+    let told = subst (IsToldSoFar c.args.setup.now before between) (sym over.1) (subst (λ between. IsToldSoFar c.args.setup.now before between old) (sym over.2) kept.told) in
+    run_as (λ order script helm. Tells order script helm c.args.setup.now sink c.written.result) on.order on.script on.helm
+    (end_told c.args.setup.now new before between _ _ (g.K.Sink.faults c.tell_round.new.out) _ c.tell_end.result c.written.result (named_on old new c.in-Ok-None.ensures.same kept.named) over.0 told
+    c.tell_end.ensures.ok c.tell_end.ensures.front (omega (arith, kept.later, c.in-Ok-None.ensures.later)) c.tell_end.ensures.rose c.written.ensures.all c.written.ensures.fault)
+
+pub returns-in-Err-tell_round : goal.returns-in-Err-tell_round
+returns-in-Err-tell_round g c =
+    let kept = c.loop-more.invariant in
+    let sink = sinking (g.K.Sink.taken c.args.out.now) (g.K.Sink.taken c.tell_round.new.out) (g.K.Sink.faults c.args.out.now) (g.K.Sink.faults c.tell_round.new.out) in
+    run_as (λ order script helm. Tells order script helm c.args.setup.now sink c.in-Err-tell_round.status) kept.same.order kept.same.script kept.same.helm
+    (c.in-Err-tell_round.ensures.stopped (g.K.Sink.taken c.args.out.now) (g.K.Sink.faults c.args.out.now) kept.later kept.on kept.told)

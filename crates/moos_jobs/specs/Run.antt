@@ -1,0 +1,104 @@
+-- What a run of the program does, by the status that it ends with.
+use Rattle.std.specs.Prelude.{◌≡◌, ℕ, false, ◌⊎◌, List, [], ◌∷◌, ◌++◌, Option, Some, None, IfSome}
+use Rattle.moos_io.specs.Faults.{Rose}
+use Rattle.moos_io.specs.Files.{is_among}
+use Rattle.moos_text.specs.declared.cause.Cause.{Cause}
+use Rattle.moos_text.specs.declared.cause.ReadFault.TheVariants.{At}
+use Rattle.moos_jobs.specs.declared.job.Job.{Job}
+use Rattle.moos_jobs.specs.declared.status.FileKind.{FileKind}
+use Rattle.moos_jobs.specs.declared.status.Status.{Status}
+use Rattle.moos_jobs.specs.declared.status.Status.TheVariants.{Usage, LoadFault, Refused, NoMemory}
+use Rattle.moos_jobs.specs.Jobs.{FileTurn, Ready, Task, Unfit, Wanted, job_named, turn_of}
+use Rattle.moos_jobs.specs.Steps.{Ended, IsUntouched, Sinking, WroteAll}
+
+-- What surrounds a run besides its words: what the folder tells of its files, the names that it is sure of, and how often it
+-- failed before the run and after it; and the sink.
+pub record Surroundings : Type 0 where
+  pub told : Option (List ℕ → Option (List ℕ))
+  pub sure : List (List ℕ)
+  pub load_faults_before : ℕ
+  pub load_faults_after : ℕ
+  pub sink : Sinking
+
+-- the surroundings with these parts, in their order
+abbrev pub surroundings : Option (List ℕ → Option (List ℕ)) → List (List ℕ) → ℕ → ℕ → Sinking → Surroundings
+surroundings told sure load_faults_before load_faults_after sink =
+    record { told = told; sure = sure; load_faults_before = load_faults_before; load_faults_after = load_faults_after; sink = sink }
+
+-- the folder's file of this name has these bytes, where the folder tells them
+abbrev pub HasBytes : Option (List ℕ → Option (List ℕ)) → List ℕ → List ℕ → Type 0
+HasBytes told name bytes = IfSome told (λ files. files name ≡ Some bytes)
+
+-- these are the bytes of the file that is wanted
+abbrev pub WasWanted : Option (List ℕ → Option (List ℕ)) → FileTurn → List ℕ → Type 0
+WasWanted told (Wanted kind name) bytes = HasBytes told name bytes
+WasWanted told (Ready task) bytes = ⊥
+WasWanted told (Unfit kind fault) bytes = ⊥
+
+-- the job, which has loaded the first files, loads the second ones behind them, each where it is wanted
+abbrev pub AreLoaded : Option (List ℕ → Option (List ℕ)) → Job → List (List ℕ) → List (List ℕ) → Type 0
+AreLoaded told job front [] = Unit {0}
+AreLoaded told job front (bytes ∷ files) = WasWanted told (turn_of job front) bytes × AreLoaded told job (front ++ bytes ∷ []) files
+
+-- the job, which has loaded the first files, loads more of them and ends so
+pub record DidFrom (run : Surroundings) (job : Job) (front : List (List ℕ)) (status : Status) : Type 0 where
+  pub files : List (List ℕ)
+  pub loaded : AreLoaded run.told job front files
+  pub ended : Ended (turn_of job (front ++ files)) run.sink status
+
+-- the job, which has loaded the first files, loads more of them up to one whose loading fails: the folder failed, and it isn't sure
+-- of this file; nothing was written
+pub record FailsFrom (run : Surroundings) (job : Job) (front : List (List ℕ)) : Type 0 where
+  pub rose : Rose run.load_faults_before run.load_faults_after
+  pub files : List (List ℕ)
+  pub loaded : AreLoaded run.told job front files
+  pub kind : FileKind
+  pub name : List ℕ
+  pub wanted : turn_of job (front ++ files) ≡ Wanted kind name
+  pub unsure : is_among run.sure name ≡ false
+  pub silent : IsUntouched run.sink
+
+-- how a job that has loaded the first files goes on and ends: it fails at loading a file, or ends with those that it has
+abbrev pub EndsFrom : Surroundings → Job → List (List ℕ) → Status → Type 0
+EndsFrom run job front LoadFault = FailsFrom run job front
+EndsFrom run job front status = DidFrom run job front status
+
+-- the words name a job, which begins without a file and ends so
+pub record DidJob (words : List (List ℕ)) (run : Surroundings) (status : Status) : Type 0 where
+  pub job : Job
+  pub named : job_named words ≡ Some job
+  pub ended : EndsFrom run job [] status
+
+-- Usage: the words name no job. No load failed, and nothing was written.
+pub record HasNoJob (words : List (List ℕ)) (run : Surroundings) : Type 0 where
+  pub unnamed : job_named words ≡ None
+  pub load_faults : run.load_faults_after ≡ run.load_faults_before
+  pub silent : IsUntouched run.sink
+
+-- What a run with these words did that ended with this status. Where no memory was left to find the job, nothing was written.
+abbrev pub EndsWith : List (List ℕ) → Surroundings → Status → Type 0
+EndsWith words run Usage = HasNoJob words run
+EndsWith words run NoMemory = IsUntouched run.sink ⊎ DidJob words run NoMemory
+EndsWith words run status = DidJob words run status
+
+-- the words name this job, which loads these files where the folder tells its own, and neither loading nor writing fails
+pub record IsServed (words : List (List ℕ)) (run : Surroundings) (job : Job) (files : List (List ℕ)) : Type 0 where
+  pub told : List ℕ → Option (List ℕ)
+  pub telling : run.told ≡ Some told
+  pub named : job_named words ≡ Some job
+  pub loaded : AreLoaded run.told job [] files
+  pub loads : Rose run.load_faults_before run.load_faults_after → ⊥
+  pub puts : Rose run.sink.faults_before run.sink.faults_after → ⊥
+
+-- a job whose files are good, and that nothing fails at, writes all that it may write and end with this status: it is done,
+-- and a check answers whether the decision is accepted; unless no memory was left
+abbrev pub Completes : List (List ℕ) → Surroundings → Status → Type 0
+Completes words run status =
+    (job : Job) (files : List (List ℕ)) (task : Task) → IsServed words run job files → turn_of job files ≡ Ready task → WroteAll (Ready task) status run.sink ⊎ (status ≡ NoMemory)
+
+-- a job of whose files the last one isn't good, and that nothing fails at, is refused with that file's first refusal, unless no
+-- memory was left
+abbrev pub Refuses : List (List ℕ) → Surroundings → Status → Type 0
+Refuses words run status =
+    (job : Job) (files : List (List ℕ)) (kind : FileKind) (line : ℕ) (cause : Cause) → IsServed words run job files → turn_of job files ≡ Unfit kind (At line cause)
+    → (status ≡ Refused (record { file = kind; line = line; cause = cause })) ⊎ (status ≡ NoMemory)

@@ -1,0 +1,273 @@
+// The job that plays a script, with the helm of a mission or without one: its files one after another, and its report.
+ghost use Rattle.std.specs.Prelude.{◌≡◌, ◌<◌, ◌≤◌, ◌^◌, ◌++◌, ◌∷◌, ℕ, [], length, map, List, None, Some, Ok, IfOk, IsTrue, IfErr, OnOk};
+ghost use Rattle.bhv_reader.specs.declared.file.Block.{Block};
+ghost use Rattle.bhv_reader.specs.Validity.{IsValidFile, serves};
+ghost use Rattle.mission_reader.specs.Missions.{mission_of};
+ghost use Rattle.mission_reader.specs.Validity.{IsValidMission};
+ghost use Rattle.moos_text.specs.Refusals.{IsFirst, and_then};
+ghost use Rattle.moos_jobs.specs.Jobs.{Ready, behaviors_turn, mission_turn, no_modes, turn_of, with_few_ticks};
+ghost use Rattle.moos_jobs.specs.Jobs.Task.{Playing};
+ghost use Rattle.moos_jobs.specs.Run.{EndsFrom, surroundings};
+ghost use Rattle.moos_jobs.specs.Steps.{Ended, sinking};
+ghost use Rattle.moos_jobs.specs.declared.job.Job.{Job};
+ghost use Rattle.moos_jobs.specs.declared.job.Job.TheVariants.{Play};
+ghost use Rattle.script_reader.specs.Validity.{IsValid};
+
+use crate::running::{load, refused, unloaded, written};
+use crate::status::{FileKind, Status};
+use crate::telling::play_rounds;
+use bhv_reader::{BhvFile, Block, read_behaviors};
+use helm_core::{Helm, plan_law};
+use mission_reader::{Mission, read_mission};
+use moos_io::{Folder, Gate, Sink};
+use moos_play::{HelmRun, Order, play};
+use moos_post::{Copied, List, Name, Names, NoMemory, Txt};
+use moos_report::{Setup, report, report_law};
+use moos_text::{Cause, ReadFault};
+use script_reader::{Script, read_script};
+use std::alloc::Global;
+use std::mem;
+use std::sync::Wait;
+use std::thread::Threads;
+
+// The most iterations that a helm may have in a run.
+const MOST_TICKS: u64 = 20_000;
+
+/// Loads and reads the script, and plays it: alone, or with the mission of this name. The helm has so many workers.
+pub fn play_files<R: Threads + Wait + Sync, F: Folder, K: Sink, G: Gate>(
+    rt: &R,
+    alloc: Global,
+    name: &Txt,
+    mission: &Option<Txt>,
+    order: Order,
+    workers: u32,
+    folder: &mut F,
+    out: &mut K,
+    gate: &G,
+) -> Status
+    requires few { (1 ≤ workers) × (workers ≤ 16) }
+    ensures ends { EndsFrom (surroundings (F.told folder.old) (F.sure folder.old) (F.faults folder.old) (F.faults folder.new)
+        (sinking (K.taken out.old) (K.taken out.new) (K.faults out.old) (K.faults out.new))) (Play name.now mission.now order workers) [] result }
+    ensures same { (F.told folder.new ≡ F.told folder.old) × (F.sure folder.new ≡ F.sure folder.old) }
+{
+    let bytes = match load(alloc, folder, name.bytes()) {
+        Ok(bytes) => bytes,
+        Err(fault) => return unloaded(fault),
+    };
+    let script = match read_script(alloc, &bytes) {
+        Ok(script) => script,
+        Err(fault) => return refused(FileKind::Script, fault),
+    };
+    match mission {
+        Some(mission) => play_mission(
+            rt, alloc, &script, mission, order, workers, folder, out, gate,
+        ),
+        None => play_alone(rt, alloc, &script, order, out, gate),
+    }
+}
+
+// Loads and reads the mission of this name, and plays the script with it.
+fn play_mission<R: Threads + Wait + Sync, F: Folder, K: Sink, G: Gate>(
+    rt: &R,
+    alloc: Global,
+    script: &Script,
+    name: &Txt,
+    order: Order,
+    workers: u32,
+    folder: &mut F,
+    out: &mut K,
+    gate: &G,
+) -> Status
+    requires few { (1 ≤ workers) × (workers ≤ 16) }
+    requires valid { IsValid script.now }
+    // Whichever job the script was loaded for.
+    ensures ends { (job : Job) (front : List (List ℕ)) → ((files : List (List ℕ)) → turn_of job (front ++ files) ≡ mission_turn order script.now name.now files)
+        → EndsFrom (surroundings (F.told folder.old) (F.sure folder.old) (F.faults folder.old) (F.faults folder.new)
+        (sinking (K.taken out.old) (K.taken out.new) (K.faults out.old) (K.faults out.new))) job front result }
+    ensures same { (F.told folder.new ≡ F.told folder.old) × (F.sure folder.new ≡ F.sure folder.old) }
+{
+    let bytes = match load(alloc, folder, name.bytes()) {
+        Ok(bytes) => bytes,
+        Err(fault) => return unloaded(fault),
+    };
+    match read_for(alloc, script, &bytes) {
+        Ok(mission) => play_behaviors(
+            rt, alloc, script, &mission, order, workers, folder, out, gate,
+        ),
+        Err(fault) => refused(FileKind::Mission, fault),
+    }
+}
+
+// Reads a mission for a script, during which its helm may not have too many iterations.
+fn read_for(alloc: Global, script: &Script, bytes: &[u8]) -> Result<Mission, ReadFault>
+    requires short { length bytes.now < 2 ^ 32 }
+    requires valid { IsValid script.now }
+    ensures read { IfOk result (λ mission. and_then (with_few_ticks script.now) (mission_of bytes.now) ≡ Ok mission) }
+    ensures refused { IfErr result (λ fault. IsFirst fault (and_then (with_few_ticks script.now) (mission_of bytes.now))) }
+    ensures valid { IfOk result IsValidMission }
+{
+    let mission = read_mission(alloc, bytes)?;
+    if script.stop / mission.period + 1 <= MOST_TICKS {
+        Ok(mission)
+    } else {
+        Err(ReadFault::At {
+            line: mission.lines,
+            cause: Cause::M8,
+        })
+    }
+}
+
+// Loads and reads the behaviour file of the mission, and plays the script with a helm of both.
+fn play_behaviors<R: Threads + Wait + Sync, F: Folder, K: Sink, G: Gate>(
+    rt: &R,
+    alloc: Global,
+    script: &Script,
+    mission: &Mission,
+    order: Order,
+    workers: u32,
+    folder: &mut F,
+    out: &mut K,
+    gate: &G,
+) -> Status
+    requires few { (1 ≤ workers) × (workers ≤ 16) }
+    requires valid { IsValid script.now }
+    requires mission { IsValidMission mission.now }
+    // Whichever job the script and the mission were loaded for.
+    ensures ends { (job : Job) (front : List (List ℕ)) → ((files : List (List ℕ)) → turn_of job (front ++ files) ≡ behaviors_turn order script.now mission.now files)
+        → EndsFrom (surroundings (F.told folder.old) (F.sure folder.old) (F.faults folder.old) (F.faults folder.new)
+        (sinking (K.taken out.old) (K.taken out.new) (K.faults out.old) (K.faults out.new))) job front result }
+    ensures same { (F.told folder.new ≡ F.told folder.old) × (F.sure folder.new ≡ F.sure folder.old) }
+{
+    let bytes = match load(alloc, folder, mission.behaviors.bytes()) {
+        Ok(bytes) => bytes,
+        Err(fault) => return unloaded(fault),
+    };
+    match read_behaviors(alloc, &bytes, &mission.domain) {
+        Ok(file) => play_helm(rt, alloc, script, mission, file, order, workers, out, gate),
+        Err(fault) => refused(FileKind::Behaviors, fault),
+    }
+}
+
+// Plays the script with a helm of this mission and behaviour file, and writes its report as it comes.
+fn play_helm<R: Threads + Wait + Sync, K: Sink, G: Gate>(
+    rt: &R,
+    alloc: Global,
+    script: &Script,
+    mission: &Mission,
+    mut file: BhvFile,
+    order: Order,
+    workers: u32,
+    out: &mut K,
+    gate: &G,
+) -> Status
+    requires few { (1 ≤ workers) × (workers ≤ 16) }
+    requires valid { IsValid script.now }
+    requires mission { IsValidMission mission.now }
+    requires file { IsValidFile file }
+    requires served { IsTrue (serves mission.now.domain file.blocks) }
+    ensures { Ended (Ready (Playing order script.now (Some (record { mission = mission.now; file = file }))))
+        (sinking (K.taken out.old) (K.taken out.new) (K.faults out.old) (K.faults out.new)) result }
+{
+    let Ok(behaviors) = names_of(alloc, file.blocks.all()) else {
+        return Status::NoMemory;
+    };
+    // The helm has no use of what no behaviour uses.
+    let unused = mem::replace(&mut file.unused, List::new(alloc));
+    let setup = Setup {
+        unused,
+        behaviors,
+        modes: file.decls.len() > 0,
+    };
+    let Ok(helm) = Helm::make(alloc, mission, file) else {
+        return Status::NoMemory;
+    };
+    let run = HelmRun {
+        helm,
+        period: mission.period,
+    };
+    plan_law();
+    report_law();
+    play_rounds(
+        rt,
+        alloc,
+        script,
+        Some(run),
+        &setup,
+        order,
+        workers,
+        out,
+        gate,
+    )
+}
+
+// Plays the script without a helm, and writes its report as it comes.
+fn play_alone<R: Threads + Wait + Sync, K: Sink, G: Gate>(
+    rt: &R,
+    alloc: Global,
+    script: &Script,
+    order: Order,
+    out: &mut K,
+    gate: &G,
+) -> Status
+    requires valid { IsValid script.now }
+    ensures { Ended (Ready (Playing order script.now None)) (sinking (K.taken out.old) (K.taken out.new) (K.faults out.old) (K.faults out.new)) result }
+{
+    report_law();
+    let setup = no_modes(alloc);
+    if script.names.len() == 0 {
+        return play_nothing(rt, alloc, script, &setup, order, out, gate);
+    }
+    play_rounds(rt, alloc, script, None, &setup, order, 1, out, gate)
+}
+
+// Plays a script without clients, which makes no entry, and writes its report.
+fn play_nothing<R: Threads + Wait + Sync, K: Sink, G: Gate>(
+    rt: &R,
+    alloc: Global,
+    script: &Script,
+    setup: &Setup,
+    order: Order,
+    out: &mut K,
+    gate: &G,
+) -> Status
+    requires valid { IsValid script.now }
+    requires setup { setup.now ≡ no_modes }
+    ensures { Ended (Ready (Playing order script.now None)) (sinking (K.taken out.old) (K.taken out.new) (K.faults out.old) (K.faults out.new)) result }
+{
+    match play(rt, alloc, script, None, order, 1, gate) {
+        Ok(ran) => {
+            report_law();
+            written(Status::Done, report(setup, &ran.db, &[], out))
+        }
+        Err(_) => Status::NoMemory,
+    }
+}
+
+// The names of the behaviours, in file order.
+fn names_of(alloc: Global, blocks: &[Block]) -> Result<Names, NoMemory>
+    ensures { IfOk result (λ names. names ≡ map (λ (block : Block). block.common.name) blocks.now) }
+{
+    let mut names = Names::new(alloc);
+    for block in blocks {
+        push_copy(alloc, &mut names, &block.common.name)?;
+    }
+    Ok(names)
+}
+
+// Adds a copy of the name at the end.
+fn push_copy(alloc: Global, names: &mut Names, name: &Name) -> Result<(), NoMemory>
+    ensures { OnOk result (names.new ≡ names.old ++ name.now ∷ []) }
+{
+    names.add(name.copy(alloc)?)
+}
+
+// The setup of a script without a mission: no behaviours and no modes.
+fn no_modes(alloc: Global) -> Setup
+    ensures { result ≡ no_modes }
+{
+    Setup {
+        unused: List::new(alloc),
+        behaviors: List::new(alloc),
+        modes: false,
+    }
+}

@@ -1,0 +1,225 @@
+// A run whose report is written as it comes: how it begins before the first round, and what each round brings before the next.
+ghost use Rattle.std.specs.Prelude.{◌≡◌, ◌+◌, ◌<◌, ◌≤◌, [], drop, length, option_map, take, IfErr, IfNone, IfOk, IfSome, OnErr, OnOk, Option, List, ℕ};
+ghost use Rattle.moos_io.specs.Faults.{Rose};
+ghost use Rattle.moos_io.specs.Pieces.{Took, TookFront};
+ghost use Rattle.moos_play.specs.Lawful.{MayStart, names_with, opening, steering_with};
+ghost use Rattle.moos_play.specs.Plays.{clients_in, HasCompletion, helm_in, history_in, IsBetween, IsPlayedOut, IsSeated, iterations_made, left_in, order_played, script_played};
+ghost use Rattle.moos_play.specs.Steered.{GoesOnWith};
+ghost use Rattle.moos_report.specs.IterationLines.{helm_fetches};
+ghost use Rattle.moos_report.specs.Parts.{front_text};
+ghost use Rattle.moos_report.specs.Report.{end_text, entries_text};
+ghost use Rattle.moos_jobs.specs.Steps.{sinking};
+ghost use Rattle.moos_jobs.specs.Telling.{IsToldSoFar, Tells};
+ghost use Rattle.script_reader.specs.Validity.{IsValid};
+
+use crate::running::written;
+use crate::status::Status;
+use moos_db::Db;
+use moos_io::{Buffer, Failed, Gate, Sink};
+use moos_play::{HelmRun, Order, Play, Round};
+use moos_post::List;
+use moos_report::{Setup, parts_law, report_end, report_head, report_part, report_part_through};
+use script_reader::Script;
+use std::alloc::Global;
+use std::sync::Wait;
+use std::thread::Threads;
+
+/// Plays the script round by round, with this helm or without one, and writes the report of each round before the next one
+/// begins. There is a client or a helm.
+pub fn play_rounds<R: Threads + Wait + Sync, K: Sink, G: Gate>(
+    rt: &R,
+    alloc: Global,
+    script: &Script,
+    helm: Option<HelmRun>,
+    setup: &Setup,
+    order: Order,
+    workers: u32,
+    out: &mut K,
+    gate: &G,
+) -> Status
+    requires valid { IsValid script.now }
+    requires helm { IfSome helm MayStart }
+    requires some { 0 < length (names_with script.now helm) }
+    requires few { (1 ≤ workers) × (workers ≤ 16) }
+    ensures { Tells order script.now (option_map (steering_with script.now) helm) setup.now
+        (sinking (K.taken out.old) (K.taken out.new) (K.faults out.old) (K.faults out.new)) result }
+{
+    match Play::make(rt, alloc, script, helm, List::new(alloc), order, gate) {
+        Ok(mut play) => tell(rt, alloc, &mut play, setup, workers, out, gate),
+        Err(_) => Status::NoMemory,
+    }
+}
+
+// Tells a run from its opening to its end.
+fn tell<R: Threads + Wait + Sync, K: Sink, G: Gate>(
+    rt: &R,
+    alloc: Global,
+    play: &mut Play,
+    setup: &Setup,
+    workers: u32,
+    out: &mut K,
+    gate: &G,
+) -> Status
+    requires between { IsBetween play.old }
+    requires named { clients_in play.old ≡ names_with (script_played play.old) (helm_in play.old) }
+    requires begun { history_in play.old ≡ opening (helm_in play.old) }
+    requires few { (1 ≤ workers) × (workers ≤ 16) }
+    ensures { Tells (order_played play.old) (script_played play.old) (helm_in play.old) setup.now
+        (sinking (K.taken out.old) (K.taken out.new) (K.faults out.old) (K.faults out.new)) result }
+{
+    play.front_law();
+    parts_law();
+    if let Err(_) = tell_opening(rt, play, setup, out) {
+        return Status::WriteFault;
+    }
+    let mut buffer = Buffer::new();
+    let mut made = 0;
+    loop {
+        match tell_round(
+            rt,
+            alloc,
+            play,
+            setup,
+            made,
+            workers,
+            &mut buffer,
+            out,
+            gate,
+        ) {
+            Ok(Some(more)) => made += more,
+            Ok(None) => return written(Status::Done, tell_end(rt, play, out)),
+            Err(status) => return status,
+        }
+    }
+}
+
+// Plays the next round and tells it, where the helm has made so many iterations before, and answers how many it made in it.
+// None where no round is left. The buffer is empty before and after.
+fn tell_round<R: Threads + Wait + Sync, K: Sink, G: Gate>(
+    rt: &R,
+    alloc: Global,
+    play: &mut Play,
+    setup: &Setup,
+    made: u64,
+    workers: u32,
+    buffer: &mut Buffer,
+    out: &mut K,
+    gate: &G,
+) -> Result<Option<u64>, Status>
+    requires empty { buffer.old ≡ [] }
+    requires between { IsBetween play.old }
+    requires named { clients_in play.old ≡ names_with (script_played play.old) (helm_in play.old) }
+    requires made { made ≡ length (iterations_made play.old) }
+    requires few { (1 ≤ workers) × (workers ≤ 16) }
+    ensures empty { OnOk result (buffer.new ≡ []) }
+    ensures between { OnOk result (IsBetween play.new) }
+    ensures same { OnOk result (GoesOnWith play.old play.new) }
+    ensures later { K.faults out.old ≤ K.faults out.new }
+    ensures made { IfOk result (λ more. IfSome more (λ more. length (iterations_made play.new) ≡ made + more)) }
+    ensures less { IfOk result (λ more. IfSome more (λ _. left_in play.new < left_in play.old)) }
+    ensures on { IfOk result (λ more. IfSome more (λ _. HasCompletion play.new)) }
+    // Whatever was told before.
+    ensures told { IfOk result (λ more. IfSome more (λ _. (before : Option (List ℕ))
+        → IsToldSoFar setup.now before (K.taken out.old) play.old → IsToldSoFar setup.now before (K.taken out.new) play.new)) }
+    ensures over { IfOk result (λ more. IfNone more (IsPlayedOut play.new × (play.new ≡ play.old) × (K.taken out.new ≡ K.taken out.old))) }
+    ensures stopped { IfErr result (λ status. (before : Option (List ℕ)) (faults : ℕ) → faults ≤ K.faults out.old → HasCompletion play.old
+        → IsToldSoFar setup.now before (K.taken out.old) play.old
+        → Tells (order_played play.old) (script_played play.old) (helm_in play.old) setup.now (sinking before (K.taken out.new) faults (K.faults out.new)) status) }
+{
+    parts_law();
+    let Ok(next) = play.round(rt, alloc, workers, gate) else {
+        return Err(Status::NoMemory);
+    };
+    let Some(round) = next else {
+        return Ok(None);
+    };
+    play.front_law();
+    if let Err(_) = tell_part(rt, play, setup, &round, made, buffer, out) {
+        return Err(Status::WriteFault);
+    }
+    Ok(Some(round.iterations.len() as u64))
+}
+
+// Tells how the run begins: its clients, and the entries of the helm's opening.
+fn tell_opening<R: Wait, K: Sink>(
+    rt: &R,
+    play: &mut Play,
+    setup: &Setup,
+    out: &mut K,
+) -> Result<(), Failed>
+    requires { IsSeated play.old }
+    ensures same { play.new ≡ play.old }
+    ensures ok { OnOk result (Took (K.taken out.old) (K.taken out.new) (front_text setup.now (clients_in play.old) (history_in play.old) [])) }
+    ensures front { OnErr result (TookFront (K.taken out.old) (K.taken out.new) (front_text setup.now (clients_in play.old) (history_in play.old) [])) }
+    ensures later { K.faults out.old ≤ K.faults out.new }
+    ensures rose { OnErr result (Rose (K.faults out.old) (K.faults out.new)) }
+{
+    let held = play.hold(rt);
+    let told = report_front(setup, held.value(), out);
+    play.put_back(held);
+    told
+}
+
+// Writes how the report of the database begins, and its entries so far, among which there is no iteration.
+fn report_front<K: Sink>(setup: &Setup, db: &Db, out: &mut K) -> Result<(), Failed>
+    ensures ok { OnOk result (Took (K.taken out.old) (K.taken out.new) (front_text setup.now db.now.names db.now.history [])) }
+    ensures front { OnErr result (TookFront (K.taken out.old) (K.taken out.new) (front_text setup.now db.now.names db.now.history [])) }
+    ensures later { K.faults out.old ≤ K.faults out.new }
+    ensures rose { OnErr result (Rose (K.faults out.old) (K.faults out.new)) }
+{
+    if let Err(failed) = report_head(setup, db, out) {
+        return Err(failed);
+    }
+    report_part(setup, db, 0, 0, &[], out)
+}
+
+// Tells what a round brought, where the helm has made so many iterations before, through an empty buffer.
+fn tell_part<R: Wait, K: Sink>(
+    rt: &R,
+    play: &mut Play,
+    setup: &Setup,
+    round: &Round,
+    made: u64,
+    buffer: &mut Buffer,
+    out: &mut K,
+) -> Result<(), Failed>
+    requires empty { buffer.old ≡ [] }
+    requires seated { IsSeated play.old }
+    requires fetched { helm_fetches (clients_in play.old) (take round.now.from (history_in play.old)) ≡ made }
+    ensures empty { OnOk result (buffer.new ≡ []) }
+    ensures same { play.new ≡ play.old }
+    ensures ok { OnOk result (Took (K.taken out.old) (K.taken out.new)
+        (entries_text setup.now made round.now.iterations (clients_in play.old) (take round.now.from (history_in play.old)) (drop round.now.from (history_in play.old)))) }
+    ensures front { OnErr result (TookFront (K.taken out.old) (K.taken out.new)
+        (entries_text setup.now made round.now.iterations (clients_in play.old) (take round.now.from (history_in play.old)) (drop round.now.from (history_in play.old)))) }
+    ensures later { K.faults out.old ≤ K.faults out.new }
+    ensures rose { OnErr result (Rose (K.faults out.old) (K.faults out.new)) }
+{
+    let held = play.hold(rt);
+    let iterations = round.iterations.all();
+    let told = report_part_through(
+        setup,
+        held.value(),
+        round.from,
+        made,
+        iterations,
+        buffer,
+        out,
+    );
+    play.put_back(held);
+    told
+}
+
+// Tells how the run ends.
+fn tell_end<R: Wait, K: Sink>(rt: &R, play: &mut Play, out: &mut K) -> Result<(), Failed>
+    requires { IsSeated play.old }
+    ensures ok { OnOk result (Took (K.taken out.old) (K.taken out.new) (end_text (history_in play.old))) }
+    ensures front { OnErr result (TookFront (K.taken out.old) (K.taken out.new) (end_text (history_in play.old))) }
+    ensures later { K.faults out.old ≤ K.faults out.new }
+    ensures rose { OnErr result (Rose (K.faults out.old) (K.faults out.new)) }
+{
+    let held = play.hold(rt);
+    let told = report_end(held.value(), out);
+    play.put_back(held);
+    told
+}

@@ -1,6 +1,0 @@
--- Where no memory was left for the words, nothing was put.
-use Rattle.std.proofs.Common.{inl, refl}
-use Rattle.moos_top.proofs.run.run.Goals as goal
-
-pub returns-in-Err-clause-ran : goal.returns-in-Err-clause-ran
-returns-in-Err-clause-ran g c = inl (record { taken = refl; faults = refl })

@@ -1,0 +1,58 @@
+// The files of several subjects: scripts, problems, missions, and what is written of some of them.
+use mission_maker::{SURVEY_BEHAVIORS, SURVEY_MISSION};
+use std::alloc::Global;
+use std::process::Abort;
+
+pub(crate) const FIRST_SCRIPT: &str = "0 pA register X\n1 pA post X=5\n2 pA fetch\n3 pA fetch\n";
+
+pub(crate) const FIRST_REPORT: &str =
+    "%% moosdb play 1\n%% client 0 pA\n%% entry 0 0 pA register\n%% reg X * 0\n\
+    %% entry 1 1 pA post 0 1\n1 X pA 5\n%% entry 2 2 pA fetch\n%% mail 0 1 X pA 5\n%% entry 3 3 pA fetch\n%% end 4 1\n";
+
+pub(crate) const FIRST_PROBLEM: &str =
+    "ivp 1\ndomain course:0:359:360\nfunction 100\npiece 0 359 7 0\nend\n";
+
+pub(crate) const FIRST_DECISION: &str = "decision 0 700\ncut : 700 0\ndone\n";
+
+// A vehicle is deployed and given to the helm.
+pub(crate) const DEPLOYING_SCRIPT: &str =
+    "0 nav post DEPLOY=true # MOOS_MANUAL_OVERRIDE=false\n0.25 until\n";
+
+pub(crate) const COURSE_MISSION: &str =
+    "ProcessConfig = pHelmIvP\n{\nAppTick = 4\nbehaviors = alpha.bhv\ndomain = course:0:359:360\n}\n";
+
+pub(crate) const MODES: &str = "set MODE = ACTIVE {\nDEPLOY = true\n} INACTIVE\n";
+
+// A survey of five points, and the way back: its script, its mission, and its behaviour file.
+pub(crate) const ALPHA: [&str; 3] = [
+    "0 uNav post NAV_X=0 # NAV_Y=0\n0.1 uTimer post DEPLOY=true # MOOS_MANUAL_OVERRIDE=false\n\
+    10 uNav post NAV_X=60 # NAV_Y=-40\n60 until\n",
+    SURVEY_MISSION,
+    SURVEY_BEHAVIORS,
+];
+
+// The lines of a problem and those of its decision.
+pub(crate) fn decided(rt: &impl Abort, alloc: Global, problem: &str, decision: &str) -> String {
+    let mut text = problem.to_string(alloc).expect(rt, "memory");
+    append(rt, &mut text, &[decision]);
+    text
+}
+
+pub(crate) fn append(rt: &impl Abort, text: &mut String, pieces: &[&str]) {
+    for piece in pieces {
+        text.push_str(piece).expect(rt, "memory");
+    }
+}
+
+// 64 functions over the course, each of value 100,000 everywhere: this weight, and then 10,000.
+pub(crate) fn levels(rt: &impl Abort, alloc: Global, first: &str) -> String {
+    let mut text = String::new(alloc);
+    append(rt, &mut text, &["ivp 1\ndomain course:0:359:360\n"]);
+    for number in 0..64 {
+        let weight = if number == 0 { first } else { "10000" };
+        let function = ["function ", weight, "\npiece 0 359 100000 0\n"];
+        append(rt, &mut text, &function);
+    }
+    append(rt, &mut text, &["end\n"]);
+    text
+}

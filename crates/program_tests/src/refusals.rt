@@ -1,0 +1,185 @@
+// Runs that don't end well: files that are refused or absent, and a sink that fails.
+use crate::files::{
+    ALPHA, COURSE_MISSION, DEPLOYING_SCRIPT, FIRST_PROBLEM, FIRST_SCRIPT, MODES, levels,
+};
+use crate::runs::{command_line, ends, ends_so, folder_of, run_beside};
+use moos_io::{MemSink, NoGate};
+use moos_jobs::{FileKind, Refusal, Status, run};
+use moos_text::Cause;
+use std::alloc::Global;
+use std::process::Abort;
+use std::sync::Wait;
+use std::thread::Threads;
+
+const FAST: &str =
+    "ProcessConfig = pHelmIvP\n{\nAppTick = 1000\nbehaviors = alpha.bhv\ndomain = course:0:359:360\n}\n";
+
+#[test]
+fn bad_files_are_refused(rt: HostRuntime) {
+    let heavy = levels(&rt, rt.alloc(), "10001");
+    for (job, text, file, line, cause) in [
+        (
+            "play",
+            "1 a post X=1\n0.5 a fetch\n",
+            FileKind::Script,
+            2,
+            Cause::S2,
+        ),
+        ("play", "0 pHelmIvP fetch", FileKind::Script, 1, Cause::S9),
+        ("play", "0 a jump", FileKind::Script, 1, Cause::S3),
+        ("play", "0 a post X=\"open", FileKind::Script, 1, Cause::S5),
+        ("play", "0 a register N#", FileKind::Script, 1, Cause::S6),
+        ("play", "0 a register X -1", FileKind::Script, 1, Cause::S7),
+        ("play", FIRST_PROBLEM, FileKind::Script, 1, Cause::S1),
+        ("solve", "", FileKind::Problem, 1, Cause::P9),
+        ("solve", heavy.as_str(), FileKind::Problem, 3, Cause::P6),
+        (
+            "solve",
+            "ivp 1\ndomain a:0:2:3\nfunction 1\npiece 0 1 0 0\npiece 1 2 0 0\nend\n",
+            FileKind::Problem,
+            3,
+            Cause::P4,
+        ),
+        (
+            "solve",
+            "ivp 1\ndomain a:0:2:3\nfunction 1\npiece 0 0 0 0\npiece 2 2 0 0\nend\n",
+            FileKind::Problem,
+            3,
+            Cause::P4,
+        ),
+    ] {
+        let status = Status::Refused(Refusal { file, line, cause });
+        ends_so(&rt, rt.alloc(), &[job, "f.txt"], text, status, "");
+    }
+}
+
+fn refused(file: FileKind, line: u32, cause: Cause) -> Status {
+    Status::Refused(Refusal { file, line, cause })
+}
+
+// Played, these files end so, and nothing is written.
+fn is_told<R: Threads + Wait + Sync + Abort>(
+    rt: &R,
+    alloc: Global,
+    files: [&str; 3],
+    status: Status,
+) {
+    let (ended, out) = run_beside(rt, alloc, &["play", "s.txt", "m.moos"], files);
+    assert_eq!(rt; ended, status);
+    assert_eq!(rt; out.bytes().len(), 0);
+}
+
+#[test]
+fn the_first_file_that_fails_is_told(rt: HostRuntime) {
+    for (files, status) in [
+        (["0 a", "", ""], refused(FileKind::Script, 1, Cause::S3)),
+        ([DEPLOYING_SCRIPT, "", MODES], Status::LoadFault),
+        (
+            [DEPLOYING_SCRIPT, "}\n", ""],
+            refused(FileKind::Mission, 1, Cause::M1),
+        ),
+        ([DEPLOYING_SCRIPT, COURSE_MISSION, ""], Status::LoadFault),
+        (
+            [DEPLOYING_SCRIPT, COURSE_MISSION, "}\n"],
+            refused(FileKind::Behaviors, 1, Cause::B1),
+        ),
+        (
+            ["20 until\n", FAST, ""],
+            refused(FileKind::Mission, 6, Cause::M8),
+        ),
+        (["19.999 until\n", FAST, ""], Status::LoadFault),
+    ] {
+        is_told(&rt, rt.alloc(), files, status);
+    }
+}
+
+// A text with the first of these words made another one, or ended before them.
+fn changed(rt: &impl Abort, alloc: Global, text: &str, old: &str, new: Option<&str>) -> String {
+    let changed = match (text.split_once(old), new) {
+        (Some((before, behind)), Some(new)) => format!(in alloc; "{before}{new}{behind}"),
+        (Some((before, _)), None) => before.to_string(alloc),
+        (None, _) => text.to_string(alloc),
+    };
+    changed.expect(rt, "memory")
+}
+
+// The survey, each of its files changed so, ends so.
+fn survey_ends<R: Threads + Wait + Sync + Abort>(
+    rt: &R,
+    alloc: Global,
+    old: &str,
+    new: Option<&str>,
+    status: Status,
+) {
+    let script = changed(rt, alloc, ALPHA[0], old, new);
+    let mission = changed(rt, alloc, ALPHA[1], old, new);
+    let behaviors = changed(rt, alloc, ALPHA[2], old, new);
+    let files = [script.as_str(), mission.as_str(), behaviors.as_str()];
+    is_told(rt, alloc, files, status);
+}
+
+#[test]
+fn a_changed_survey_is_refused(rt: HostRuntime) {
+    for (old, new, file, line, cause) in [
+        (
+            "  capture_radius = 2.0\n",
+            None,
+            FileKind::Behaviors,
+            30,
+            Cause::B2,
+        ),
+        (
+            "BHV_Waypoint",
+            Some("BHV_Way"),
+            FileKind::Behaviors,
+            4,
+            Cause::B3,
+        ),
+        (
+            "speed:0:4:41",
+            Some("speed:4:4:1"),
+            FileKind::Mission,
+            10,
+            Cause::M3,
+        ),
+    ] {
+        survey_ends(&rt, rt.alloc(), old, new, refused(file, line, cause));
+    }
+}
+
+#[test]
+fn an_absent_file_is_a_load_fault(rt: HostRuntime) {
+    for job in ["play", "solve", "check"] {
+        let words = command_line(&rt, rt.alloc(), &[job, "absent.txt"]);
+        assert_eq!(rt; ends(&rt, rt.alloc(), &words), Status::LoadFault);
+    }
+}
+
+// A sink of which each put takes 7 bytes, and the second one fails.
+fn failing_sink(rt: &impl Abort, alloc: Global) -> MemSink {
+    let mut out = MemSink::make(alloc, 10_000, 7).expect(rt, "memory");
+    out.fail_at(1).expect(rt, "memory");
+    out
+}
+
+// Into such a sink a run of the job writes this front.
+fn leaves<R: Threads + Wait + Sync + Abort>(
+    rt: &R,
+    alloc: Global,
+    job: &str,
+    text: &str,
+    front: &str,
+) {
+    let words = command_line(rt, alloc, &[job, "f.txt"]);
+    let mut folder = folder_of(rt, alloc, text);
+    let mut out = failing_sink(rt, alloc);
+    let status = run(rt, alloc, &words, &mut folder, &mut out, &NoGate);
+    assert_eq!(rt; status, Status::WriteFault);
+    assert_eq!(rt; out.bytes(), front.as_bytes());
+}
+
+#[test]
+fn a_failed_put_leaves_a_front(rt: HostRuntime) {
+    leaves(&rt, rt.alloc(), "play", FIRST_SCRIPT, "%% moos");
+    leaves(&rt, rt.alloc(), "solve", FIRST_PROBLEM, "ivp 1\nd");
+}
