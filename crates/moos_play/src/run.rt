@@ -1,6 +1,7 @@
 // The whole of a run, round by round.
 ghost use Rattle.std.specs.Prelude.{◌≡◌, ◌≤◌, [], length, option_map, IfOk, IfSome, OnOk};
 ghost use Rattle.moos_play.specs.Lawful.{heard_of, helm_number, MayStart, IsLawful, iterations, names_with, steering_with};
+ghost use Rattle.moos_play.specs.Plays.{StaysSeated};
 ghost use Rattle.moos_play.specs.Steered.{GoesOnWith, IsAtPlay, left_of, told_in};
 ghost use Rattle.script_reader.specs.Validity.{IsValid};
 
@@ -65,8 +66,10 @@ pub fn play<R: Threads + Wait + Sync, G: Gate>(
         return play_none(alloc, script);
     }
     let mut play = Play::make(rt, alloc, script, helm, List::new(alloc), order, gate)?;
-    play_out(rt, alloc, &mut play, script, workers, gate)?;
-    Ok(play.close(alloc))
+    let played = play_out(rt, alloc, &mut play, script, workers, gate);
+    let ran = play.close(alloc);
+    played?;
+    Ok(ran)
 }
 
 // What a run leaves that has no clients.
@@ -96,6 +99,7 @@ fn play_out<R: Threads + Wait + Sync, G: Gate>(
     ensures at_play { OnOk result (IsAtPlay script.now play.new) }
     ensures same { OnOk result (GoesOnWith play.old play.new) }
     ensures told { OnOk result (told_in play.new.steersman ≡ told_in play.old.steersman) }
+    ensures seated { StaysSeated play.old play.new }
     ensures over { OnOk result (left_of script.now play.new ≡ 0) }
 {
     while play.go_on(rt, alloc, script, workers, gate)? {}

@@ -63,9 +63,7 @@ fn add_names(alloc: Global, names: &mut Names, more: &[Name]) -> Result<(), NoMe
     ensures { OnOk result (names.new ≡ names.old ++ more.now) }
 {
     for name in more {
-        let Ok(()) = names.push(name.copy(alloc)?) else {
-            return Err(AllocError);
-        };
+        names.add(name.copy(alloc)?)?;
     }
     Ok(())
 }
@@ -76,9 +74,7 @@ fn known_names(alloc: Global, script: &Script, helm: &Option<HelmRun>) -> Result
 {
     let mut names = script.names.copy(alloc)?;
     if helm.is_some() {
-        let Ok(()) = names.push(helm_name(alloc)?) else {
-            return Err(AllocError);
-        };
+        names.add(helm_name(alloc)?)?;
     }
     Ok(names)
 }

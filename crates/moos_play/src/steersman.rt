@@ -10,8 +10,8 @@ use crate::round::see_all;
 use helm_core::{Helm, Iteration};
 use moos_client::{Lock, Seat, fetch, post, register};
 use moos_io::Gate;
-use moos_post::{Copied, List, NoMemory};
-use std::alloc::{AllocError, Global};
+use moos_post::{Batch, Copied, List, NoMemory};
+use std::alloc::Global;
 use std::sync::Wait;
 use std::thread::Threads;
 
@@ -199,10 +199,25 @@ fn tell<R: Wait>(
     ensures kept { OnOk result (iterations.new ≡ iterations.old ++ iteration ∷ []) }
     ensures stopped { OnErr result (MayHaveCalled seat.old seat.new stamp (Posts iteration.posts)) }
 {
-    post(rt, alloc, lock, seat, stamp, iteration.posts.copy(alloc)?)?;
-    let Ok(()) = iterations.push(iteration) else {
-        return Err(AllocError);
-    };
+    post_copy(rt, alloc, lock, seat, stamp, &iteration.posts)?;
+    iterations.add(iteration)?;
+    Ok(())
+}
+
+// The helm posts the same as these pairs.
+fn post_copy<R: Wait>(
+    rt: &R,
+    alloc: Global,
+    lock: &Lock,
+    seat: &mut Seat,
+    stamp: u64,
+    pairs: &Batch,
+) -> Result<(), NoMemory>
+    requires { MayCall lock.now seat.old }
+    ensures posted { OnOk result (IsCalled seat.old seat.new stamp (Posts pairs.now)) }
+    ensures stopped { OnErr result (MayHaveCalled seat.old seat.new stamp (Posts pairs.now)) }
+{
+    post(rt, alloc, lock, seat, stamp, pairs.copy(alloc)?)?;
     Ok(())
 }
 

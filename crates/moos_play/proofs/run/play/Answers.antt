@@ -19,13 +19,13 @@ returns-then-is_none-clause-iterations g c = none_iterations c.args.script.now c
 pub returns-clause-lawful : goal.returns-clause-lawful
 returns-clause-lawful g c =
     let made = c.in_ok-play.ensures in
-    let out = c.in_ok-play_out.ensures in
-    lawful_whole c.args.order c.args.script.now c.play_out.new.play c.args.helm c.close.result.db.names c.close.result.db.history c.requires.valid.lines out.at_play out.over (out.same.order ∙ made.order) (out.same.helm ∙ made.helm)
-    c.close.ensures.names c.close.ensures.history (search rules)
+    let out = c.in_ok-played.ensures in
+    lawful_whole c.args.order c.args.script.now c.play_out-played.new.play c.args.helm c.close-ran.result.db.names c.close-ran.result.db.history c.requires.valid.lines out.at_play out.over (out.same.order ∙ made.order) (out.same.helm ∙ made.helm)
+    c.close-ran.ensures.names c.close-ran.ensures.history (search rules)
 
 pub returns-clause-iterations : goal.returns-clause-iterations
 returns-clause-iterations g c =
     let made = c.in_ok-play.ensures in
-    let out = c.in_ok-play_out.ensures in
-    iterations_end c.args.script.now c.play_out.new.play _ c.close.result.db.names c.close.result.db.history c.close.result.iterations out.at_play out.over (out.told ∙ none_told c.in_ok-play.play made.between made.begun) (out.same.helm ∙ made.helm)
-    c.close.ensures.names c.close.ensures.history c.close.ensures.iterations
+    let out = c.in_ok-played.ensures in
+    iterations_end c.args.script.now c.play_out-played.new.play _ c.close-ran.result.db.names c.close-ran.result.db.history c.close-ran.result.iterations out.at_play out.over (out.told ∙ none_told c.in_ok-play.play made.between made.begun) (out.same.helm ∙ made.helm)
+    c.close-ran.ensures.names c.close-ran.ensures.history c.close-ran.ensures.iterations

@@ -1,11 +1,13 @@
 -- The run is under way, and has gone on from where it stood.
 use Rattle.std.proofs.Common.{◌≡◌}
+use Rattle.moos_play.specs.Plays.{StaysSeated}
 use Rattle.moos_play.specs.Steered.{GoesOnWith, IsAtPlay, left_of, told_in}
 use Rattle.moos_play.proofs.run.play_out.Given as goal
 
 abbrev pub invariant-loop : goal.invariant-loop
 invariant-loop g l = record {
   at_play : IsAtPlay l.script l.play;
+  seated : StaysSeated l.fn.play l.play;
   same : GoesOnWith l.fn.play l.play;
   told : told_in l.play.steersman ≡ told_in l.fn.play.steersman;
 }
