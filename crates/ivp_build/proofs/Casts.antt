@@ -1,16 +1,21 @@
 -- Numbers of 64 bits that stay small: what the code's sums and products of a sampled utility are.
-use Rattle.std.proofs.Common.{◌≡◌, ℕ, Bool, true, false, ◌&&◌, ◌-◌, ℤ, pos, neg_ℤ, ◌+ℤ◌, ◌-ℤ◌, ◌*ℤ◌, ◌≤ℤ◌, to_z, of_z, w64, refl, sym, subst, ap, ◌∙◌, arith}
+use Rattle.std.proofs.Common.{◌≡◌, ℕ, Bool, true, false, ◌&&◌, ◌-◌, ◌<◌, ◌^◌, ℤ, pos, neg_ℤ, ◌+ℤ◌, ◌-ℤ◌, ◌*ℤ◌, ◌≤ℤ◌, to_z, of_z, w64, FitsSigned, refl, sym, subst, ap, ◌∙◌, arith}
 use Rattle.std.specs.Prelude.{◌==◌, int_div, slice_index}
 use Rattle.std.proofs.lemmas.Bool.Decides.{nat_tests}
 use Rattle.std.proofs.lemmas.Int.{ints}
 use Rattle.ivp_domain.specs.declared.boxes.BoxN.{BoxN}
 use Rattle.ivp_domain.specs.declared.boxes.Point.{Point}
+use Rattle.ivp_domain.specs.Boxes.{is_box}
+use Rattle.ivp_func.proofs.Facts.{low_le_high}
 use Rattle.ivp_func.specs.Pieces.{is_slope, is_value}
 use Rattle.ivp_build.specs.Sampled.{IsRise, high_end, low_corner, sampled_slope}
 use Rattle.ivp_build.proofs.Sampling.{by_place_small, value_rise}
 
 pub rise_kept : (z : ℤ) → IsRise z → to_z w64 (of_z w64 z) ≡ z
 rise_kept z h = omega (arith, ints)
+
+pub rise_small : (z : ℤ) → IsRise z → IsRise (to_z w64 (of_z w64 z))
+rise_small z h = subst IsRise (sym (rise_kept z h)) h
 
 pub value_kept : (z : ℤ) → is_value z ≡ true → to_z w64 (of_z w64 z) ≡ z
 value_kept z h = rise_kept z (value_rise z h)
@@ -43,6 +48,9 @@ rise_from m z e h = subst (λ (n : ℤ). IsRise (to_z w64 (of_z w64 n))) (sym e)
 -- a small number turned round
 pub turned_kept : (r : ℤ) → IsRise r → to_z w64 (of_z w64 (pos 0 -ℤ to_z w64 (of_z w64 r))) ≡ pos 0 -ℤ r
 turned_kept r h = rw (rise_kept r h) (omega (arith, ints))
+
+pub turned_fits : (r : ℤ) → IsRise r → FitsSigned w64 (pos 0 -ℤ to_z w64 (of_z w64 r))
+turned_fits r h = rw (rise_kept r h) (omega (arith, ints))
 
 turned_rise : (r : ℤ) → IsRise r → IsRise (pos 0 -ℤ r)
 turned_rise r h = (omega (arith, ints), omega (arith, ints))
@@ -92,3 +100,7 @@ both_tests false b s e h = absurd (cc)
 pub first_test : (a b s : Bool) → a ≡ false → (a && b) ≡ s → a ≡ s
 first_test true b s e h = absurd (cc)
 first_test false b s e h = h
+
+-- the low end of a box of few places
+pub low_few : (area : BoxN) → is_box area ≡ true → ((axis : ℕ) → axis < 4 → slice_index area.high axis < 2 ^ 22) → (axis : ℕ) → axis < 4 → slice_index area.low axis < 2 ^ 22
+low_few area proper few axis h = omega (arith, low_le_high area proper axis h, few axis h)

@@ -11,6 +11,9 @@ pub mod Bands
 pub mod Lawful
 pub mod Searches
 pub mod Circles
+pub mod GoodAxes
+pub mod Widths
+pub mod Profiles
 pub mod Nearest
 pub mod Meets
 pub mod Totals

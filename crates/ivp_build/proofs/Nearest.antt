@@ -1,5 +1,5 @@
 -- The nearest place is one of three: the first, the first of those below the number with the greatest number, the first of the others.
-use Rattle.std.proofs.Common.{◌≡◌, ℕ, Bool, zero, suc, true, ◌+◌, ◌-◌, ◌*◌, ◌/◌, ◌^◌, ◌<◌, ◌≤◌, ◌⊎◌, inl, inr, ℤ, pos, negsuc, neg_ℤ, ◌-ℤ◌, ◌*ℤ◌, ◌<ℤ◌, ◌≤ℤ◌, nat_abs, to_z, of_z, w64, refl, sym, ◌∙◌, ap, subst, arith}
+use Rattle.std.proofs.Common.{◌≡◌, ℕ, Bool, zero, suc, true, false, ◌+◌, ◌-◌, ◌*◌, ◌/◌, ◌^◌, ◌<◌, ◌≤◌, ◌⊎◌, inl, inr, ℤ, pos, negsuc, neg_ℤ, ◌-ℤ◌, ◌*ℤ◌, ◌<ℤ◌, ◌≤ℤ◌, nat_abs, to_z, of_z, w64, refl, sym, ◌∙◌, ap, subst, arith}
 use Rattle.std.proofs.Math.Nat.{div-le_of_le-mul, div-mul-le_self, le-div_iff_mul-le, mul-le-mul}
 use Rattle.std.proofs.lemmas.Bool.{and_parts, cases_lt, cases_Bool, lt-ltb, le-ltb}
 use Rattle.std.proofs.lemmas.Bool.Decides.{nat_tests, Decides-int_eq}
@@ -21,6 +21,20 @@ first_kept m a b h = rw (le-ltb (m b) (m a) h) refl
 
 second_taken : (m : ℕ → ℕ) (a b : ℕ) → m b < m a → nearer m a b ≡ b
 second_taken m a b h = rw (lt-ltb (m b) (m a) h) refl
+
+-- the same, where both measures are known
+pub first_nearer : (m : ℕ → ℕ) (x y a b : ℕ) → x ≡ m b → y ≡ m a → y ≤ x → a ≡ nearer m a b
+first_nearer m x y a b e e' h = sym (first_kept m a b (omega arith))
+
+pub second_nearer : (m : ℕ → ℕ) (x y a b : ℕ) → x ≡ m b → y ≡ m a → x < y → b ≡ nearer m a b
+second_nearer m x y a b e e' h = sym (second_taken m a b (omega arith))
+
+-- how far a number is from that at a place
+pub miss_round : (axis : Axis) (number : ℤ) (place : ℕ) → wraps axis ≡ true → miss axis number place ≡ shorter_way 360000 (nat_abs (value_on axis place -ℤ number))
+miss_round axis number place h = rw h refl
+
+pub miss_along : (axis : Axis) (number : ℤ) (place : ℕ) → wraps axis ≡ false → miss axis number place ≡ nat_abs (value_on axis place -ℤ number)
+miss_along axis number place h = rw h refl
 
 abbrev least_from : (ℕ → ℕ) → ℕ → ℕ → ℕ → ℕ
 least_from m low count best = fold (nearer m) best (numbers_from low count)

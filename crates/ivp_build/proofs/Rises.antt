@@ -1,5 +1,5 @@
 -- A change times a place stays small.
-use Rattle.std.proofs.Common.{◌≡◌, ℕ, suc, ◌<◌, ◌≤◌, ◌*◌, ◌^◌, ℤ, pos, negsuc, neg_ℤ, ◌*ℤ◌, ◌≤ℤ◌, to_z, of_z, w64, FitsSigned, refl, arith}
+use Rattle.std.proofs.Common.{◌≡◌, ℕ, suc, ◌<◌, ◌≤◌, ◌*◌, ◌^◌, ℤ, pos, negsuc, neg_ℤ, ◌-ℤ◌, ◌*ℤ◌, ◌≤ℤ◌, to_z, of_z, w64, FitsSigned, refl, arith}
 use Rattle.std.proofs.Math.Nat.{mul-le-mul}
 use Rattle.std.proofs.lemmas.Int.{ints}
 
@@ -24,3 +24,15 @@ small_cast z p q = omega (arith, ints)
 
 pub small_fits : (z : ℤ) → neg_ℤ (pos (10 ^ 5 * 2 ^ 22)) ≤ℤ z → z ≤ℤ pos (10 ^ 5 * 2 ^ 22) → FitsSigned w64 z
 small_fits z p q = omega (arith, ints)
+
+-- a change as it is passed, and a utility less a rise
+pub change_kept : (z : ℤ) → neg_ℤ (pos 100000) ≤ℤ z → z ≤ℤ pos 100000 → to_z w64 (of_z w64 z) ≡ z
+change_kept z p q = omega (arith, ints)
+
+pub base_fits : (utility rise : ℤ) → pos 0 ≤ℤ utility → utility ≤ℤ pos 100000 → neg_ℤ (pos (10 ^ 5 * 2 ^ 22)) ≤ℤ rise → rise ≤ℤ pos (10 ^ 5 * 2 ^ 22)
+    → FitsSigned w64 (to_z w64 (of_z w64 utility) -ℤ to_z w64 (of_z w64 rise))
+base_fits utility rise u u' r r' = omega (arith, ints)
+
+pub base_kept : (utility rise : ℤ) → pos 0 ≤ℤ utility → utility ≤ℤ pos 100000 → neg_ℤ (pos (10 ^ 5 * 2 ^ 22)) ≤ℤ rise → rise ≤ℤ pos (10 ^ 5 * 2 ^ 22)
+    → to_z w64 (of_z w64 (to_z w64 (of_z w64 utility) -ℤ to_z w64 (of_z w64 rise))) ≡ utility -ℤ rise
+base_kept utility rise u u' r r' = omega (arith, ints)

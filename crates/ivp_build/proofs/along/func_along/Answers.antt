@@ -1,5 +1,6 @@
 use Rattle.std.proofs.Common.{◌≡◌, ℕ, true, ◌^◌, ◌<◌, ◌≤◌, List, Err, map, length, sym, ◌∙◌, ap, subst, arith}
 use Rattle.ivp_domain.specs.declared.axis.Axis.{Axis}
+use Rattle.ivp_domain.proofs.Sizes.{four_axes}
 use Rattle.ivp_func.specs.declared.piece.Piece.{Piece}
 use Rattle.ivp_func.specs.Functions.{Function}
 use Rattle.ivp_func.specs.Making.{MadeFunction}
@@ -21,6 +22,18 @@ made axes number count p ends pieces h e e' e'' =
 ready : (axes : List Axis) (number count : ℕ) (p : Profile) → count ≡ size_on number axes → is_domain axes ≡ true → number < length axes → count ≤ 2 ^ 22
     → IsProfileOf (size_on number axes) p → Fits axes number p
 ready axes number count p e lawful listed few h = fits axes number p lawful listed (omega arith) h
+
+pub ends-requires-clause-profile : goal.ends-requires-clause-profile
+ends-requires-clause-profile c = subst (λ count. IsProfileOf count c.args.profile.now) (sym c.axis_on-count.ensures.count) c.requires.profile
+
+pub pieces_by-requires-clause-axis : goal.pieces_by-requires-clause-axis
+pieces_by-requires-clause-axis c = let four = four_axes c.args.domain.now c.axis_on-count.ensures.lawful in omega (arith, c.requires.axis)
+
+pub pieces_by-requires-clause-profile : goal.pieces_by-requires-clause-profile
+pieces_by-requires-clause-profile c = subst (λ count. IsProfileOf count c.args.profile.now) (sym c.axis_on-count.ensures.count) c.requires.profile
+
+pub pieces_by-requires-clause-within : goal.pieces_by-requires-clause-within
+pieces_by-requires-clause-within c = c.ends.ensures.within
 
 pub make-requires : goal.make-requires
 make-requires c =

@@ -1,10 +1,29 @@
 use Rattle.std.proofs.Common.{◌≡◌, Some, arith, ap, sym, ◌∙◌, map}
 use Rattle.std.proofs.lemmas.List.{take_all}
 use Rattle.std.specs.Prelude.{slice_get}
-use Rattle.ivp_func.proofs.Facts.{area_point}
+use Rattle.ivp_domain.specs.declared.boxes.BoxN.{BoxN}
+use Rattle.ivp_domain.specs.Boxes.{has_point}
+use Rattle.ivp_func.proofs.Facts.{area_point, box_parts}
 use Rattle.ivp_build.specs.Sampled.{boxes_of, sampled_piece}
 use Rattle.ivp_build.proofs.Covers.{box_small, boxes_all, made_more, numbered, sampled_more}
 use Rattle.ivp_build.proofs.sampled.sampled_pieces.Goals as goal
+
+pub runs_at-requires-clause-least : goal.runs_at-requires-clause-least
+runs_at-requires-clause-least g c = ap (λ (runs : BoxN). runs.low) c.all_runs-runs.ensures.runs
+
+pub box_of_runs-area-requires-clause-within : goal.box_of_runs-area-requires-clause-within
+box_of_runs-area-requires-clause-within g c = ap (λ (runs : BoxN). has_point runs c.runs_at.result) (sym c.all_runs-runs.ensures.runs) ∙ c.runs_at.ensures.inside
+
+pub sampled_piece-requires-clause-proper : goal.sampled_piece-requires-clause-proper
+sampled_piece-requires-clause-proper g c = (box_parts c.args.domain.now c.box_of_runs-area.result c.box_of_runs-area.ensures.inside).0
+
+pub returns-clause-sampled : goal.returns-clause-sampled
+returns-clause-sampled g c =
+    let all = boxes_all c.args.domain.now c.args.size c.volume-count.result c.all_runs-runs.result c.all_runs-runs.ensures.runs c.volume-count.ensures.points in
+    record {
+      all = omega (arith, all, c.loop-number.invariant.count);
+      each = c.loop-number.invariant.each;
+    }
 
 pub sampled_piece-requires-clause-few : goal.sampled_piece-requires-clause-few
 sampled_piece-requires-clause-few g c = box_small c.args.domain.now c.box_of_runs-area.result c.all_runs-runs.ensures.lawful c.box_of_runs-area.ensures.inside

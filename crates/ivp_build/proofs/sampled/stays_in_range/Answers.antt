@@ -2,7 +2,7 @@ use Rattle.std.proofs.Common.{◌≡◌, ℤ, pos, to_z, of_z, w64, ap, sym, ◌
 use Rattle.std.specs.Prelude.{int_le}
 use Rattle.ivp_func.proofs.Facts.{low_le_high}
 use Rattle.ivp_build.specs.Sampled.{least_growth, most_growth}
-use Rattle.ivp_build.proofs.Casts.{both_tests, first_test, rise_kept, total_is, value_kept, value_small}
+use Rattle.ivp_build.proofs.Casts.{both_tests, first_test, rise_kept, rise_small, total_is, value_kept, value_small}
 use Rattle.ivp_build.proofs.Sampling.{five_same, least_value, most_value, range_test, value_rise}
 use Rattle.ivp_build.proofs.sampled.stays_in_range.Goals as goal
 
@@ -17,6 +17,36 @@ total-least-requires-clause-value c = value_small c.args.value c.requires.value_
 
 pub total-most-requires-clause-value : goal.total-most-requires-clause-value
 total-most-requires-clause-value c = value_small c.args.value c.requires.value_fits
+
+pub growth-one-requires-clause-proper : goal.growth-one-requires-clause-proper
+growth-one-requires-clause-proper c = low_le_high c.args.area.now c.requires.proper 0 (omega arith)
+
+pub growth-two-requires-clause-proper : goal.growth-two-requires-clause-proper
+growth-two-requires-clause-proper c = low_le_high c.args.area.now c.requires.proper 1 (omega arith)
+
+pub total-least-requires-clause-one : goal.total-least-requires-clause-one
+total-least-requires-clause-one c = rise_small c.growth-one.result.0 c.growth-one.ensures.small.0
+
+pub total-least-requires-clause-two : goal.total-least-requires-clause-two
+total-least-requires-clause-two c = rise_small c.growth-two.result.0 c.growth-two.ensures.small.0
+
+pub total-least-requires-clause-three : goal.total-least-requires-clause-three
+total-least-requires-clause-three c = rise_small c.growth-three.result.0 c.growth-three.ensures.small.0
+
+pub total-least-requires-clause-four : goal.total-least-requires-clause-four
+total-least-requires-clause-four c = rise_small c.growth-four.result.0 c.growth-four.ensures.small.0
+
+pub total-most-requires-clause-one : goal.total-most-requires-clause-one
+total-most-requires-clause-one c = rise_small c.growth-one.result.1 c.growth-one.ensures.small.1
+
+pub total-most-requires-clause-two : goal.total-most-requires-clause-two
+total-most-requires-clause-two c = rise_small c.growth-two.result.1 c.growth-two.ensures.small.1
+
+pub total-most-requires-clause-three : goal.total-most-requires-clause-three
+total-most-requires-clause-three c = rise_small c.growth-three.result.1 c.growth-three.ensures.small.1
+
+pub total-most-requires-clause-four : goal.total-most-requires-clause-four
+total-most-requires-clause-four c = rise_small c.growth-four.result.1 c.growth-four.ensures.small.1
 
 pub returns-then-least-ge0 : goal.returns-then-least-ge0
 returns-then-least-ge0 c =

@@ -6,6 +6,12 @@ use Rattle.ivp_build.specs.Faults.{IsTooMany}
 use Rattle.ivp_build.proofs.Meets.{met_end, met_many, met_step}
 use Rattle.ivp_build.proofs.sums.add_sums.Goals as goal
 
+pub next_meet-requires : goal.next_meet-requires
+next_meet-requires c = (piece_parts c.args.g.now.axes c.args.one.now c.requires.one).0
+
+pub overflow_add-from : goal.overflow_add-from
+overflow_add-from c = omega (arith, c.in-Some.ensures.some)
+
 pub met_sum-sum-requires-clause-p : goal.met_sum-sum-requires-clause-p
 met_sum-sum-requires-clause-p c = (piece_parts c.args.g.now.axes c.args.one.now c.requires.one).1
 

@@ -1,8 +1,8 @@
-use Rattle.std.proofs.Common.{List, ap, ◌∙◌, arith}
+use Rattle.std.proofs.Common.{List, length, ◌≤◌, ap, subst, sym, ◌∙◌, arith}
 use Rattle.ivp_domain.specs.declared.axis.Axis.{Axis}
 use Rattle.ivp_func.specs.declared.piece.Piece.{Piece}
 use Rattle.ivp_func.specs.Functions.{Function}
-use Rattle.ivp_func.specs.Pieces.{are_pieces_of, value_at}
+use Rattle.ivp_func.specs.Pieces.{are_pieces_of, is_piece_of, value_at}
 use Rattle.ivp_build.proofs.Meets.{couple_all, couple_many, couple_more}
 use Rattle.ivp_build.proofs.Totals.{AreCoupled, couple_fits, couple_made, couple_value, coupled}
 use Rattle.ivp_build.proofs.sums.couple.Goals as goal
@@ -28,6 +28,20 @@ no_memory-requires c =
     let both : AreCoupled c.args.f.now.axes c.args.f.now.pieces c.args.g.now.pieces = coupled c.args.f.now c.args.g.now c.func_law.ensures c.func_law-2.ensures c.requires.domain c.requires.room c.requires.apart in
     let all = couple_all c.args.f.now.pieces c.args.g.now.pieces c.loop-number.number c.loop-number.pieces.items (omega arith) c.loop-number.invariant.added in
     couple_made c.args.f.now.axes c.domain.result c.args.f.now.pieces c.args.g.now.pieces c.loop-number.pieces.items both c.domain.ensures all c.loop-number.invariant.few c.in-Err-make.fault c.in-Err-make.ensures
+
+pub add_sums-requires-clause-one : goal.add_sums-requires-clause-one
+add_sums-requires-clause-one c = ap (λ (axes : List Axis). is_piece_of axes c.piece.result) (sym c.requires.domain) ∙ c.piece.ensures.fits
+
+pub returns-in-Ok-clause-pieces : goal.returns-in-Ok-clause-pieces
+returns-in-Ok-clause-pieces c =
+    let all = couple_all c.args.f.now.pieces c.args.g.now.pieces c.loop-number.number c.loop-number.pieces.items (omega arith) c.loop-number.invariant.added in
+    let made = c.in-Ok.ensures in
+    made.3 ∙ ap (λ axes. record { axes = axes; pieces = c.loop-number.pieces.items }) c.domain.ensures ∙ ap (λ pieces. record { axes = c.args.f.now.axes; pieces = pieces }) all
+
+pub returns-in-Ok-clause-few : goal.returns-in-Ok-clause-few
+returns-in-Ok-clause-few c =
+    let all = couple_all c.args.f.now.pieces c.args.g.now.pieces c.loop-number.number c.loop-number.pieces.items (omega arith) c.loop-number.invariant.added in
+    subst (λ (pieces : List Piece). length pieces ≤ 4096) all c.loop-number.invariant.few
 
 pub returns-in-Ok-clause-value : goal.returns-in-Ok-clause-value
 returns-in-Ok-clause-value c = λ p inside.
