@@ -1,5 +1,5 @@
 -- How the incumbent and the steps of a node come from those of its children.
-use Rattle.std.proofs.Common.{◌≡◌, ℕ, suc, ◌+◌, ◌-◌, ◌≤◌, ◌⊎◌, inl, inr, Bool, true, false, ◌||◌, Some, List, [], ◌∷◌, ◌++◌, length, refl, sym, ap, ◌∙◌, arith, length-append}
+use Rattle.std.proofs.Common.{◌≡◌, ℕ, zero, suc, ◌+◌, ◌-◌, ◌<◌, ◌≤◌, ◌⊎◌, inl, inr, Bool, true, false, ◌||◌, Some, List, [], ◌∷◌, ◌++◌, length, refl, sym, ap, ◌∙◌, arith, length-append}
 use Rattle.std.specs.List.{flat_map}
 use Rattle.std.specs.Option.{option_to_list}
 use Rattle.std.proofs.Math.Bool.{or-false, or-true}
@@ -74,3 +74,37 @@ size_more problem node child levels count is =
 -- a node and the nodes under its children
 pub size_all : (problem : WeightedSum) (node : Node) (levels : ℕ) → length problem.terms - node.depth ≡ suc levels → length (nodes_under problem node) ≡ suc (size_under problem levels (children_of problem node))
 size_all problem node levels e = ap (λ n. length (nodes_from problem n node)) e
+
+-- a node that is pruned, and one whose bound is reached
+pub pruned : (problem : WeightedSum) (f : Point → Bool) (incumbent bound : ℕ) → bound ≤ incumbent → ((p : Point) → f p ≡ true → key_at problem p ≤ bound) → IsBest problem f incumbent incumbent
+pruned problem f incumbent bound h above =
+    record {
+      kept = omega arith;
+      above = λ p inside. omega (arith, above p inside);
+      found = inl refl;
+    }
+
+pub reached : (problem : WeightedSum) (f : Point → Bool) (incumbent bound own : ℕ) → incumbent < bound → ((p : Point) → f p ≡ true → key_at problem p ≤ bound)
+    → bound ≡ own → ((p : Point) × (f p ≡ true) × (key_at problem p ≡ own)) → IsBest problem f incumbent bound
+reached problem f incumbent bound own h above e point = record { kept = omega arith; above = above; found = inr (point.0, point.1, point.2 ∙ sym e) }
+
+-- before the first child
+pub none_closed : (problem : WeightedSum) (incumbent : ℕ) → IsBest problem (has_in []) incumbent incumbent
+none_closed problem incumbent = record { kept = omega arith; above = λ p inside. absurd (cc); found = inl refl }
+
+-- the greatest of all keys
+pub greatest : (problem : WeightedSum) (f : Point → Bool) (best : Point) (key : ℕ) → IsBest problem f 0 key → f best ≡ true → 0 < key_at problem best
+    → ((p : Point) → f p ≡ true → key_at problem p ≤ key_at problem best) → key ≡ key_at problem best
+greatest problem f best key a inside some most = by a.found
+  where
+    by : (key ≡ 0) ⊎ ((p : Point) × (f p ≡ true) × (key_at problem p ≡ key)) → key ≡ key_at problem best
+    by (inl none) = absurd (omega (arith, a.above best inside))
+    by (inr found) = omega (arith, a.above best inside, most found.0 found.1, found.2)
+
+-- the step of a node itself
+pub one_counted : (problem : WeightedSum) (node : Node) (old new : ℕ) → new ≡ old + 1 → new ≤ old + length (nodes_under problem node)
+one_counted problem node old new e = omega (arith, some (length problem.terms - node.depth))
+  where
+    some : (levels : ℕ) → 1 ≤ length (nodes_from problem levels node)
+    some zero = omega arith
+    some (suc levels) = omega arith

@@ -2,11 +2,44 @@ use Rattle.std.proofs.Common.{◌≡◌, ◌+◌, ◌-◌, ◌<◌, suc, Some, l
 use Rattle.ivp_domain.specs.Boxes.{has_point}
 use Rattle.ivp_problem.specs.declared.node.Node.{Node}
 use Rattle.ivp_problem.specs.Nodes.{nodes_from, nodes_under}
-use Rattle.ivp_problem.specs.Trees.{child_of, children_of, has_in}
+use Rattle.ivp_problem.specs.Trees.{bound_of, child_of, children_of, has_in}
 use Rattle.ivp_search.specs.Incumbents.{IsBest}
 use Rattle.ivp_problem.proofs.Pieces.{child_depth, children_end, children_to, has_all, none_to}
-use Rattle.ivp_search.proofs.Closing.{closed_child, same_points, size_all, size_more, size_under}
+use Rattle.ivp_search.proofs.Closing.{closed_child, none_closed, one_counted, pruned, reached, same_points, size_all, size_more, size_under}
 use Rattle.ivp_search.proofs.search.+close.Goals as goal
+
+pub returns-then-bound-incumbent-clause-best : goal.returns-then-bound-incumbent-clause-best
+returns-then-bound-incumbent-clause-best g t c = pruned c.args.problem.now (has_point c.args.node.now.area) c.args.incumbent c.bound-bound.result c.if-bound-incumbent.true c.bound-bound.ensures.above
+
+pub returns-then-bound-incumbent-clause-counted : goal.returns-then-bound-incumbent-clause-counted
+returns-then-bound-incumbent-clause-counted g t c = one_counted c.args.problem.now c.args.node.now c.args.steps.now c.bound-bound.new.steps c.bound-bound.ensures.counted
+
+pub bound_law-requires-clause-full : goal.bound_law-requires-clause-full
+bound_law-requires-clause-full g t c = omega (arith, c.if-node-len.true, c.len.ensures.len)
+
+pub returns-then-node-len-clause-best : goal.returns-then-node-len-clause-best
+returns-then-node-len-clause-best g t c =
+    let problem = c.args.problem.now in
+    let node = c.args.node.now in
+    reached problem (has_point node.area) c.args.incumbent c.bound-bound.result (bound_of problem node) c.if-bound-incumbent.false c.bound-bound.ensures.above c.bound-bound.ensures.bound c.bound_law.ensures
+
+pub returns-then-node-len-clause-counted : goal.returns-then-node-len-clause-counted
+returns-then-node-len-clause-counted g t c = one_counted c.args.problem.now c.args.node.now c.args.steps.now c.bound-bound.new.steps c.bound-bound.ensures.counted
+
+pub children_law-requires-clause-depth : goal.children_law-requires-clause-depth
+children_law-requires-clause-depth g t c = omega (arith, c.if-node-len.false, c.len.ensures.len)
+
+pub loop-next-init : goal.loop-next-init
+loop-next-init g t c = record { few = omega arith; best = none_closed c.args.problem.now c.args.incumbent; steps = omega (arith, c.bound-bound.ensures.counted) }
+
+pub next_child-requires-clause-depth : goal.next_child-requires-clause-depth
+next_child-requires-clause-depth g t c = omega (arith, c.if-node-len.false, c.len.ensures.len)
+
+pub overflow_add-from : goal.overflow_add-from
+overflow_add-from g t c = omega (arith, c.in-Some.ensures.piece.1)
+
+pub loop-next-smaller : goal.loop-next-smaller
+loop-next-smaller g t c = omega (arith, c.in-Some.ensures.piece.0, c.in-Some.ensures.piece.1)
 
 pub loop-next-preserved : goal.loop-next-preserved
 loop-next-preserved g t c =
