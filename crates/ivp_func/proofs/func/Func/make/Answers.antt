@@ -4,9 +4,63 @@ use Rattle.ivp_func.specs.declared.grid.Grid.{Grid}
 use Rattle.ivp_func.specs.declared.piece.Piece.{Piece}
 use Rattle.ivp_func.specs.Cells.{IsGrid}
 use Rattle.ivp_func.specs.Functions.{HasValues, IsPartition, IsTop}
-use Rattle.ivp_func.specs.Pieces.{is_value, value_at}
+use Rattle.ivp_func.specs.Pieces.{are_pieces_of, count_at, is_value, value_at}
 use Rattle.ivp_func.proofs.Seeking.{ok_some}
 use Rattle.ivp_func.proofs.func.Func.make.Goals as goal
+
+pub misfit-requires-clause-fit : goal.misfit-requires-clause-fit
+misfit-requires-clause-fit c = ap (are_pieces_of c.args.domain.now) c.deref-2.ensures.value ∙ c.requires
+
+pub returns-in-Some : goal.returns-in-Some
+returns-in-Some c =
+    let point = c.in-Some.point in
+    let count = c.count-count.ensures ∙ ap (λ xs. count_at xs point) c.deref-in-Some.ensures.value in
+    let judged = ap (λ xs. count_at xs point) c.deref-2.ensures.value in (
+      search rules,
+      c.in-Some.ensures.some.0,
+      count,
+      λ one. c.in-Some.ensures.some.1 (judged ∙ sym count ∙ one),
+    )
+
+pub point_out-requires-clause-fit : goal.point_out-requires-clause-fit
+point_out-requires-clause-fit c = ap (are_pieces_of c.args.domain.now) c.deref-3.ensures.value ∙ c.requires
+
+pub point_out-requires-clause-partition : goal.point_out-requires-clause-partition
+point_out-requires-clause-partition c = subst (λ xs. IsPartition c.args.domain.now xs) (c.deref-2.ensures.value ∙ sym c.deref-3.ensures.value) c.in_default.ensures.none
+
+pub value_at-value-requires : goal.value_at-value-requires
+value_at-value-requires c = ap (are_pieces_of c.args.domain.now) c.deref-in-Some-point_out.ensures.value ∙ c.requires
+
+pub returns-in_default-grid : goal.returns-in_default-grid
+returns-in_default-grid c =
+    let axes = c.args.domain.now in (
+      search rules,
+      subst (λ xs. IsPartition axes xs) c.deref-2.ensures.value c.in_default.ensures.none,
+      subst (λ xs. HasValues axes xs) c.deref-3.ensures.value c.in_default-point_out.ensures.none,
+    )
+
+pub top-top-requires-clause-fit : goal.top-top-requires-clause-fit
+top-top-requires-clause-fit c = ap (are_pieces_of c.args.domain.now) c.deref-4.ensures.value ∙ c.requires
+
+pub top-top-requires-clause-partition : goal.top-top-requires-clause-partition
+top-top-requires-clause-partition c = subst (λ xs. IsPartition c.args.domain.now xs) (c.deref-2.ensures.value ∙ sym c.deref-4.ensures.value) c.in_default.ensures.none
+
+pub returns-in-Ok : goal.returns-in-Ok
+returns-in-Ok c =
+    let axes = c.args.domain.now in (
+      search rules,
+      subst (λ xs. IsPartition axes xs) c.deref-2.ensures.value c.in_default.ensures.none,
+      subst (λ xs. HasValues axes xs) c.deref-3.ensures.value c.in_default-point_out.ensures.none,
+      c.in-Ok.ensures,
+    )
+
+pub returns-in-Err : goal.returns-in-Err
+returns-in-Err c =
+    let axes = c.args.domain.now in (
+      search rules,
+      subst (λ xs. IsPartition axes xs) c.deref-2.ensures.value c.in_default.ensures.none,
+      subst (λ xs. HasValues axes xs) c.deref-3.ensures.value c.in_default-point_out.ensures.none,
+    )
 
 pub of-requires : goal.of-requires
 of-requires c =
