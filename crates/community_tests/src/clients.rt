@@ -4,7 +4,7 @@ ghost use Rattle.moos_client.specs.Calls.{MayCall};
 use crate::made::{batch, names, pattern, regs};
 use moos_client::{Lock, Seat, fetch, post, register, unregister};
 use moos_db::{Db, Mail};
-use moos_post::{Batch, Regs};
+use moos_post::Batch;
 use std::alloc::Global;
 use std::process::Abort;
 use std::sync::Wait;
@@ -28,19 +28,25 @@ fn community(rt: &impl Abort, alloc: Global) -> (Lock, Seat, Seat)
     }
 }
 
-fn everything(rt: &impl Abort, alloc: Global) -> Regs {
-    regs(rt, alloc, &["*", "0", "*"])
+// The letters are posts of these variables, with the numbers from 0 up.
+fn are_letters(rt: &impl Abort, mail: &Mail, vars: &[&str]) {
+    assert!(rt; mail.len() == vars.len());
+    for (place, (letter, var)) in mail.all().iter().zip(vars).enumerate() {
+        assert!(rt; letter.number == place as u64);
+        assert!(rt; letter.post.var.bytes() == var.as_bytes());
+    }
 }
 
-// The letters of one client behind a post of these variables by the other.
-fn heard<R: Wait + Abort>(
+// One client posts these variables, and the other then hears those.
+fn hears<R: Wait + Abort>(
     rt: &R,
     alloc: Global,
     lock: &Lock,
     from: &mut Seat,
     to: &mut Seat,
     vars: &[&str],
-) -> Mail
+    heard: &[&str],
+)
     requires from { MayCall lock.now from.old }
     requires to { MayCall lock.now to.old }
     ensures from { MayCall lock.now from.new }
@@ -48,13 +54,26 @@ fn heard<R: Wait + Abort>(
 {
     let posted = post(rt, alloc, lock, from, 1, batch(rt, alloc, vars));
     posted.expect(rt, "memory");
-    fetch(rt, alloc, lock, to, 2).expect(rt, "memory")
+    let mail = fetch(rt, alloc, lock, to, 2).expect(rt, "memory");
+    are_letters(rt, &mail, heard);
 }
 
-fn is_letter(rt: &impl Abort, mail: &Mail, number: u64, var: &str) {
-    assert!(rt; number < mail.len() as u64);
-    let letter = mail.get(number as usize);
-    assert!(rt; letter.number == number && letter.post.var.bytes() == var.as_bytes());
+fn register_for_all<R: Wait + Abort>(rt: &R, alloc: Global, lock: &Lock, seat: &mut Seat)
+    requires { MayCall lock.now seat.old }
+    ensures { MayCall lock.now seat.new }
+{
+    let everything = regs(rt, alloc, &["*", "0", "*"]);
+    let registered = register(rt, alloc, lock, seat, 0, everything);
+    registered.expect(rt, "memory");
+}
+
+fn withdraw_all<R: Wait + Abort>(rt: &R, alloc: Global, lock: &Lock, seat: &mut Seat)
+    requires { MayCall lock.now seat.old }
+    ensures { MayCall lock.now seat.new }
+{
+    let (var, source) = (pattern(rt, alloc, "*"), pattern(rt, alloc, "*"));
+    let withdrawn = unregister(rt, alloc, lock, seat, 3, var, source);
+    withdrawn.expect(rt, "memory");
 }
 
 // The pairs of one post are read back in their order, by who registered, until the registration is withdrawn.
@@ -70,16 +89,10 @@ fn call_once<R: Wait + Abort>(
     ensures first { MayCall lock.now first.new }
     ensures second { MayCall lock.now second.new }
 {
-    let registered = register(rt, alloc, lock, second, 0, everything(rt, alloc));
-    registered.expect(rt, "memory");
-    let mail = heard(rt, alloc, lock, first, second, &["X", "Y"]);
-    assert!(rt; mail.len() == 2);
-    is_letter(rt, &mail, 0, "X");
-    is_letter(rt, &mail, 1, "Y");
-    let (var, source) = (pattern(rt, alloc, "*"), pattern(rt, alloc, "*"));
-    let withdrawn = unregister(rt, alloc, lock, second, 3, var, source);
-    withdrawn.expect(rt, "memory");
-    assert!(rt; heard(rt, alloc, lock, first, second, &["X"]).len() == 0);
+    register_for_all(rt, alloc, lock, second);
+    hears(rt, alloc, lock, first, second, &["X", "Y"], &["X", "Y"]);
+    withdraw_all(rt, alloc, lock, second);
+    hears(rt, alloc, lock, first, second, &["X"], &[]);
 }
 
 #[test]

@@ -18,14 +18,17 @@ fn learnt(rt: &impl Abort, alloc: Global) -> Info {
     info
 }
 
+// Whether a copy of the condition holds.
+fn copy_holds(rt: &impl Abort, alloc: Global, info: &Info, cond: &Cond) -> bool {
+    let copied = cond.copy(alloc).expect(rt, "memory");
+    copied.holds(info, b"ACTIVE:SURVEYING")
+}
+
 // What comes of a condition: whether it holds, or None where the text is refused.
 fn told(rt: &impl Abort, alloc: Global, info: &Info, condition: &str) -> Option<bool> {
     assert!(rt; condition.len() < 1000);
     match Cond::read(alloc, condition.as_bytes()) {
-        Ok(cond) => {
-            let copied = cond.copy(alloc).expect(rt, "memory");
-            Some(copied.holds(info, b"ACTIVE:SURVEYING"))
-        }
+        Ok(cond) => Some(copy_holds(rt, alloc, info, &cond)),
         Err(CondFault::BadCondition) => None,
         Err(CondFault::NoMemory) => panic!(rt; "memory"),
     }
@@ -51,25 +54,38 @@ const REFUSED: &str = "
 or = 3
 X = \"abc";
 
+// The same comes of each row.
+fn come(rt: &impl Abort, alloc: Global, info: &Info, rows: &str, comes: Option<bool>) {
+    for row in rows.lines() {
+        assert!(rt; told(rt, alloc, info, row) == comes, "{row}");
+    }
+}
+
+fn all_come(rt: &impl Abort, alloc: Global, info: &Info) {
+    come(rt, alloc, info, HOLD, Some(true));
+    come(rt, alloc, info, FAIL, Some(false));
+    come(rt, alloc, info, REFUSED, None);
+}
+
 #[test]
 fn conditions(rt: HostRuntime) {
     let info = learnt(&rt, rt.alloc());
+    all_come(&rt, rt.alloc(), &info);
     let copied = info.copy(rt.alloc()).expect(&rt, "memory");
-    for (rows, comes) in [(HOLD, Some(true)), (FAIL, Some(false)), (REFUSED, None)] {
-        for row in rows.lines() {
-            assert_eq!(rt; told(&rt, rt.alloc(), &info, row), comes, "{row}");
-            assert_eq!(rt; told(&rt, rt.alloc(), &copied, row), comes, "{row}");
-        }
-    }
+    all_come(&rt, rt.alloc(), &copied);
+}
+
+fn names_two(rt: &impl Abort, cond: &Cond) {
+    assert!(rt; cond.variables() == 2);
+    assert!(rt; cond.variable(0).bytes() == b"X".as_slice());
+    assert!(rt; cond.variable(1).bytes() == b"MODE".as_slice());
+    assert!(rt; cond.parent().is_none());
 }
 
 #[test]
 fn parts_of_a_condition(rt: HostRuntime) {
     let cond = Cond::read(rt.alloc(), b"not X < 3 or (MODE = A)").expect(&rt, "a condition");
-    assert!(rt; cond.variables() == 2);
-    assert!(rt; cond.variable(0).bytes() == b"X".as_slice());
-    assert!(rt; cond.variable(1).bytes() == b"MODE".as_slice());
-    assert!(rt; cond.parent().is_none());
+    names_two(&rt, &cond);
 }
 
 #[test]
@@ -78,17 +94,26 @@ fn condition_that_names_a_parent(rt: HostRuntime) {
     assert!(rt; line.parent().is_some());
 }
 
+fn long_text(rt: &impl Abort, alloc: Global) -> Vec<u8> {
+    let mut text = Vec::new(alloc);
+    for _ in 0..20_000 {
+        let appended = text.extend_from_slice(b"not not Y=3 and ");
+        appended.expect(rt, "memory");
+    }
+    text.extend_from_slice(b"Y=3").expect(rt, "memory");
+    text
+}
+
+fn long(rt: &impl Abort, alloc: Global) -> Cond {
+    let text = long_text(rt, alloc);
+    assert!(rt; text.len() < 1_000_000);
+    Cond::read(alloc, text.as_slice()).expect(rt, "a condition")
+}
+
 // Neither reading nor asking goes deeper for a long condition.
 #[test]
 fn long_condition(rt: HostRuntime) {
-    let mut text = Vec::new(rt.alloc());
-    for _ in 0..20_000 {
-        text.extend_from_slice(b"not not Y=3 and ")
-            .expect(&rt, "memory");
-    }
-    text.extend_from_slice(b"Y=3").expect(&rt, "memory");
-    assert!(rt; text.len() < 1_000_000);
-    let cond = Cond::read(rt.alloc(), text.as_slice()).expect(&rt, "a condition");
-    assert!(rt; cond.holds(&learnt(&rt, rt.alloc()), b""));
-    assert_eq!(rt; cond.variables(), 20_001);
+    let cond = long(&rt, rt.alloc());
+    let info = learnt(&rt, rt.alloc());
+    assert!(rt; cond.holds(&info, b"") && cond.variables() == 20_001);
 }

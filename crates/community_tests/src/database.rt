@@ -174,22 +174,25 @@ const HEARD_LATER: &str = "0 1 post X
 2 0 fetch 0 1
 2 2 fetch 0 1";
 
+// Each is played by three clients.
+const CASES: [&str; 11] = [
+    INTERVAL,
+    LATE,
+    ANEW,
+    TWO_ARE_DUE,
+    WITHDRAWN_AND_MADE_AGAIN,
+    OTHER_SOURCE,
+    TWO_PATTERNS_SELECT_THE_LATEST,
+    LATE_FOR_MANY,
+    VARIABLE_TWICE_IN_A_BATCH,
+    STAMPS_FALL_BACK,
+    HEARD_LATER,
+];
+
 #[test]
 fn worked_rows(rt: HostRuntime) {
     let _ = played(&rt, rt.alloc(), "log two p q", PATTERNS);
-    for calls in [
-        INTERVAL,
-        LATE,
-        ANEW,
-        TWO_ARE_DUE,
-        WITHDRAWN_AND_MADE_AGAIN,
-        OTHER_SOURCE,
-        TWO_PATTERNS_SELECT_THE_LATEST,
-        LATE_FOR_MANY,
-        VARIABLE_TWICE_IN_A_BATCH,
-        STAMPS_FALL_BACK,
-        HEARD_LATER,
-    ] {
+    for calls in &CASES {
         let _ = played(&rt, rt.alloc(), "a b c", calls);
     }
 }

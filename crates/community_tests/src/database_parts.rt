@@ -3,7 +3,7 @@ ghost use Rattle.std.specs.Prelude.{◌≡◌, ◌<◌, length};
 
 use crate::database::played;
 use crate::made::{batch, names, regs};
-use moos_db::{Db, mails_of};
+use moos_db::{Db, Letter, Mail, mails_of};
 use moos_post::{Call, Entry, Value};
 use std::alloc::Global;
 use std::process::Abort;
@@ -38,6 +38,13 @@ fn tells_posts(rt: &impl Abort, db: &Db) {
     assert!(rt; origin.stamp == 2000 && origin.client == 1);
 }
 
+// The letter is that of post 1, which has the value 0.005.
+fn is_second(rt: &impl Abort, letter: &Letter) {
+    assert!(rt; letter.number == 1 && letter.post.stamp == 1000 && letter.post.source == 0);
+    assert!(rt; letter.post.var.bytes() == b"X".as_slice());
+    assert!(rt; matches!(&letter.post.value, Value::Num(number) if number.get() == 5));
+}
+
 // The numbers that a fetch gave are those of posts before it.
 fn tells_letters(rt: &impl Abort, alloc: Global, db: &mut Db)
     requires { 1 < length db.old.names }
@@ -46,10 +53,7 @@ fn tells_letters(rt: &impl Abort, alloc: Global, db: &mut Db)
     db.letters_law(3);
     assert!(rt; db.letters(1).len() == 0 && db.letters(3) == [1, 2].as_slice());
     assert!(rt; mail.len() == 2);
-    let letter = mail.get(0);
-    assert!(rt; letter.number == 1 && letter.post.stamp == 1000 && letter.post.source == 0);
-    assert!(rt; letter.post.var.bytes() == b"X".as_slice());
-    assert!(rt; matches!(&letter.post.value, Value::Num(number) if number.get() == 5));
+    is_second(rt, mail.get(0));
 }
 
 #[test]
@@ -72,18 +76,27 @@ fn entry(stamp: u64, call: Call) -> Entry
     }
 }
 
+fn add(rt: &impl Abort, calls: &mut Vec<Entry>, call: Call) {
+    calls.push(entry(1000, call)).expect(rt, "memory");
+}
+
 // A registration, a post, and two fetches.
 fn calls(rt: &impl Abort, alloc: Global) -> Vec<Entry> {
     let mut calls = Vec::new(alloc);
-    for call in [
-        Call::Register(regs(rt, alloc, &["X", "0", "*"])),
-        Call::Post(batch(rt, alloc, &["X"])),
-        Call::Fetch,
-        Call::Fetch,
-    ] {
-        calls.push(entry(1000, call)).expect(rt, "memory");
-    }
+    let registrations = regs(rt, alloc, &["X", "0", "*"]);
+    add(rt, &mut calls, Call::Register(registrations));
+    add(rt, &mut calls, Call::Post(batch(rt, alloc, &["X"])));
+    add(rt, &mut calls, Call::Fetch);
+    add(rt, &mut calls, Call::Fetch);
     calls
+}
+
+// Only the call at this place has a letter.
+fn are_mails(rt: &impl Abort, mails: &[Mail], place: usize) {
+    assert!(rt; mails.len() == 4);
+    for (k, mail) in mails.iter().enumerate() {
+        assert!(rt; mail.len() == if k == place { 1 } else { 0 });
+    }
 }
 
 // Each call has its mail in its own place.
@@ -94,8 +107,5 @@ fn mails_of_a_list_of_calls(rt: HostRuntime) {
     assert!(rt; names.len() == 1);
     assert!(rt; calls.iter().all(|call| call.client == 0));
     let mails = mails_of(rt.alloc(), names, calls).expect(&rt, "memory");
-    assert!(rt; mails.len() == 4);
-    for (k, mail) in mails.iter().enumerate() {
-        assert!(rt; mail.len() == if k == 2 { 1 } else { 0 });
-    }
+    are_mails(&rt, mails.as_slice(), 2);
 }

@@ -2,6 +2,7 @@ ghost use Rattle.std.specs.Prelude.{◌≡◌, IsTrue};
 ghost use Rattle.helm_geo.specs.Plane.{is_spot};
 
 use helm_geo::{Spot, bearing, convex, cos4, distance_squared, inside, isqrt, sin4, within};
+use std::process::Abort;
 
 /// The farthest that a step leads on each axis.
 const FAR: i64 = 2_000_000_000_000;
@@ -15,42 +16,63 @@ fn spot(x: i64, y: i64) -> Spot
     Spot { x, y }
 }
 
+// Each step, by how far it leads east and north, leads the farthest along its degree.
+fn lead(rt: &impl Abort, steps: &[(i64, i64, Option<u16>)]) {
+    for (east, north, degree) in steps {
+        assert!(rt; -FAR <= *east && *east <= FAR);
+        assert!(rt; -FAR <= *north && *north <= FAR);
+        assert!(rt; bearing(*east, *north) == *degree, "{east} {north}");
+    }
+}
+
+const EIGHT_WINDS: [(i64, i64, Option<u16>); 9] = [
+    (0, 7, Some(0)),
+    (7, 7, Some(45)),
+    (7, 0, Some(90)),
+    (7, -7, Some(135)),
+    (0, -7, Some(180)),
+    (-7, -7, Some(225)),
+    (-7, 0, Some(270)),
+    (-7, 7, Some(315)),
+    (0, 0, None),
+];
+
 #[test]
 fn eight_winds(rt: HostRuntime) {
-    assert_eq!(rt; bearing(0, 7), Some(0));
-    assert_eq!(rt; bearing(7, 7), Some(45));
-    assert_eq!(rt; bearing(7, 0), Some(90));
-    assert_eq!(rt; bearing(7, -7), Some(135));
-    assert_eq!(rt; bearing(0, -7), Some(180));
-    assert_eq!(rt; bearing(-7, -7), Some(225));
-    assert_eq!(rt; bearing(-7, 0), Some(270));
-    assert_eq!(rt; bearing(-7, 7), Some(315));
-    assert_eq!(rt; bearing(0, 0), None);
+    lead(&rt, &EIGHT_WINDS);
 }
+
+const GREATEST_DISTANCES: [(i64, i64, Option<u16>); 10] = [
+    (0, FAR, Some(0)),
+    (FAR, FAR, Some(45)),
+    (FAR, 0, Some(90)),
+    (FAR, -FAR, Some(135)),
+    (0, -FAR, Some(180)),
+    (-FAR, -FAR, Some(225)),
+    (-FAR, 0, Some(270)),
+    (-FAR, FAR, Some(315)),
+    (FAR, -1, Some(90)),
+    (-1, FAR, Some(0)),
+];
 
 #[test]
 fn greatest_distances(rt: HostRuntime) {
-    assert_eq!(rt; bearing(0, FAR), Some(0));
-    assert_eq!(rt; bearing(FAR, FAR), Some(45));
-    assert_eq!(rt; bearing(FAR, 0), Some(90));
-    assert_eq!(rt; bearing(FAR, -FAR), Some(135));
-    assert_eq!(rt; bearing(0, -FAR), Some(180));
-    assert_eq!(rt; bearing(-FAR, -FAR), Some(225));
-    assert_eq!(rt; bearing(-FAR, 0), Some(270));
-    assert_eq!(rt; bearing(-FAR, FAR), Some(315));
-    assert_eq!(rt; bearing(FAR, -1), Some(90));
-    assert_eq!(rt; bearing(-1, FAR), Some(0));
+    lead(&rt, &GREATEST_DISTANCES);
 }
 
-// Along these two degrees the step leads as far.
+// Along the degree beside it the step leads as far.
+const LEAST_OF_TWO: [(i64, i64, Option<u16>); 6] = [
+    (2, 175, Some(0)),
+    (-2, 175, Some(0)),
+    (1, 2, Some(26)),
+    (1, -2, Some(153)),
+    (-198, -99, Some(243)),
+    (-198, 99, Some(296)),
+];
+
 #[test]
 fn least_of_two_degrees(rt: HostRuntime) {
-    assert_eq!(rt; bearing(2, 175), Some(0));
-    assert_eq!(rt; bearing(-2, 175), Some(0));
-    assert_eq!(rt; bearing(1, 2), Some(26));
-    assert_eq!(rt; bearing(1, -2), Some(153));
-    assert_eq!(rt; bearing(-198, -99), Some(243));
-    assert_eq!(rt; bearing(-198, 99), Some(296));
+    lead(&rt, &LEAST_OF_TWO);
 }
 
 #[test]
@@ -63,14 +85,23 @@ fn own_direction(rt: HostRuntime) {
     }
 }
 
+// Degrees with their sines and cosines.
+const SINES: [(u16, i32, i32); 6] = [
+    (0, 0, 10_000),
+    (90, 10_000, 0),
+    (180, 0, -10_000),
+    (270, -10_000, 0),
+    (359, -175, 9_998),
+    (150, 5_000, -8_660),
+];
+
 #[test]
 fn sines(rt: HostRuntime) {
-    assert_eq!(rt; (sin4(0), cos4(0)), (0, 10_000));
-    assert_eq!(rt; (sin4(90), cos4(90)), (10_000, 0));
-    assert_eq!(rt; (sin4(180), cos4(180)), (0, -10_000));
-    assert_eq!(rt; (sin4(270), cos4(270)), (-10_000, 0));
-    assert_eq!(rt; (sin4(359), cos4(359)), (-175, 9_998));
-    assert_eq!(rt; (sin4(150), cos4(150)), (5_000, -8_660));
+    for (degree, sine, cosine) in &SINES {
+        assert!(rt; *degree < 360);
+        assert!(rt; sin4(*degree) == *sine, "{degree}");
+        assert!(rt; cos4(*degree) == *cosine, "{degree}");
+    }
 }
 
 #[test]
@@ -86,13 +117,20 @@ fn distances(rt: HostRuntime) {
     );
 }
 
+// Numbers and their roots.
+const ROOTS: [(u128, u64); 5] = [
+    (0, 0),
+    (15, 3),
+    (16, 4),
+    (8_000_000_000_000_000_000_000_000, 2_828_427_124_746),
+    (u128::MAX, u64::MAX),
+];
+
 #[test]
 fn roots(rt: HostRuntime) {
-    assert_eq!(rt; isqrt(0), 0);
-    assert_eq!(rt; isqrt(15), 3);
-    assert_eq!(rt; isqrt(16), 4);
-    assert_eq!(rt; isqrt(8_000_000_000_000_000_000_000_000), 2_828_427_124_746);
-    assert_eq!(rt; isqrt(u128::MAX), u64::MAX);
+    for (number, root) in &ROOTS {
+        assert!(rt; isqrt(*number) == *root, "{number}");
+    }
 }
 
 #[test]
@@ -106,6 +144,15 @@ fn convexity(rt: HostRuntime) {
     assert!(rt; !convex(&[spot(0, 0), spot(4, 0)]));
 }
 
+// A spot up to the edge.
+fn spot_within(rt: &impl Abort, x: i64, y: i64) -> Spot
+    ensures { IsTrue (is_spot result) }
+{
+    assert!(rt; -EDGE <= x && x <= EDGE);
+    assert!(rt; -EDGE <= y && y <= EDGE);
+    Spot { x, y }
+}
+
 /// Whether a spot lies inside the square from (0, 0) to (4, 4), its vertices in both orders.
 fn both_ways(p: &Spot) -> (bool, bool)
     requires p { IsTrue (is_spot p.now) }
@@ -115,15 +162,23 @@ fn both_ways(p: &Spot) -> (bool, bool)
     (inside(&anticlockwise, p), inside(&clockwise, p))
 }
 
+// Spots, and whether each lies inside the square.
+const SPOTS: [(i64, i64, bool); 9] = [
+    (2, 2, true),
+    (4, 2, true),
+    (0, 1, true),
+    (4, 4, true),
+    (0, 0, true),
+    (5, 2, false),
+    (-1, 2, false),
+    (2, -1, false),
+    (4, 5, false),
+];
+
 #[test]
 fn borders(rt: HostRuntime) {
-    assert_eq!(rt; both_ways(&spot(2, 2)), (true, true));
-    assert_eq!(rt; both_ways(&spot(4, 2)), (true, true));
-    assert_eq!(rt; both_ways(&spot(0, 1)), (true, true));
-    assert_eq!(rt; both_ways(&spot(4, 4)), (true, true));
-    assert_eq!(rt; both_ways(&spot(0, 0)), (true, true));
-    assert_eq!(rt; both_ways(&spot(5, 2)), (false, false));
-    assert_eq!(rt; both_ways(&spot(-1, 2)), (false, false));
-    assert_eq!(rt; both_ways(&spot(2, -1)), (false, false));
-    assert_eq!(rt; both_ways(&spot(4, 5)), (false, false));
+    for (x, y, is_inside) in &SPOTS {
+        let spot = spot_within(&rt, *x, *y);
+        assert!(rt; both_ways(&spot) == (*is_inside, *is_inside), "{x} {y}");
+    }
 }

@@ -155,14 +155,18 @@ fn follows(rt: &impl Abort, alloc: Global, life: Life, common: &Common, line: &s
     next
 }
 
+fn is_lived(rt: &impl Abort, alloc: Global, case: &str) {
+    let mut lines = case.lines();
+    let common = behavior(rt, alloc, lines.next().unwrap_or(""));
+    let mut life = Life::make();
+    for line in lines {
+        life = follows(rt, alloc, life, &common, line);
+    }
+}
+
 #[test]
 fn lives(rt: HostRuntime) {
     for case in &CASES {
-        let mut lines = case.lines();
-        let common = behavior(&rt, rt.alloc(), lines.next().unwrap_or(""));
-        let mut life = Life::make();
-        for line in lines {
-            life = follows(&rt, rt.alloc(), life, &common, line);
-        }
+        is_lived(&rt, rt.alloc(), case);
     }
 }

@@ -44,7 +44,7 @@ pub(crate) fn names(rt: &impl Abort, alloc: Global, line: &str) -> Names {
     names
 }
 
-fn reg(rt: &impl Abort, alloc: Global, var: &str, interval: u64, source: &str) -> Reg {
+pub(crate) fn reg(rt: &impl Abort, alloc: Global, var: &str, interval: u64, source: &str) -> Reg {
     let var = pattern(rt, alloc, var);
     let source = pattern(rt, alloc, source);
     Reg {

@@ -72,15 +72,18 @@ fn knowledge(rt: &impl Abort, alloc: Global, words: &str) -> Info {
     info
 }
 
+// The mode is the one that a row says.
+fn is_mode(rt: &impl Abort, alloc: Global, tree: &ModeTree, row: &str) {
+    let info = knowledge(rt, alloc, row);
+    let text = tree.text(alloc, &tree.mode(&info)).expect(rt, "memory");
+    let mode = row.split_whitespace().nth(3).unwrap_or("");
+    check(rt, text.bytes() == mode.as_bytes(), true, row);
+}
+
 #[test]
 fn modes(rt: HostRuntime) {
     let tree = mission(&rt, rt.alloc());
     for row in ROWS.lines() {
-        let info = knowledge(&rt, rt.alloc(), row);
-        let text = tree
-            .text(rt.alloc(), &tree.mode(&info))
-            .expect(&rt, "memory");
-        let mode = row.split_whitespace().nth(3).unwrap_or("");
-        check(&rt, text.bytes() == mode.as_bytes(), true, row);
+        is_mode(&rt, rt.alloc(), &tree, row);
     }
 }

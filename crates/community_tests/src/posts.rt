@@ -1,26 +1,31 @@
 // What each call gives where memory is left.
-use crate::made::{name, names, number, pattern, text};
+use crate::made::{name, names, number, regs, text};
 use moos_post::{
-    Batch, Copied, Milli, Name, NameFault, Pair, Pattern, PatternFault, Reg, Regs, Txt, TxtFault,
-    Value,
+    Batch, Copied, Milli, Name, NameFault, Pair, Pattern, PatternFault, Regs, Txt, TxtFault, Value,
 };
 use std::alloc::Global;
 use std::collections::HashSet;
 use std::process::Abort;
 
+const GREATEST: i64 = 1_000_000_000_000;
+
+// Thousandths, and whether there is a number of so many.
+const NUMBERS: [(i64, bool); 6] = [
+    (0, true),
+    (-1, true),
+    (GREATEST, true),
+    (GREATEST + 1, false),
+    (-GREATEST, true),
+    (-GREATEST - 1, false),
+];
+
 #[test]
 fn numbers(rt: HostRuntime) {
-    let greatest = 1_000_000_000_000;
-    for (n, good) in [
-        (0, true),
-        (-1, true),
-        (greatest, true),
-        (greatest + 1, false),
-        (-greatest, true),
-        (-greatest - 1, false),
-    ] {
-        let number = Milli::new(n).map(|milli| milli.get());
-        assert_eq!(rt; number, if good { Some(n) } else { None });
+    for (thousandths, good) in &NUMBERS {
+        match Milli::new(*thousandths) {
+            Some(number) => assert!(rt; *good && number.get() == *thousandths, "{thousandths}"),
+            None => assert!(rt; !*good, "{thousandths}"),
+        }
     }
 }
 
@@ -36,46 +41,60 @@ fn name_fault(rt: &impl Abort, alloc: Global, bytes: &[u8]) -> Option<NameFault>
     }
 }
 
-const NAMES: &str = "NAV_X
-_b.c-9
-z";
+const NO_NAME: Option<NameFault> = Some(NameFault::BadName);
 
-// The first one is empty.
-const NO_NAMES: &str = "
-9a
--a
-a b
-a*
-a\u{e9}";
+// Bytes, and why they are no name.
+const NAMES: &[(&[u8], Option<NameFault>)] = &[
+    (b"NAV_X", None),
+    (b"_b.c-9", None),
+    (b"z", None),
+    (&[b'a'; 64], None),
+    (&[b'a'; 65], NO_NAME),
+    (b"", NO_NAME),
+    (b"9a", NO_NAME),
+    (b"-a", NO_NAME),
+    (b"a b", NO_NAME),
+    (b"a*", NO_NAME),
+    (b"a\xc3\xa9", NO_NAME),
+];
 
 #[test]
 fn bytes_of_names(rt: HostRuntime) {
-    let alloc = rt.alloc();
-    for row in NAMES.lines() {
-        assert_eq!(rt; name_fault(&rt, alloc, row.as_bytes()), None, "{row}");
+    for (bytes, fault) in NAMES {
+        assert!(rt; name_fault(&rt, rt.alloc(), *bytes) == *fault, "{bytes:?}");
     }
-    assert_eq!(rt; name_fault(&rt, alloc, &[b'a'; 64]), None);
-    for row in NO_NAMES.lines() {
-        let fault = name_fault(&rt, alloc, row.as_bytes());
-        assert_eq!(rt; fault, Some(NameFault::BadName), "{row}");
-    }
-    let fault = name_fault(&rt, alloc, &[b'a'; 65]);
-    assert_eq!(rt; fault, Some(NameFault::BadName));
 }
 
 // Equal names are found by their hash, and a name isn't equal to a longer one or to the same with another case.
+// What has a copy of the name alone as a key.
+fn only(rt: &impl Abort, alloc: Global, name: &Name) -> HashSet<Name> {
+    let mut names = HashSet::new(alloc);
+    let copied = name.copy(alloc).expect(rt, "memory");
+    names.insert(copied).expect(rt, "memory");
+    names
+}
+
+// The word is the known name or not, and so it is by its hash.
+fn is_key(
+    rt: &impl Abort,
+    alloc: Global,
+    known_name: &Name,
+    known: &HashSet<Name>,
+    word: &str,
+    is_known: bool,
+) {
+    let other = name(rt, alloc, word);
+    assert!(rt; known.contains(&other) == is_known);
+    assert!(rt; (*known_name == other) == is_known);
+}
+
 #[test]
 fn names_are_keys(rt: HostRuntime) {
-    let alloc = rt.alloc();
-    let known_name = name(&rt, alloc, "NAV_X");
-    let mut known = HashSet::new(alloc);
-    let copied = known_name.copy(alloc).expect(&rt, "memory");
-    known.insert(copied).expect(&rt, "memory");
-    for (word, is_known) in [("NAV_X", true), ("NAV_XY", false), ("nav_x", false)] {
-        let other = name(&rt, alloc, word);
-        assert!(rt; known.contains(&other) == is_known);
-        assert!(rt; (known_name == other) == is_known);
-    }
+    let known_name = name(&rt, rt.alloc(), "NAV_X");
+    let known = only(&rt, rt.alloc(), &known_name);
+    is_key(&rt, rt.alloc(), &known_name, &known, "NAV_X", true);
+    is_key(&rt, rt.alloc(), &known_name, &known, "NAV_XY", false);
+    is_key(&rt, rt.alloc(), &known_name, &known, "nav_x", false);
 }
 
 // Why the bytes are no text. Where they are one, a copy of it has these bytes too.
@@ -90,18 +109,21 @@ fn text_fault(rt: &impl Abort, alloc: Global, bytes: &[u8]) -> Option<TxtFault> 
     }
 }
 
+// Bytes, and why they are no text.
+const TEXTS: &[(&[u8], Option<TxtFault>)] = &[
+    (b"", None),
+    (b"a\tb # \"c\" \xff", None),
+    (&[b' '; 4096], None),
+    (&[1; 4097], Some(TxtFault::TooLong(4097))),
+    (b"a\x1f\x7f", Some(TxtFault::BadByte(1))),
+    (b"ab\x7f", Some(TxtFault::BadByte(2))),
+    (b"\r\n", Some(TxtFault::BadByte(0))),
+];
+
 #[test]
 fn bytes_of_texts(rt: HostRuntime) {
-    for (bytes, fault) in [
-        (b"".as_slice(), None),
-        (b"a\tb # \"c\" \xff", None),
-        ([b' '; 4096].as_slice(), None),
-        ([1; 4097].as_slice(), Some(TxtFault::TooLong(4097))),
-        (b"a\x1f\x7f", Some(TxtFault::BadByte(1))),
-        (b"ab\x7f", Some(TxtFault::BadByte(2))),
-        (b"\r\n", Some(TxtFault::BadByte(0))),
-    ] {
-        assert_eq!(rt; text_fault(&rt, rt.alloc(), bytes), fault);
+    for (bytes, fault) in TEXTS {
+        assert_eq!(rt; text_fault(&rt, rt.alloc(), *bytes), *fault);
     }
 }
 
@@ -159,19 +181,27 @@ fn batch_of(rt: &impl Abort, alloc: Global) -> Batch {
     batch
 }
 
+// The pair is so, and so is a copy of it.
+fn is_copied(rt: &impl Abort, alloc: Global, pair: &Pair, var: &str, said: &str) {
+    is_pair(rt, pair, var, said);
+    let copied = pair.copy(alloc).expect(rt, "memory");
+    is_pair(rt, &copied, var, said);
+}
+
+fn are_pairs(rt: &impl Abort, alloc: Global, batch: &Batch) {
+    assert!(rt; batch.len() == 3 && batch.all().len() == 3);
+    is_pair(rt, batch.get(2), "A", "three");
+    for (pair, (var, said)) in batch.all().iter().zip(&PAIRS) {
+        is_copied(rt, alloc, pair, var, said);
+    }
+}
+
 #[test]
 fn batches(rt: HostRuntime) {
-    let alloc = rt.alloc();
-    let batch = batch_of(&rt, alloc);
-    let mut copied = batch.copy(alloc).expect(&rt, "memory");
+    let batch = batch_of(&rt, rt.alloc());
+    let mut copied = batch.copy(rt.alloc()).expect(&rt, "memory");
     copied.shrink_to_fit();
-    assert!(rt; copied.len() == 3 && copied.all().len() == 3);
-    is_pair(&rt, copied.get(2), "A", "three");
-    for (pair, (var, said)) in copied.all().iter().zip(&PAIRS) {
-        is_pair(&rt, pair, var, said);
-        let copied = pair.copy(alloc).expect(&rt, "memory");
-        is_pair(&rt, &copied, var, said);
-    }
+    are_pairs(&rt, rt.alloc(), &copied);
 }
 
 #[test]
@@ -180,28 +210,19 @@ fn copied_number(rt: HostRuntime) {
     assert!(rt; matches!(&number, Value::Num(milli) if milli.get() == -1500));
 }
 
-fn regs_of(rt: &impl Abort, alloc: Global) -> Regs {
-    let mut regs = Regs::new(alloc);
-    for (var, source, interval) in [("A*", "*", 0), ("B", "p?", 2500)] {
-        let (var, source) = (pattern(rt, alloc, var), pattern(rt, alloc, source));
-        let reg = Reg {
-            var,
-            source,
-            interval,
-        };
-        regs.push(reg).expect(rt, "memory");
-    }
-    regs
+fn are_both(rt: &impl Abort, regs: &Regs) {
+    assert!(rt; regs.len() == 2 && regs.all().len() == 2);
+    assert!(rt; regs.get(0).var.bytes() == b"A*".as_slice());
+    assert!(rt; regs.get(1).source.bytes() == b"p?".as_slice());
+    assert!(rt; regs.get(1).interval == 2500);
 }
 
 #[test]
 fn registrations(rt: HostRuntime) {
-    let regs = regs_of(&rt, rt.alloc());
+    let words = ["A*", "0", "*", "B", "2500", "p?"];
+    let regs = regs(&rt, rt.alloc(), &words);
     let copied = regs.copy(rt.alloc()).expect(&rt, "memory");
-    assert!(rt; copied.len() == 2 && copied.all().len() == 2);
-    assert!(rt; copied.get(0).var.bytes() == b"A*".as_slice());
-    assert!(rt; copied.get(1).source.bytes() == b"p?".as_slice());
-    assert!(rt; copied.get(1).interval == 2500);
+    are_both(&rt, &copied);
 }
 
 #[test]

@@ -1,7 +1,9 @@
 // What each call answers. A name here is any text, and a pattern is read as a registration has it.
-use crate::made::{check, name, pattern};
+use crate::made::{check, name, pattern, reg};
 use moos_post::Reg;
 use moos_reg::{due, matches, selects};
+use std::alloc::Global;
+use std::process::Abort;
 
 // Whether a pattern matches a name, the pattern, and the name, where it isn't empty.
 const MATCHES: &str = "yes NAV_X NAV_X
@@ -52,12 +54,23 @@ fn read(row: &str) -> (bool, &str, &str) {
     (holds, one, words.next().unwrap_or(""))
 }
 
+// Whether the pattern that a word says matches a name.
+fn is_match(rt: &impl Abort, alloc: Global, word: &str, name: &[u8]) -> bool {
+    let pattern = pattern(rt, alloc, word);
+    assert!(rt; pattern.bytes() == word.as_bytes());
+    matches(&pattern, name)
+}
+
 #[test]
 fn patterns_against_names(rt: HostRuntime) {
     for row in MATCHES.lines() {
         let (holds, word, name) = read(row);
-        let pattern = pattern(&rt, rt.alloc(), word);
-        check(&rt, matches(&pattern, name.as_bytes()), holds, row);
+        check(
+            &rt,
+            is_match(&rt, rt.alloc(), word, name.as_bytes()),
+            holds,
+            row,
+        );
     }
 }
 
@@ -65,9 +78,13 @@ fn patterns_against_names(rt: HostRuntime) {
 fn longest_patterns(rt: HostRuntime) {
     for row in LONGEST.lines() {
         let (holds, word, _) = read(row);
-        let pattern = pattern(&rt, rt.alloc(), word);
-        check(&rt, matches(&pattern, &[b'a'; 64]), holds, row);
-        assert_eq!(rt; pattern.bytes().len(), 64);
+        assert_eq!(rt; word.len(), 64);
+        check(
+            &rt,
+            is_match(&rt, rt.alloc(), word, &[b'a'; 64]),
+            holds,
+            row,
+        );
     }
 }
 
@@ -78,17 +95,24 @@ no DEPTH pA
 no DEPTH log
 no pA NAV_X";
 
+// Whether the registration selects the variable of one name and the source of another.
+fn is_selected(rt: &impl Abort, alloc: Global, reg: &Reg, var: &str, source: &str) -> bool {
+    let var = name(rt, alloc, var);
+    let source = name(rt, alloc, source);
+    selects(reg, &var, &source)
+}
+
 #[test]
 fn selections(rt: HostRuntime) {
-    let reg = Reg {
-        var: pattern(&rt, rt.alloc(), "NAV_*"),
-        source: pattern(&rt, rt.alloc(), "p?"),
-        interval: 2500,
-    };
+    let reg = reg(&rt, rt.alloc(), "NAV_*", 2500, "p?");
     for row in SELECTIONS.lines() {
         let (holds, var, source) = read(row);
-        let (var, source) = (name(&rt, rt.alloc(), var), name(&rt, rt.alloc(), source));
-        check(&rt, selects(&reg, &var, &source), holds, row);
+        check(
+            &rt,
+            is_selected(&rt, rt.alloc(), &reg, var, source),
+            holds,
+            row,
+        );
     }
 }
 

@@ -1,6 +1,6 @@
 // A journal of marks under a lock: each call once, and four threads beside each other.
 ghost use Rattle.std.specs.Prelude.{◌≡◌, ◌≤◌, []};
-ghost use Rattle.turn_lock.specs.Passes.{IsFree, IsOf, first_pass};
+ghost use Rattle.turn_lock.specs.Passes.{IsFree, IsOf, first_pass, met_with};
 
 use std::alloc::Global;
 use std::process::Abort;
@@ -71,6 +71,30 @@ fn journal_of(rt: &impl Abort, alloc: Global, passes: u32) -> (TurnLock<Journal>
     }
 }
 
+// In its turn the pass has this number, and sees so many marks.
+fn sees<R: Wait + Abort>(
+    rt: &R,
+    lock: &TurnLock<Journal>,
+    pass: &mut Pass<Journal>,
+    number: u32,
+    marks: usize,
+)
+    requires { IsOf lock.now pass.old × IsFree pass.old }
+    ensures { pass.new ≡ record pass.old { seen = pass.new.seen } }
+{
+    let held = lock.take(rt, pass);
+    assert!(rt; held.number == number && held.value().marks.len() == marks);
+    lock.give_back(pass, held);
+}
+
+// The marks are these: of each who made it, and how many the same one had made before.
+fn are_marks(rt: &impl Abort, marks: &[Mark], wanted: &[(u32, u64)]) {
+    assert!(rt; marks.len() == wanted.len());
+    for (mark, (by, count)) in marks.iter().zip(wanted) {
+        assert!(rt; mark.by == *by && mark.count == *count);
+    }
+}
+
 #[test]
 fn each_call_once(rt: HostRuntime) {
     let (lock, mut zero) = journal_of(&rt, rt.alloc(), 2);
@@ -80,19 +104,11 @@ fn each_call_once(rt: HostRuntime) {
     lock.meet(&mut zero, one);
     let mut one = lock.part(&mut zero, 1);
     assert!(rt; add(&rt, &lock, &mut one, 1));
-    let held = lock.take(&rt, &mut one);
-    assert!(rt; held.number == 1 && held.value().marks.len() == 3);
-    lock.give_back(&mut one, held);
+    sees(&rt, &lock, &mut one, 1, 3);
     lock.meet(&mut zero, one);
     let (journal, left) = lock.close(zero);
-    let marks = journal.marks.as_slice();
-    assert!(rt; left.number() == 0 && marks.len() == 3);
-    assert!(rt;
-        marks
-            .iter()
-            .map(|mark| (mark.by, mark.count))
-            .eq([(1, 0), (0, 0), (1, 1)])
-    );
+    assert!(rt; left.number() == 0);
+    are_marks(&rt, journal.marks.as_slice(), &[(1, 0), (0, 0), (1, 1)]);
 }
 
 // Adds so many marks in turn.
@@ -137,6 +153,34 @@ fn add_beside<R: Threads + Wait + Sync>(
     )
 }
 
+// Takes two passes in.
+fn meet_both(
+    lock: &TurnLock<Journal>,
+    first: &mut Pass<Journal>,
+    both: (Pass<Journal>, Pass<Journal>),
+)
+    requires first { IsOf lock.now first.old × IsFree first.old }
+    requires one { IsOf lock.now both.0 × IsFree both.0 }
+    requires other { IsOf lock.now both.1 × IsFree both.1 }
+    ensures { first.new ≡ met_with (met_with first.old both.0) both.1 }
+{
+    let (one, other) = both;
+    lock.meet(first, one);
+    lock.meet(first, other);
+}
+
+// The marks that the pass of this number made are so many, in their order.
+fn has_made(rt: &impl Abort, marks: &[Mark], by: u32, count: u64) {
+    let mut next = 0u64;
+    for mark in marks {
+        if mark.by == by {
+            assert!(rt; mark.count == next);
+            next = next.saturating_add(1);
+        }
+    }
+    assert!(rt; next == count);
+}
+
 #[test]
 fn four_threads(rt: HostRuntime) {
     const MARKS: u64 = 1_000;
@@ -145,7 +189,7 @@ fn four_threads(rt: HostRuntime) {
     let two = lock.split(&mut zero);
     let three = lock.split(&mut zero);
     let four = lock.split(&mut zero);
-    let ((one, two), (three, four)) = join(
+    let (former, latter) = join(
         &rt,
         || -> (Pass<Journal>, Pass<Journal>)
             requires one { IsOf lock one × IsFree one }
@@ -160,18 +204,12 @@ fn four_threads(rt: HostRuntime) {
             ensures other { result.1 ≡ record four { seen = result.1.seen; mine = result.1.mine } }
         { add_beside(&rt, &lock, three, four, MARKS) },
     );
-    lock.meet(&mut zero, one);
-    lock.meet(&mut zero, two);
-    lock.meet(&mut zero, three);
-    lock.meet(&mut zero, four);
+    meet_both(&lock, &mut zero, former);
+    meet_both(&lock, &mut zero, latter);
     let (journal, _) = lock.close(zero);
     let marks = journal.marks.as_slice();
     assert!(rt; marks.len() == 4_000);
     for by in 1..5 {
-        let counts = marks
-            .iter()
-            .filter(|mark| mark.by == by)
-            .map(|mark| mark.count);
-        assert!(rt; counts.eq(0..MARKS));
+        has_made(&rt, marks, by, MARKS);
     }
 }
