@@ -2,7 +2,7 @@
 ghost use Rattle.std.specs.Prelude.{◌<◌};
 
 use crate::files::{Kind, append, are_refused, behaviors, counted, refusal, stands_at};
-use bhv_reader::{Block, Shape, Spec, set_param};
+use bhv_reader::{BhvFile, Block, Common, Shape, Spec, set_param};
 use moos_post::Copied;
 use moos_text::Cause;
 use std::alloc::Global;
@@ -14,15 +14,18 @@ const SURVEY: &[u8] =
 #[test]
 fn survey(rt: HostRuntime) {
     let file = behaviors(&rt, rt.alloc(), SURVEY);
-    assert_eq!(rt; file.opening.len(), 2);
-    assert_eq!(rt; file.blocks.len(), 3);
-    assert_eq!(rt; file.unused.len(), 2);
+    is_survey(&rt, &file);
+}
+
+fn is_survey(rt: &impl Abort, file: &BhvFile) {
+    assert!(rt; file.opening.len() == 2);
+    assert!(rt; file.unused.len() == 2);
     let first = file.unused.get(0);
-    assert_eq!(rt; first.line, 13);
-    assert_eq!(rt; first.name.bytes(), b"lead".as_slice());
+    assert!(rt; first.line == 13 && first.name.bytes() == b"lead".as_slice());
+    assert!(rt; file.blocks.len() == 3);
     let block = file.blocks.get(2);
-    assert_eq!(rt; block.common.name.bytes(), b"const_depth".as_slice());
-    assert_eq!(rt; block.spec.weight, 100);
+    is_const_depth(rt, &block.common);
+    assert!(rt; block.spec.weight == 100);
 }
 
 const MORE_BLOCKS: &[(&[u8], Cause)] = &[(b"Behavior = BHV_Timer {\nname = x\n}", Cause::B9)];
@@ -90,6 +93,14 @@ fn depth() -> Spec {
     }
 }
 
+// Parameters, their values, and the weight behind each where it is set.
+const PARAMETERS: &[(&[u8], &[u8], Option<u32>)] = &[
+    (b"pwt", b"7.9", Some(7)),
+    (b"Max_Depth", b"4", Some(100)),
+    (b"max_depth", b"deep", None),
+    (b"speed", b"1", None),
+];
+
 fn set_once(rt: &impl Abort, alloc: Global, name: &[u8], value: &[u8]) -> Option<u32> {
     let mut spec = depth();
     // What is said of a value isn't needed here.
@@ -99,18 +110,31 @@ fn set_once(rt: &impl Abort, alloc: Global, name: &[u8], value: &[u8]) -> Option
 
 #[test]
 fn parameters_are_set(rt: HostRuntime) {
-    let alloc = rt.alloc();
-    assert_eq!(rt; set_once(&rt, alloc, b"pwt", b"7.9"), Some(7));
-    assert_eq!(rt; set_once(&rt, alloc, b"Max_Depth", b"4"), Some(100));
-    assert_eq!(rt; set_once(&rt, alloc, b"max_depth", b"deep"), None);
-    assert_eq!(rt; set_once(&rt, alloc, b"speed", b"1"), None);
+    for (name, value, weight) in PARAMETERS {
+        assert!(rt;
+            set_once(&rt, rt.alloc(), *name, *value) == *weight,
+            "{name:?}"
+        );
+    }
+}
+
+fn is_const_depth(rt: &impl Abort, common: &Common) {
+    assert!(rt; common.name.bytes() == b"const_depth".as_slice());
+}
+
+fn common_is_copied(rt: &impl Abort, alloc: Global, common: &Common) {
+    let copied = common.copy(alloc).expect(rt, "memory");
+    is_const_depth(rt, &copied);
+}
+
+fn spec_is_copied(rt: &impl Abort, alloc: Global, spec: &Spec) {
+    let copied = spec.copy(alloc).expect(rt, "memory");
+    assert!(rt; copied.weight == 100);
 }
 
 fn are_copied(rt: &impl Abort, alloc: Global, block: &Block) {
-    let common = block.common.copy(alloc).expect(rt, "memory");
-    assert_eq!(rt; common.name.bytes(), b"const_depth".as_slice());
-    let spec = block.spec.copy(alloc).expect(rt, "memory");
-    assert_eq!(rt; spec.weight, 100);
+    common_is_copied(rt, alloc, &block.common);
+    spec_is_copied(rt, alloc, &block.spec);
 }
 
 #[test]

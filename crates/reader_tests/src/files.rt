@@ -78,6 +78,14 @@ pub(crate) fn are_refused(
     }
 }
 
+/// The cause for which a text is refused at one of its lines.
+fn cause_of(rt: &impl Abort, alloc: Global, kind: Kind, text: &[u8]) -> Option<Cause> {
+    match refusal(rt, alloc, kind, text) {
+        Some(ReadFault::At { cause, .. }) => Some(cause),
+        _ => None,
+    }
+}
+
 /// A text that keeps a limit is good, and with each of these ends it is refused for its cause.
 pub(crate) fn stands_at(
     rt: &impl Abort,
@@ -86,14 +94,22 @@ pub(crate) fn stands_at(
     good: &[u8],
     ends: &[(&[u8], Cause)],
 ) {
-    assert_eq!(rt; refusal(rt, alloc, kind, good), None);
+    assert!(rt; refusal(rt, alloc, kind, good).is_none());
     for (end, cause) in ends {
         let text = joined(rt, alloc, &[good, *end]);
-        match refusal(rt, alloc, kind, &text) {
-            Some(ReadFault::At { cause: found, .. }) => assert_eq!(rt; found, *cause, "{end:?}"),
-            _ => assert!(rt; false, "{end:?}"),
-        }
+        let found = cause_of(rt, alloc, kind, &text);
+        assert!(rt; found == Some(*cause), "{end:?}");
     }
+}
+
+/// What is shown of a text is as it is wanted.
+pub(crate) fn is_shown(rt: &impl Abort, shown: &[u8], wanted: &[u8], text: &[u8]) {
+    assert_eq!(rt; shown, wanted, "{text:?}");
+}
+
+/// A text that should be good was refused.
+pub(crate) fn refused(rt: &impl Abort, text: &[u8]) {
+    assert!(rt; false, "{text:?}");
 }
 
 /// Appends the pieces.

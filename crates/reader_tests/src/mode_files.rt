@@ -1,6 +1,7 @@
 // Behaviour files and refusals worked by hand.
 use crate::files::{
-    Kind, append, append_number, are_refused, behaviors, counted, joined, refusal, stands_at,
+    Kind, append, append_number, are_refused, behaviors, counted, is_shown, joined, refusal,
+    stands_at,
 };
 use bhv_reader::{BhvFile, Decl};
 use moos_text::Cause;
@@ -50,7 +51,7 @@ const GOOD: &[(&[u8], &[u8])] = &[
 
 fn reads_as(rt: &impl Abort, alloc: Global, text: &[u8], wanted: &[u8]) {
     let file = behaviors(rt, alloc, text);
-    assert_eq!(rt; shown(rt, alloc, &file).as_slice(), wanted, "{text:?}");
+    is_shown(rt, &shown(rt, alloc, &file), wanted, text);
 }
 
 #[test]

@@ -14,26 +14,28 @@ fn loads<F: Folder>(
 ) {
     for (name, answer, after) in rows {
         let mut into = b">".to_vec(alloc).expect(rt, "memory");
-        assert_eq!(rt; folder.load(*name, &mut into), *answer);
-        assert_eq!(rt; into.as_slice(), *after);
+        assert!(rt; folder.load(*name, &mut into) == *answer, "{name:?}");
+        assert!(rt; into.as_slice() == *after, "{name:?}");
     }
 }
+
+const FILES: &[(&[u8], &[u8])] = &[(b"a", b"one"), (b"b", b""), (b"a", b"two")];
+
+const LOADED: &[(&[u8], Result<(), LoadFault>, &[u8])] = &[
+    (b"a", Ok(()), b">one"),
+    (b"b", Ok(()), b">"),
+    (b"ab", Err(LoadFault::Failed), b">"),
+    (b"", Err(LoadFault::Failed), b">"),
+];
 
 #[test]
 fn first_file_of_a_name_is_loaded(rt: HostRuntime) {
     let mut folder = MemFolder::make(rt.alloc());
-    let files: [(&[u8], &[u8]); 3] = [(b"a", b"one"), (b"b", b""), (b"a", b"two")];
-    for (name, bytes) in files {
-        let added = folder.add(rt.alloc(), name, bytes);
+    for (name, bytes) in FILES {
+        let added = folder.add(rt.alloc(), *name, *bytes);
         added.expect(&rt, "memory");
     }
-    let rows: &[(&[u8], Result<(), LoadFault>, &[u8])] = &[
-        (b"a", Ok(()), b">one"),
-        (b"b", Ok(()), b">"),
-        (b"ab", Err(LoadFault::Failed), b">"),
-        (b"", Err(LoadFault::Failed), b">"),
-    ];
-    loads(&rt, rt.alloc(), &mut folder, rows);
+    loads(&rt, rt.alloc(), &mut folder, LOADED);
 }
 
 fn sink(rt: &impl Abort, alloc: Global, room: usize, mark: Option<u64>) -> MemSink {
@@ -44,20 +46,22 @@ fn sink(rt: &impl Abort, alloc: Global, room: usize, mark: Option<u64>) -> MemSi
     sink
 }
 
+// The room of a sink and the put that fails, what is put, what the puts answer, and what the sink then has.
+const PUTS: &[(usize, Option<u64>, &[u8], Result<(), Failed>, &[u8])] = &[
+    (5, None, b"abcde", Ok(()), b"abcde"),
+    (5, None, b"abcdef", Err(Failed), b"abcde"),
+    (5, Some(0), b"abcde", Err(Failed), b""),
+    (5, Some(1), b"abcde", Err(Failed), b"ab"),
+    (5, Some(3), b"abcde", Ok(()), b"abcde"),
+    (0, None, b"", Ok(()), b""),
+];
+
 #[test]
 fn sink_takes_what_room_and_marks_allow(rt: HostRuntime) {
-    let puts: [(usize, Option<u64>, &[u8], Result<(), Failed>, &[u8]); 6] = [
-        (5, None, b"abcde", Ok(()), b"abcde"),
-        (5, None, b"abcdef", Err(Failed), b"abcde"),
-        (5, Some(0), b"abcde", Err(Failed), b""),
-        (5, Some(1), b"abcde", Err(Failed), b"ab"),
-        (5, Some(3), b"abcde", Ok(()), b"abcde"),
-        (0, None, b"", Ok(()), b""),
-    ];
-    for (room, mark, piece, answer, after) in puts {
-        let mut out = sink(&rt, rt.alloc(), room, mark);
-        assert_eq!(rt; put_all(&mut out, piece), answer);
-        assert_eq!(rt; out.bytes(), after);
+    for (room, mark, piece, answer, after) in PUTS {
+        let mut out = sink(&rt, rt.alloc(), *room, *mark);
+        assert_eq!(rt; put_all(&mut out, *piece), *answer);
+        assert_eq!(rt; out.bytes(), *after);
     }
 }
 
@@ -69,23 +73,27 @@ fn marked_put_fails_once(rt: HostRuntime) {
     assert_eq!(rt; out.bytes(), b"abcde".as_slice());
 }
 
+const REAL: &[(&[u8], Result<(), LoadFault>, &[u8])] = &[
+    (b"moos_io_loaded", Ok(()), b">content\n"),
+    (b"moos_io_absent", Err(LoadFault::Failed), b">"),
+    (b".", Err(LoadFault::Failed), b">"),
+    (b"\xff", Err(LoadFault::Failed), b">"),
+];
+
+// Sizes of a file, what is answered where it is loaded, and how many bytes are.
+const SIZES: [(u64, Result<(), LoadFault>, usize); 2] = [
+    (16_777_216, Ok(()), 16_777_216),
+    (16_777_217, Err(LoadFault::Failed), 0),
+];
+
 #[test]
 fn real_files_are_loaded_up_to_the_limit(rt: HostRuntime) {
     let path = "moos_io_loaded";
     fs::write(&rt, path, "content\n").expect(&rt, "a file");
     let mut folder = DirFolder::make(&rt);
-    let rows: &[(&[u8], Result<(), LoadFault>, &[u8])] = &[
-        (b"moos_io_loaded", Ok(()), b">content\n"),
-        (b"moos_io_absent", Err(LoadFault::Failed), b">"),
-        (b".", Err(LoadFault::Failed), b">"),
-        (b"\xff", Err(LoadFault::Failed), b">"),
-    ];
-    loads(&rt, rt.alloc(), &mut folder, rows);
+    loads(&rt, rt.alloc(), &mut folder, REAL);
     let file = File::create(&rt, path).expect(&rt, "a file");
-    for (len, answer, after) in [
-        (16_777_216, Ok(()), 16_777_216),
-        (16_777_217, Err(LoadFault::Failed), 0),
-    ] {
+    for (len, answer, after) in SIZES {
         file.set_len(len).expect(&rt, "a file");
         let mut into = Vec::new(rt.alloc());
         assert_eq!(rt; folder.load(path.as_bytes(), &mut into), answer);
@@ -136,18 +144,20 @@ fn marked_sink(rt: &impl Abort, alloc: Global, mark: u64) -> MemSink {
     sink
 }
 
+// The put that fails, what is answered, and how many bytes are put before.
+const RUNS: [(u64, Result<(), Failed>, usize); 5] = [
+    (4, Ok(()), 37006),
+    (3, Err(Failed), 37005),
+    (2, Err(Failed), 20005),
+    (1, Err(Failed), 16384),
+    (0, Err(Failed), 0),
+];
+
 #[test]
 fn buffer_passes_words_on_in_few_puts(rt: HostRuntime) {
     let long = [b'x'; 17000];
     let whole = words_and_long(&rt, rt.alloc(), &long);
-    let runs: [(u64, Result<(), Failed>, usize); 5] = [
-        (4, Ok(()), 37006),
-        (3, Err(Failed), 37005),
-        (2, Err(Failed), 20005),
-        (1, Err(Failed), 16384),
-        (0, Err(Failed), 0),
-    ];
-    for (mark, answer, len) in runs {
+    for (mark, answer, len) in RUNS {
         let mut sink = marked_sink(&rt, rt.alloc(), mark);
         assert_eq!(rt; write_words(&mut sink, &long), answer);
         assert!(rt; sink.bytes().len() == len && whole.as_slice().starts_with(sink.bytes()));

@@ -1,6 +1,6 @@
 // Pairs that stand for a number, for a text and for nothing.
 use crate::files::{append, joined};
-use moos_post::{Pair, Value};
+use moos_post::Value;
 use moos_text::{PairFault, read_pair};
 use std::alloc::Global;
 use std::process::Abort;
@@ -39,48 +39,41 @@ const PAIRS: &[(&[u8], &[u8], Held<'static>)] = &[
     (b"X=a\x7f", b"", Held::Nothing(PairFault::BadValue)),
 ];
 
-fn holds(rt: &impl Abort, pair: &Pair, var: &[u8], held: Held<'_>) {
-    assert_eq!(rt; pair.var.bytes(), var);
-    match (&pair.value, held) {
-        (Value::Num(number), Held::Number(thousandths)) => {
-            assert_eq!(rt; number.get(), thousandths);
+fn is_held(value: &Value, held: Held<'_>) -> bool {
+    match held {
+        Held::Number(thousandths) => {
+            matches!(value, Value::Num(number) if number.get() == thousandths)
         }
-        (Value::Text(bytes), Held::Text(expected)) => assert_eq!(rt; bytes.bytes(), expected),
-        _ => assert!(rt; false, "{var:?}"),
+        Held::Text(bytes) => matches!(value, Value::Text(text) if text.bytes() == bytes),
+        Held::Nothing(_) => false,
     }
 }
 
-fn reads_as(rt: &impl Abort, alloc: Global, text: &[u8], var: &[u8], held: Held<'_>) {
+fn stands_for(alloc: Global, text: &[u8], var: &[u8], held: Held<'_>) -> bool {
     match read_pair(alloc, text) {
-        Ok(pair) => holds(rt, &pair, var, held),
-        Err(fault) => match held {
-            Held::Nothing(expected) => assert_eq!(rt; fault, expected, "{text:?}"),
-            _ => assert!(rt; false, "{text:?}"),
-        },
+        Ok(pair) => pair.var.bytes() == var && is_held(&pair.value, held),
+        Err(fault) => matches!(held, Held::Nothing(expected) if expected == fault),
     }
 }
 
 #[test]
 fn pairs(rt: HostRuntime) {
     for (text, var, held) in PAIRS {
-        reads_as(&rt, rt.alloc(), *text, *var, *held);
+        assert!(rt; stands_for(rt.alloc(), *text, *var, *held), "{text:?}");
     }
+}
+
+fn is_refused(rt: &impl Abort, alloc: Global, text: &[u8], fault: PairFault) {
+    assert!(rt; read_pair(alloc, text).err() == Some(fault));
 }
 
 // A text of more than 4,096 bytes is told as such, but not before a byte that it can't hold.
 #[test]
 fn long_pairs(rt: HostRuntime) {
-    let alloc = rt.alloc();
-    let mut text = joined(&rt, alloc, &[b"X=", &[b'a'; 4096]]);
-    assert!(rt; read_pair(alloc, text.as_slice()).is_ok());
+    let mut text = joined(&rt, rt.alloc(), &[b"X=", &[b'a'; 4096]]);
+    assert!(rt; read_pair(rt.alloc(), &text).is_ok());
     append(&rt, &mut text, &[b"a"]);
-    assert_eq!(rt;
-        read_pair(alloc, text.as_slice()).err(),
-        Some(PairFault::TooLong)
-    );
+    is_refused(&rt, rt.alloc(), &text, PairFault::TooLong);
     append(&rt, &mut text, &[b"\r"]);
-    assert_eq!(rt;
-        read_pair(alloc, text.as_slice()).err(),
-        Some(PairFault::BadValue)
-    );
+    is_refused(&rt, rt.alloc(), &text, PairFault::BadValue);
 }

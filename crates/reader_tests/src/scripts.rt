@@ -1,5 +1,8 @@
 // Scripts and refusals worked by hand, and each limit with what stands just beyond it.
-use crate::files::{Kind, append, append_number, are_refused, counted, joined, refusal, stands_at};
+use crate::files::{
+    Kind, append, append_number, are_refused, counted, is_shown, joined, refusal, refused,
+    stands_at,
+};
 use moos_post::{Call, Entry, Pair, Reg, Value};
 use moos_text::{Cause, Limit, ReadFault, print_milli, print_seconds};
 use script_reader::{Lines, Script, read_script};
@@ -60,10 +63,8 @@ fn shown(rt: &impl Abort, alloc: Global, script: &Script) -> Vec<u8> {
 fn reads_as(rt: &impl Abort, alloc: Global, text: &[u8], wanted: &[u8]) {
     assert!(rt; text.len() < 1000);
     match read_script(alloc, text) {
-        Ok(script) => {
-            assert_eq!(rt; shown(rt, alloc, &script).as_slice(), wanted, "{text:?}");
-        }
-        Err(_) => assert!(rt; false, "{text:?}"),
+        Ok(script) => is_shown(rt, &shown(rt, alloc, &script), wanted, text),
+        Err(_) => refused(rt, text),
     }
 }
 

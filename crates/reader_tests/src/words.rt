@@ -1,18 +1,18 @@
 use moos_text::next_word;
 
+// Texts, and of each its first word and what stands behind it.
+const WORDS: &[(&[u8], Option<(&[u8], &[u8])>)] = &[
+    (b" \t0  pA\tfetch ", Some((b"0", b"  pA\tfetch "))),
+    (b"\tpA \t", Some((b"pA", b" \t"))),
+    (b"X=5", Some((b"X=5", b""))),
+    (b"a\rb\n c", Some((b"a\rb\n", b" c"))),
+    (b" \t ", None),
+    (b"", None),
+];
+
 #[test]
 fn words(rt: HostRuntime) {
-    for (text, wanted) in [
-        (
-            b" \t0  pA\tfetch ".as_slice(),
-            Some((b"0".as_slice(), b"  pA\tfetch ".as_slice())),
-        ),
-        (b"\tpA \t", Some((b"pA", b" \t"))),
-        (b"X=5", Some((b"X=5", b""))),
-        (b"a\rb\n c", Some((b"a\rb\n", b" c"))),
-        (b" \t ", None),
-        (b"", None),
-    ] {
-        assert_eq!(rt; next_word(text), wanted, "{text:?}");
+    for (text, wanted) in WORDS {
+        assert!(rt; next_word(*text) == *wanted, "{text:?}");
     }
 }
