@@ -7,7 +7,7 @@ use bhv_life::BhvState;
 use helm_core::{Helm, Iteration};
 use moos_db::{Letter, Mail};
 use moos_io::NoGate;
-use moos_post::{Pair, Post, Value};
+use moos_post::{Batch, Pair, Post, Regs, Value};
 use moos_text::{print_milli, print_seconds, read_pair};
 use std::alloc::Global;
 use std::process::Abort;
@@ -95,6 +95,16 @@ fn shown(rt: &impl Abort, alloc: Global, iteration: &Iteration) -> Vec<u8> {
     text
 }
 
+fn is_shown(rt: &impl Abort, alloc: Global, iteration: &Iteration, answer: &str) {
+    let text = shown(rt, alloc, iteration);
+    assert_eq!(rt; text.as_slice(), answer.as_bytes());
+}
+
+fn stamp_of(rt: &impl Abort, word: Option<&str>) -> u64 {
+    let stamp = word.unwrap_or("").parse::<u64>().ok();
+    stamp.expect(rt, "a stamp")
+}
+
 // One tick: its stamp in milliseconds with the pairs of its mail, and what the helm answers. It gives the stamp.
 fn answers<R: Abort + Threads + Wait + Sync>(
     rt: &R,
@@ -108,18 +118,12 @@ fn answers<R: Abort + Threads + Wait + Sync>(
     ensures { clock_of helm.new ≡ result }
 {
     let mut words = asked.split_whitespace();
-    let stamp = words
-        .next()
-        .unwrap_or("")
-        .parse::<u64>()
-        .ok()
-        .expect(rt, "a stamp");
+    let stamp = stamp_of(rt, words.next());
     assert!(rt; clock <= stamp);
     let mail = mail_of(rt, alloc, words);
     match helm.tick(rt, alloc, stamp, &mail, 1, &NoGate) {
         Ok(iteration) => {
-            let text = shown(rt, alloc, &iteration);
-            assert_eq!(rt; text.as_slice(), answer.as_bytes());
+            is_shown(rt, alloc, &iteration, answer);
             stamp
         }
         Err(_) => panic!(rt; "memory"),
@@ -221,31 +225,38 @@ fn decided(rt: HostRuntime) {
     check(&rt, rt.alloc(), STEERED, DECIDED);
 }
 
+fn show_wants(rt: &impl Abort, text: &mut Vec<u8>, wants: &Regs) {
+    for reg in wants.all() {
+        append(rt, text, &[reg.var.bytes(), b" ", reg.source.bytes(), b" "]);
+        append(rt, text, &[print_seconds(reg.interval).bytes(), b", "]);
+    }
+}
+
+fn show_opening(rt: &impl Abort, text: &mut Vec<u8>, opening: &Batch) {
+    for pair in opening.all() {
+        append(rt, text, &[pair.var.bytes(), b" "]);
+    }
+}
+
 // What the helm registers for, and the variables that it posts at first.
 fn shown_wants(rt: &impl Abort, alloc: Global, helm: &Helm) -> Vec<u8> {
     let mut text = Vec::new(alloc);
-    for reg in helm.wants(alloc).expect(rt, "memory").all() {
-        append(
-            rt,
-            &mut text,
-            &[reg.var.bytes(), b" ", reg.source.bytes(), b" "],
-        );
-        append(rt, &mut text, &[print_seconds(reg.interval).bytes(), b", "]);
-    }
-    for pair in helm.opening(alloc).expect(rt, "memory").all() {
-        append(rt, &mut text, &[pair.var.bytes(), b" "]);
-    }
+    let wants = helm.wants(alloc).expect(rt, "memory");
+    show_wants(rt, &mut text, &wants);
+    let opening = helm.opening(alloc).expect(rt, "memory");
+    show_opening(rt, &mut text, &opening);
     text
 }
 
 const WANTING: &[u8] =
     b"initialize A = 1\ninitialize B = x\nset MODE = ON {\nDEPLOY = true and NAV_X < 3\n}\nset MODE = NEAR {\nMODE = ON\nC > D or DEPLOY = true or C < 1\n}\nBehavior = BHV_Timer {\n  name = t\n  condition = MODE = ON and E = 1\n  updates = T_UP\n}\n";
 
+const WANTED: &[u8] =
+    b"MOOS_MANUAL_OVERRIDE * 0, MOOS_MANUAL_OVERIDE * 0, NAV_X * 0, NAV_Y * 0, NAV_DEPTH * 0, DEPLOY * 0, C * 0, E * 0, T_UP * 0, A B ";
+
 #[test]
 fn wants_and_opening(rt: HostRuntime) {
     let helm = helm_of(&rt, rt.alloc(), WANTING);
     let text = shown_wants(&rt, rt.alloc(), &helm);
-    let wanted =
-        b"MOOS_MANUAL_OVERRIDE * 0, MOOS_MANUAL_OVERIDE * 0, NAV_X * 0, NAV_Y * 0, NAV_DEPTH * 0, DEPLOY * 0, C * 0, E * 0, T_UP * 0, A B ";
-    assert_eq!(rt; text.as_slice(), wanted.as_slice());
+    assert_eq!(rt; text.as_slice(), WANTED);
 }

@@ -285,39 +285,29 @@ fn gives(
     assert!(rt; !out.done && out.fault.is_none());
 }
 
+// The axes that a function mentions, as `axes` tells them, and its values, as `values` does.
+const ON_COURSE: [bool; 3] = [true, false, false];
+
+const ON_SPEED: [bool; 3] = [false, true, false];
+
+const ON_DEPTH: [bool; 3] = [false, false, true];
+
+const COURSE: [Option<i64>; 4] = [Some(75_000), Some(100_000), Some(75_000), Some(75_000)];
+
+const SPEED: [Option<i64>; 4] = [Some(75_000), Some(75_000), Some(100_000), Some(75_000)];
+
+const DEPTH: [Option<i64>; 4] = [Some(75_000), Some(75_000), Some(75_000), Some(100_000)];
+
+const LIMIT: [Option<i64>; 4] = [Some(100_000), Some(100_000), Some(100_000), Some(50_000)];
+
 // A constant course, speed and depth, and a greatest depth.
 #[test]
 fn steady_steps(rt: HostRuntime) {
     let alloc = rt.alloc();
-    let values = [Some(75_000), Some(100_000), Some(75_000), Some(75_000)];
-    gives(
-        &rt,
-        alloc,
-        course(),
-        "heading=90",
-        [true, false, false],
-        values,
-    );
-    let values = [Some(75_000), Some(75_000), Some(100_000), Some(75_000)];
-    gives(&rt, alloc, speed(), "speed=1", [false, true, false], values);
-    let values = [Some(75_000), Some(75_000), Some(75_000), Some(100_000)];
-    gives(
-        &rt,
-        alloc,
-        depth(),
-        "depth=10",
-        [false, false, true],
-        values,
-    );
-    let values = [Some(100_000), Some(100_000), Some(100_000), Some(50_000)];
-    gives(
-        &rt,
-        alloc,
-        limit(),
-        "max_depth=9.9",
-        [false, false, true],
-        values,
-    );
+    gives(&rt, alloc, course(), "heading=90", ON_COURSE, COURSE);
+    gives(&rt, alloc, speed(), "speed=1", ON_SPEED, SPEED);
+    gives(&rt, alloc, depth(), "depth=10", ON_DEPTH, DEPTH);
+    gives(&rt, alloc, limit(), "max_depth=9.9", ON_DEPTH, LIMIT);
 }
 
 // A timer's step gives nothing.
@@ -365,17 +355,23 @@ fn second_fault(
     fault(rt, alloc, &mut kind, place, depth, stamp)
 }
 
+const HERE: Option<(i64, i64)> = Some((10_000, 5_000));
+
+const OUTSIDE: Option<(i64, i64)> = Some((10_001, 5_000));
+
+// Where the ship is, how deep and when, and what is wrong then.
+const FAULTS: [(Option<(i64, i64)>, i64, u64, Option<BhvFault>); 5] = [
+    (HERE, 20_000, 64_999, None),
+    (None, 21_000, 65_000, Some(BhvFault::NoPosition)),
+    (OUTSIDE, 21_000, 65_000, Some(BhvFault::OutsidePolygon)),
+    (HERE, 20_001, 65_000, Some(BhvFault::TooDeep)),
+    (HERE, 20_000, 65_000, Some(BhvFault::TooLate)),
+];
+
 // The first fault of several is told.
 #[test]
 fn region_faults(rt: HostRuntime) {
-    let (here, outside) = (Some((10_000, 5_000)), Some((10_001, 5_000)));
-    for (place, depth, stamp, fault) in [
-        (here, 20_000, 64_999, None),
-        (None, 21_000, 65_000, Some(BhvFault::NoPosition)),
-        (outside, 21_000, 65_000, Some(BhvFault::OutsidePolygon)),
-        (here, 20_001, 65_000, Some(BhvFault::TooDeep)),
-        (here, 20_000, 65_000, Some(BhvFault::TooLate)),
-    ] {
+    for (place, depth, stamp, fault) in FAULTS {
         assert!(rt; second_fault(&rt, rt.alloc(), place, depth, stamp) == fault);
     }
 }

@@ -131,6 +131,18 @@ impl Gate for Counting {
     }
 }
 
+fn no_calls() -> Counting {
+    Counting {
+        calls: AtomicU64::new(0),
+        places: AtomicU64::new(0),
+    }
+}
+
+fn has_seen(rt: &impl Abort, gate: &Counting, calls: u64, places: u64) {
+    assert!(rt; gate.calls.load(Ordering::SeqCst) == calls);
+    assert!(rt; gate.places.load(Ordering::SeqCst) == places);
+}
+
 // The gate sees each call once, the helm's and its opening's included, as call 0, 1, 2 and so on of its client.
 fn check_gate<R: Threads + Wait + Sync + Abort>(
     rt: &R,
@@ -142,14 +154,10 @@ fn check_gate<R: Threads + Wait + Sync + Abort>(
 ) {
     let script = script_of(rt, alloc, text);
     let helm = helm_of(rt, alloc);
-    let gate = Counting {
-        calls: AtomicU64::new(0),
-        places: AtomicU64::new(0),
-    };
+    let gate = no_calls();
     let ran = play(rt, alloc, &script, Some(helm), order, 2, &gate).expect(rt, "memory");
     assert!(rt; ran.iterations.len() == 3 && ran.db.entries() == calls);
-    assert!(rt; gate.calls.load(Ordering::SeqCst) == calls);
-    assert!(rt; gate.places.load(Ordering::SeqCst) == places);
+    has_seen(rt, &gate, calls, places);
 }
 
 // A helm alone is the first client, and one beside a client of two calls is the second.
@@ -242,20 +250,42 @@ fn enter<R: Wait + Abort>(
         .expect(rt, "memory")
 }
 
+// A call of the client that gets no mail.
+fn enter_unheard<R: Wait + Abort>(
+    rt: &R,
+    alloc: Global,
+    play: &mut Play,
+    client: u32,
+    stamp: u64,
+    call: Call,
+)
+    requires between { IsBetween play.old }
+    requires further { IsFurther play.old client }
+    ensures between { IsBetween play.new }
+    ensures further { IsFurther play.new client }
+{
+    let mail = enter(rt, alloc, play, client, stamp, call);
+    assert!(rt; mail.len() == 0);
+}
+
+fn is_deploy(rt: &impl Abort, mail: &Mail) {
+    assert!(rt; mail.len() == 1);
+    assert!(rt; mail.get(0).post.var.bytes() == b"DEPLOY".as_slice());
+}
+
 // The client registers for what the helm began with, lets the helm drive, and hears the one post that it registered for.
 fn enter_three<R: Wait + Abort>(rt: &R, alloc: Global, play: &mut Play, client: u32)
     requires between { IsBetween play.old }
     requires further { IsFurther play.old client }
     ensures { IsBetween play.new }
 {
-    let hearing = Call::Register(regs(rt, alloc, "DEPLOY"));
+    let hearing = regs(rt, alloc, "DEPLOY");
+    enter_unheard(rt, alloc, play, client, 7, Call::Register(hearing));
     let driving = Value::Text(text(rt, alloc, "false"));
-    let driving = Call::Post(batch(rt, alloc, "MOOS_MANUAL_OVERRIDE", driving));
-    assert!(rt; enter(rt, alloc, play, client, 7, hearing).len() == 0);
-    assert!(rt; enter(rt, alloc, play, client, 6, driving).len() == 0);
+    let driving = batch(rt, alloc, "MOOS_MANUAL_OVERRIDE", driving);
+    enter_unheard(rt, alloc, play, client, 6, Call::Post(driving));
     let mail = enter(rt, alloc, play, client, 5, Call::Fetch);
-    assert!(rt; mail.len() == 1);
-    assert!(rt; mail.get(0).post.var.bytes() == b"DEPLOY".as_slice());
+    is_deploy(rt, &mail);
 }
 
 // The round after these entries of the client, in which the helm hears what the client posted: so it drives.

@@ -18,18 +18,25 @@ fn setup(alloc: Global) -> Setup {
     }
 }
 
+fn post(rt: &impl Abort, alloc: Global, db: &mut Db, stamp: u64)
+    requires { 0 < length db.old.names }
+    ensures { 0 < length db.new.names }
+{
+    let five = batch(rt, alloc, "X", number(rt, 5000));
+    let posted = db.post(alloc, 0, stamp, five);
+    posted.expect(rt, "memory");
+}
+
 // A helm that hears itself: its opening posts something, and so does its one iteration.
 fn act(rt: &impl Abort, alloc: Global, db: &mut Db)
     requires { 0 < length db.old.names }
 {
     let registered = db.register(alloc, 0, 0, regs(rt, alloc, "X"));
     registered.expect(rt, "memory");
-    let posted = db.post(alloc, 0, 0, batch(rt, alloc, "X", number(rt, 5000)));
-    posted.expect(rt, "memory");
+    post(rt, alloc, db, 0);
     let fetched = db.fetch(alloc, 0, 250);
     let _ = fetched.expect(rt, "memory");
-    let posted = db.post(alloc, 0, 250, batch(rt, alloc, "X", number(rt, 5000)));
-    posted.expect(rt, "memory");
+    post(rt, alloc, db, 250);
 }
 
 fn community(rt: &impl Abort, alloc: Global) -> Db {

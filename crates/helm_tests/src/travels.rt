@@ -48,18 +48,30 @@ fn wanted(
     }
 }
 
-fn is_told(rt: &impl Abort, out: &Out, led_to: Option<(i64, i64, i64)>, done: bool) {
+// The fault of a step from this place.
+fn lost(place: Option<(i64, i64)>) -> Option<BhvFault> {
+    match place {
+        Some(_) => None,
+        None => Some(BhvFault::NoPosition),
+    }
+}
+
+fn is_told(
+    rt: &impl Abort,
+    out: &Out,
+    place: Option<(i64, i64)>,
+    led_to: Option<(i64, i64, i64)>,
+    done: bool,
+) {
     let is_led = led_to.is_some();
     assert!(rt; led(out) == led_to && out.done == done);
     assert!(rt; out.course == is_led && out.speed == is_led);
+    assert!(rt; out.fault == lost(place));
 }
 
 // A step of a row: it is `fresh`, or the `last` one, with which the behaviour is done, or another; where the ship is, if that
 // is known; and where it is led then, if anywhere.
-fn steps(rt: &impl Abort, alloc: Global, kind: &mut Kind, row: &str)
-    requires { IsSoundKind kind.old }
-    ensures { IsSoundKind kind.new }
-{
+fn read(row: &str) -> (&str, Option<(i64, i64)>, Option<(i64, i64, i64)>) {
     let mut words = row.split_whitespace();
     let how = words.next().unwrap_or("");
     let place = pair(number(words.next()), number(words.next()));
@@ -68,15 +80,18 @@ fn steps(rt: &impl Abort, alloc: Global, kind: &mut Kind, row: &str)
         number(words.next()),
         number(words.next()),
     );
+    (how, place, led_to)
+}
+
+// Makes the step of a row.
+fn steps(rt: &impl Abort, alloc: Global, kind: &mut Kind, row: &str)
+    requires { IsSoundKind kind.old }
+    ensures { IsSoundKind kind.new }
+{
+    let (how, place, led_to) = read(row);
     let info = known(rt, alloc, place, 0);
     let out = stepped(rt, alloc, kind, &info, 0, how == "fresh");
-    is_told(rt, &out, led_to, how == "last");
-    let lost = if place.is_none() {
-        Some(BhvFault::NoPosition)
-    } else {
-        None
-    };
-    assert!(rt; out.fault == lost);
+    is_told(rt, &out, place, led_to, how == "last");
 }
 
 // Takes an update, and then makes these steps.
