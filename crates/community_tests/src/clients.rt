@@ -3,7 +3,7 @@ ghost use Rattle.moos_client.specs.Calls.{MayCall};
 
 use crate::made::{batch, names, pattern, regs};
 use moos_client::{Lock, Seat, fetch, post, register, unregister};
-use moos_db::{Db, Mail};
+use moos_db::{Db, Letter, Mail};
 use moos_post::Batch;
 use std::alloc::Global;
 use std::process::Abort;
@@ -28,12 +28,16 @@ fn community(rt: &impl Abort, alloc: Global) -> (Lock, Seat, Seat)
     }
 }
 
+fn is_letter(rt: &impl Abort, letter: &Letter, number: u64, var: &str) {
+    assert!(rt; letter.number == number);
+    assert!(rt; letter.post.var.bytes() == var.as_bytes());
+}
+
 // The letters are posts of these variables, with the numbers from 0 up.
 fn are_letters(rt: &impl Abort, mail: &Mail, vars: &[&str]) {
     assert!(rt; mail.len() == vars.len());
     for (place, (letter, var)) in mail.all().iter().zip(vars).enumerate() {
-        assert!(rt; letter.number == place as u64);
-        assert!(rt; letter.post.var.bytes() == var.as_bytes());
+        is_letter(rt, letter, place as u64, var);
     }
 }
 
@@ -139,6 +143,11 @@ fn is_in_order(db: &Db, client: u32, calls: u64) -> bool {
     next == calls
 }
 
+fn are_in_order(rt: &impl Abort, db: &Db, calls: u64) {
+    assert!(rt; db.entries() == calls.saturating_mul(2));
+    assert!(rt; is_in_order(db, 0, calls) && is_in_order(db, 1, calls));
+}
+
 // Two clients beside each other: each has its own entries, in their order.
 #[test]
 fn two_threads(rt: HostRuntime) {
@@ -159,7 +168,6 @@ fn two_threads(rt: HostRuntime) {
     assert!(rt; one && other);
     lock.meet(&mut first, second);
     let held = lock.take(&rt, &mut first);
-    assert!(rt; held.value().entries() == 2 * CALLS);
-    assert!(rt; is_in_order(held.value(), 0, CALLS) && is_in_order(held.value(), 1, CALLS));
+    are_in_order(&rt, held.value(), CALLS);
     lock.give_back(&mut first, held);
 }

@@ -1,13 +1,8 @@
-use crate::made::{name, number, text};
+use crate::made::{learn, number, text};
 use helm_cond::*;
-use moos_post::{Copied, Value};
+use moos_post::Copied;
 use std::alloc::Global;
 use std::process::Abort;
-
-fn learn(rt: &impl Abort, alloc: Global, info: &mut Info, var: &str, value: &Value) {
-    let var = name(rt, alloc, var);
-    info.learn(alloc, &var, value).expect(rt, "memory");
-}
 
 // X is the text `abc`, Y is 3, and nothing else was learnt.
 fn learnt(rt: &impl Abort, alloc: Global) -> Info {

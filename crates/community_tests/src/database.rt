@@ -2,7 +2,7 @@
 ghost use Rattle.std.specs.Prelude.{◌<◌, length};
 
 use crate::made::{batch, count, names, pattern, regs, words};
-use moos_db::Db;
+use moos_db::{Db, Mail};
 use std::alloc::Global;
 use std::process::Abort;
 
@@ -24,18 +24,22 @@ fn unregister(rt: &impl Abort, alloc: Global, db: &mut Db, client: u32, stamp: u
     done.expect(rt, "memory");
 }
 
-// A fetch gives the posts with these numbers, and is said to have given them.
-fn fetch(rt: &impl Abort, alloc: Global, db: &mut Db, client: u32, stamp: u64, numbers: &[&str])
-    requires { client < length db.old.names }
-{
-    let k = db.entries();
-    let mail = db.fetch(alloc, client, stamp).expect(rt, "memory");
-    let given = db.letters(k);
+// The letters have these numbers, which the fetch is said to have given.
+fn are_given(rt: &impl Abort, mail: &Mail, given: &[u64], numbers: &[&str]) {
     assert!(rt; mail.len() == numbers.len() && given.len() == numbers.len());
     for ((letter, number), word) in mail.all().iter().zip(given).zip(numbers) {
         let wanted = count(rt, word);
         assert!(rt; letter.number == wanted && *number == wanted);
     }
+}
+
+// A fetch gives the posts with these numbers.
+fn fetch(rt: &impl Abort, alloc: Global, db: &mut Db, client: u32, stamp: u64, numbers: &[&str])
+    requires { client < length db.old.names }
+{
+    let k = db.entries();
+    let mail = db.fetch(alloc, client, stamp).expect(rt, "memory");
+    are_given(rt, &mail, db.letters(k), numbers);
 }
 
 // Makes a call of a client: what it does, and the words of it. Of a fetch these are the numbers that it is given.

@@ -1,5 +1,5 @@
 // Behaviours worked by hand, turn by turn.
-use crate::made::{check, count, name, text, words};
+use crate::made::{check, count, learn, name, text, words};
 use bhv_life::{BhvState, Life, Outcome, Phase};
 use bhv_reader::{Common, Conds};
 use helm_cond::{Cond, Info};
@@ -103,9 +103,8 @@ fn behavior(rt: &impl Abort, alloc: Global, line: &str) -> Common {
 // What is known where its condition holds, and where it doesn't.
 fn knowledge(rt: &impl Abort, alloc: Global, holds: bool) -> Info {
     let mut info = Info::make(alloc);
-    let go = name(rt, alloc, "GO");
     let value = text(rt, alloc, if holds { "true" } else { "false" });
-    info.learn(alloc, &go, &value).expect(rt, "memory");
+    learn(rt, alloc, &mut info, "GO", &value);
     info
 }
 

@@ -1,4 +1,5 @@
 // What tests make of words, where memory is left, and how a row of a table is judged.
+use helm_cond::Info;
 use moos_post::{Batch, Milli, Name, Names, Pair, Pattern, Reg, Regs, Txt, Value};
 use std::alloc::Global;
 use std::process::Abort;
@@ -72,4 +73,10 @@ pub(crate) fn batch(rt: &impl Abort, alloc: Global, vars: &[&str]) -> Batch {
         batch.push(Pair { var, value }).expect(rt, "memory");
     }
     batch
+}
+
+/// The value is what is known of the variable.
+pub(crate) fn learn(rt: &impl Abort, alloc: Global, info: &mut Info, var: &str, value: &Value) {
+    let var = name(rt, alloc, var);
+    info.learn(alloc, &var, value).expect(rt, "memory");
 }

@@ -1,6 +1,6 @@
 ghost use Rattle.std.specs.Prelude.{◌≡◌, None, Some};
 
-use crate::made::{check, name, text};
+use crate::made::{check, learn, name, text};
 use bhv_reader::{Conds, Decl, Decls};
 use helm_cond::{Cond, Info};
 use mode_tree::ModeTree;
@@ -66,8 +66,7 @@ fn knowledge(rt: &impl Abort, alloc: Global, words: &str) -> Info {
         .zip(words.split_whitespace())
     {
         let value = text(rt, alloc, said);
-        let var = name(rt, alloc, var);
-        info.learn(alloc, &var, &value).expect(rt, "memory");
+        learn(rt, alloc, &mut info, var, &value);
     }
     info
 }

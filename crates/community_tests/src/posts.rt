@@ -65,7 +65,6 @@ fn bytes_of_names(rt: HostRuntime) {
     }
 }
 
-// Equal names are found by their hash, and a name isn't equal to a longer one or to the same with another case.
 // What has a copy of the name alone as a key.
 fn only(rt: &impl Abort, alloc: Global, name: &Name) -> HashSet<Name> {
     let mut names = HashSet::new(alloc);
@@ -88,6 +87,7 @@ fn is_key(
     assert!(rt; (*known_name == other) == is_known);
 }
 
+// Equal names are found by their hash, and a name isn't equal to a longer one or to the same with another case.
 #[test]
 fn names_are_keys(rt: HostRuntime) {
     let known_name = name(&rt, rt.alloc(), "NAV_X");
