@@ -1,7 +1,7 @@
 // The text of a decision.
 ghost use Rattle.std.specs.Prelude.{◌≤◌, [], ◌∷◌, flat_map, codes, decimal, OnOk, OnErr};
 ghost use Rattle.std.specs.List.{concat};
-ghost use Rattle.moos_io.specs.Faults.{Rose};
+ghost use Rattle.moos_io.specs.Faults.{FaresOn, Fell};
 ghost use Rattle.moos_io.specs.Pieces.{Took, TookFront};
 ghost use Rattle.moos_io.specs.Writing.{way, Wrote};
 ghost use Rattle.ivp_cert.specs.Texts.{claim_text, decision_lines, line_text};
@@ -20,8 +20,8 @@ pub fn print_decision<K: Sink>(
 ) -> Result<(), Failed>
     ensures ok { OnOk result (Took (K.taken out.old) (K.taken out.new) (decision_lines prefix.now decision.now)) }
     ensures front { OnErr result (TookFront (K.taken out.old) (K.taken out.new) (decision_lines prefix.now decision.now)) }
-    ensures later { K.faults out.old ≤ K.faults out.new }
-    ensures rose { OnErr result (Rose (K.faults out.old) (K.faults out.new)) }
+    ensures later { FaresOn (K.faults out.old) (K.faults out.new) }
+    ensures rose { OnErr result (Fell (K.faults out.old) (K.faults out.new) (K.taken out.new)) }
 {
     let mut buffer = Buffer::new();
     if let Err(failed) = put_decision(prefix, decision, &mut buffer, out) {
