@@ -8,7 +8,7 @@ use Rattle.std.proofs.lemmas.List.Folds.{concat-append}
 use Rattle.std.proofs.lemmas.List.Filters.{length-filter_more}
 use Rattle.std.proofs.lemmas.List.Sums.{count_by-le-length, length-filter}
 use Rattle.std.proofs.lemmas.Option.{get_or_from_slice_get, slice_get_past, slice_get_within}
-use Rattle.moos_io.specs.Faults.{Rose}
+use Rattle.moos_io.specs.Faults.{Faring, FaresOn, Fell}
 use Rattle.moos_io.specs.Pieces.{Took, TookFront}
 use Rattle.moos_io.specs.Writing.{Went, Stopped, way}
 use Rattle.moos_post.specs.declared.entry.Call.TheVariants.{Post as Posts, Fetch}
@@ -153,11 +153,11 @@ pub states_end : (names : List (List ℕ)) (states : List BhvState) (number : �
 states_end names states number past = rw (drop_all number states past) (no_states (drop number names))
 
 -- a text that a sink took whole, without a buffer that held anything before or after
-pub went_whole : {before now : Option (List ℕ)} {faults after : ℕ} {text : List ℕ} → Took before now text → faults ≤ after → Went (way before [] faults) (way now [] after) text
+pub went_whole : {before now : Option (List ℕ)} {faring after : Faring} {text : List ℕ} → Took before now text → FaresOn faring after → Went (way before [] faring) (way now [] after) text
 went_whole {text = text} took later = record { piece = text; took = took; rest = append-nil text; later = later }
 
-pub stopped_whole : {before now : Option (List ℕ)} {faults after : ℕ} {text : List ℕ} → TookFront before now text → faults ≤ after → Rose faults after
-    → Stopped (way before [] faults) (way now [] after) text
+pub stopped_whole : {before now : Option (List ℕ)} {faring after : Faring} {text : List ℕ} → TookFront before now text → FaresOn faring after → Fell faring after now
+    → Stopped (way before [] faring) (way now [] after) text
 stopped_whole front later rose = record { front = front; later = later; rose = rose }
 
 -- the line of a letter, whose front is written with that of its post

@@ -1,6 +1,6 @@
 // A report at once, and part by part.
 ghost use Rattle.std.specs.Prelude.{◌≡◌, ◌≤◌, [], OnOk, OnErr, take, drop};
-ghost use Rattle.moos_io.specs.Faults.{Rose};
+ghost use Rattle.moos_io.specs.Faults.{FaresOn, Fell};
 ghost use Rattle.moos_io.specs.Pieces.{Took, TookFront};
 ghost use Rattle.moos_io.specs.Writing.{Wrote, way};
 ghost use Rattle.moos_report.specs.IterationLines.{helm_fetches};
@@ -23,8 +23,8 @@ pub fn report<K: Sink>(
 ) -> Result<(), Failed>
     ensures ok { OnOk result (Took (K.taken out.old) (K.taken out.new) (report_text setup.now db.now.names db.now.history iterations.now)) }
     ensures front { OnErr result (TookFront (K.taken out.old) (K.taken out.new) (report_text setup.now db.now.names db.now.history iterations.now)) }
-    ensures later { K.faults out.old ≤ K.faults out.new }
-    ensures rose { OnErr result (Rose (K.faults out.old) (K.faults out.new)) }
+    ensures later { FaresOn (K.faults out.old) (K.faults out.new) }
+    ensures rose { OnErr result (Fell (K.faults out.old) (K.faults out.new) (K.taken out.new)) }
 {
     if let Err(failed) = report_head(setup, db, out) {
         return Err(failed);
@@ -42,8 +42,8 @@ pub fn report<K: Sink>(
 pub fn report_head<K: Sink>(setup: &Setup, db: &Db, out: &mut K) -> Result<(), Failed>
     ensures ok { OnOk result (Took (K.taken out.old) (K.taken out.new) (head_text setup.now db.now.names)) }
     ensures front { OnErr result (TookFront (K.taken out.old) (K.taken out.new) (head_text setup.now db.now.names)) }
-    ensures later { K.faults out.old ≤ K.faults out.new }
-    ensures rose { OnErr result (Rose (K.faults out.old) (K.faults out.new)) }
+    ensures later { FaresOn (K.faults out.old) (K.faults out.new) }
+    ensures rose { OnErr result (Fell (K.faults out.old) (K.faults out.new) (K.taken out.new)) }
 {
     let mut buffer = Buffer::new();
     if let Err(failed) = put_head(setup, db, &mut buffer, out) {
@@ -83,8 +83,8 @@ pub fn report_part<K: Sink>(
         (entries_text setup.now first iterations.now db.now.names (take from db.now.history) (drop from db.now.history))) }
     ensures front { OnErr result (TookFront (K.taken out.old) (K.taken out.new)
         (entries_text setup.now first iterations.now db.now.names (take from db.now.history) (drop from db.now.history))) }
-    ensures later { K.faults out.old ≤ K.faults out.new }
-    ensures rose { OnErr result (Rose (K.faults out.old) (K.faults out.new)) }
+    ensures later { FaresOn (K.faults out.old) (K.faults out.new) }
+    ensures rose { OnErr result (Fell (K.faults out.old) (K.faults out.new) (K.taken out.new)) }
 {
     let mut buffer = Buffer::new();
     report_part_through(setup, db, from, first, iterations, &mut buffer, out)
@@ -106,8 +106,8 @@ pub fn report_part_through<K: Sink>(
         (entries_text setup.now first iterations.now db.now.names (take from db.now.history) (drop from db.now.history))) }
     ensures front { OnErr result (TookFront (K.taken out.old) (K.taken out.new)
         (entries_text setup.now first iterations.now db.now.names (take from db.now.history) (drop from db.now.history))) }
-    ensures later { K.faults out.old ≤ K.faults out.new }
-    ensures rose { OnErr result (Rose (K.faults out.old) (K.faults out.new)) }
+    ensures later { FaresOn (K.faults out.old) (K.faults out.new) }
+    ensures rose { OnErr result (Fell (K.faults out.old) (K.faults out.new) (K.taken out.new)) }
     ensures empty { OnOk result (buffer.new ≡ []) }
 {
     if let Err(failed) = put_entries(setup, db, from, first, iterations, buffer, out) {
@@ -123,8 +123,8 @@ pub fn report_part_through<K: Sink>(
 pub fn report_end<K: Sink>(db: &Db, out: &mut K) -> Result<(), Failed>
     ensures ok { OnOk result (Took (K.taken out.old) (K.taken out.new) (end_text db.now.history)) }
     ensures front { OnErr result (TookFront (K.taken out.old) (K.taken out.new) (end_text db.now.history)) }
-    ensures later { K.faults out.old ≤ K.faults out.new }
-    ensures rose { OnErr result (Rose (K.faults out.old) (K.faults out.new)) }
+    ensures later { FaresOn (K.faults out.old) (K.faults out.new) }
+    ensures rose { OnErr result (Fell (K.faults out.old) (K.faults out.new) (K.taken out.new)) }
 {
     let mut buffer = Buffer::new();
     if let Err(failed) = put_end(db.entries(), db.posts(), &mut buffer, out) {

@@ -1,6 +1,6 @@
 // The text of a summary.
 ghost use Rattle.std.specs.Prelude.{◌≤◌, OnOk, OnErr};
-ghost use Rattle.moos_io.specs.Faults.{Rose};
+ghost use Rattle.moos_io.specs.Faults.{FaresOn, Fell};
 ghost use Rattle.moos_io.specs.Pieces.{Took, TookFront};
 ghost use Rattle.moos_io.specs.Writing.{Wrote, way};
 ghost use Rattle.run_summary.specs.Summary.{counts_text, summary_text};
@@ -19,8 +19,8 @@ pub fn summary<K: Sink>(
 ) -> Result<(), Failed>
     ensures ok { OnOk result (Took (K.taken out.old) (K.taken out.new) (summary_text number db.now.names db.now.history iterations.now)) }
     ensures front { OnErr result (TookFront (K.taken out.old) (K.taken out.new) (summary_text number db.now.names db.now.history iterations.now)) }
-    ensures later { K.faults out.old ≤ K.faults out.new }
-    ensures rose { OnErr result (Rose (K.faults out.old) (K.faults out.new)) }
+    ensures later { FaresOn (K.faults out.old) (K.faults out.new) }
+    ensures rose { OnErr result (Fell (K.faults out.old) (K.faults out.new) (K.taken out.new)) }
 {
     let counts = counts_of(db, iterations);
     let mut buffer = Buffer::new();

@@ -1,6 +1,6 @@
 -- Scripts and refusals worked by hand.
 use Rattle.std.proofs.Common.{◌≡◌, ℕ, zero, suc, ◌<◌, ◌==◌, ◌&&◌, true, false, List, [], ◌∷◌, ◌++◌, length, map, replicate, refl, sym, ap, ◌∙◌, arith}
-use Rattle.std.specs.Prelude.{codes, Ok, Err, pos, slice_index, slice_index_or}
+use Rattle.std.specs.Prelude.{codes, Ok, Err, Some, None, pos, slice_index, slice_index_or}
 use Rattle.std.specs.List.{All}
 use Rattle.std.proofs.lemmas.Bool.{false≢true}
 use Rattle.std.proofs.lemmas.Bool.Decides.{nat_tests}
@@ -17,6 +17,7 @@ use Rattle.moos_text.specs.declared.cause.Cause.TheVariants.{S1, S2, S3, S4, S5,
 use Rattle.moos_text.specs.declared.cause.ReadFault.TheVariants.{At}
 use Rattle.script_reader.specs.declared.script.Script.{Script}
 use Rattle.script_reader.specs.Counts.{after_call, AreCounts, pairs_in, with_call, with_call_variables, with_made, with_name, with_pairs}
+use Rattle.script_reader.specs.Named.{line_of_client}
 use Rattle.script_reader.specs.Script.{is_register, registrations_of, script_of}
 use Rattle.script_reader.specs.Validity.{are_clients, are_lines, IsValid, keeps_limits}
 use Rattle.script_reader.proofs.Joining.{IsOwn, Named}
@@ -262,3 +263,11 @@ call_after = (refl, refl)
 
 call_more : with_call two 2001 1 Fetch ≡ record { names = two.names; lines = two.lines ++ fetches 2001 1 ∷ []; stop = 2001 }
 call_more = refl
+
+-- the first line of one of two clients is the fourth; the third carries a stamp alone, and the comment says nothing
+second_client : line_of_client (codes "pShare" ∷ codes "c" ∷ []) (codes "0 a fetch\n\n1 until // c\n1 c fetch\n1 pShare fetch\n") ≡ Some 4
+second_client = refl
+
+-- a stamp alone is of no client, whatever its name
+until_is_no_client : line_of_client (codes "until" ∷ []) (codes "1 until\n") ≡ None
+until_is_no_client = refl

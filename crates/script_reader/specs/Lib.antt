@@ -1,3 +1,4 @@
 pub mod Counts
+pub mod Named
 pub mod Script
 pub mod Validity
