@@ -3,8 +3,8 @@ use Rattle.std.proofs.Common.{◌≡◌, ℕ, Bool, true, false, ◌&&◌, cond,
 use Rattle.std.specs.Prelude.{if◌then◌else◌, ◌^◌, is_some, min, unwrap_or}
 use Rattle.std.specs.List.{list_any}
 use Rattle.moos_text.specs.Pairs.{sides_of}
-use Rattle.bhv_reader.specs.declared.spec.Spec.{Spec}
-use Rattle.bhv_reader.specs.Validity.{IsValidSpec}
+use Rattle.bhv_file.specs.declared.spec.Spec.{Spec}
+use Rattle.bhv_file.specs.Validity.{IsValidSpec}
 use Rattle.bhv_kinds.specs.declared.kind.Kind.{Kind}
 use Rattle.bhv_kinds.specs.Standing.{IsKindOf, IsSoundKind}
 use Rattle.bhv_kinds.specs.declared.waypoint.Headway.{Headway}

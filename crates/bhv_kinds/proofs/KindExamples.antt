@@ -4,11 +4,11 @@ use Rattle.std.specs.Prelude.{Bool, codes, is_some, Option, bytes_eq, ifâ—Œthenâ
 use Rattle.moos_post.specs.declared.value.Value.TheVariants.{Num, Text}
 use Rattle.helm_cond.specs.Learnt.{Knowledge}
 use Rattle.helm_geo.specs.declared.spot.Spot.{Spot}
-use Rattle.bhv_reader.specs.declared.spec.Shape.{Shape}
-use Rattle.bhv_reader.specs.declared.spec.Shape.TheVariants.{Heading, Speed, Depth, MaxDepth, Timer, Waypoint, Loiter, StationKeep, OpRegion}
-use Rattle.bhv_reader.specs.declared.spec.Spec.{Spec}
-use Rattle.bhv_reader.specs.Params.{has_axes, has_axis}
-use Rattle.bhv_reader.specs.Validity.{IsValidSpec}
+use Rattle.bhv_file.specs.declared.spec.Shape.{Shape}
+use Rattle.bhv_file.specs.declared.spec.Shape.TheVariants.{Heading, Speed, Depth, MaxDepth, Timer, Waypoint, Loiter, StationKeep, OpRegion}
+use Rattle.bhv_file.specs.declared.spec.Spec.{Spec}
+use Rattle.bhv_file.specs.Params.{has_axes, has_axis}
+use Rattle.bhv_file.specs.Validity.{IsValidSpec}
 use Rattle.ivp_domain.specs.declared.axis.Axis.{Axis}
 use Rattle.std.proofs.lemmas.Bool.{and_from}
 use Rattle.bhv_kinds.specs.Updates.{gives_places, updated}

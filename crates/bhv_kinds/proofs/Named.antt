@@ -13,7 +13,7 @@ use Rattle.ivp_build.specs.Places.{axis_on}
 use Rattle.ivp_build.specs.Shapes.{peak_at}
 use Rattle.ivp_build.specs.declared.shape.Peak.{Peak}
 use Rattle.ivp_build.specs.Builders.{at_most_pieces, peak_pieces}
-use Rattle.bhv_reader.specs.Params.{has_axis}
+use Rattle.bhv_file.specs.Params.{has_axis}
 use Rattle.bhv_kinds.specs.Utilities.{AtMostOn, PeakOn, axis_number, function_of, worth_at}
 
 -- where some item passes, the first that does stands within the list

@@ -3,20 +3,19 @@ use Rattle.std.proofs.Common.{◌≡◌, ℕ, suc, Bool, true, false, not, ◌&&
 use Rattle.std.specs.Prelude.{fold, IfSome, MatchOption, option_map, option_and_then, unwrap_or}
 use Rattle.std.specs.Borrow.{Bor}
 use Rattle.moos_text.specs.Pairs.{Sides, sides_of}
-use Rattle.bhv_reader.specs.declared.setting.Setting.{Setting}
-use Rattle.bhv_reader.specs.declared.setting.Setting.TheVariants.{Number, Time, Flag, Repeat, Places, Place}
-use Rattle.bhv_reader.specs.declared.spec.Shape.{Shape}
-use Rattle.bhv_reader.specs.declared.spec.Shape.TheVariants.{Heading, Speed, Depth, MaxDepth, Timer, Waypoint, Loiter, StationKeep, OpRegion}
-use Rattle.bhv_reader.specs.declared.spec.Spec.{Spec}
-use Rattle.bhv_reader.specs.declared.table.Parameter.{Parameter}
-use Rattle.bhv_reader.specs.Params.{axes_of, with_field, with_number_field, with_param, with_value_of}
+use Rattle.bhv_file.specs.declared.setting.Setting.{Setting}
+use Rattle.bhv_file.specs.declared.setting.Setting.TheVariants.{Number, Time, Flag, Repeat, Places, Place}
+use Rattle.bhv_file.specs.declared.spec.Shape.{Shape}
+use Rattle.bhv_file.specs.declared.spec.Shape.TheVariants.{Heading, Speed, Depth, MaxDepth, Timer, Waypoint, Loiter, StationKeep, OpRegion}
+use Rattle.bhv_file.specs.declared.spec.Spec.{Spec}
+use Rattle.bhv_file.specs.declared.table.Parameter.{Parameter}
+use Rattle.bhv_file.specs.Params.{axes_of, with_field, with_number_field, with_param, with_value_of, keeps_relations, lacks_places}
 use Rattle.std.proofs.lemmas.Bool.{and_parts}
-use Rattle.bhv_reader.specs.Params.{keeps_relations, lacks_places}
-use Rattle.bhv_reader.specs.Ranges.{KeepsRanges}
-use Rattle.bhv_reader.specs.Validity.{IsValidSpec}
-use Rattle.bhv_reader.specs.declared.table.CommonParameter.TheVariants.{Weight}
-use Rattle.bhv_reader.specs.Table.{parameter_of, states_common, value_range}
-use Rattle.bhv_reader.specs.Values.{kept_if, setting_of, weight_of}
+use Rattle.bhv_file.specs.Ranges.{KeepsRanges}
+use Rattle.bhv_file.specs.Validity.{IsValidSpec}
+use Rattle.bhv_file.specs.declared.table.CommonParameter.TheVariants.{Weight}
+use Rattle.bhv_file.specs.Table.{parameter_of, states_common, value_range}
+use Rattle.bhv_file.specs.Values.{kept_if, setting_of, weight_of}
 use Rattle.bhv_kinds.specs.Updates.{is_consistent, update_parts, updated, with_update_part}
 
 -- the pairs of what is left of an update, where there is something

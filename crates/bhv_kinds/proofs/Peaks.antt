@@ -5,7 +5,7 @@ use Rattle.std.proofs.lemmas.Bool.Decides.{nat_tests}
 use Rattle.ivp_domain.specs.Axes.{is_end}
 use Rattle.ivp_build.specs.Places.{IsWidth}
 use Rattle.ivp_build.specs.Shapes.{IsPeak}
-use Rattle.bhv_reader.specs.Values.{lies_between}
+use Rattle.bhv_file.specs.Values.{lies_between}
 
 -- a number of a range from 0 on is at least 0 and at most its end
 pub between : (high : ℕ) (n : ℤ) → lies_between (pos 0) (pos high) n ≡ true → (pos 0 ≤ℤ n) × (n ≤ℤ pos high)

@@ -4,7 +4,7 @@ use Rattle.std.proofs.lemmas.Bool.{and_parts, leb-true}
 use Rattle.std.specs.Prelude.{nat_le}
 use Rattle.helm_geo.specs.declared.spot.Spot.{Spot}
 use Rattle.helm_geo.specs.Polygons.{are_spots, at_each_side, convex, is_bent}
-use Rattle.bhv_reader.specs.Ranges.{are_places, are_vertices}
+use Rattle.bhv_file.specs.Ranges.{are_places, are_vertices}
 
 -- points that are given are spots, and not too many
 pub places_are : (spots : List Spot) → are_places true spots ≡ true → (are_spots spots ≡ true) × (length spots ≤ 64)

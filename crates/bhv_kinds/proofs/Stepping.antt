@@ -4,10 +4,10 @@ use Rattle.std.specs.Prelude.{IfSome, min, nat_le, nat_lt, unwrap_or}
 use Rattle.std.specs.Option.{option_or}
 use Rattle.helm_geo.specs.declared.spot.Spot.{Spot}
 use Rattle.helm_geo.specs.Plane.{is_spot}
-use Rattle.bhv_reader.specs.declared.spec.Shape.{Shape}
-use Rattle.bhv_reader.specs.declared.spec.Shape.TheVariants.{Heading, Speed, Depth, MaxDepth, Timer, Waypoint, Loiter, StationKeep, OpRegion}
-use Rattle.bhv_reader.specs.declared.spec.Spec.{Spec}
-use Rattle.bhv_reader.specs.Ranges.{InRanges}
+use Rattle.bhv_file.specs.declared.spec.Shape.{Shape}
+use Rattle.bhv_file.specs.declared.spec.Shape.TheVariants.{Heading, Speed, Depth, MaxDepth, Timer, Waypoint, Loiter, StationKeep, OpRegion}
+use Rattle.bhv_file.specs.declared.spec.Spec.{Spec}
+use Rattle.bhv_file.specs.Ranges.{InRanges}
 use Rattle.bhv_kinds.specs.declared.kind.Kind.{Kind}
 use Rattle.bhv_kinds.specs.declared.waypoint.Headway.{Headway}
 use Rattle.bhv_kinds.specs.declared.situation.Situation.{Situation}

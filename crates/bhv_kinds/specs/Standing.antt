@@ -1,10 +1,10 @@
 -- How a kind stands for the list of a behaviour's updates and steps: each of its fields is what they came to.
 use Rattle.std.specs.Prelude.{◌≡◌, ℕ, ◌≤◌, ◌^◌, Bool, List, min, IsTrue, IfSome}
 use Rattle.helm_geo.specs.Plane.{is_spot}
-use Rattle.bhv_reader.specs.declared.spec.Spec.{Spec}
+use Rattle.bhv_file.specs.declared.spec.Spec.{Spec}
 use Rattle.ivp_domain.specs.declared.axis.Axis.{Axis}
-use Rattle.bhv_reader.specs.Params.{axes_of, has_axes}
-use Rattle.bhv_reader.specs.Validity.{IsValidSpec}
+use Rattle.bhv_file.specs.Params.{axes_of, has_axes}
+use Rattle.bhv_file.specs.Validity.{IsValidSpec}
 use Rattle.bhv_kinds.specs.declared.kind.Kind.{Kind}
 use Rattle.bhv_kinds.specs.Stations.{centre_at}
 use Rattle.bhv_kinds.specs.Targets.{headway_at, is_reversed, last_position, vertex_at}

@@ -3,9 +3,9 @@ use Rattle.std.specs.Prelude.{ℕ, suc, ◌-◌, ◌==◌, pos, nat_abs, nat_le,
 use Rattle.std.specs.List.{range_with_len}
 use Rattle.helm_geo.specs.declared.spot.Spot.{Spot}
 use Rattle.helm_geo.specs.Plane.{distance_squared, is_right_of, within}
-use Rattle.bhv_reader.specs.declared.spec.Shape.{Shape}
-use Rattle.bhv_reader.specs.declared.spec.Shape.TheVariants.{Waypoint, Loiter}
-use Rattle.bhv_reader.specs.declared.spec.Spec.{Spec}
+use Rattle.bhv_file.specs.declared.spec.Shape.{Shape}
+use Rattle.bhv_file.specs.declared.spec.Shape.TheVariants.{Waypoint, Loiter}
+use Rattle.bhv_file.specs.declared.spec.Spec.{Spec}
 use Rattle.bhv_kinds.specs.declared.waypoint.Headway.{Headway}
 use Rattle.bhv_kinds.specs.Updates.{gives_places}
 use Rattle.bhv_kinds.specs.Turns.{KindStep, KindTurn, Updated, Stepped, params_at, params_at_step, position_of}

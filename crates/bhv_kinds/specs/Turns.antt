@@ -6,8 +6,8 @@ use Rattle.moos_post.specs.declared.value.Value.TheVariants.{Num, Text}
 use Rattle.ivp_domain.specs.declared.axis.Axis.{Axis}
 use Rattle.helm_cond.specs.Learnt.{Knowledge}
 use Rattle.helm_geo.specs.declared.spot.Spot.{Spot}
-use Rattle.bhv_reader.specs.declared.spec.Spec.{Spec}
-use Rattle.bhv_reader.specs.Values.{spot_of_numbers}
+use Rattle.bhv_file.specs.declared.spec.Spec.{Spec}
+use Rattle.bhv_file.specs.Values.{spot_of_numbers}
 use Rattle.bhv_kinds.specs.Updates.{updated}
 
 -- a step: the domain, what is known, the stamp, and whether the behaviour wasn't stepped in the iteration before

@@ -2,12 +2,12 @@
 use Rattle.std.specs.Prelude.{ℕ, ◌==◌, Bool, false, ◌&&◌, not, List, fold, Option, Some, None, is_some, option_and_then}
 use Rattle.std.specs.List.{list_any, slice_split}
 use Rattle.moos_text.specs.Pairs.{Sides, sides_of}
-use Rattle.bhv_reader.specs.declared.spec.Shape.{Shape}
-use Rattle.bhv_reader.specs.declared.spec.Spec.{Spec}
-use Rattle.bhv_reader.specs.declared.table.Parameter.TheVariants.{Points}
-use Rattle.bhv_reader.specs.Params.{keeps_relations, lacks_places, with_param}
-use Rattle.bhv_reader.specs.Table.{is_called}
-use Rattle.bhv_reader.specs.Values.{kept_if}
+use Rattle.bhv_file.specs.declared.spec.Shape.{Shape}
+use Rattle.bhv_file.specs.declared.spec.Spec.{Spec}
+use Rattle.bhv_file.specs.declared.table.Parameter.TheVariants.{Points}
+use Rattle.bhv_file.specs.Params.{keeps_relations, lacks_places, with_param}
+use Rattle.bhv_file.specs.Table.{is_called}
+use Rattle.bhv_file.specs.Values.{kept_if}
 
 -- all relations between parameters hold: those of numbers, and the places that must be given are
 abbrev pub is_consistent : Shape → Bool

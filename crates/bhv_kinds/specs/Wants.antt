@@ -4,7 +4,7 @@ use Rattle.ivp_domain.specs.declared.axis.Axis.{Axis}
 use Rattle.ivp_domain.specs.Axes.{is_end}
 use Rattle.ivp_build.specs.Places.{IsWidth}
 use Rattle.ivp_build.specs.Shapes.{IsPeak}
-use Rattle.bhv_reader.specs.Params.{has_axis}
+use Rattle.bhv_file.specs.Params.{has_axis}
 use Rattle.bhv_kinds.specs.declared.want.Aim.{Aim}
 use Rattle.bhv_kinds.specs.declared.want.Want.{Want}
 use Rattle.bhv_kinds.specs.declared.want.Want.TheVariants.{OnCourse, OnSpeed, OnDepth, AtMostDeep, Travel, Stay}

@@ -4,8 +4,8 @@ ghost use Rattle.ivp_domain.specs.declared.axis.Axis.{Axis};
 ghost use Rattle.helm_cond.specs.Infos.{knowledge_of};
 ghost use Rattle.helm_geo.specs.Plane.{is_spot};
 ghost use Rattle.helm_geo.specs.Polygons.{are_spots};
-ghost use Rattle.bhv_reader.specs.Params.{has_axes, has_axis, keeps_relations};
-ghost use Rattle.bhv_reader.specs.Ranges.{InRanges};
+ghost use Rattle.bhv_file.specs.Params.{has_axes, has_axis, keeps_relations};
+ghost use Rattle.bhv_file.specs.Ranges.{InRanges};
 ghost use Rattle.bhv_kinds.specs.Giving.{given_here, gives_by_type, keeping_station, towards_number};
 ghost use Rattle.bhv_kinds.specs.Wants.{CanMake, given_of, utility_of};
 
@@ -18,7 +18,7 @@ use crate::steady::of_hundred;
 use crate::want::{Aim, Want};
 use crate::waypoint::{spot_at, target_number};
 use crate::ways::towards;
-use bhv_reader::Shape;
+use bhv_file::Shape;
 use helm_cond::Info;
 use helm_geo::Spot;
 

@@ -1,6 +1,6 @@
 ghost use Rattle.std.specs.Prelude.{◌≡◌, ◌-◌, List, [], ◌∷◌, false, IfOk, OnErr, IsTrue, is_some, unwrap_or};
-ghost use Rattle.bhv_reader.specs.declared.spec.Spec.{Spec};
-ghost use Rattle.bhv_reader.specs.Validity.{IsValidSpec};
+ghost use Rattle.bhv_file.specs.declared.spec.Spec.{Spec};
+ghost use Rattle.bhv_file.specs.Validity.{IsValidSpec};
 ghost use Rattle.helm_cond.specs.Infos.{knowledge_of};
 ghost use Rattle.bhv_kinds.specs.Giving.{out_at};
 ghost use Rattle.bhv_kinds.specs.Standing.{IsKindOf, IsSoundKind, axes_needed, fits_domain};
@@ -17,7 +17,7 @@ use crate::situation::Situation;
 use crate::station::centre_after;
 use crate::updating::{names_places, updated};
 use crate::waypoint::{Headway, captures, finishes, headway_after};
-use bhv_reader::{Shape, Spec};
+use bhv_file::{Shape, Spec};
 use helm_cond::Info;
 use helm_geo::Spot;
 use ivp_domain::Domain;

@@ -2,11 +2,11 @@
 ghost use Rattle.std.specs.Prelude.{◌≡◌, ℕ, ◌≤◌, ◌*◌, length, unwrap_or, IfSome, IsTrue, true};
 ghost use Rattle.helm_geo.specs.Plane.{is_spot};
 ghost use Rattle.helm_geo.specs.Polygons.{are_spots};
-ghost use Rattle.bhv_reader.specs.Ranges.{InRanges};
+ghost use Rattle.bhv_file.specs.Ranges.{InRanges};
 ghost use Rattle.bhv_kinds.specs.Targets.{captures_vertex, is_clockwise, is_number, nearer_vertex, nearest_vertex, next_vertex, unless_fresh, vertex_after, vertex_beyond};
 
 use crate::waypoint::{Radii, is_captured, spot_at};
-use bhv_reader::Shape;
+use bhv_file::Shape;
 use helm_geo::{Spot, distance_squared, is_left_of};
 
 // Of two vertices the first, unless the second is nearer.

@@ -1,11 +1,11 @@
 ghost use Rattle.std.specs.Prelude.{◌≡◌, codes, IfOk, IfSome};
-ghost use Rattle.bhv_reader.specs.Params.{axes_of};
+ghost use Rattle.bhv_file.specs.Params.{axes_of};
 ghost use Rattle.bhv_kinds.specs.Giving.{is_named, out_of};
 ghost use Rattle.bhv_kinds.specs.Wants.{CanMake, given_of};
 
 use crate::making::Kept;
 use crate::want::Aim;
-use bhv_reader::Shape;
+use bhv_file::Shape;
 use ivp_domain::Domain;
 use ivp_func::Func;
 use moos_post::NoMemory;

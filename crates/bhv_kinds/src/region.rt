@@ -1,11 +1,11 @@
 // Operating regions.
 ghost use Rattle.std.specs.Prelude.{◌≡◌, true, IfSome, IsTrue};
 ghost use Rattle.helm_geo.specs.Plane.{is_spot};
-ghost use Rattle.bhv_reader.specs.Ranges.{are_vertices};
+ghost use Rattle.bhv_file.specs.Ranges.{are_vertices};
 ghost use Rattle.bhv_kinds.specs.Regions.{depth_fault, late_fault, outside_fault};
 
 use crate::out::BhvFault;
-use bhv_reader::Spots;
+use bhv_file::Spots;
 use helm_geo::{Spot, inside};
 
 /// The fault of a position against a polygon, where there is one.

@@ -2,7 +2,7 @@
 ghost use Rattle.std.specs.Prelude.{◌≡◌, ◌≤◌, ◌<◌, ◌*◌, ◌-◌, ◌/◌, ◌^◌, List, codes, option_map, IfSome, IsTrue};
 ghost use Rattle.ivp_domain.specs.declared.axis.Axis.{Axis};
 ghost use Rattle.helm_geo.specs.Plane.{is_spot};
-ghost use Rattle.bhv_reader.specs.Params.{has_axis};
+ghost use Rattle.bhv_file.specs.Params.{has_axis};
 ghost use Rattle.bhv_kinds.specs.Giving.{keeping};
 ghost use Rattle.bhv_kinds.specs.Stations.{centre_after, distance_of, return_speed};
 ghost use Rattle.bhv_kinds.specs.Wants.{CanMake, utility_of};

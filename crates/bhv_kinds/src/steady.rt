@@ -6,8 +6,8 @@ ghost use Rattle.ivp_domain.specs.Domains.{is_point};
 ghost use Rattle.ivp_func.specs.Pieces.{value_at};
 ghost use Rattle.ivp_build.specs.Places.{IsWidth};
 ghost use Rattle.ivp_build.specs.Shapes.{IsPeak};
-ghost use Rattle.bhv_reader.specs.Params.{has_axis};
-ghost use Rattle.bhv_reader.specs.Values.{lies_between};
+ghost use Rattle.bhv_file.specs.Params.{has_axis};
+ghost use Rattle.bhv_file.specs.Values.{lies_between};
 ghost use Rattle.bhv_kinds.specs.Utilities.{AtMostOn, PeakOn, axis_number, function_of, worth_at};
 
 use ivp_build::{Peak, at_most, peak};

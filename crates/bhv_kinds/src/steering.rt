@@ -3,7 +3,7 @@ ghost use Rattle.std.specs.Prelude.{◌≡◌, ◌≤◌, ◌<◌, ◌*◌, ◌^
 ghost use Rattle.ivp_build.specs.Faults.{IsTooMany};
 ghost use Rattle.ivp_build.specs.Shapes.{IsPeak};
 ghost use Rattle.ivp_build.specs.Sums.{HaveRoom, couple_pieces, slope_apart};
-ghost use Rattle.bhv_reader.specs.Params.{has_axis};
+ghost use Rattle.bhv_file.specs.Params.{has_axis};
 ghost use Rattle.bhv_kinds.specs.Utilities.{Flat, PeakOn, Sum, cruise, function_of, steer};
 
 use crate::steady::peak_on;

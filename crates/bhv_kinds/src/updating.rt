@@ -2,11 +2,11 @@
 ghost use Rattle.std.specs.Prelude.{◌≡◌, ◌==◌, ◌<◌, ◌&&◌, ◌∷◌, [], length, position, Some, None, IfOk, IfSome, MatchOption, fold, if◌then◌else◌};
 ghost use Rattle.std.specs.List.{list_any};
 ghost use Rattle.moos_text.specs.Pairs.{sides_of};
-ghost use Rattle.bhv_reader.specs.Ranges.{KeepsRanges};
-ghost use Rattle.bhv_reader.specs.Validity.{IsValidSpec};
+ghost use Rattle.bhv_file.specs.Ranges.{KeepsRanges};
+ghost use Rattle.bhv_file.specs.Validity.{IsValidSpec};
 ghost use Rattle.bhv_kinds.specs.Updates.{is_consistent, is_of_places, update_parts, updated, with_update_part};
 
-use bhv_reader::{Shape, Spec, set_param};
+use bhv_file::{Shape, Spec, set_param};
 use moos_post::{Copied, NoMemory};
 use moos_text::{cut_at_equals, is_named};
 use std::alloc::Global;

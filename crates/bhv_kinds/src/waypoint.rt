@@ -2,10 +2,10 @@
 ghost use Rattle.std.specs.Prelude.{◌≡◌, ◌≤◌, ◌^◌, pos, ◌≤ℤ◌, nat_abs, ◌&&◌, min, length, IfSome, IsTrue, true};
 ghost use Rattle.helm_geo.specs.Plane.{is_spot};
 ghost use Rattle.helm_geo.specs.Polygons.{are_spots};
-ghost use Rattle.bhv_reader.specs.Ranges.{InRanges};
+ghost use Rattle.bhv_file.specs.Ranges.{InRanges};
 ghost use Rattle.bhv_kinds.specs.Targets.{captures_at, has_slipped, headway_after, is_captured, is_last, is_last_of, may_repeat, spot_at, target_number, with_captured};
 
-use bhv_reader::Shape;
+use bhv_file::Shape;
 use helm_geo::{Spot, distance_squared, within};
 
 /// How far a waypoint behaviour has come: the captured points of its list, and how often it began the list again.

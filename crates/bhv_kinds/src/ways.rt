@@ -3,7 +3,7 @@ ghost use Rattle.std.specs.Prelude.{◌≡◌, ◌^◌, ◌<◌, ◌≤◌, List
 ghost use Rattle.ivp_domain.specs.declared.axis.Axis.{Axis};
 ghost use Rattle.helm_geo.specs.Angles.{bearing};
 ghost use Rattle.helm_geo.specs.Plane.{is_spot};
-ghost use Rattle.bhv_reader.specs.Params.{has_axis};
+ghost use Rattle.bhv_file.specs.Params.{has_axis};
 ghost use Rattle.bhv_kinds.specs.Giving.{towards};
 ghost use Rattle.bhv_kinds.specs.Wants.{CanMake, utility_of};
 

@@ -3,7 +3,7 @@ use Rattle.std.proofs.Common.{◌≡◌, ℕ, List, [], ◌∷◌, map, Option, 
 use Rattle.std.specs.Prelude.{Bool, true, false, codes, pos}
 use Rattle.moos_post.specs.declared.value.Pair.{Pair}
 use Rattle.moos_post.specs.declared.value.Value.TheVariants.{Num}
-use Rattle.bhv_reader.specs.declared.common.Common.{Common}
+use Rattle.bhv_file.specs.declared.common.Common.{Common}
 use Rattle.bhv_life.specs.declared.outcome.BhvState.{BhvState}
 use Rattle.bhv_life.specs.declared.outcome.BhvState.TheVariants.{Idle, Running, Active, Completed}
 use Rattle.bhv_life.specs.declared.outcome.Phase.TheVariants.{Idle as IdlePhase, Run, TimedOut, Completed as CompletedPhase}

@@ -3,7 +3,7 @@ use Rattle.std.specs.Prelude.{ℕ, ◌+◌, ◌-◌, Bool, true, false, not, ◌
 use Rattle.std.specs.List.{after_last, find, last_or, list_all, list_any}
 use Rattle.helm_cond.specs.Conditions.{holds}
 use Rattle.helm_cond.specs.Learnt.{Knowledge}
-use Rattle.bhv_reader.specs.declared.common.Common.{Common}
+use Rattle.bhv_file.specs.declared.common.Common.{Common}
 use Rattle.bhv_life.specs.declared.outcome.BhvState.{BhvState}
 use Rattle.bhv_life.specs.declared.outcome.BhvState.TheVariants.{Idle, Running, Active, Completed}
 use Rattle.bhv_life.specs.declared.outcome.Outcome.{Outcome}

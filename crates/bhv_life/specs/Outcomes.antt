@@ -1,7 +1,7 @@
 -- The states of a behaviour, and the flags that a change of state raises.
 use Rattle.std.specs.Prelude.{Bool, true, false, not, ◌&&◌, List, [], ◌++◌}
 use Rattle.moos_post.specs.declared.value.Pair.{Pair}
-use Rattle.bhv_reader.specs.declared.common.Common.{Common}
+use Rattle.bhv_file.specs.declared.common.Common.{Common}
 use Rattle.bhv_life.specs.declared.outcome.BhvState.{BhvState}
 use Rattle.bhv_life.specs.declared.outcome.BhvState.TheVariants.{Idle, Running, Active, Completed}
 use Rattle.bhv_life.specs.declared.outcome.Outcome.{Outcome}

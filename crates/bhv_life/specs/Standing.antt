@@ -1,6 +1,6 @@
 -- How a life stands for the list of a behaviour's turns: each of its numbers is what they came to.
 use Rattle.std.specs.Prelude.{◌≡◌, ℕ, ◌+◌, ◌-◌, ◌≤◌, List, Option, Some, None}
-use Rattle.bhv_reader.specs.declared.common.Common.{Common}
+use Rattle.bhv_file.specs.declared.common.Common.{Common}
 use Rattle.bhv_life.specs.declared.life.Life.{Life}
 use Rattle.bhv_life.specs.declared.started.Started.{Started}
 use Rattle.bhv_life.specs.Lives.{Beginning, BhvPast, BhvTurn, first_run, has_completed, latest_stamp, past_of, phase_at, since_completion, state_after, time_run, was_stepped}

@@ -1,6 +1,6 @@
 ghost use Rattle.std.specs.Prelude.{◌≡◌, ◌≤◌, List, []};
 ghost use Rattle.std.specs.List.{list_all};
-ghost use Rattle.bhv_reader.specs.declared.common.Common.{Common};
+ghost use Rattle.bhv_file.specs.declared.common.Common.{Common};
 ghost use Rattle.helm_cond.specs.Conditions.{holds};
 ghost use Rattle.helm_cond.specs.Infos.{knowledge_of};
 ghost use Rattle.bhv_life.specs.Lives.{BhvPast, BhvTurn, beginning_of, can_run, is_in_time, latest_stamp, passed_at, past_of, phase_at};
@@ -8,7 +8,7 @@ ghost use Rattle.bhv_life.specs.Standing.{HasBegun, IsLifeOf, Keeps, span_from};
 
 use crate::outcome::{BhvState, Phase};
 use crate::started::Started;
-use bhv_reader::Common;
+use bhv_file::Common;
 use helm_cond::{Cond, Info};
 
 /// What is kept of a behaviour's turns, one turn an iteration: as much as its next turn needs.

@@ -1,5 +1,5 @@
 ghost use Rattle.std.specs.Prelude.{◌≡◌, true, false, ◌+◌, ◌≤◌, List, [], ◌++◌, ◌∷◌, if◌then◌else◌, Some, None};
-ghost use Rattle.bhv_reader.specs.declared.common.Common.{Common};
+ghost use Rattle.bhv_file.specs.declared.common.Common.{Common};
 ghost use Rattle.bhv_life.specs.Lives.{Beginning, BhvPast, BhvTurn, latest_stamp, past_of, turn_after};
 ghost use Rattle.bhv_life.specs.Outcomes.{is_active, is_idle, is_running, outcome_of};
 ghost use Rattle.bhv_life.specs.Phases.{completes_in, runs_in, state_in, steps_in};

@@ -11,14 +11,14 @@ use Rattle.moos_text.specs.declared.cause.Cause.TheVariants.{B1, B2, B3, B4, B5,
 use Rattle.moos_text.specs.declared.cause.ReadFault.{ReadFault}
 use Rattle.moos_text.specs.declared.cause.ReadFault.TheVariants.{At}
 use Rattle.moos_text.specs.Refusals.{and_then}
-use Rattle.bhv_reader.specs.declared.common.Common.{Common}
-use Rattle.bhv_reader.specs.declared.file.BhvFile.{BhvFile}
-use Rattle.bhv_reader.specs.declared.file.Unused.{Unused}
-use Rattle.bhv_reader.specs.declared.spec.Shape.{Shape}
-use Rattle.bhv_reader.specs.declared.spec.Shape.TheVariants.{Speed, Depth, MaxDepth, Timer, Waypoint, Loiter, StationKeep, OpRegion}
-use Rattle.bhv_reader.specs.declared.spec.Spec.{Spec}
+use Rattle.bhv_file.specs.declared.common.Common.{Common}
+use Rattle.bhv_file.specs.declared.file.BhvFile.{BhvFile}
+use Rattle.bhv_file.specs.declared.file.Unused.{Unused}
+use Rattle.bhv_file.specs.declared.spec.Shape.{Shape}
+use Rattle.bhv_file.specs.declared.spec.Shape.TheVariants.{Speed, Depth, MaxDepth, Timer, Waypoint, Loiter, StationKeep, OpRegion}
+use Rattle.bhv_file.specs.declared.spec.Spec.{Spec}
 use Rattle.bhv_reader.specs.Behaviors.{behaviors_of}
-use Rattle.bhv_reader.specs.Params.{with_param}
+use Rattle.bhv_file.specs.Params.{with_param}
 
 -- an axis of two points
 abbrev axis : List ℕ → Axis

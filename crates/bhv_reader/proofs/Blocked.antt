@@ -21,21 +21,21 @@ use Rattle.helm_cond.proofs.Naming.{names_named}
 use Rattle.helm_geo.specs.declared.spot.Spot.{Spot}
 use Rattle.helm_geo.specs.Polygons.{are_spots, convex}
 use Rattle.bhv_reader.specs.declared.behavior.Behavior.{Behavior}
-use Rattle.bhv_reader.specs.declared.file.BhvFile.{BhvFile}
-use Rattle.bhv_reader.specs.declared.file.Block.{Block}
-use Rattle.bhv_reader.specs.declared.file.Unused.{Unused}
-use Rattle.bhv_reader.specs.declared.spec.Shape.{Shape}
-use Rattle.bhv_reader.specs.declared.spec.Shape.TheVariants.{Heading, Speed, Depth, MaxDepth, Timer, Waypoint, Loiter, StationKeep, OpRegion}
-use Rattle.bhv_reader.specs.declared.table.CommonParameter.{CommonParameter}
-use Rattle.bhv_reader.specs.declared.table.CommonParameter.TheVariants.{Name, Weight, Condition as OfCondition, RunFlag, IdleFlag, ActiveFlag, InactiveFlag, EndFlag, Updates, Duration, IdleDecay, Perpetual, Templating}
-use Rattle.bhv_reader.specs.declared.table.Parameter.{Parameter}
-use Rattle.bhv_reader.specs.Blocks.{after_known, behavior_closed, behavior_of_type, BehaviorBlock, block_of, flag_value, flag_with_room, flags_in, if_good, is_taken, is_unfinished, name_value, of_shape, one_flag, when_good, with_behavior_condition, with_behavior_name, with_block, with_common, with_found, with_parameter, with_sides}
-use Rattle.bhv_reader.specs.Params.{has_axes, keeps_relations, lacks_places, with_value_of}
-use Rattle.bhv_reader.specs.Ranges.{are_places, are_vertices, InRanges}
-use Rattle.bhv_reader.specs.Table.{common_named, defaults_among, defaults_of, is_needed, parameter_of, TypeRow, types}
-use Rattle.bhv_reader.specs.Validity.{AreBlocks, IsBlock, IsValidFile, serves}
-use Rattle.bhv_reader.specs.Values.{duration_of, flag_of, time_value, weight_of}
-use Rattle.bhv_reader.proofs.Ranged.{own_kept, time_within, weight_within}
+use Rattle.bhv_file.specs.declared.file.BhvFile.{BhvFile}
+use Rattle.bhv_file.specs.declared.file.Block.{Block}
+use Rattle.bhv_file.specs.declared.file.Unused.{Unused}
+use Rattle.bhv_file.specs.declared.spec.Shape.{Shape}
+use Rattle.bhv_file.specs.declared.spec.Shape.TheVariants.{Heading, Speed, Depth, MaxDepth, Timer, Waypoint, Loiter, StationKeep, OpRegion}
+use Rattle.bhv_file.specs.declared.table.CommonParameter.{CommonParameter}
+use Rattle.bhv_file.specs.declared.table.CommonParameter.TheVariants.{Name, Weight, Condition as OfCondition, RunFlag, IdleFlag, ActiveFlag, InactiveFlag, EndFlag, Updates, Duration, IdleDecay, Perpetual, Templating}
+use Rattle.bhv_file.specs.declared.table.Parameter.{Parameter}
+use Rattle.bhv_file.specs.Validity.{is_taken, AreBlocks, IsBlock, IsValidFile, serves}
+use Rattle.bhv_reader.specs.Blocks.{after_known, behavior_closed, behavior_of_type, BehaviorBlock, block_of, flag_value, flag_with_room, flags_in, if_good, is_unfinished, name_value, of_shape, one_flag, when_good, with_behavior_condition, with_behavior_name, with_block, with_common, with_found, with_parameter, with_sides}
+use Rattle.bhv_file.specs.Params.{has_axes, keeps_relations, lacks_places, with_value_of}
+use Rattle.bhv_file.specs.Ranges.{are_places, are_vertices, InRanges}
+use Rattle.bhv_file.specs.Table.{common_named, defaults_among, defaults_of, is_needed, parameter_of, TypeRow, types}
+use Rattle.bhv_file.specs.Values.{duration_of, flag_of, time_value, weight_of}
+use Rattle.bhv_file.proofs.Ranged.{own_kept, time_within, weight_within}
 
 -- what an unfinished behaviour keeps behind these
 pub record IsDraft (blocks : List Block) (behavior : Behavior) : Type 0 where

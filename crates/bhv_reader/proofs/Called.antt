@@ -17,14 +17,14 @@ use Rattle.moos_text.specs.declared.cause.LineFault.TheVariants.{Refused, NoMemo
 use Rattle.moos_text.specs.Pairs.{Sides}
 use Rattle.moos_text.specs.Refusals.{and_then, IsLineFault}
 use Rattle.bhv_reader.specs.declared.behavior.Behavior.{Behavior}
-use Rattle.bhv_reader.specs.declared.file.BhvFile.{BhvFile}
-use Rattle.bhv_reader.specs.declared.table.CommonParameter.{CommonParameter}
-use Rattle.bhv_reader.specs.declared.table.CommonParameter.TheVariants.{Name, Weight, Condition, RunFlag, IdleFlag, ActiveFlag, InactiveFlag, EndFlag, Updates, Duration, IdleDecay, Perpetual, Templating}
-use Rattle.bhv_reader.specs.declared.table.Parameter.{Parameter}
-use Rattle.bhv_reader.specs.declared.table.Parameter.TheVariants.{Heading as OfHeading, Speed as OfSpeed, Depth as OfDepth, PeakWidth, BaseWidth, SummitDelta, MaxDepth as OfMaxDepth, Points, CaptureRadius, SlipRadius, Order, Repeat, Polygon, Clockwise, StationPoint, CenterActivate, InnerRadius, OuterRadius, OuterSpeed, MaxTime}
+use Rattle.bhv_file.specs.declared.file.BhvFile.{BhvFile}
+use Rattle.bhv_file.specs.declared.table.CommonParameter.{CommonParameter}
+use Rattle.bhv_file.specs.declared.table.CommonParameter.TheVariants.{Name, Weight, Condition, RunFlag, IdleFlag, ActiveFlag, InactiveFlag, EndFlag, Updates, Duration, IdleDecay, Perpetual, Templating}
+use Rattle.bhv_file.specs.declared.table.Parameter.{Parameter}
+use Rattle.bhv_file.specs.declared.table.Parameter.TheVariants.{Heading as OfHeading, Speed as OfSpeed, Depth as OfDepth, PeakWidth, BaseWidth, SummitDelta, MaxDepth as OfMaxDepth, Points, CaptureRadius, SlipRadius, Order, Repeat, Polygon, Clockwise, StationPoint, CenterActivate, InnerRadius, OuterRadius, OuterSpeed, MaxTime}
 use Rattle.bhv_reader.specs.Blocks.{after_known, BehaviorBlock, with_common, with_found, with_parameter, with_sides}
 use Rattle.bhv_reader.specs.Places.{behavior_block}
-use Rattle.bhv_reader.specs.Table.{common_name, common_named, common_parameters, is_called, parameter_names, parameter_of, parameters_of, states_common}
+use Rattle.bhv_file.specs.Table.{common_name, common_named, common_parameters, is_called, parameter_names, parameter_of, parameters_of, states_common}
 
 -- what a byte passes, its letter in lower case passes and the other way round, where letters of both cases pass
 folded_byte : (test : ℕ → Bool) → ((byte : ℕ) → is_alphabetic byte ≡ true → test byte ≡ true) → (byte : ℕ) → test (to_ascii_lowercase byte) ≡ test byte

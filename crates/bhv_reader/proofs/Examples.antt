@@ -7,7 +7,7 @@ use Rattle.moos_text.specs.declared.cause.ReadFault.{ReadFault}
 use Rattle.moos_text.specs.declared.cause.ReadFault.TheVariants.{At}
 use Rattle.helm_cond.specs.declared.operator.Operator.TheVariants.{Equal}
 use Rattle.helm_cond.specs.Conditions.{Compare, Condition}
-use Rattle.bhv_reader.specs.declared.file.BhvFile.{BhvFile}
+use Rattle.bhv_file.specs.declared.file.BhvFile.{BhvFile}
 use Rattle.bhv_reader.specs.Behaviors.{behaviors_of}
 
 -- a variable has this text

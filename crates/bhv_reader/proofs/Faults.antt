@@ -11,7 +11,7 @@ use Rattle.bhv_reader.specs.declared.behavior.Behavior.{Behavior}
 use Rattle.bhv_reader.specs.declared.reading.Position.TheVariants.{Headed, Braced}
 use Rattle.bhv_reader.specs.declared.reading.Unclosed.{Unclosed}
 use Rattle.ivp_domain.specs.declared.axis.Axis.{Axis}
-use Rattle.bhv_reader.specs.Paths.{meant_by, parent_path, paths_of}
+use Rattle.bhv_file.specs.Paths.{meant_by, parent_path, paths_of, the_one}
 use Rattle.bhv_reader.specs.Places.{behavior_block, behavior_in, open_block, parent_behind, standing_at}
 use Rattle.moos_post.specs.Words.{is_name}
 use Rattle.moos_text.specs.declared.cause.Cause.{Cause}
@@ -20,8 +20,9 @@ use Rattle.moos_text.specs.declared.cause.LineFault.{LineFault}
 use Rattle.moos_text.specs.declared.cause.LineFault.TheVariants.{Refused, NoMemory}
 use Rattle.moos_text.specs.Pairs.{Sides, sides_of}
 use Rattle.moos_text.specs.Refusals.{and_then, IsLineFault}
-use Rattle.bhv_reader.specs.declared.file.BhvFile.{BhvFile}
-use Rattle.bhv_reader.specs.Behaviors.{after_condition, begins_behavior, begins_by, behavior_begun, behavior_form, fits_mode, mode_begun, ModeBlock, named_by, OfBehavior, OfMode, OpenBlock, other_of, the_one, with_condition, with_parent}
+use Rattle.bhv_file.specs.declared.file.BhvFile.{BhvFile}
+use Rattle.bhv_file.specs.Validity.{fits_mode}
+use Rattle.bhv_reader.specs.Behaviors.{after_condition, begins_behavior, begins_by, behavior_begun, behavior_form, mode_begun, ModeBlock, named_by, OfBehavior, OfMode, OpenBlock, other_of, with_condition, with_parent}
 
 -- what a name is refused for, as the whole
 named_fault : {A B : Type 0} (b : Bool) (one : A) (other : B) (fault : LineFault) → IsLineFault fault (cond b (Ok one) (Err B1)) → IsLineFault fault (cond b (Ok other) (Err B1))

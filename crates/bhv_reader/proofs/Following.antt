@@ -6,7 +6,7 @@ use Rattle.moos_text.specs.Refusals.{and_then}
 use Rattle.moos_text.specs.Standing.{after_raw, at_end, Outside, read_lines, Standing}
 use Rattle.moos_text.proofs.Sectioned.{file_read}
 use Rattle.moos_text.proofs.Walks.{all_read, IsRead, lines_all}
-use Rattle.bhv_reader.specs.declared.file.BhvFile.{BhvFile}
+use Rattle.bhv_file.specs.declared.file.BhvFile.{BhvFile}
 use Rattle.bhv_reader.specs.Behaviors.{behavior_form, behaviors_of, nothing_said, OpenBlock}
 
 pub behaviors_read : (domain : List Axis) (bytes : List ℕ) → and_then (at_end (behavior_form domain) (last_line bytes)) (read_lines (after_raw (behavior_form domain)) 0 (Outside nothing_said) (raw_lines bytes)) ≡ behaviors_of domain bytes

@@ -5,10 +5,8 @@ pub mod Ending
 pub mod Examples
 pub mod Faults
 pub mod Following
-pub mod Listed
 pub mod Naming
 pub mod PathsAt
-pub mod Ranged
 pub mod Splits
 pub mod Valid
 pub mod Within

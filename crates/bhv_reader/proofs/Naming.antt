@@ -6,8 +6,7 @@ use Rattle.std.proofs.Math.ListN.{drop_of_length-le}
 use Rattle.std.proofs.lemmas.List.{drop_more}
 use Rattle.moos_text.specs.declared.cause.Cause.TheVariants.{B7, B8}
 use Rattle.helm_cond.specs.Conditions.{begins_with}
-use Rattle.bhv_reader.specs.Behaviors.{the_one}
-use Rattle.bhv_reader.specs.Paths.{named_from}
+use Rattle.bhv_file.specs.Paths.{the_one, named_from}
 
 -- the next path
 next_path : (names : List (List ℕ)) (paths : List (List (List ℕ))) (i : ℕ) → i < length paths → named_from i names (drop i paths) ≡ cond (begins_with names (slice_index_or paths i [])) (i ∷ named_from (i + 1) names (drop (i + 1) paths)) (named_from (i + 1) names (drop (i + 1) paths))

@@ -3,7 +3,7 @@ use Rattle.std.proofs.Common.{◌≡◌, ℕ, ◌+◌, ◌<◌, ◌==◌, Bool, 
 use Rattle.std.specs.List.{list_any, onto_first}
 use Rattle.std.proofs.lemmas.List.{drop_more, take-append-drop}
 use Rattle.helm_cond.specs.Conditions.{mode_names}
-use Rattle.bhv_reader.specs.Paths.{is_colon}
+use Rattle.bhv_file.specs.Paths.{is_colon}
 
 or_right : (a b : Bool) → (a || b) ≡ false → b ≡ false
 or_right true b e = absurd cc

@@ -27,12 +27,12 @@ use Rattle.helm_cond.specs.declared.operator.Operator.TheVariants.{Equal, Unequa
 use Rattle.helm_cond.specs.Conditions.{And, Compare, Condition, HasNames, is_of_mode, mode_names, mode_named, Not, Or, parent_of}
 use Rattle.helm_cond.specs.Grammar.{condition_of}
 use Rattle.helm_cond.proofs.Naming.{names_named}
-use Rattle.bhv_reader.specs.declared.decl.Decl.{Decl}
-use Rattle.bhv_reader.specs.declared.file.BhvFile.{BhvFile}
-use Rattle.bhv_reader.specs.declared.file.Unused.{Unused}
-use Rattle.bhv_reader.specs.Behaviors.{after_condition, begins_by, behavior_begun, behavior_form, behaviors_of, block_closed, behind_close, block_begun, fits_mode, has_parent_line, line_outside, mode_begun, ModeBlock, named_by, names_mode, OfBehavior, OfMode, OpenBlock, nothing_said, other_of, the_one, with_condition, with_decl, with_block_line, with_opening, with_parent}
-use Rattle.bhv_reader.specs.Paths.{meant_by, named_from, parent_path, paths_of}
-use Rattle.bhv_reader.specs.Validity.{AreDecls, fit_mode, IsDecl, IsValidFile, parent_line, parent_said, serves}
+use Rattle.bhv_file.specs.declared.decl.Decl.{Decl}
+use Rattle.bhv_file.specs.declared.file.BhvFile.{BhvFile}
+use Rattle.bhv_file.specs.declared.file.Unused.{Unused}
+use Rattle.bhv_file.specs.Validity.{fits_mode, has_parent_line, names_mode, AreDecls, fit_mode, IsDecl, IsValidFile, parent_line, parent_said, serves}
+use Rattle.bhv_file.specs.Paths.{the_one, meant_by, named_from, parent_path, paths_of}
+use Rattle.bhv_reader.specs.Behaviors.{after_condition, begins_by, behavior_begun, behavior_form, behaviors_of, block_closed, behind_close, block_begun, line_outside, mode_begun, ModeBlock, named_by, OfBehavior, OfMode, OpenBlock, nothing_said, other_of, with_condition, with_decl, with_block_line, with_opening, with_parent}
 use Rattle.bhv_reader.specs.Blocks.{behavior_of_type, with_sides}
 use Rattle.bhv_reader.proofs.Blocked.{begun_drafted, behavior_sound, IsDraft, IsSoundBehavior, IsSoundFile, line_sound}
 use Rattle.bhv_reader.proofs.PathsAt.{length-paths_of}

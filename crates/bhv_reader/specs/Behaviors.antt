@@ -1,25 +1,25 @@
 -- What the bytes of a behaviour file stand for: its opening pairs, its modes and its behaviours, or the first refusal with
 -- its line and cause.
-use Rattle.std.specs.Prelude.{ℕ, Bool, false, not, ◌&&◌, ◌||◌, ◌==◌, nat_le, if◌then◌else◌, List, [], ◌∷◌, ◌++◌, length, codes, bytes_eq, Option, Some, None, is_some, Result, Ok, Err}
-use Rattle.std.specs.List.{list_any}
+use Rattle.std.specs.Prelude.{ℕ, Bool, false, not, ◌&&◌, ◌||◌, ◌==◌, nat_le, if◌then◌else◌, List, [], ◌∷◌, ◌++◌, length, codes, bytes_eq, Option, Some, None, Result, Ok, Err}
 use Rattle.std.specs.Str.{str_eq_ignore_ascii_case}
 use Rattle.ivp_domain.specs.declared.axis.Axis.{Axis}
 use Rattle.moos_post.specs.declared.value.Pair.{Pair}
 use Rattle.moos_post.specs.declared.value.Value.{Value}
 use Rattle.moos_post.specs.Words.{is_name}
 use Rattle.moos_text.specs.declared.cause.Cause.{Cause}
-use Rattle.moos_text.specs.declared.cause.Cause.TheVariants.{B1, B2, B5, B7, B8, B9}
+use Rattle.moos_text.specs.declared.cause.Cause.TheVariants.{B1, B2, B5, B9}
 use Rattle.moos_text.specs.declared.cause.ReadFault.{ReadFault}
 use Rattle.moos_text.specs.declared.pair.PairFault.{PairFault}
 use Rattle.moos_text.specs.Lines.{behind_word, first_word, trimmed, without_last}
 use Rattle.moos_text.specs.Pairs.{pair_of, Sides, sides_of}
 use Rattle.moos_text.specs.Refusals.{and_then}
 use Rattle.moos_text.specs.Sections.{Form, made_of_file, Statement}
-use Rattle.helm_cond.specs.Conditions.{Condition, names_in, parent_of}
+use Rattle.helm_cond.specs.Conditions.{Condition, parent_of}
 use Rattle.helm_cond.specs.Grammar.{condition_of}
-use Rattle.bhv_reader.specs.declared.file.BhvFile.{BhvFile}
+use Rattle.bhv_file.specs.declared.file.BhvFile.{BhvFile}
 use Rattle.bhv_reader.specs.Blocks.{behavior_closed, behavior_of_type, BehaviorBlock, with_sides}
-use Rattle.bhv_reader.specs.Paths.{meant_by, parent_path, paths_of}
+use Rattle.bhv_file.specs.Validity.{fits_mode}
+use Rattle.bhv_file.specs.Paths.{meant_by, parent_path, paths_of, the_one}
 
 -- what stands before the first line
 abbrev pub nothing_said : BhvFile
@@ -81,24 +81,6 @@ block_begun file text =
 -- outside blocks a line is `initialize PAIR`
 abbrev pub line_outside : BhvFile → List ℕ → Result BhvFile Cause
 line_outside file text = if begins_by (codes "initialize") text then with_opening file (pair_of (behind_word text)) else Err B1
-
--- the condition names the mode
-abbrev pub names_mode : Condition → Bool
-names_mode cond = list_any (bytes_eq (codes "MODE")) (names_in cond)
-
--- a mode has a parent line already
-abbrev pub has_parent_line : List Condition → Bool
-has_parent_line conds = list_any (λ cond. is_some (parent_of cond)) conds
-
--- a condition of a mode is in its form: one that names MODE is a parent line, and there is at most one such line
-abbrev pub fits_mode : List Condition → Condition → Bool
-fits_mode conds cond = not (names_mode cond) || (is_some (parent_of cond) && not (has_parent_line conds))
-
--- the one declaration that is meant
-abbrev pub the_one : List ℕ → Result ℕ Cause
-the_one [] = Err B7
-the_one (number ∷ []) = Ok number
-the_one (number ∷ more ∷ rest) = Err B8
 
 -- the parent that a line says; a path has at most 16 names
 abbrev pub with_parent : ModeBlock → ℕ → Result ModeBlock Cause

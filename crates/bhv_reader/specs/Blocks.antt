@@ -1,6 +1,5 @@
 -- The blocks of behaviours: what each line makes of one, and what it comes to at its end.
 use Rattle.std.specs.Prelude.{ℕ, ◌+◌, Bool, true, false, not, ◌||◌, nat_le, if◌then◌else◌, List, [], ◌∷◌, ◌++◌, length, codes, bytes_eq, Option, Some, None, is_none, Result, Ok, Err, ok_or, option_map}
-use Rattle.std.specs.List.{list_any}
 use Rattle.ivp_domain.specs.declared.axis.Axis.{Axis}
 use Rattle.moos_post.specs.declared.value.Pair.{Pair}
 use Rattle.moos_post.specs.Words.{is_name}
@@ -12,15 +11,16 @@ use Rattle.moos_text.specs.Refusals.{and_then}
 use Rattle.helm_cond.specs.Conditions.{Condition}
 use Rattle.helm_cond.specs.Grammar.{condition_of}
 use Rattle.bhv_reader.specs.declared.behavior.Behavior.{Behavior}
-use Rattle.bhv_reader.specs.declared.file.BhvFile.{BhvFile}
-use Rattle.bhv_reader.specs.declared.file.Block.{Block}
-use Rattle.bhv_reader.specs.declared.spec.Shape.{Shape}
-use Rattle.bhv_reader.specs.declared.table.CommonParameter.{CommonParameter}
-use Rattle.bhv_reader.specs.declared.table.CommonParameter.TheVariants.{Name, Weight, Condition as OfCondition, RunFlag, IdleFlag, ActiveFlag, InactiveFlag, EndFlag, Updates, Duration, IdleDecay, Perpetual, Templating}
-use Rattle.bhv_reader.specs.declared.table.Parameter.{Parameter}
-use Rattle.bhv_reader.specs.Params.{has_axes, keeps_relations, lacks_places, with_value_of}
-use Rattle.bhv_reader.specs.Table.{common_named, defaults_of, is_needed, needs_number, parameter_of}
-use Rattle.bhv_reader.specs.Values.{duration_of, flag_of, weight_of}
+use Rattle.bhv_file.specs.declared.file.BhvFile.{BhvFile}
+use Rattle.bhv_file.specs.declared.file.Block.{Block}
+use Rattle.bhv_file.specs.declared.spec.Shape.{Shape}
+use Rattle.bhv_file.specs.declared.table.CommonParameter.{CommonParameter}
+use Rattle.bhv_file.specs.declared.table.CommonParameter.TheVariants.{Name, Weight, Condition as OfCondition, RunFlag, IdleFlag, ActiveFlag, InactiveFlag, EndFlag, Updates, Duration, IdleDecay, Perpetual, Templating}
+use Rattle.bhv_file.specs.declared.table.Parameter.{Parameter}
+use Rattle.bhv_file.specs.Params.{has_axes, keeps_relations, lacks_places, with_value_of}
+use Rattle.bhv_file.specs.Table.{common_named, defaults_of, is_needed, needs_number, parameter_of}
+use Rattle.bhv_file.specs.Validity.{is_taken}
+use Rattle.bhv_file.specs.Values.{duration_of, flag_of, weight_of}
 
 -- a behaviour whose block isn't closed yet, and the file before it
 pub record BehaviorBlock : Type 0 where
@@ -49,10 +49,6 @@ of_shape shape = record {
 abbrev pub behavior_of_type : List ℕ → Result Behavior Cause
 behavior_of_type [] = Err B1
 behavior_of_type (byte ∷ bytes) = ok_or (option_map of_shape (defaults_of (byte ∷ bytes))) B3
-
--- one of these behaviours has this name
-abbrev pub is_taken : List Block → List ℕ → Bool
-is_taken blocks name = list_any (λ block. bytes_eq block.common.name name) blocks
 
 -- a name as a value
 abbrev pub name_value : List ℕ → Result (List ℕ) Cause

@@ -1,9 +1,3 @@
 pub mod Behaviors
 pub mod Blocks
-pub mod Params
-pub mod Ranges
-pub mod Table
-pub mod Values
-pub mod Paths
 pub mod Places
-pub mod Validity

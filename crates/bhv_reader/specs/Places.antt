@@ -7,16 +7,16 @@ use Rattle.moos_text.specs.Pairs.{Sides}
 use Rattle.moos_text.specs.Refusals.{and_then}
 use Rattle.moos_text.specs.Standing.{Inside, Opened, Outside, Standing}
 use Rattle.bhv_reader.specs.declared.behavior.Behavior.{Behavior}
-use Rattle.bhv_reader.specs.declared.decl.Decl.{Decl}
-use Rattle.bhv_reader.specs.declared.file.BhvFile.{BhvFile}
+use Rattle.bhv_file.specs.declared.decl.Decl.{Decl}
+use Rattle.bhv_file.specs.declared.file.BhvFile.{BhvFile}
 use Rattle.bhv_reader.specs.declared.mode.Mode.{Mode}
 use Rattle.bhv_reader.specs.declared.reading.Position.{Position}
 use Rattle.bhv_reader.specs.declared.reading.Position.TheVariants.{Loose, Headed, Braced}
 use Rattle.bhv_reader.specs.declared.reading.Unclosed.{Unclosed}
 use Rattle.bhv_reader.specs.declared.reading.Unclosed.TheVariants.{OfMode, OfBehavior}
-use Rattle.bhv_reader.specs.Behaviors.{begins_by_brace, ModeBlock, named_by, OfBehavior as BehaviorOpen, OfMode as ModeOpen, OpenBlock, the_one}
+use Rattle.bhv_file.specs.Paths.{the_one, meant_by, parent_path, paths_of}
+use Rattle.bhv_reader.specs.Behaviors.{begins_by_brace, ModeBlock, named_by, OfBehavior as BehaviorOpen, OfMode as ModeOpen, OpenBlock}
 use Rattle.bhv_reader.specs.Blocks.{behavior_of_type, BehaviorBlock}
-use Rattle.bhv_reader.specs.Paths.{meant_by, parent_path, paths_of}
 
 -- an unfinished declaration behind this file
 abbrev pub mode_block : BhvFile → Mode → ModeBlock

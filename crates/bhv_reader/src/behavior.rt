@@ -3,22 +3,20 @@ ghost use Rattle.std.specs.Prelude.{◌≡◌, ◌<◌, ◌^◌, ◌++◌, ◌�
 ghost use Rattle.moos_post.specs.Words.{is_name};
 ghost use Rattle.moos_text.specs.Pairs.{pair_of, sides_of};
 ghost use Rattle.moos_text.specs.Refusals.{and_then, IsLineFault};
-ghost use Rattle.bhv_reader.specs.Blocks.{behavior_closed, block_of, closing_fault, with_block, behavior_of_type, flag_value, flags_in, is_taken, name_value, one_flag, with_behavior_condition, with_behavior_name, with_common, with_parameter, with_sides};
+ghost use Rattle.bhv_file.specs.Validity.{is_taken};
+ghost use Rattle.bhv_reader.specs.Blocks.{behavior_closed, block_of, closing_fault, with_block, behavior_of_type, flag_value, flags_in, name_value, one_flag, with_behavior_condition, with_behavior_name, with_common, with_parameter, with_sides};
 ghost use Rattle.helm_cond.specs.Grammar.{condition_of};
 ghost use Rattle.bhv_reader.specs.Places.{behavior_block};
-ghost use Rattle.bhv_reader.specs.declared.file.BhvFile.{BhvFile};
+ghost use Rattle.bhv_file.specs.declared.file.BhvFile.{BhvFile};
 
-use crate::common::Common;
-use crate::decl::Conds;
-use crate::file::{BhvFile, Block, Unused};
 use crate::judging::{has_axes, keeps_relations, lacks_places};
 use crate::mode::condition_in;
 use crate::name::is_name;
-use crate::put::set_value;
-use crate::setting::{read_duration, read_flag, read_weight};
-use crate::spec::Spec;
-use crate::table::{CommonParameter, Parameter, common_named, is_needed, parameter_named};
 use crate::types::{defaults, needs_number};
+use bhv_file::{
+    BhvFile, Block, Common, CommonParameter, Conds, Parameter, Spec, Unused, common_named,
+    is_needed, parameter_named, read_duration, read_flag, read_weight, set_value,
+};
 use helm_cond::Cond;
 use ivp_domain::Domain;
 use moos_post::{Batch, Name, NameFault, Pair, Txt};

@@ -1,8 +1,8 @@
 // What has to hold of a behaviour's parameters together, and of the domain beside them.
 ghost use Rattle.std.specs.Prelude.{◌≡◌};
-ghost use Rattle.bhv_reader.specs.Params.{has_axes, has_axis, keeps_relations, lacks_places};
+ghost use Rattle.bhv_file.specs.Params.{has_axes, has_axis, keeps_relations, lacks_places};
 
-use crate::spec::Shape;
+use bhv_file::Shape;
 use ivp_domain::Domain;
 
 /// Whether a list of places isn't given, or a station that isn't taken anew.

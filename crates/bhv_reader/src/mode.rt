@@ -5,12 +5,12 @@ ghost use Rattle.moos_text.specs.Refusals.{and_then, IsLineFault};
 ghost use Rattle.moos_post.specs.Words.{is_name};
 ghost use Rattle.helm_cond.specs.Conditions.{parent_of};
 ghost use Rattle.helm_cond.specs.Grammar.{condition_of};
-ghost use Rattle.bhv_reader.specs.Behaviors.{fits_mode, has_parent_line, mode_begun, names_mode, other_of, with_condition, with_decl};
+ghost use Rattle.bhv_file.specs.Validity.{fits_mode, has_parent_line, names_mode};
+ghost use Rattle.bhv_reader.specs.Behaviors.{mode_begun, other_of, with_condition, with_decl};
 ghost use Rattle.bhv_reader.specs.Places.{mode_block, parent_behind};
 
-use crate::decl::{Conds, Decl};
-use crate::file::BhvFile;
 use crate::parent::{parent_of, path_len};
+use bhv_file::{BhvFile, Conds, Decl};
 use helm_cond::{Cond, CondFault};
 use moos_post::{Name, NameFault, NoMemory};
 use moos_text::{Cause, LineFault, cut_at_equals, trimmed, without_last};

@@ -2,10 +2,9 @@
 ghost use Rattle.std.specs.Prelude.{◌≡◌, ◌<◌, ◌+◌, ◌^◌, [], ◌∷◌, ◌++◌, length, drop, false, reverse, slice_index, slice_index_or, MatchOption, IfSome, IfNone};
 ghost use Rattle.std.specs.List.{list_any};
 ghost use Rattle.helm_cond.specs.Conditions.{begins_with, mode_names};
-ghost use Rattle.bhv_reader.specs.Behaviors.{the_one};
-ghost use Rattle.bhv_reader.specs.Paths.{above_of, is_colon, meant_by, named_from, paths_of};
+ghost use Rattle.bhv_file.specs.Paths.{the_one, above_of, is_colon, meant_by, named_from, paths_of};
 
-use crate::decl::Decl;
+use bhv_file::Decl;
 use moos_post::Value;
 use moos_text::{Cause, is_named};
 

@@ -1,11 +1,10 @@
 ghost use Rattle.std.specs.Prelude.{◌≡◌, ◌<◌, ◌^◌, length, Ok, IfOk, IfErr, IsTrue};
 ghost use Rattle.moos_text.specs.Refusals.{IsFirst};
 ghost use Rattle.bhv_reader.specs.Behaviors.{behaviors_of};
-ghost use Rattle.bhv_reader.specs.Validity.{IsValidFile, serves};
+ghost use Rattle.bhv_file.specs.Validity.{IsValidFile, serves};
 
-use crate::decl::Decls;
-use crate::file::{BhvFile, Blocks, UnusedList};
 use crate::reading::{Position, after_line, whole_file};
+use bhv_file::{BhvFile, Blocks, Decls, UnusedList};
 use ivp_domain::Domain;
 use moos_post::Batch;
 use moos_text::{ReadFault, next_said};

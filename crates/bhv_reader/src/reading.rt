@@ -8,12 +8,12 @@ ghost use Rattle.moos_text.specs.Standing.{after_statement, after_text, at_end, 
 ghost use Rattle.bhv_reader.specs.Behaviors.{OfBehavior as BehaviorOpen, begins_behavior, begins_by_brace, behavior_form, behind_close, block_closed, with_opening};
 ghost use Rattle.bhv_reader.specs.Places.{behavior_block, behavior_in, is_within, open_block, standing_at};
 ghost use Rattle.moos_text.specs.Sections.{Statement};
-ghost use Rattle.bhv_reader.specs.declared.file.BhvFile.{BhvFile};
+ghost use Rattle.bhv_file.specs.declared.file.BhvFile.{BhvFile};
 ghost use Rattle.ivp_domain.specs.declared.axis.Axis.{Axis};
 
 use crate::behavior::Behavior;
-use crate::file::BhvFile;
 use crate::mode::{Mode, begin_mode};
+use bhv_file::BhvFile;
 use ivp_domain::Domain;
 use moos_post::Pair;
 use moos_text::{

@@ -1,8 +1,8 @@
 // The types of behaviours, and what their parameters are where they aren't given.
 ghost use Rattle.std.specs.Prelude.{◌≡◌, drop, take};
-ghost use Rattle.bhv_reader.specs.Table.{defaults_among, defaults_of, needs_number, types};
+ghost use Rattle.bhv_file.specs.Table.{defaults_among, defaults_of, needs_number, types};
 
-use crate::spec::{Shape, Spots};
+use bhv_file::{Shape, Spots};
 use std::alloc::Global;
 
 /// A behaviour of the type of this name before its first parameter. None exactly where no type has it.

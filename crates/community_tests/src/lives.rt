@@ -1,7 +1,7 @@
 // Behaviours worked by hand, turn by turn.
 use crate::made::{check, count, learn, name, text, words};
+use bhv_file::{Common, Conds};
 use bhv_life::{BhvState, Life, Outcome, Phase};
-use bhv_reader::{Common, Conds};
 use helm_cond::{Cond, Info};
 use moos_post::Batch;
 use std::alloc::Global;

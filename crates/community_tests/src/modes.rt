@@ -1,7 +1,7 @@
 ghost use Rattle.std.specs.Prelude.{◌≡◌, None, Some};
 
 use crate::made::{check, learn, name, text};
-use bhv_reader::{Conds, Decl, Decls};
+use bhv_file::{Conds, Decl, Decls};
 use helm_cond::{Cond, Info};
 use mode_tree::ModeTree;
 use std::alloc::Global;

@@ -11,9 +11,9 @@ use Rattle.moos_db.specs.declared.mail.Letter.{Letter}
 use Rattle.ivp_domain.specs.declared.axis.Axis.{Axis}
 use Rattle.helm_cond.specs.declared.operator.Operator.TheVariants.{Equal}
 use Rattle.helm_cond.specs.Conditions.{Condition, Compare, And}
-use Rattle.bhv_reader.specs.declared.decl.Decl.{Decl}
-use Rattle.bhv_reader.specs.declared.file.Block.{Block}
-use Rattle.bhv_reader.specs.declared.spec.Shape.TheVariants.{Timer}
+use Rattle.bhv_file.specs.declared.decl.Decl.{Decl}
+use Rattle.bhv_file.specs.declared.file.Block.{Block}
+use Rattle.bhv_file.specs.declared.spec.Shape.TheVariants.{Timer}
 use Rattle.bhv_life.specs.declared.outcome.BhvState.TheVariants.{Idle, Running, Completed}
 use Rattle.helm_core.specs.Plans.{Plan, wants_of}
 use Rattle.helm_core.specs.Ticks.{Tick, is_parked, stamp_of_last, tick_of}

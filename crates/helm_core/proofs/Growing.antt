@@ -1,7 +1,7 @@
 -- An iteration depends on no later tick.
 use Rattle.std.proofs.Common.{◌≡◌, Some, ℕ, zero, suc, ◌<◌, ◌≤◌, List, [], ◌++◌, map, length, refl, ap, ◌∙◌, arith}
 use Rattle.std.proofs.lemmas.List.{take-append-le, get_or_append_left, map-append, length-map}
-use Rattle.bhv_reader.specs.declared.decl.Decl.{Decl}
+use Rattle.bhv_file.specs.declared.decl.Decl.{Decl}
 use Rattle.helm_core.specs.declared.showing.Showing.{Showing}
 use Rattle.helm_core.specs.Plans.{Plan}
 use Rattle.helm_core.specs.Behaviors.{all_after, all_begun, all_showings, behaviors_before}

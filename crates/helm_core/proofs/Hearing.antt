@@ -8,7 +8,7 @@ use Rattle.moos_db.specs.declared.mail.Letter.{Letter}
 use Rattle.moos_db.specs.Database.{pair_posted}
 use Rattle.helm_cond.specs.Learnt.{Knowledge}
 use Rattle.ivp_domain.specs.declared.axis.Axis.{Axis}
-use Rattle.bhv_reader.specs.declared.spec.Spec.{Spec}
+use Rattle.bhv_file.specs.declared.spec.Spec.{Spec}
 use Rattle.bhv_kinds.specs.declared.kind.Kind.{Kind}
 use Rattle.bhv_kinds.specs.declared.out.Out.{Out}
 use Rattle.bhv_kinds.specs.Standing.{IsKindOf}

@@ -5,7 +5,7 @@ use Rattle.std.proofs.lemmas.List.{append-nil}
 use Rattle.moos_post.specs.declared.value.Pair.{Pair}
 use Rattle.moos_post.specs.declared.value.Value.{Value}
 use Rattle.moos_db.specs.declared.mail.Letter.{Letter}
-use Rattle.bhv_reader.specs.declared.decl.Decl.{Decl}
+use Rattle.bhv_file.specs.declared.decl.Decl.{Decl}
 use Rattle.helm_cond.specs.Infos.{knowledge_of}
 use Rattle.helm_cond.specs.Learnt.{Knowledge, known_with, latest_of}
 use Rattle.mode_tree.specs.Modes.{mode_text}

@@ -8,9 +8,9 @@ use Rattle.moos_post.specs.declared.value.Pair.{Pair}
 use Rattle.ivp_domain.specs.declared.axis.Axis.{Axis}
 use Rattle.helm_cond.specs.Infos.{knowledge_of}
 use Rattle.helm_cond.specs.Learnt.{Knowledge}
-use Rattle.bhv_reader.specs.declared.file.Block.{Block}
-use Rattle.bhv_reader.specs.declared.common.Common.{Common}
-use Rattle.bhv_reader.specs.declared.spec.Spec.{Spec}
+use Rattle.bhv_file.specs.declared.file.Block.{Block}
+use Rattle.bhv_file.specs.declared.common.Common.{Common}
+use Rattle.bhv_file.specs.declared.spec.Spec.{Spec}
 use Rattle.bhv_kinds.specs.declared.kind.Kind.{Kind}
 use Rattle.bhv_kinds.specs.Standing.{IsKindOf}
 use Rattle.bhv_kinds.specs.Turns.{KindTurn}

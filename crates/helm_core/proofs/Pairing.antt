@@ -10,9 +10,9 @@ use Rattle.moos_post.specs.Words.{is_name, is_text}
 use Rattle.ivp_domain.specs.declared.axis.Axis.{Axis}
 use Rattle.ivp_domain.specs.Domains.{is_domain}
 use Rattle.ivp_cert.specs.declared.claim.Decision.{Decision}
-use Rattle.bhv_reader.specs.declared.common.Common.{Common}
-use Rattle.bhv_reader.specs.declared.file.Block.{Block}
-use Rattle.bhv_reader.specs.Validity.{IsValidCommon, flags_of}
+use Rattle.bhv_file.specs.declared.common.Common.{Common}
+use Rattle.bhv_file.specs.declared.file.Block.{Block}
+use Rattle.bhv_file.specs.Validity.{IsValidCommon, flags_of}
 use Rattle.bhv_life.specs.declared.outcome.Outcome.{Outcome}
 use Rattle.bhv_life.specs.Outcomes.{flags_at, raised}
 use Rattle.helm_core.specs.declared.showing.Showing.{Showing}

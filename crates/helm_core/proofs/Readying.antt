@@ -5,8 +5,8 @@ use Rattle.std.specs.List.{list_all}
 use Rattle.moos_post.specs.declared.value.Pair.{Pair}
 use Rattle.ivp_domain.specs.declared.axis.Axis.{Axis}
 use Rattle.helm_cond.specs.Learnt.{Knowledge}
-use Rattle.bhv_reader.specs.declared.spec.Spec.{Spec}
-use Rattle.bhv_reader.specs.Params.{axes_of, has_axis}
+use Rattle.bhv_file.specs.declared.spec.Spec.{Spec}
+use Rattle.bhv_file.specs.Params.{axes_of, has_axis}
 use Rattle.bhv_kinds.specs.declared.kind.Kind.{Kind}
 use Rattle.bhv_kinds.specs.declared.out.Out.{Out}
 use Rattle.bhv_kinds.specs.Giving.{gives_at}

@@ -3,8 +3,8 @@ use Rattle.std.proofs.Common.{◌≡◌, ℕ, ◌<◌, Bool, true, ◌&&◌, Lis
 use Rattle.std.specs.Prelude.{IfSome}
 use Rattle.std.proofs.lemmas.Bool.{lt-ltb}
 use Rattle.std.proofs.lemmas.List.{length-append}
-use Rattle.bhv_reader.specs.declared.decl.Decl.{Decl}
-use Rattle.bhv_reader.specs.Validity.{AreDecls}
+use Rattle.bhv_file.specs.declared.decl.Decl.{Decl}
+use Rattle.bhv_file.specs.Validity.{AreDecls}
 use Rattle.mode_tree.specs.Scans.{are_rooted, stands_before}
 
 both : (a b : Bool) → a ≡ true → b ≡ true → (a && b) ≡ true

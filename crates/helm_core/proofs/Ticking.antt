@@ -9,8 +9,8 @@ use Rattle.moos_db.specs.declared.mail.Letter.{Letter}
 use Rattle.ivp_domain.specs.declared.axis.Axis.{Axis}
 use Rattle.helm_cond.specs.Infos.{knowledge_of}
 use Rattle.helm_cond.specs.Learnt.{latest_of}
-use Rattle.bhv_reader.specs.declared.decl.Decl.{Decl}
-use Rattle.bhv_reader.specs.declared.file.Block.{Block}
+use Rattle.bhv_file.specs.declared.decl.Decl.{Decl}
+use Rattle.bhv_file.specs.declared.file.Block.{Block}
 use Rattle.mode_tree.specs.Modes.{mode_text}
 use Rattle.helm_core.specs.declared.allstop.Allstop.{Allstop}
 use Rattle.helm_core.specs.declared.helm.Helm.{Helm}

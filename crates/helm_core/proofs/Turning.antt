@@ -11,11 +11,11 @@ use Rattle.std.proofs.lemmas.Slice.Zip.{all_zipped_more}
 use Rattle.moos_post.specs.declared.value.Pair.{Pair}
 use Rattle.ivp_domain.specs.declared.axis.Axis.{Axis}
 use Rattle.ivp_problem.specs.Problems.{is_weight}
-use Rattle.bhv_reader.specs.declared.common.Common.{Common}
-use Rattle.bhv_reader.specs.declared.file.Block.{Block}
-use Rattle.bhv_reader.specs.Params.{has_axes, has_axis}
-use Rattle.bhv_reader.specs.Validity.{AreBlocks, serves}
-use Rattle.bhv_reader.specs.declared.spec.Spec.{Spec}
+use Rattle.bhv_file.specs.declared.common.Common.{Common}
+use Rattle.bhv_file.specs.declared.file.Block.{Block}
+use Rattle.bhv_file.specs.Params.{has_axes, has_axis}
+use Rattle.bhv_file.specs.Validity.{AreBlocks, serves}
+use Rattle.bhv_file.specs.declared.spec.Spec.{Spec}
 use Rattle.bhv_kinds.specs.declared.kind.Kind.{Kind}
 use Rattle.bhv_kinds.specs.declared.out.Out.{Out}
 use Rattle.bhv_kinds.specs.Standing.{IsKindOf}

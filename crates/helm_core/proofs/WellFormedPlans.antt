@@ -13,10 +13,10 @@ use Rattle.ivp_domain.specs.declared.axis.Axis.{Axis}
 use Rattle.ivp_cert.specs.declared.claim.Decision.{Decision}
 use Rattle.helm_cond.specs.Conditions.{Condition, HasNames, names_in}
 use Rattle.helm_cond.specs.Learnt.{latest_of}
-use Rattle.bhv_reader.specs.declared.decl.Decl.{Decl}
-use Rattle.bhv_reader.specs.declared.file.BhvFile.{BhvFile}
-use Rattle.bhv_reader.specs.declared.file.Block.{Block}
-use Rattle.bhv_reader.specs.Validity.{AreBlocks, AreDecls, IsValidFile}
+use Rattle.bhv_file.specs.declared.decl.Decl.{Decl}
+use Rattle.bhv_file.specs.declared.file.BhvFile.{BhvFile}
+use Rattle.bhv_file.specs.declared.file.Block.{Block}
+use Rattle.bhv_file.specs.Validity.{AreBlocks, AreDecls, IsValidFile}
 use Rattle.mission_reader.specs.declared.mission.Mission.{Mission}
 use Rattle.mission_reader.specs.Validity.{HaveAxisNames, IsValidMission}
 use Rattle.mode_tree.proofs.Worded.{mode_is_text}

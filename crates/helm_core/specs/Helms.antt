@@ -4,7 +4,7 @@ use Rattle.moos_post.specs.declared.value.Pair.{Pair}
 use Rattle.moos_db.specs.declared.mail.Letter.{Letter}
 use Rattle.helm_cond.specs.Infos.{knowledge_of}
 use Rattle.helm_cond.specs.Learnt.{latest_of}
-use Rattle.bhv_reader.specs.declared.decl.Decl.{Decl}
+use Rattle.bhv_file.specs.declared.decl.Decl.{Decl}
 use Rattle.mode_tree.specs.Modes.{mode_text}
 use Rattle.helm_core.specs.declared.allstop.Allstop.{Allstop}
 use Rattle.helm_core.specs.declared.allstop.Allstop.TheVariants.{BehaviorError, Clear, ManualOverride, MissingDecVars, NothingToDo}

@@ -6,9 +6,9 @@ use Rattle.moos_post.specs.declared.registration.Reg.{Reg}
 use Rattle.moos_post.specs.declared.value.Pair.{Pair}
 use Rattle.ivp_domain.specs.declared.axis.Axis.{Axis}
 use Rattle.helm_cond.specs.Conditions.{names_in}
-use Rattle.bhv_reader.specs.declared.decl.Decl.{Decl}
-use Rattle.bhv_reader.specs.declared.file.BhvFile.{BhvFile}
-use Rattle.bhv_reader.specs.declared.file.Block.{Block}
+use Rattle.bhv_file.specs.declared.decl.Decl.{Decl}
+use Rattle.bhv_file.specs.declared.file.BhvFile.{BhvFile}
+use Rattle.bhv_file.specs.declared.file.Block.{Block}
 use Rattle.mission_reader.specs.declared.mission.Mission.{Mission}
 
 -- what a helm is made of: its domain, the pairs that it posts at first, its modes, and its behaviours in file order

@@ -7,10 +7,10 @@ use Rattle.ivp_func.specs.Functions.{Function}
 use Rattle.ivp_problem.specs.Problems.{is_weight}
 use Rattle.helm_cond.specs.Learnt.{Knowledge}
 use Rattle.helm_cond.specs.Infos.{knowledge_of}
-use Rattle.bhv_reader.specs.declared.file.Block.{Block}
-use Rattle.bhv_reader.specs.declared.spec.Spec.{Spec}
-use Rattle.bhv_reader.specs.Params.{has_axes}
-use Rattle.bhv_reader.specs.Validity.{IsValidSpec}
+use Rattle.bhv_file.specs.declared.file.Block.{Block}
+use Rattle.bhv_file.specs.declared.spec.Spec.{Spec}
+use Rattle.bhv_file.specs.Params.{has_axes}
+use Rattle.bhv_file.specs.Validity.{IsValidSpec}
 use Rattle.bhv_kinds.specs.declared.kind.Kind.{Kind}
 use Rattle.bhv_kinds.specs.declared.out.Out.{Out}
 use Rattle.bhv_kinds.specs.Giving.{out_at}

@@ -8,7 +8,7 @@ use Rattle.moos_post.specs.declared.value.Value.TheVariants.{Num, Text}
 use Rattle.moos_db.specs.declared.mail.Letter.{Letter}
 use Rattle.moos_db.specs.Database.{pair_posted}
 use Rattle.helm_cond.specs.Learnt.{Knowledge, latest_of}
-use Rattle.bhv_reader.specs.declared.decl.Decl.{Decl}
+use Rattle.bhv_file.specs.declared.decl.Decl.{Decl}
 use Rattle.mode_tree.specs.Modes.{mode_text}
 
 -- a tick: a mail, and the stamp of the iteration that heard it

@@ -1,8 +1,8 @@
 -- What a helm says in its community: each of its calls is as a call's type lets it be, and whatever an iteration names stands
 -- on one line.
 use Rattle.std.specs.Prelude.{ℕ, IsTrue, IfSome, List}
-use Rattle.bhv_reader.specs.declared.file.BhvFile.{BhvFile}
-use Rattle.bhv_reader.specs.Validity.{IsValidFile}
+use Rattle.bhv_file.specs.declared.file.BhvFile.{BhvFile}
+use Rattle.bhv_file.specs.Validity.{IsValidFile}
 use Rattle.mission_reader.specs.declared.mission.Mission.{Mission}
 use Rattle.mission_reader.specs.Validity.{HaveAxisNames, IsValidMission}
 use Rattle.moos_post.specs.declared.entry.Call.TheVariants.{Register, Post as Posts}

@@ -1,6 +1,6 @@
 ghost use Rattle.std.specs.Prelude.{◌≡◌, IsTrue};
 ghost use Rattle.moos_post.specs.Words.{is_text};
-ghost use Rattle.bhv_reader.specs.Params.{has_axis};
+ghost use Rattle.bhv_file.specs.Params.{has_axis};
 ghost use Rattle.helm_core.specs.Decisions.{some_active};
 ghost use Rattle.helm_core.specs.Helms.{allstop_text};
 ghost use Rattle.helm_core.specs.Posts.{allstop_by, lacks_decision, mentions_course, mentions_depth, mentions_speed, some_fault};

@@ -1,6 +1,6 @@
 ghost use Rattle.std.specs.Prelude.{◌≡◌, ◌≤◌, ◌++◌, [], codes, fold, length, IfOk, IfSome, OnErr, OnOk, IsTrue, option_copied, option_map, unwrap_or};
 ghost use Rattle.std.specs.List.{All, flat_map};
-ghost use Rattle.bhv_reader.specs.Validity.{IsValidFile, serves};
+ghost use Rattle.bhv_file.specs.Validity.{IsValidFile, serves};
 ghost use Rattle.mission_reader.specs.Validity.{IsValidMission};
 ghost use Rattle.ivp_domain.specs.Domains.{is_point};
 ghost use Rattle.helm_core.specs.Plans.{block_names, decl_names, plan_made, wants_of, with_wanted};
@@ -22,7 +22,7 @@ use crate::showing::Showing;
 use crate::telling::{add_flags, told_of};
 use crate::turned::Turned;
 use crate::wanted::Wanted;
-use bhv_reader::BhvFile;
+use bhv_file::BhvFile;
 use ivp_cert::Decision;
 use mission_reader::Mission;
 use mode_tree::ModeTree;

@@ -1,7 +1,7 @@
 // The updates of a behaviour.
 ghost use Rattle.std.specs.Prelude.{◌≡◌, List, IfOk, OnOk, Some, Bool, bytes_eq, ◌++◌, ◌∷◌, []};
 ghost use Rattle.std.specs.Option.{option_eq};
-ghost use Rattle.bhv_reader.specs.declared.spec.Spec.{Spec};
+ghost use Rattle.bhv_file.specs.declared.spec.Spec.{Spec};
 ghost use Rattle.bhv_kinds.specs.Standing.{IsKindOf, IsSoundKind};
 ghost use Rattle.bhv_kinds.specs.Turns.{KindTurn};
 ghost use Rattle.moos_db.specs.Database.{pair_posted};

@@ -5,7 +5,7 @@ ghost use Rattle.helm_cond.specs.Conditions.{names_in};
 ghost use Rattle.helm_core.specs.Plans.{always_read, block_names, decl_names, reg_wanted, with_wanted};
 
 use crate::own_names::name_of;
-use bhv_reader::{Block, Decl};
+use bhv_file::{Block, Decl};
 use helm_cond::Cond;
 use indexmap::IndexSet;
 use moos_post::{Copied, Name, NoMemory, Pattern, Reg, Regs};

@@ -1,13 +1,13 @@
 // Updates of behaviours, and what stays of those that are refused; what steps give.
 ghost use Rattle.std.specs.Prelude.{◌≡◌, ◌<◌, IsTrue};
 ghost use Rattle.ivp_domain.specs.Domains.{is_point};
-ghost use Rattle.bhv_reader.specs.declared.spec.Shape.{Shape};
-ghost use Rattle.bhv_reader.specs.Params.{has_axes, has_axis};
+ghost use Rattle.bhv_file.specs.declared.spec.Shape.{Shape};
+ghost use Rattle.bhv_file.specs.Params.{has_axes, has_axis};
 ghost use Rattle.bhv_kinds.specs.Standing.{IsSoundKind};
 
 use crate::made::{name, number, text};
+use bhv_file::{Shape, Spec};
 use bhv_kinds::{BhvFault, Kind, Out};
-use bhv_reader::{Shape, Spec};
 use helm_cond::Info;
 use ivp_domain::{Axis, AxisName, Domain, Point, Steps};
 use ivp_func::Func;

@@ -1,6 +1,6 @@
 // What tests make of words and files, where memory is left.
 ghost use Rattle.std.specs.Prelude.{IsTrue};
-ghost use Rattle.bhv_reader.specs.Validity.{IsValidFile, serves};
+ghost use Rattle.bhv_file.specs.Validity.{IsValidFile, serves};
 ghost use Rattle.mission_reader.specs.Validity.{IsValidMission};
 
 use bhv_reader::{BhvFile, read_behaviors};

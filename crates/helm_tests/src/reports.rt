@@ -1,7 +1,7 @@
 ghost use Rattle.std.specs.Prelude.{◌<◌, length};
 
 use crate::made::{batch, names, number, regs, text};
-use bhv_reader::UnusedList;
+use bhv_file::UnusedList;
 use helm_core::{Faults, Iteration, States, Updates};
 use moos_db::Db;
 use moos_io::MemSink;

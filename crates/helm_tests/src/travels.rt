@@ -2,8 +2,8 @@
 ghost use Rattle.bhv_kinds.specs.Standing.{IsSoundKind};
 
 use crate::kinds::{known, station, stepped, update, value};
+use bhv_file::{Shape, Spec, Spots};
 use bhv_kinds::{BhvFault, Kind, Out};
-use bhv_reader::{Shape, Spec, Spots};
 use helm_geo::Spot;
 use std::alloc::Global;
 use std::process::Abort;

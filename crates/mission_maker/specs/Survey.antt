@@ -1,6 +1,6 @@
 -- The mission and the behaviours of a generated mission: those of the alpha survey.
 use Rattle.std.specs.Prelude.{ℕ, List, Result, Ok}
-use Rattle.bhv_reader.specs.declared.file.BhvFile.{BhvFile}
+use Rattle.bhv_file.specs.declared.file.BhvFile.{BhvFile}
 use Rattle.bhv_reader.specs.Behaviors.{behaviors_of}
 use Rattle.mission_reader.specs.declared.mission.Mission.{Mission}
 use Rattle.mission_reader.specs.Missions.{mission_of}

@@ -1,6 +1,6 @@
 // The alpha survey: a vehicle goes round five points, and comes home. Its files stand in examples/alpha too.
 ghost use Rattle.std.specs.Prelude.{◌≡◌, Ok, IfOk, IsTrue};
-ghost use Rattle.bhv_reader.specs.Validity.{IsValidFile, serves};
+ghost use Rattle.bhv_file.specs.Validity.{IsValidFile, serves};
 ghost use Rattle.mission_reader.specs.Validity.{IsValidMission};
 ghost use Rattle.mission_maker.specs.Survey.{generated_behaviors, generated_mission};
 

@@ -7,7 +7,7 @@ use Rattle.moos_post.specs.declared.value.Value.TheVariants.{Text}
 use Rattle.helm_cond.specs.declared.operator.Operator.TheVariants.{Equal}
 use Rattle.helm_cond.specs.Conditions.{Condition, Compare}
 use Rattle.helm_cond.specs.Learnt.{latest_of}
-use Rattle.bhv_reader.specs.declared.decl.Decl.{Decl}
+use Rattle.bhv_file.specs.declared.decl.Decl.{Decl}
 use Rattle.mode_tree.specs.Modes.{Named, Other, mode_of, mode_text}
 
 -- the variable is this text

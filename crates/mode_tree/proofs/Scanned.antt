@@ -5,7 +5,7 @@ use Rattle.std.specs.List.{enumerate_from, find}
 use Rattle.std.specs.Option.{option_eq}
 use Rattle.std.proofs.lemmas.Bool.Decides.{nat_tests}
 use Rattle.std.proofs.lemmas.List.{drop_more}
-use Rattle.bhv_reader.specs.declared.decl.Decl.{Decl}
+use Rattle.bhv_file.specs.declared.decl.Decl.{Decl}
 use Rattle.helm_cond.specs.Learnt.{Knowledge}
 use Rattle.mode_tree.specs.Modes.{Named, is_met, first_of, path_from, path_below, mode_of}
 use Rattle.mode_tree.specs.Scans.{stands_before, are_rooted, other_with, scan}

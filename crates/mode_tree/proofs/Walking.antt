@@ -5,7 +5,7 @@ use Rattle.std.specs.Prelude.{nat_eq, nat_lt, is_some, if◌then◌else◌}
 use Rattle.std.specs.Option.{option_eq}
 use Rattle.std.proofs.lemmas.Bool.Decides.{nat_tests}
 use Rattle.std.proofs.lemmas.List.{take_more_set, length-set, map-append}
-use Rattle.bhv_reader.specs.declared.decl.Decl.{Decl}
+use Rattle.bhv_file.specs.declared.decl.Decl.{Decl}
 use Rattle.helm_cond.specs.Learnt.{Knowledge}
 use Rattle.mode_tree.specs.declared.walk.Walk.{Walk}
 use Rattle.mode_tree.specs.Modes.{ModePart, Named, Other, has_other, is_met}

@@ -9,8 +9,8 @@ use Rattle.std.proofs.lemmas.List.Elements.{All-append, All-cons, All-nil, All-w
 use Rattle.std.proofs.lemmas.List.Sums.{AllPass-from_list_all, position_or_len_is}
 use Rattle.moos_post.specs.Words.{begins_name, is_control, is_name, is_name_byte, is_text}
 use Rattle.helm_cond.specs.Learnt.{Knowledge}
-use Rattle.bhv_reader.specs.declared.decl.Decl.{Decl}
-use Rattle.bhv_reader.specs.Validity.{AreDecls}
+use Rattle.bhv_file.specs.declared.decl.Decl.{Decl}
+use Rattle.bhv_file.specs.Validity.{AreDecls}
 use Rattle.mode_tree.specs.Modes.{declared_under, first_of, is_met, mode_of, mode_text, ModePart, Named, name_of_decl, Other, other_of_decl, part_name, path_below, path_from}
 
 -- the byte stands where the bytes of names and `:` do

@@ -4,7 +4,7 @@ use Rattle.std.specs.List.{enumerate_from, find, join_with_byte, list_all}
 use Rattle.std.specs.Option.{option_eq}
 use Rattle.helm_cond.specs.Conditions.{holds, parent_of}
 use Rattle.helm_cond.specs.Learnt.{Knowledge}
-use Rattle.bhv_reader.specs.declared.decl.Decl.{Decl}
+use Rattle.bhv_file.specs.declared.decl.Decl.{Decl}
 
 -- a part of a path: a declaration by its number, or the OTHER name of one
 pub data ModePart : Type 0 where

@@ -1,6 +1,6 @@
 -- A path as it is kept: the numbers of its declarations, and whether the last one stands for its OTHER name.
 use Rattle.std.specs.Prelude.{◌≡◌, ℕ, ◌≤◌, Bool, true, false, ◌&&◌, nat_lt, if◌then◌else◌, List, [], ◌∷◌, ◌++◌, length, take, unwrap_or}
-use Rattle.bhv_reader.specs.declared.decl.Decl.{Decl}
+use Rattle.bhv_file.specs.declared.decl.Decl.{Decl}
 use Rattle.mode_tree.specs.declared.path.Path.{Path}
 use Rattle.mode_tree.specs.Modes.{ModePart, Named, Other, has_other}
 

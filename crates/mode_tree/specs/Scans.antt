@@ -1,7 +1,7 @@
 -- The mode found in one pass over the declarations: this serves `mode` alone.
 use Rattle.std.specs.Prelude.{◌≡◌, ℕ, zero, suc, ◌+◌, ◌≤◌, ◌<◌, Bool, true, false, ◌&&◌, nat_lt, nat_eq, if◌then◌else◌, List, [], ◌∷◌, ◌++◌, length, map, take, Option, Some, None, is_some}
 use Rattle.std.specs.Option.{option_eq}
-use Rattle.bhv_reader.specs.declared.decl.Decl.{Decl}
+use Rattle.bhv_file.specs.declared.decl.Decl.{Decl}
 use Rattle.helm_cond.specs.Learnt.{Knowledge}
 use Rattle.mode_tree.specs.declared.walk.Walk.{Walk}
 use Rattle.mode_tree.specs.Modes.{ModePart, Named, Other, has_other, is_met}

@@ -1,6 +1,6 @@
 -- What a tree of declarations keeps.
 use Rattle.std.specs.Prelude.{◌≡◌, ◌<◌, ◌^◌, true, List, length}
-use Rattle.bhv_reader.specs.declared.decl.Decl.{Decl}
+use Rattle.bhv_file.specs.declared.decl.Decl.{Decl}
 use Rattle.mode_tree.specs.Scans.{are_rooted}
 
 -- fewer than 2^32 declarations, each of which stands behind its parent

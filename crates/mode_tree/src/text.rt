@@ -2,7 +2,7 @@ ghost use Rattle.std.specs.Prelude.{◌≡◌, ◌++◌, true, IfOk, OnOk};
 ghost use Rattle.mode_tree.specs.Modes.{path_text};
 ghost use Rattle.mode_tree.specs.Paths.{parts_by, are_declared, part_bytes};
 
-use bhv_reader::Decl;
+use bhv_file::Decl;
 use moos_post::{NoMemory, Txt};
 use std::alloc::{AllocError, Global};
 

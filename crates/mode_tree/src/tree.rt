@@ -7,7 +7,7 @@ ghost use Rattle.mode_tree.specs.Scans.{are_rooted};
 use crate::path::Path;
 use crate::text::{path_bytes, text_of};
 use crate::walk::Walk;
-use bhv_reader::{Decl, Decls};
+use bhv_file::{Decl, Decls};
 use helm_cond::Info;
 use moos_post::{NoMemory, Txt};
 use std::alloc::Global;
@@ -23,7 +23,7 @@ impl Model for ModeTree {
     ghost use Rattle.std.specs.Coded.{codes};
     ghost use Rattle.std.specs.Prelude.{List};
     ghost use Rattle.helm_cond.specs.contracts.cond.Cond as cond;
-    ghost use Rattle.bhv_reader.specs.declared.decl.Decl.{Decl};
+    ghost use Rattle.bhv_file.specs.declared.decl.Decl.{Decl};
     ghost use Rattle.mode_tree.specs.Trees.{IsTree};
 
     ghost Value = { List Decl };

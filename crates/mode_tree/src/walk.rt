@@ -1,6 +1,6 @@
 ghost use Rattle.std.specs.Prelude.{◌≡◌, ◌∷◌, ◌+◌, ◌<◌, ◌^◌, ◌||◌, [], true, List, ℕ, Some, None, length, is_some, slice_set};
 ghost use Rattle.std.specs.List.{list_all};
-ghost use Rattle.bhv_reader.specs.declared.decl.Decl.{Decl as Declared};
+ghost use Rattle.bhv_file.specs.declared.decl.Decl.{Decl as Declared};
 ghost use Rattle.helm_cond.specs.Conditions.{holds, parent_of};
 ghost use Rattle.helm_cond.specs.Infos.{knowledge_of};
 ghost use Rattle.helm_cond.specs.Learnt.{Knowledge};
@@ -8,7 +8,7 @@ ghost use Rattle.mode_tree.specs.Modes.{ModePart, has_other, is_met, mode_of};
 ghost use Rattle.mode_tree.specs.Paths.{parts_of_path, IsPathOf};
 
 use crate::path::Path;
-use bhv_reader::Decl;
+use bhv_file::Decl;
 use helm_cond::{Cond, Info};
 
 // The most parts of a path.

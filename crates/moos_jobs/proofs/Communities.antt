@@ -21,9 +21,9 @@ use Rattle.moos_client.specs.Calls.{entries_of, entry_of}
 use Rattle.ivp_domain.specs.declared.axis.Axis.{Axis}
 use Rattle.ivp_domain.specs.AxisNames.{is_axis_name, is_word_byte}
 use Rattle.ivp_cert.specs.declared.claim.Decision.{Decision}
-use Rattle.bhv_reader.specs.declared.file.Block.{Block}
-use Rattle.bhv_reader.specs.declared.file.Unused.{Unused}
-use Rattle.bhv_reader.specs.Validity.{AreBlocks, IsValidFile}
+use Rattle.bhv_file.specs.declared.file.Block.{Block}
+use Rattle.bhv_file.specs.declared.file.Unused.{Unused}
+use Rattle.bhv_file.specs.Validity.{AreBlocks, IsValidFile}
 use Rattle.mission_reader.specs.Validity.{HaveAxisNames}
 use Rattle.helm_core.specs.declared.iteration.Iteration.{Iteration}
 use Rattle.helm_core.specs.Iterations.{iteration_at}

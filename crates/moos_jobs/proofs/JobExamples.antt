@@ -13,8 +13,8 @@ use Rattle.ivp_problem.specs.Problems.{WeightedSum}
 use Rattle.moos_post.specs.declared.entry.Call.TheVariants.{Fetch}
 use Rattle.moos_post.specs.declared.entry.Entry.{Entry}
 use Rattle.bhv_reader.specs.Behaviors.{nothing_said}
-use Rattle.bhv_reader.specs.declared.file.Block.{Block}
-use Rattle.bhv_reader.specs.declared.spec.Shape.TheVariants.{Timer}
+use Rattle.bhv_file.specs.declared.file.Block.{Block}
+use Rattle.bhv_file.specs.declared.spec.Shape.TheVariants.{Timer}
 use Rattle.helm_core.specs.Decisions.{best_decision}
 use Rattle.mission_reader.specs.declared.mission.Mission.{Mission}
 use Rattle.moos_client.specs.Calls.{entries_of}

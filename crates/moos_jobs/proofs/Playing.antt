@@ -3,7 +3,7 @@ use Rattle.std.proofs.Common.{◌≡◌, nat_lt, List, [], ◌∷◌, length, re
 use Rattle.std.specs.Prelude.{IfSome, option_map}
 use Rattle.std.proofs.lemmas.Bool.{lt-ltb}
 use Rattle.moos_post.specs.History.{History}
-use Rattle.bhv_reader.specs.declared.decl.Decl.{Decl}
+use Rattle.bhv_file.specs.declared.decl.Decl.{Decl}
 use Rattle.helm_core.specs.Helms.{plan_of}
 use Rattle.helm_core.specs.Posts.{are_declared_modes}
 use Rattle.helm_core.specs.Plans.{plan_made}

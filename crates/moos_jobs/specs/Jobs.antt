@@ -1,8 +1,8 @@
 -- What a command line asks for, which files a job reads, and what it may write.
 use Rattle.std.specs.Prelude.{◌≡◌, ℕ, ◌+◌, ◌/◌, ◌≤◌, nat_le, false, if◌then◌else◌, List, [], ◌∷◌, codes, bytes_eq, Option, Some, None, map, option_map, option_and_then, is_none, Result, Ok, Err}
 use Rattle.clap.specs.Words.{Row, Text, first_of}
-use Rattle.bhv_reader.specs.declared.file.BhvFile.{BhvFile}
-use Rattle.bhv_reader.specs.declared.file.Block.{Block}
+use Rattle.bhv_file.specs.declared.file.BhvFile.{BhvFile}
+use Rattle.bhv_file.specs.declared.file.Block.{Block}
 use Rattle.bhv_reader.specs.Behaviors.{behaviors_of}
 use Rattle.helm_core.specs.Decisions.{best_decision}
 use Rattle.helm_core.specs.Plans.{plan_made}

@@ -1,7 +1,7 @@
 // The job that plays a script, with the helm of a mission or without one: its files one after another, and its report.
 ghost use Rattle.std.specs.Prelude.{◌≡◌, ◌<◌, ◌≤◌, ◌^◌, ◌++◌, ◌∷◌, ℕ, [], length, map, List, None, Some, Ok, IfOk, IsTrue, IfErr, OnOk};
-ghost use Rattle.bhv_reader.specs.declared.file.Block.{Block};
-ghost use Rattle.bhv_reader.specs.Validity.{IsValidFile, serves};
+ghost use Rattle.bhv_file.specs.declared.file.Block.{Block};
+ghost use Rattle.bhv_file.specs.Validity.{IsValidFile, serves};
 ghost use Rattle.mission_reader.specs.Missions.{mission_of};
 ghost use Rattle.mission_reader.specs.Validity.{IsValidMission};
 ghost use Rattle.moos_text.specs.Refusals.{IsFirst, and_then};

@@ -17,7 +17,7 @@ use Rattle.ivp_cert.specs.Texts.{claim_text}
 use Rattle.ivp_cert.proofs.CertExamples.{decision}
 use Rattle.bhv_kinds.specs.declared.out.BhvFault.TheVariants.{NoPosition, OutsidePolygon, TooDeep, TooLate}
 use Rattle.bhv_life.specs.declared.outcome.BhvState.TheVariants.{Idle, Running, Active, Completed}
-use Rattle.bhv_reader.specs.declared.file.Unused.{Unused}
+use Rattle.bhv_file.specs.declared.file.Unused.{Unused}
 use Rattle.helm_core.specs.declared.iteration.Iteration.{Iteration}
 use Rattle.moos_report.specs.declared.setup.Setup.{Setup}
 use Rattle.moos_report.specs.Community.{HaveOwnNames, IsCommunity, is_one_line, StandOnLines}

@@ -6,7 +6,7 @@ use Rattle.moos_post.specs.Entries.{IsEntry}
 use Rattle.moos_post.specs.History.{History, name_of}
 use Rattle.moos_post.specs.Words.{is_name}
 use Rattle.ivp_domain.specs.declared.axis.Axis.{Axis}
-use Rattle.bhv_reader.specs.declared.file.Unused.{Unused}
+use Rattle.bhv_file.specs.declared.file.Unused.{Unused}
 use Rattle.helm_core.specs.declared.iteration.Iteration.{Iteration}
 use Rattle.moos_report.specs.declared.setup.Setup.{Setup}
 

@@ -11,7 +11,7 @@ use Rattle.moos_post.specs.declared.value.Value.TheVariants.{Num, Text}
 use Rattle.moos_post.specs.Delivery.{mail_after}
 use Rattle.moos_post.specs.History.{History, posts_of, posts_of_entry, name_of}
 use Rattle.moos_text.specs.Numbers.{milli_text, unsigned_text}
-use Rattle.bhv_reader.specs.declared.file.Unused.{Unused}
+use Rattle.bhv_file.specs.declared.file.Unused.{Unused}
 use Rattle.helm_core.specs.declared.iteration.Iteration.{Iteration}
 use Rattle.moos_report.specs.declared.setup.Setup.{Setup}
 use Rattle.moos_report.specs.Community.{IsCommunity, StandOnLines}

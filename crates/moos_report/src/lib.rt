@@ -31,7 +31,7 @@ pub use self::law::{parts_law, report_law};
 use self::lines::{put, put_client, put_mail, put_post, put_reg, put_unused};
 pub use self::parts::{report, report_end, report_head, report_part, report_part_through};
 pub use self::setup::Setup;
-use bhv_reader::Unused;
+use bhv_file::Unused;
 use helm_core::Iteration;
 use moos_db::Db;
 use moos_io::{Buffer, Failed, Sink};

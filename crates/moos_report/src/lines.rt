@@ -4,7 +4,7 @@ ghost use Rattle.std.specs.List.{concat};
 ghost use Rattle.moos_io.specs.Writing.{Wrote, way};
 ghost use Rattle.moos_report.specs.Report.{client_text, reg_text, said_text, unused_text, value_text, is_sign, escaped};
 
-use bhv_reader::Unused;
+use bhv_file::Unused;
 use moos_io::{Buffer, Failed, Sink};
 use moos_post::{Name, Pair, Reg, Value};
 use moos_text::{print_milli, print_seconds};

@@ -1,4 +1,4 @@
-use bhv_reader::UnusedList;
+use bhv_file::UnusedList;
 use moos_post::Names;
 
 /// What a report tells of a community's setup, beside its clients.

@@ -2,7 +2,7 @@
 ghost use Rattle.std.specs.Prelude.{◌<◌};
 
 use crate::files::{Kind, append, are_refused, behaviors, counted, refusal, stands_at};
-use bhv_reader::{BhvFile, Block, Common, Shape, Spec, set_param};
+use bhv_file::{BhvFile, Block, Common, Shape, Spec, set_param};
 use moos_post::Copied;
 use moos_text::Cause;
 use std::alloc::Global;

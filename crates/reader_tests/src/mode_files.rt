@@ -3,7 +3,7 @@ use crate::files::{
     Kind, append, append_number, are_refused, behaviors, counted, is_shown, joined, refusal,
     stands_at,
 };
-use bhv_reader::{BhvFile, Decl};
+use bhv_file::{BhvFile, Decl};
 use moos_text::Cause;
 use std::alloc::Global;
 use std::process::Abort;

@@ -3,8 +3,8 @@ use Rattle.std.proofs.Common.{◌≡◌, true, ◌&&◌, List, codes, subst, sym
 use Rattle.std.specs.Prelude.{IfSome}
 use Rattle.std.proofs.lemmas.Bool.{and_parts}
 use Rattle.ivp_domain.specs.declared.axis.Axis.{Axis}
-use Rattle.bhv_reader.specs.declared.spec.Shape.{Shape}
-use Rattle.bhv_reader.specs.Params.{has_axes, has_axis}
+use Rattle.bhv_file.specs.declared.spec.Shape.{Shape}
+use Rattle.bhv_file.specs.Params.{has_axes, has_axis}
 use Rattle.bhv_kinds.specs.declared.want.Aim.{Aim}
 use Rattle.bhv_kinds.specs.Wants.{CanMake}
 use Rattle.bhv_kinds.proofs.given.given.Goals as goal

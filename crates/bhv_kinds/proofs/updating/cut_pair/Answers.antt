@@ -1,5 +1,5 @@
 use Rattle.std.proofs.Common.{sym}
-use Rattle.bhv_reader.proofs.Listed.{cut_first, cut_none}
+use Rattle.bhv_file.proofs.Listed.{cut_first, cut_none}
 use Rattle.bhv_kinds.proofs.updating.cut_pair.Goals as goal
 
 pub returns-in-Some-clause-cut : goal.returns-in-Some-clause-cut

@@ -1,6 +1,6 @@
 use Rattle.std.proofs.Common.{◌≡◌, Some}
 use Rattle.std.specs.Prelude.{fold}
-use Rattle.bhv_reader.specs.Ranges.{KeepsRanges}
+use Rattle.bhv_file.specs.Ranges.{KeepsRanges}
 use Rattle.bhv_kinds.specs.Updates.{update_parts, with_update_part}
 use Rattle.bhv_kinds.proofs.Pairwise.{bytes_left, pairs_left}
 use Rattle.bhv_kinds.proofs.updating.set_pairs.Given as goal

@@ -1,7 +1,6 @@
 use Rattle.std.proofs.Common.{◌<◌, length, sym}
 use Rattle.moos_text.proofs.Judging.{at_good}
-use Rattle.bhv_reader.specs.Behaviors.{the_one}
-use Rattle.bhv_reader.specs.Paths.{meant_by}
+use Rattle.bhv_file.specs.Paths.{the_one, meant_by}
 use Rattle.bhv_reader.proofs.Valid.{meant_below}
 use Rattle.bhv_reader.proofs.mode.parent_behind.Goals as goal
 

@@ -3,7 +3,7 @@ use Rattle.std.specs.Prelude.{List, MatchOption, ℕ, Option, reverse, slice_ind
 use Rattle.std.specs.Borrow.{Bor}
 use Rattle.std.specs.Str.{str_eq_ignore_ascii_case}
 use Rattle.helm_cond.specs.Conditions.{begins_with, mode_names}
-use Rattle.bhv_reader.specs.Paths.{above_of, parent_path, paths_of}
+use Rattle.bhv_file.specs.Paths.{above_of, parent_path, paths_of}
 use Rattle.bhv_reader.proofs.Ending.{ends_above, ends_more, ends_not, ends_one}
 use Rattle.bhv_reader.proofs.PathsAt.{above_less, found_path, path_top, path_up}
 use Rattle.bhv_reader.proofs.parent.ends_with_parts.Goals as goal

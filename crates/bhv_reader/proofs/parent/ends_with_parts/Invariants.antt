@@ -1,7 +1,7 @@
 use Rattle.std.proofs.Common.{◌≡◌, ◌<◌, [], length}
 use Rattle.std.specs.Prelude.{reverse, slice_index_or}
 use Rattle.helm_cond.specs.Conditions.{begins_with, mode_names}
-use Rattle.bhv_reader.specs.Paths.{paths_of}
+use Rattle.bhv_file.specs.Paths.{paths_of}
 use Rattle.bhv_reader.proofs.parent.ends_with_parts.Given as goal
 
 abbrev pub invariant-loop-decl : goal.invariant-loop-decl

@@ -1,6 +1,6 @@
 use Rattle.std.proofs.Common.{◌≡◌, ◌≤◌, false, length, drop}
 use Rattle.std.specs.List.{list_any}
-use Rattle.bhv_reader.specs.Paths.{is_colon}
+use Rattle.bhv_file.specs.Paths.{is_colon}
 use Rattle.bhv_reader.proofs.parent.last_colon.Given as goal
 
 abbrev pub invariant-loop-at : goal.invariant-loop-at

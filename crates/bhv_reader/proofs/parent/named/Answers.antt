@@ -1,7 +1,7 @@
 use Rattle.std.proofs.Common.{◌<◌, ◌≤◌, [], length, sym, ◌∙◌, arith}
 use Rattle.std.specs.Prelude.{reverse}
 use Rattle.helm_cond.specs.Conditions.{mode_names}
-use Rattle.bhv_reader.specs.Paths.{named_from, paths_of}
+use Rattle.bhv_file.specs.Paths.{named_from, paths_of}
 use Rattle.bhv_reader.proofs.Naming.{named_end, named_no, named_twice, named_yes}
 use Rattle.bhv_reader.proofs.PathsAt.{length-paths_of}
 use Rattle.bhv_reader.proofs.parent.named.Goals as goal

@@ -2,7 +2,7 @@ use Rattle.std.proofs.Common.{◌≡◌, ◌++◌, drop}
 use Rattle.std.specs.Prelude.{reverse}
 use Rattle.std.specs.Option.{option_to_list}
 use Rattle.helm_cond.specs.Conditions.{mode_names}
-use Rattle.bhv_reader.specs.Paths.{named_from, paths_of}
+use Rattle.bhv_file.specs.Paths.{named_from, paths_of}
 use Rattle.bhv_reader.proofs.parent.named.Given as goal
 
 abbrev pub invariant-loop-number : goal.invariant-loop-number

@@ -1,6 +1,6 @@
 use Rattle.std.proofs.Common.{◌≡◌, ◌+◌, ◌<◌, ◌≤◌, [], length}
 use Rattle.std.specs.Prelude.{slice_index_or}
-use Rattle.bhv_reader.specs.Paths.{paths_of}
+use Rattle.bhv_file.specs.Paths.{paths_of}
 use Rattle.bhv_reader.proofs.parent.path_len.Given as goal
 
 abbrev pub invariant-loop-parent : goal.invariant-loop-parent

@@ -6,10 +6,10 @@ use Rattle.moos_text.specs.Lines.{first_line, last_line}
 use Rattle.moos_text.specs.Refusals.{IsFirst}
 use Rattle.moos_text.specs.Standing.{after_raw, after_text, at_end, Outside}
 use Rattle.moos_text.proofs.Walks.{IsNext, one_read, one_refused, told_fault, told_value}
-use Rattle.bhv_reader.specs.declared.file.BhvFile.{BhvFile}
+use Rattle.bhv_file.specs.declared.file.BhvFile.{BhvFile}
 use Rattle.bhv_reader.specs.Behaviors.{behavior_form, behaviors_of, nothing_said}
 use Rattle.bhv_reader.specs.Places.{standing_at}
-use Rattle.bhv_reader.specs.Validity.{IsValidFile}
+use Rattle.bhv_file.specs.Validity.{IsValidFile}
 use Rattle.bhv_reader.proofs.Following.{behaviors_read, behaviors_whole}
 use Rattle.bhv_reader.proofs.Valid.{behaviors_served, behaviors_valid, IsServed}
 use Rattle.bhv_reader.proofs.Within.{said_within}

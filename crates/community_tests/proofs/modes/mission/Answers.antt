@@ -1,5 +1,5 @@
 use Rattle.std.proofs.Common.{◌≡◌, ◌∙◌, true, ◌&&◌, [], ◌∷◌, None, Some, ap}
-use Rattle.bhv_reader.specs.declared.decl.Decl.{Decl}
+use Rattle.bhv_file.specs.declared.decl.Decl.{Decl}
 use Rattle.mode_tree.specs.Scans.{stands_before, are_rooted}
 use Rattle.community_tests.proofs.modes.mission.Goals as goal
 

@@ -4,7 +4,7 @@ use Rattle.std.specs.List.{All, AllZip}
 use Rattle.std.proofs.lemmas.List.{take_all}
 use Rattle.std.proofs.lemmas.List.Elements.{All-nil, All-push}
 use Rattle.std.proofs.lemmas.Option.{slice_get_read}
-use Rattle.bhv_reader.specs.declared.file.Block.{Block}
+use Rattle.bhv_file.specs.declared.file.Block.{Block}
 use Rattle.helm_core.specs.declared.behavior.Behavior.{Behavior}
 use Rattle.helm_core.specs.Standings.{BeginsTurn, IsFitBegun, IsReady}
 use Rattle.helm_core.proofs.Living.{begun_more, long_as_kept}

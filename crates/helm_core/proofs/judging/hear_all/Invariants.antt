@@ -1,5 +1,5 @@
 use Rattle.std.proofs.Common.{List, take}
-use Rattle.bhv_reader.specs.declared.spec.Spec.{Spec}
+use Rattle.bhv_file.specs.declared.spec.Spec.{Spec}
 use Rattle.bhv_kinds.specs.Standing.{IsKindOf, IsSoundKind}
 use Rattle.bhv_kinds.specs.Turns.{KindTurn}
 use Rattle.helm_core.specs.Behaviors.{judged_in}

@@ -1,5 +1,5 @@
 use Rattle.std.proofs.Common.{◌≡◌, map, take}
-use Rattle.bhv_reader.specs.declared.file.Block.{Block}
+use Rattle.bhv_file.specs.declared.file.Block.{Block}
 use Rattle.moos_jobs.proofs.play_job.names_of.Given as goal
 
 abbrev pub invariant-loop-block : goal.invariant-loop-block

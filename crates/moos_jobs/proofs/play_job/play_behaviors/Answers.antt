@@ -1,7 +1,7 @@
 -- The behaviour file is loaded behind the script and the mission, and then all is played, or it is refused.
 use Rattle.std.proofs.Common.{◌∙◌, ◌∷◌, [], ap, sym, subst, append-nil}
 use Rattle.std.specs.Prelude.{Some}
-use Rattle.bhv_reader.specs.declared.file.BhvFile.{BhvFile}
+use Rattle.bhv_file.specs.declared.file.BhvFile.{BhvFile}
 use Rattle.bhv_reader.specs.Behaviors.{behaviors_of}
 use Rattle.moos_text.specs.Refusals.{IsFirst}
 use Rattle.moos_jobs.specs.Jobs.{FileTurn, Ready, turn_behind, turn_of}

@@ -1,7 +1,7 @@
 -- What was told of the run is what its job may write.
 use Rattle.std.proofs.Common.{◌≡◌, ◌∙◌, ap, map, nat_lt, refl}
 use Rattle.std.specs.Prelude.{Some}
-use Rattle.bhv_reader.specs.declared.file.Block.{Block}
+use Rattle.bhv_file.specs.declared.file.Block.{Block}
 use Rattle.moos_play.specs.declared.run.HelmRun.{HelmRun}
 use Rattle.moos_play.specs.Lawful.{steering_with}
 use Rattle.moos_report.specs.declared.setup.Setup.{Setup}

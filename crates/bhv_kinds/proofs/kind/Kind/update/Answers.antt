@@ -2,7 +2,7 @@ use Rattle.std.proofs.Common.{◌≡◌, ℕ, List, true, false, Some, subst, sy
 use Rattle.std.specs.Prelude.{IfSome}
 use Rattle.std.specs.List.{list_any}
 use Rattle.moos_text.specs.Pairs.{sides_of}
-use Rattle.bhv_reader.specs.Validity.{IsValidSpec}
+use Rattle.bhv_file.specs.Validity.{IsValidSpec}
 use Rattle.bhv_kinds.specs.Updates.{is_of_places, update_parts, updated}
 use Rattle.bhv_kinds.proofs.Keeping.{moves, sound_update}
 use Rattle.bhv_kinds.proofs.kind.Kind.update.Goals as goal

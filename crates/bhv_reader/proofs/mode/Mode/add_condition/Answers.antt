@@ -1,7 +1,7 @@
 use Rattle.std.proofs.Common.{◌≡◌, true, ap, sym, ◌∙◌, arith}
 use Rattle.std.proofs.lemmas.Result.{err_from_is_err_and}
 use Rattle.helm_cond.specs.Grammar.{condition_of}
-use Rattle.bhv_reader.specs.Behaviors.{fits_mode}
+use Rattle.bhv_file.specs.Validity.{fits_mode}
 use Rattle.bhv_reader.specs.Places.{mode_block}
 use Rattle.bhv_reader.proofs.Faults.{cond_fault, parent_fault}
 use Rattle.bhv_reader.proofs.mode.Mode.add_condition.Goals as goal

@@ -1,5 +1,5 @@
 use Rattle.std.proofs.Common.{List, [], map, refl, subst, sym}
-use Rattle.bhv_reader.specs.declared.file.Block.{Block}
+use Rattle.bhv_file.specs.declared.file.Block.{Block}
 use Rattle.helm_core.specs.Behaviors.{unstarted}
 use Rattle.helm_core.specs.Helms.{IsOutlook}
 use Rattle.helm_core.specs.Standings.{IsCrewOf}

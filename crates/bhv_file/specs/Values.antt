@@ -5,10 +5,10 @@ use Rattle.moos_text.specs.Lines.{ends_with, is_blank, without_last}
 use Rattle.moos_text.specs.Numbers.{milli_of, whole_of}
 use Rattle.helm_geo.specs.declared.spot.Spot.{Spot}
 use Rattle.helm_geo.specs.Polygons.{convex}
-use Rattle.bhv_reader.specs.declared.setting.Setting.{Setting}
-use Rattle.bhv_reader.specs.declared.setting.Setting.TheVariants.{Number, Time, Flag, Repeat, Places, Place}
-use Rattle.bhv_reader.specs.declared.table.ValueRange.{ValueRange}
-use Rattle.bhv_reader.specs.declared.table.ValueRange.TheVariants.{Number as OfNumber, Time as OfTime, Flag as OfFlag, Order as OfOrder, Repeat as OfRepeat, Places as OfPlaces, Polygon as OfPolygon, Place as OfPlace}
+use Rattle.bhv_file.specs.declared.setting.Setting.{Setting}
+use Rattle.bhv_file.specs.declared.setting.Setting.TheVariants.{Number, Time, Flag, Repeat, Places, Place}
+use Rattle.bhv_file.specs.declared.table.ValueRange.{ValueRange}
+use Rattle.bhv_file.specs.declared.table.ValueRange.TheVariants.{Number as OfNumber, Time as OfTime, Flag as OfFlag, Order as OfOrder, Repeat as OfRepeat, Places as OfPlaces, Polygon as OfPolygon, Place as OfPlace}
 
 -- what was read, where it passes a test
 abbrev pub kept_if : {A : Type 0} → (A → Bool) → Option A → Option A

@@ -3,16 +3,16 @@ use Rattle.std.specs.Prelude.{ℕ, ℤ, int_lt, Bool, true, false, ◌||◌, not
 use Rattle.std.specs.List.{list_all, list_any}
 use Rattle.helm_geo.specs.declared.spot.Spot.{Spot}
 use Rattle.ivp_domain.specs.declared.axis.Axis.{Axis}
-use Rattle.bhv_reader.specs.declared.setting.Setting.{Setting}
-use Rattle.bhv_reader.specs.declared.setting.Setting.TheVariants.{Number, Time, Flag, Repeat, Places, Place}
-use Rattle.bhv_reader.specs.declared.spec.Shape.{Shape}
-use Rattle.bhv_reader.specs.declared.spec.Shape.TheVariants.{Heading, Speed, Depth, MaxDepth, Timer, Waypoint, Loiter, StationKeep, OpRegion}
-use Rattle.bhv_reader.specs.declared.spec.Spec.{Spec}
-use Rattle.bhv_reader.specs.declared.table.Parameter.{Parameter}
-use Rattle.bhv_reader.specs.declared.table.Parameter.TheVariants.{Heading as OfHeading, Speed as OfSpeed, Depth as OfDepth, PeakWidth, BaseWidth, SummitDelta, MaxDepth as OfMaxDepth, CaptureRadius, SlipRadius, InnerRadius, OuterRadius, OuterSpeed}
-use Rattle.bhv_reader.specs.Table.{parameter_of, value_range, states_common}
-use Rattle.bhv_reader.specs.declared.table.CommonParameter.TheVariants.{Weight}
-use Rattle.bhv_reader.specs.Values.{setting_of, weight_of}
+use Rattle.bhv_file.specs.declared.setting.Setting.{Setting}
+use Rattle.bhv_file.specs.declared.setting.Setting.TheVariants.{Number, Time, Flag, Repeat, Places, Place}
+use Rattle.bhv_file.specs.declared.spec.Shape.{Shape}
+use Rattle.bhv_file.specs.declared.spec.Shape.TheVariants.{Heading, Speed, Depth, MaxDepth, Timer, Waypoint, Loiter, StationKeep, OpRegion}
+use Rattle.bhv_file.specs.declared.spec.Spec.{Spec}
+use Rattle.bhv_file.specs.declared.table.Parameter.{Parameter}
+use Rattle.bhv_file.specs.declared.table.Parameter.TheVariants.{Heading as OfHeading, Speed as OfSpeed, Depth as OfDepth, PeakWidth, BaseWidth, SummitDelta, MaxDepth as OfMaxDepth, CaptureRadius, SlipRadius, InnerRadius, OuterRadius, OuterSpeed}
+use Rattle.bhv_file.specs.Table.{parameter_of, value_range, states_common}
+use Rattle.bhv_file.specs.declared.table.CommonParameter.TheVariants.{Weight}
+use Rattle.bhv_file.specs.Values.{setting_of, weight_of}
 
 -- a behaviour with this number in the field of a parameter
 abbrev pub with_number_field : Shape → Parameter → ℤ → Shape

@@ -3,7 +3,7 @@ ghost use Rattle.std.specs.Prelude.{◌≡◌, nat_le, ◌<◌, ◌==◌, ◌∷
 ghost use Rattle.std.specs.List.{slice_split};
 ghost use Rattle.helm_geo.specs.Plane.{is_spot};
 ghost use Rattle.helm_geo.specs.Polygons.{are_spots};
-ghost use Rattle.bhv_reader.specs.Values.{polygon_of, spot_of, spot_of_numbers, spot_of_parts, spot_of_text, spots_between, spots_of, without_blanks, without_pts, kept_if, only_spot};
+ghost use Rattle.bhv_file.specs.Values.{polygon_of, spot_of, spot_of_numbers, spot_of_parts, spot_of_text, spots_between, spots_of, without_blanks, without_pts, kept_if, only_spot};
 
 use crate::spec::Spots;
 use helm_geo::{Spot, convex};

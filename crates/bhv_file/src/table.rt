@@ -1,7 +1,7 @@
 // The table of the parameters of behaviours: under which names each stands in a file, which values it may have, and which
 // types have it. `put` says in which field it is, and `types` what it is where it isn't given.
 ghost use Rattle.std.specs.Prelude.{◌≡◌, find};
-ghost use Rattle.bhv_reader.specs.Table.{common_named, is_called, is_needed, parameter_of, value_range, states_common};
+ghost use Rattle.bhv_file.specs.Table.{common_named, is_called, is_needed, parameter_of, value_range, states_common};
 
 use crate::spec::Shape;
 use moos_text::is_named;

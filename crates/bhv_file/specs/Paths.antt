@@ -1,9 +1,11 @@
 -- The paths of mode declarations, and which of them end with the parts of a parent's name.
-use Rattle.std.specs.Prelude.{ℕ, suc, ◌==◌, Bool, nat_lt, if◌then◌else◌, List, [], ◌∷◌, ◌++◌, fold, reverse, slice_index_or, Option, Some, None}
+use Rattle.std.specs.Prelude.{ℕ, suc, ◌==◌, Bool, nat_lt, if◌then◌else◌, List, [], ◌∷◌, ◌++◌, fold, reverse, slice_index_or, Option, Some, None, Result, Ok, Err}
 use Rattle.moos_post.specs.declared.value.Value.{Value}
 use Rattle.moos_post.specs.declared.value.Value.TheVariants.{Num, Text}
+use Rattle.moos_text.specs.declared.cause.Cause.{Cause}
+use Rattle.moos_text.specs.declared.cause.Cause.TheVariants.{B7, B8}
 use Rattle.helm_cond.specs.Conditions.{begins_with, mode_names}
-use Rattle.bhv_reader.specs.declared.decl.Decl.{Decl}
+use Rattle.bhv_file.specs.declared.decl.Decl.{Decl}
 
 -- the path of a declaration's parent, among those of the earlier ones
 abbrev pub parent_path : List (List (List ℕ)) → Option ℕ → List (List ℕ)
@@ -29,6 +31,12 @@ named_from number names (path ∷ paths) =
 abbrev pub meant_by : List Decl → Value → List ℕ
 meant_by decls (Num number) = []
 meant_by decls (Text text) = named_from 0 (reverse (mode_names text)) (paths_of decls)
+
+-- the one declaration that is meant, by the numbers of those with such a path
+abbrev pub the_one : List ℕ → Result ℕ Cause
+the_one [] = Err B7
+the_one (number ∷ []) = Ok number
+the_one (number ∷ more ∷ rest) = Err B8
 
 -- `:`
 abbrev pub is_colon : ℕ → Bool

@@ -3,15 +3,15 @@ use Rattle.std.specs.Prelude.{ℤ, ◌≤◌, ◌^◌, Bool, true, not, ◌&&◌
 use Rattle.helm_geo.specs.declared.spot.Spot.{Spot}
 use Rattle.helm_geo.specs.Plane.{is_spot}
 use Rattle.helm_geo.specs.Polygons.{are_spots, convex}
-use Rattle.bhv_reader.specs.declared.spec.Shape.{Shape}
-use Rattle.bhv_reader.specs.declared.spec.Shape.TheVariants.{Heading, Speed, Depth, MaxDepth, Timer, Waypoint, Loiter, StationKeep, OpRegion}
-use Rattle.bhv_reader.specs.declared.spec.Spec.{Spec}
-use Rattle.bhv_reader.specs.declared.table.Parameter.{Parameter}
-use Rattle.bhv_reader.specs.declared.table.Parameter.TheVariants.{Heading as OfHeading, Speed as OfSpeed, Depth as OfDepth, PeakWidth, BaseWidth, SummitDelta, MaxDepth as OfMaxDepth, CaptureRadius, SlipRadius, InnerRadius, OuterRadius, OuterSpeed}
-use Rattle.bhv_reader.specs.declared.table.ValueRange.{ValueRange}
-use Rattle.bhv_reader.specs.declared.table.ValueRange.TheVariants.{Number}
-use Rattle.bhv_reader.specs.Table.{value_range}
-use Rattle.bhv_reader.specs.Values.{lies_between}
+use Rattle.bhv_file.specs.declared.spec.Shape.{Shape}
+use Rattle.bhv_file.specs.declared.spec.Shape.TheVariants.{Heading, Speed, Depth, MaxDepth, Timer, Waypoint, Loiter, StationKeep, OpRegion}
+use Rattle.bhv_file.specs.declared.spec.Spec.{Spec}
+use Rattle.bhv_file.specs.declared.table.Parameter.{Parameter}
+use Rattle.bhv_file.specs.declared.table.Parameter.TheVariants.{Heading as OfHeading, Speed as OfSpeed, Depth as OfDepth, PeakWidth, BaseWidth, SummitDelta, MaxDepth as OfMaxDepth, CaptureRadius, SlipRadius, InnerRadius, OuterRadius, OuterSpeed}
+use Rattle.bhv_file.specs.declared.table.ValueRange.{ValueRange}
+use Rattle.bhv_file.specs.declared.table.ValueRange.TheVariants.{Number}
+use Rattle.bhv_file.specs.Table.{value_range}
+use Rattle.bhv_file.specs.Values.{lies_between}
 
 -- the number is one of a range of numbers
 abbrev pub InRange : ValueRange → ℤ → Type 0

@@ -1,6 +1,6 @@
 // What the values of parameters say.
 ghost use Rattle.std.specs.Prelude.{◌≡◌, IfOk};
-ghost use Rattle.bhv_reader.specs.Values.{flag_of, number_value, order_of, repeat_of, setting_of, time_value, weight_of, duration_of};
+ghost use Rattle.bhv_file.specs.Values.{flag_of, number_value, order_of, repeat_of, setting_of, time_value, weight_of, duration_of};
 
 use crate::places::{read_only_place, read_places, read_polygon};
 use crate::spec::Spots;

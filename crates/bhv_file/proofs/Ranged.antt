@@ -8,19 +8,19 @@ use Rattle.moos_text.specs.Numbers.{is_numeral, milli_of, point_place, thousandt
 use Rattle.helm_geo.specs.declared.spot.Spot.{Spot}
 use Rattle.helm_geo.specs.Plane.{is_coordinate, is_spot}
 use Rattle.helm_geo.specs.Polygons.{are_spots, convex}
-use Rattle.bhv_reader.specs.declared.setting.Setting.{Setting}
-use Rattle.bhv_reader.specs.declared.setting.Setting.TheVariants.{Number, Time, Flag, Repeat, Places, Place}
-use Rattle.bhv_reader.specs.declared.spec.Shape.{Shape}
-use Rattle.bhv_reader.specs.declared.spec.Shape.TheVariants.{Heading, Speed, Depth, MaxDepth, Timer, Waypoint, Loiter, StationKeep, OpRegion}
-use Rattle.bhv_reader.specs.declared.spec.Spec.{Spec}
-use Rattle.bhv_reader.specs.declared.table.Parameter.{Parameter}
-use Rattle.bhv_reader.specs.declared.table.Parameter.TheVariants.{Heading as OfHeading, Speed as OfSpeed, Depth as OfDepth, PeakWidth, BaseWidth, SummitDelta, MaxDepth as OfMaxDepth, Points, CaptureRadius, SlipRadius, Order as OrderParameter, Repeat as RepeatParameter, Polygon, Clockwise, StationPoint, CenterActivate, InnerRadius, OuterRadius, OuterSpeed, MaxTime}
-use Rattle.bhv_reader.specs.declared.table.ValueRange.TheVariants.{Number as OfNumber, Time as OfTime, Flag as OfFlag, Order as OfOrder, Repeat as OfRepeat, Places as OfPlaces, Polygon as OfPolygon, Place as OfPlace}
-use Rattle.bhv_reader.specs.Params.{with_field, with_value_of}
-use Rattle.bhv_reader.specs.Ranges.{are_places, are_vertices, InRanges, KeepsRanges}
-use Rattle.bhv_reader.specs.Table.{is_called, parameter_of, parameters_of}
-use Rattle.bhv_reader.specs.Values.{all_of, flag_of, lies_between, kept_if, number_value, only_spot, order_of, polygon_of, repeat_of, setting_of, spot_of, spot_of_numbers, spot_of_parts, spot_of_text, spots_between, spots_of, time_value, weight_of, without_blanks, without_pts}
-use Rattle.bhv_reader.proofs.Listed.{some_part}
+use Rattle.bhv_file.specs.declared.setting.Setting.{Setting}
+use Rattle.bhv_file.specs.declared.setting.Setting.TheVariants.{Number, Time, Flag, Repeat, Places, Place}
+use Rattle.bhv_file.specs.declared.spec.Shape.{Shape}
+use Rattle.bhv_file.specs.declared.spec.Shape.TheVariants.{Heading, Speed, Depth, MaxDepth, Timer, Waypoint, Loiter, StationKeep, OpRegion}
+use Rattle.bhv_file.specs.declared.spec.Spec.{Spec}
+use Rattle.bhv_file.specs.declared.table.Parameter.{Parameter}
+use Rattle.bhv_file.specs.declared.table.Parameter.TheVariants.{Heading as OfHeading, Speed as OfSpeed, Depth as OfDepth, PeakWidth, BaseWidth, SummitDelta, MaxDepth as OfMaxDepth, Points, CaptureRadius, SlipRadius, Order as OrderParameter, Repeat as RepeatParameter, Polygon, Clockwise, StationPoint, CenterActivate, InnerRadius, OuterRadius, OuterSpeed, MaxTime}
+use Rattle.bhv_file.specs.declared.table.ValueRange.TheVariants.{Number as OfNumber, Time as OfTime, Flag as OfFlag, Order as OfOrder, Repeat as OfRepeat, Places as OfPlaces, Polygon as OfPolygon, Place as OfPlace}
+use Rattle.bhv_file.specs.Params.{with_field, with_value_of}
+use Rattle.bhv_file.specs.Ranges.{are_places, are_vertices, InRanges, KeepsRanges}
+use Rattle.bhv_file.specs.Table.{is_called, parameter_of, parameters_of}
+use Rattle.bhv_file.specs.Values.{all_of, flag_of, lies_between, kept_if, number_value, only_spot, order_of, polygon_of, repeat_of, setting_of, spot_of, spot_of_numbers, spot_of_parts, spot_of_text, spots_between, spots_of, time_value, weight_of, without_blanks, without_pts}
+use Rattle.bhv_file.proofs.Listed.{some_part}
 
 -- a number that was read is in its range
 number_in : (Q : ℤ → Type 0) (low high : ℤ) (text : List ℕ) → ((n : ℤ) → lies_between low high n ≡ true → Q n) → IfSome (number_value low high text) Q

@@ -1,6 +1,6 @@
 use Rattle.std.proofs.Common.{sym}
-use Rattle.bhv_reader.proofs.Listed.{cut_first, cut_none}
-use Rattle.bhv_reader.proofs.places.cut_at.Goals as goal
+use Rattle.bhv_file.proofs.Listed.{cut_first, cut_none}
+use Rattle.bhv_file.proofs.places.cut_at.Goals as goal
 
 pub returns-in-Some-clause-cut : goal.returns-in-Some-clause-cut
 returns-in-Some-clause-cut c = cut_first c.args.byte c.args.text.now c.in-Some.place (sym c.in-Some.ensures)

@@ -1,6 +1,6 @@
 use Rattle.std.proofs.Common.{ap, arith}
-use Rattle.bhv_reader.proofs.Listed.{many_listed, rest_of}
-use Rattle.bhv_reader.proofs.places.read_between.Goals as goal
+use Rattle.bhv_file.proofs.Listed.{many_listed, rest_of}
+use Rattle.bhv_file.proofs.places.read_between.Goals as goal
 
 pub returns-then-len-ge-MOST_PLACES-clause-spots : goal.returns-then-len-ge-MOST_PLACES-clause-spots
 returns-then-len-ge-MOST_PLACES-clause-spots c =

@@ -1,8 +1,8 @@
 use Rattle.std.specs.Prelude.{length}
 use Rattle.std.proofs.Common.{ℕ, List, Option, Some, None}
 use Rattle.std.specs.Borrow.{Bor}
-use Rattle.bhv_reader.proofs.Listed.{IsListed}
-use Rattle.bhv_reader.proofs.places.read_between.Given as goal
+use Rattle.bhv_file.proofs.Listed.{IsListed}
+use Rattle.bhv_file.proofs.places.read_between.Given as goal
 
 abbrev pub invariant-loop-left : goal.invariant-loop-left
 invariant-loop-left l = IsListed l.text l.spots.items l.left

@@ -1,5 +1,5 @@
-use Rattle.bhv_reader.proofs.Ranged.{set_kept}
-use Rattle.bhv_reader.proofs.put.set_param.Goals as goal
+use Rattle.bhv_file.proofs.Ranged.{set_kept}
+use Rattle.bhv_file.proofs.put.set_param.Goals as goal
 
 pub returns-in_ok-good-in-Some-parameter_named-clause-ranges : goal.returns-in_ok-good-in-Some-parameter_named-clause-ranges
 returns-in_ok-good-in-Some-parameter_named-clause-ranges c =

@@ -9,7 +9,7 @@ use Rattle.std.proofs.lemmas.List.{take_rest}
 use Rattle.std.proofs.lemmas.List.Splits.{slice_split_first}
 use Rattle.helm_geo.specs.declared.spot.Spot.{Spot}
 use Rattle.helm_geo.specs.Polygons.{are_spots}
-use Rattle.bhv_reader.specs.Values.{all_of, kept_if, spot_of_parts, spot_of_text, spots_between}
+use Rattle.bhv_file.specs.Values.{all_of, kept_if, spot_of_parts, spot_of_text, spots_between}
 
 -- the parts of a text that is cut at this byte
 abbrev pub parts_at : ℕ → List ℕ → List (List ℕ)

@@ -1,6 +1,6 @@
 -- What every behaviour file keeps that was read.
-use Rattle.std.specs.Prelude.{◌≡◌, ℕ, ◌^◌, ◌<◌, ◌≤◌, Bool, true, false, ◌&&◌, List, [], ◌∷◌, ◌++◌, length, IsTrue, IfSome, Option, Some, None, Result, Ok}
-use Rattle.std.specs.List.{All, list_all}
+use Rattle.std.specs.Prelude.{◌≡◌, ℕ, ◌^◌, ◌<◌, ◌≤◌, Bool, true, false, not, ◌&&◌, ◌||◌, List, [], ◌∷◌, ◌++◌, length, codes, bytes_eq, IsTrue, IfSome, Option, Some, None, is_some, Result, Ok}
+use Rattle.std.specs.List.{All, list_all, list_any}
 use Rattle.std.specs.Option.{option_or}
 use Rattle.moos_post.specs.declared.value.Pair.{Pair}
 use Rattle.moos_post.specs.declared.value.Value.{Value}
@@ -8,19 +8,29 @@ use Rattle.moos_post.specs.Entries.{IsPair}
 use Rattle.moos_post.specs.Words.{is_name}
 use Rattle.moos_text.specs.declared.cause.Cause.{Cause}
 use Rattle.moos_text.specs.Refusals.{and_then}
-use Rattle.helm_cond.specs.Conditions.{Condition, HasNames, parent_of}
+use Rattle.helm_cond.specs.Conditions.{Condition, HasNames, names_in, parent_of}
 use Rattle.ivp_domain.specs.declared.axis.Axis.{Axis}
-use Rattle.bhv_reader.specs.declared.common.Common.{Common}
-use Rattle.bhv_reader.specs.declared.decl.Decl.{Decl}
-use Rattle.bhv_reader.specs.declared.file.BhvFile.{BhvFile}
-use Rattle.bhv_reader.specs.declared.file.Block.{Block}
-use Rattle.bhv_reader.specs.declared.file.Unused.{Unused}
-use Rattle.bhv_reader.specs.declared.spec.Spec.{Spec}
-use Rattle.bhv_reader.specs.Behaviors.{fits_mode, the_one}
-use Rattle.bhv_reader.specs.Blocks.{is_taken}
-use Rattle.bhv_reader.specs.Params.{has_axes, keeps_relations, lacks_places}
-use Rattle.bhv_reader.specs.Ranges.{KeepsRanges}
-use Rattle.bhv_reader.specs.Paths.{meant_by, parent_path, paths_of}
+use Rattle.bhv_file.specs.declared.common.Common.{Common}
+use Rattle.bhv_file.specs.declared.decl.Decl.{Decl}
+use Rattle.bhv_file.specs.declared.file.BhvFile.{BhvFile}
+use Rattle.bhv_file.specs.declared.file.Block.{Block}
+use Rattle.bhv_file.specs.declared.file.Unused.{Unused}
+use Rattle.bhv_file.specs.declared.spec.Spec.{Spec}
+use Rattle.bhv_file.specs.Paths.{the_one, meant_by, parent_path, paths_of}
+use Rattle.bhv_file.specs.Params.{has_axes, keeps_relations, lacks_places}
+use Rattle.bhv_file.specs.Ranges.{KeepsRanges}
+
+-- the condition names the mode
+abbrev pub names_mode : Condition → Bool
+names_mode cond = list_any (bytes_eq (codes "MODE")) (names_in cond)
+
+-- a mode has a parent line already
+abbrev pub has_parent_line : List Condition → Bool
+has_parent_line conds = list_any (λ cond. is_some (parent_of cond)) conds
+
+-- a condition of a mode is in its form: one that names MODE is a parent line, and there is at most one such line
+abbrev pub fits_mode : List Condition → Condition → Bool
+fits_mode conds cond = not (names_mode cond) || (is_some (parent_of cond) && not (has_parent_line conds))
 
 -- each of the conditions fits a mode that has those before it
 abbrev pub fit_mode : List Condition → List Condition → Bool
@@ -74,6 +84,10 @@ pub record IsValidSpec (spec : Spec) : Type 0 where
   pub ranges : KeepsRanges spec
   pub given : lacks_places spec.shape ≡ false
   pub relations : IsTrue (keeps_relations spec.shape)
+
+-- one of these behaviours has this name
+abbrev pub is_taken : List Block → List ℕ → Bool
+is_taken blocks name = list_any (λ block. bytes_eq block.common.name name) blocks
 
 -- A behaviour behind earlier ones: it is valid, and none of them has its name.
 pub record IsBlock (earlier : List Block) (block : Block) : Type 0 where

@@ -1,9 +1,9 @@
 // A value in its field, and one more pair of a behaviour.
 ghost use Rattle.std.specs.Prelude.{◌≡◌, IfOk, OnErr, Some, None, true, false, if◌then◌else◌, option_map};
-ghost use Rattle.bhv_reader.specs.declared.table.CommonParameter.TheVariants.{Weight};
-ghost use Rattle.bhv_reader.specs.Params.{with_flag, with_number_field, with_param, with_place, with_places, with_repeat, with_field, with_time, with_value_of};
-ghost use Rattle.bhv_reader.specs.Ranges.{KeepsRanges};
-ghost use Rattle.bhv_reader.specs.Values.{setting_of};
+ghost use Rattle.bhv_file.specs.declared.table.CommonParameter.TheVariants.{Weight};
+ghost use Rattle.bhv_file.specs.Params.{with_flag, with_number_field, with_param, with_place, with_places, with_repeat, with_field, with_time, with_value_of};
+ghost use Rattle.bhv_file.specs.Ranges.{KeepsRanges};
+ghost use Rattle.bhv_file.specs.Values.{setting_of};
 
 use crate::setting::{Setting, read_number, read_setting, read_weight};
 use crate::spec::{Shape, Spec, Spots};
