@@ -6,4 +6,6 @@ pub mod Stations
 pub mod Regions
 pub mod Giving
 pub mod Wants
+pub mod Kinds
 pub mod Standing
+pub mod Worths

@@ -1,27 +1,16 @@
 -- How a kind stands for the list of a behaviour's updates and steps: each of its fields is what they came to.
-use Rattle.std.specs.Prelude.{◌≡◌, ℕ, ◌≤◌, ◌^◌, Bool, List, min, IsTrue, IfSome}
-use Rattle.helm_geo.specs.Plane.{is_spot}
+use Rattle.std.specs.Prelude.{◌≡◌, ℕ, ◌^◌, Bool, List, min}
 use Rattle.bhv_file.specs.declared.spec.Spec.{Spec}
 use Rattle.ivp_domain.specs.declared.axis.Axis.{Axis}
 use Rattle.bhv_file.specs.Params.{axes_of, has_axes}
-use Rattle.bhv_file.specs.Validity.{IsValidSpec}
-use Rattle.bhv_kinds.specs.declared.kind.Kind.{Kind}
+use Rattle.bhv_kinds.specs.Kinds.{IsSoundKind, KindNow}
 use Rattle.bhv_kinds.specs.Stations.{centre_at}
 use Rattle.bhv_kinds.specs.Targets.{headway_at, is_reversed, last_position, vertex_at}
 use Rattle.bhv_kinds.specs.Turns.{KindTurn, first_step, params_at, params_at_step}
 
--- what holds of the fields of every kind
-pub record IsSoundKind (kind : Kind) : Type 0 where
-  pub valid : IsValidSpec kind.params
-  pub captured : kind.captured ≤ 64
-  pub again : kind.again ≤ 10 ^ 6
-  pub vertex : IfSome kind.vertex (λ vertex. vertex ≤ 64)
-  pub centre : IfSome kind.centre (λ spot. IsTrue (is_spot spot))
-  pub last : IfSome kind.last (λ spot. IsTrue (is_spot spot))
-
 -- The kind stands for these updates and steps, the latest first, of a behaviour with these parameters in its file. Its
 -- type needs the same axes ever since. Repeats are counted up to the most that a limit can be.
-pub record IsKindOf (spec : Spec) (turns : List KindTurn) (kind : Kind) : Type 0 where
+pub record IsKindOf (spec : Spec) (turns : List KindTurn) (kind : KindNow) : Type 0 where
   pub sound : IsSoundKind kind
   pub axes : axes_of kind.params.shape ≡ axes_of spec.shape
   pub params : kind.params ≡ params_at spec turns
@@ -34,9 +23,9 @@ pub record IsKindOf (spec : Spec) (turns : List KindTurn) (kind : Kind) : Type 0
   pub first : kind.first ≡ first_step turns
 
 -- the names of the axes that the kind's functions mention, which no update and no step changes
-abbrev pub axes_needed : Kind → List (List ℕ)
+abbrev pub axes_needed : KindNow → List (List ℕ)
 axes_needed kind = axes_of kind.params.shape
 
 -- the domain has those axes
-abbrev pub fits_domain : List Axis → Kind → Bool
+abbrev pub fits_domain : List Axis → KindNow → Bool
 fits_domain axes kind = has_axes axes kind.params.shape

@@ -2,15 +2,17 @@
 //!
 //! The layer above relies on this: a `Kind` stands for the list of its behaviour's updates and steps by the relation of
 //! specs/Standing, `update` takes an update exactly where all its pairs are good and the relations between parameters hold, and
-//! `step` gives what specs/Giving says of that list.
+//! `step` gives what specs/Giving says of that list: a function whose value at each point is what its utility says there
+//! (specs/Worths).
 //!
 //! Reading order: `updating`, `situation` and `want`; `region`, `station`, `waypoint` and `loiter`; `given`, with `known` and `ways` on
-//! the way; `steady`, `steering` and `making`; `out` and `kind`.
+//! the way; `steady`, `steering` and `making`; `out` and `kind`; `law`.
 #![tactic(auto)]
 
 mod given;
 mod kind;
 mod known;
+mod law;
 mod loiter;
 mod making;
 mod out;
@@ -25,4 +27,5 @@ mod waypoint;
 mod ways;
 
 pub use kind::Kind;
+pub use law::worth_law;
 pub use out::{BhvFault, Out};

@@ -24,3 +24,6 @@ pub mod Sampling
 pub mod Casts
 pub mod Samples
 pub mod Covers
+pub mod Worths
+pub mod FirstNearest
+pub mod Rooms

@@ -8,6 +8,7 @@ use Rattle.ivp_domain.specs.declared.boxes.Point.{Point}
 use Rattle.ivp_domain.specs.Boxes.{meet_of}
 use Rattle.ivp_domain.specs.Domains.{is_point}
 use Rattle.ivp_func.specs.declared.piece.Piece.{Piece}
+use Rattle.ivp_func.specs.Functions.{IsTop}
 use Rattle.ivp_func.specs.Pieces.{slope_on, value_at}
 
 -- Couple: the sum of two utilities at a point.
@@ -43,6 +44,10 @@ is_level_on axis pieces = list_all (λ piece. int_eq (slope_on axis piece) (pos 
 abbrev pub slope_apart : List Piece → List Piece → Bool
 slope_apart ps qs = (is_level_on 0 ps || is_level_on 0 qs) && (is_level_on 1 ps || is_level_on 1 qs) && (is_level_on 2 ps || is_level_on 2 qs) && (is_level_on 3 ps || is_level_on 3 qs)
 
--- at each point the values of two functions are together at most 100,000, as they are where their greatest values are
+-- at each point the values of two functions are together at most 100,000
 abbrev pub HaveRoom : List Axis → List Piece → List Piece → Type 0
 HaveRoom axes ps qs = (point : Point) → IsTrue (is_point axes point) → couple_at (value_at ps) (value_at qs) point ≤ℤ pos 100000
+
+-- they are where the greatest values of both are
+abbrev pub TopsLeaveRoom : Type 0
+TopsLeaveRoom = (axes : List Axis) (ps qs : List Piece) (top other : ℤ) → IsTop axes ps top → IsTop axes qs other → (top +ℤ other) ≤ℤ pos 100000 → HaveRoom axes ps qs

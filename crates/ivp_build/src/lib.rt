@@ -4,10 +4,11 @@
 //! The contract for the layer above: the utility of a shape at a place is arithmetic on the place,
 //! and the function that a builder gives has that value at every point. Its pieces are the maximal
 //! runs of consecutive places of one side and zone, each over the whole of the other axes. The pieces of a sum are the meets
-//! of those of both functions, and a sampled utility has one on each box.
+//! of those of both functions, and a sampled utility has one on each box. `worth_law` says of all shapes and sums, without a
+//! call, that their pieces are worth what they say.
 //!
 //! Reading order: `shape`, `slopes`, `crest`, `profile`, `ends`, `along`, `level`, `places`, `limits`, `near`,
-//! `peaks`, `sums`, `boxes`, `sampled`.
+//! `peaks`, `sums`, `boxes`, `sampled`, `law`.
 #![tactic(auto)]
 
 mod along;
@@ -15,6 +16,7 @@ mod boxes;
 mod crest;
 mod ends;
 mod fault;
+mod law;
 mod level;
 mod limits;
 mod near;
@@ -27,6 +29,7 @@ mod slopes;
 mod sums;
 
 pub use fault::BuildFault;
+pub use law::{near_law, room_law, worth_law};
 pub use level::flat;
 pub use limits::{at_least, at_most};
 pub use peaks::peak;
