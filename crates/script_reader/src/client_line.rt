@@ -1,6 +1,6 @@
 // The lines of a script by their clients.
 ghost use Rattle.std.specs.Prelude.{◌≡◌, ◌<◌, ◌^◌, length};
-ghost use Rattle.script_reader.specs.Named.{is_line_of, is_named, line_of_client};
+ghost use Rattle.script_reader.specs.Named.{is_of_client, has_name, line_of_client};
 
 use crate::word::split_word;
 use moos_post::Names;
@@ -17,7 +17,7 @@ pub fn line_of_client(bytes: &[u8], names: &Names) -> Option<u32>
     while from < bytes.len() {
         number += 1;
         let line = next_line(bytes, from);
-        if is_line_of(names, &bytes[line.from..line.to]) {
+        if is_of_client(names, &bytes[line.from..line.to]) {
             return Some(number);
         }
         from = line.next;
@@ -26,17 +26,17 @@ pub fn line_of_client(bytes: &[u8], names: &Names) -> Option<u32>
 }
 
 // The line of this content is one of these clients'.
-fn is_line_of(names: &Names, content: &[u8]) -> bool
-    ensures { result ≡ is_line_of names.now content.now }
+fn is_of_client(names: &Names, content: &[u8]) -> bool
+    ensures { result ≡ is_of_client names.now content.now }
 {
     let (_, behind_stamp) = split_word(content);
     let (client, _) = split_word(behind_stamp);
-    client != b"until".as_slice() && is_named(names, client)
+    client != b"until".as_slice() && has_name(names, client)
 }
 
 // The client is one of these names.
-fn is_named(names: &Names, client: &[u8]) -> bool
-    ensures { result ≡ is_named names.now client.now }
+fn has_name(names: &Names, client: &[u8]) -> bool
+    ensures { result ≡ has_name names.now client.now }
 {
     names.all().iter().any(|name| name.bytes() == client)
 }
