@@ -1,0 +1,7 @@
+mod Carries
+mod CarryExamples
+mod Examples
+mod Following
+mod LongNames
+mod Names
+mod NextFetches
