@@ -2,7 +2,8 @@
 //! what was worked by hand; and that the clients of a run act beside each other.
 //!
 //! The tests of these crates stand here, since a crate with tests of its own is proved once more with them. One module for each
-//! subject: `kinds` of behaviours and their `travels`, the `helm`, `plays` and `reports`. What they make of words and files is
+//! subject: `kinds` of behaviours and their `travels`, the `helm`, `plays` and `reports`, and a simulated
+//! vehicle, `vehicles`. What they make of words and files is
 //! `made` in one place.
 #![tactic(auto)]
 
@@ -18,3 +19,5 @@ mod plays;
 mod reports;
 #[cfg(test)]
 mod travels;
+#[cfg(test)]
+mod vehicles;

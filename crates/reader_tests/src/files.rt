@@ -4,6 +4,7 @@ use ivp_domain::{Axis, AxisName, Domain};
 use mission_reader::read_mission;
 use moos_text::{Cause, ReadFault, print_seconds};
 use script_reader::read_script;
+use sim_vehicle::Craft;
 use std::alloc::Global;
 use std::process::Abort;
 
@@ -13,6 +14,7 @@ pub(crate) enum Kind {
     Script,
     Mission,
     Behaviors,
+    Vehicle,
 }
 
 fn axis(rt: &impl Abort, name: &[u8]) -> Axis {
@@ -57,6 +59,7 @@ pub(crate) fn refusal(
         Kind::Script => read_script(alloc, text).err(),
         Kind::Mission => read_mission(alloc, text).err(),
         Kind::Behaviors => read_for_domain(rt, alloc, text).err(),
+        Kind::Vehicle => Craft::read(text).err(),
     }
 }
 

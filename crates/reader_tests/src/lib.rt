@@ -3,7 +3,7 @@
 //!
 //! The tests of these crates stand here, since a crate with tests of its own is proved once more with them. One module for
 //! each subject: `outside`, `texts`, `words` and `pairs`, `scripts`, `missions`, `mode_files` and `behavior_files`, `generated`
-//! missions, and `files`, which has what the kinds of files share.
+//! missions, `vehicles`, and `files`, which has what the kinds of files share.
 #![tactic(auto)]
 
 #[cfg(test)]
@@ -24,5 +24,7 @@ mod pairs;
 mod scripts;
 #[cfg(test)]
 mod texts;
+#[cfg(test)]
+mod vehicles;
 #[cfg(test)]
 mod words;
