@@ -13,3 +13,5 @@ pub mod Answering
 pub mod Bounded
 pub mod Pairing
 pub mod WellFormedPlans
+pub mod Worths
+pub mod FirstSteps

@@ -9,3 +9,5 @@ pub mod Standings
 pub mod Helms
 pub mod Kept
 pub mod WellFormed
+pub mod Worths
+pub mod FirstSteps

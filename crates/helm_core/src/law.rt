@@ -1,8 +1,10 @@
 ghost use Rattle.std.specs.Prelude.{◌≡◌, ◌<◌, ◌++◌, ℕ, List, length};
+ghost use Rattle.helm_core.specs.FirstSteps.{CountsFromFirstRun, NeverSteppedWithoutTime};
 ghost use Rattle.helm_core.specs.Plans.{Plan};
 ghost use Rattle.helm_core.specs.Ticks.{Tick};
 ghost use Rattle.helm_core.specs.Iterations.{iteration_at};
 ghost use Rattle.helm_core.specs.WellFormed.{ValidFilesPlanWell};
+ghost use Rattle.helm_core.specs.Worths.{ValidFilesDecideByWorth};
 
 /// What holds of the iterations of a helm: none depends on a later mail. It does nothing.
 pub fn iterations_law()
@@ -14,3 +16,20 @@ pub fn iterations_law()
 pub fn plan_law()
     ensures { ValidFilesPlanWell }
 {}
+
+/// What holds of what a helm of a valid mission and a valid behaviour file decides, whatever it hears: the sum at each point is
+/// what the point is worth to all behaviours, each one's weight times its utility there. It does nothing.
+pub fn worth_law()
+    ensures { ValidFilesDecideByWorth }
+{
+    bhv_kinds::worth_law();
+}
+
+/// What holds of every helm, whatever it hears: the first step of a behaviour is made in the first iteration in which it runs, so
+/// the time of an operating region counts from there. A behaviour of duration 0 is never stepped. It does nothing.
+pub fn first_step_law()
+    ensures counts { CountsFromFirstRun }
+    ensures never { NeverSteppedWithoutTime }
+{
+    bhv_life::first_run_law();
+}

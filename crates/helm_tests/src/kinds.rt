@@ -3,7 +3,6 @@ ghost use Rattle.std.specs.Prelude.{◌≡◌, ◌<◌, IsTrue};
 ghost use Rattle.ivp_domain.specs.Domains.{is_point};
 ghost use Rattle.bhv_file.specs.declared.spec.Shape.{Shape};
 ghost use Rattle.bhv_file.specs.Params.{has_axes, has_axis};
-ghost use Rattle.bhv_kinds.specs.Standing.{IsSoundKind};
 
 use crate::made::{name, number, text};
 use bhv_file::{Shape, Spec};
@@ -19,9 +18,7 @@ use std::sync::ledger::{Blank, Ledger};
 
 // A behaviour that keeps the station where it is first stepped.
 #[tactic(auto, using(bhv_kinds::proofs::KindExamples::station_valid))]
-pub(crate) fn station() -> Kind
-    ensures { IsSoundKind result }
-{
+pub(crate) fn station() -> Kind {
     Kind::make(Spec {
         weight: 100,
         shape: Shape::StationKeep {
@@ -35,10 +32,7 @@ pub(crate) fn station() -> Kind
 }
 
 // An update is taken or not.
-pub(crate) fn update(rt: &impl Abort, alloc: Global, kind: &mut Kind, said: &str, taken: bool)
-    requires { IsSoundKind kind.old }
-    ensures { IsSoundKind kind.new }
-{
+pub(crate) fn update(rt: &impl Abort, alloc: Global, kind: &mut Kind, said: &str, taken: bool) {
     let said = text(rt, alloc, said);
     match kind.update(alloc, &said) {
         Ok(was_taken) => assert!(rt; was_taken == taken),
@@ -56,10 +50,7 @@ no 7 pwt=8#outer_speed=fast
 no 7 pwt=8#
 yes 9 center_activate=false#point=1,2#pwt=9";
 
-fn takes(rt: &impl Abort, alloc: Global, kind: &mut Kind, row: &str)
-    requires { IsSoundKind kind.old }
-    ensures { IsSoundKind kind.new }
-{
+fn takes(rt: &impl Abort, alloc: Global, kind: &mut Kind, row: &str) {
     let mut parts = row.splitn(3, ' ');
     let taken = parts.next() == Some("yes");
     let weight = parts.next().unwrap_or("").parse::<u32>().ok();
@@ -133,9 +124,7 @@ pub(crate) fn value(func: &Func, index: u32) -> Option<i64> {
 
 // A behaviour of each type, with the parameters that it has by itself where only one is given.
 #[tactic(auto, using(bhv_kinds::proofs::KindExamples::course_valid))]
-fn course() -> Kind
-    ensures { IsSoundKind result }
-{
+fn course() -> Kind {
     Kind::make(Spec {
         weight: 100,
         shape: Shape::Heading {
@@ -148,9 +137,7 @@ fn course() -> Kind
 }
 
 #[tactic(auto, using(bhv_kinds::proofs::KindExamples::speed_valid))]
-fn speed() -> Kind
-    ensures { IsSoundKind result }
-{
+fn speed() -> Kind {
     Kind::make(Spec {
         weight: 100,
         shape: Shape::Speed {
@@ -163,9 +150,7 @@ fn speed() -> Kind
 }
 
 #[tactic(auto, using(bhv_kinds::proofs::KindExamples::depth_valid))]
-fn depth() -> Kind
-    ensures { IsSoundKind result }
-{
+fn depth() -> Kind {
     Kind::make(Spec {
         weight: 100,
         shape: Shape::Depth {
@@ -178,9 +163,7 @@ fn depth() -> Kind
 }
 
 #[tactic(auto, using(bhv_kinds::proofs::KindExamples::limit_valid))]
-fn limit() -> Kind
-    ensures { IsSoundKind result }
-{
+fn limit() -> Kind {
     Kind::make(Spec {
         weight: 100,
         shape: Shape::MaxDepth {
@@ -191,9 +174,7 @@ fn limit() -> Kind
 }
 
 #[tactic(auto, using(bhv_kinds::proofs::KindExamples::timer_valid))]
-fn timer() -> Kind
-    ensures { IsSoundKind result }
-{
+fn timer() -> Kind {
     Kind::make(Spec {
         weight: 100,
         shape: Shape::Timer,
@@ -201,9 +182,7 @@ fn timer() -> Kind
 }
 
 #[tactic(auto, using(bhv_kinds::proofs::KindExamples::region_valid))]
-fn region() -> Kind
-    ensures { IsSoundKind result }
-{
+fn region() -> Kind {
     Kind::make(Spec {
         weight: 100,
         shape: Shape::OpRegion {
@@ -239,10 +218,7 @@ pub(crate) fn stepped(
     info: &Info,
     stamp: u64,
     fresh: bool,
-) -> Out
-    requires { IsSoundKind kind.old }
-    ensures { IsSoundKind kind.new }
-{
+) -> Out {
     let domain = waters(rt);
     match kind.step(alloc, &domain, info, stamp, fresh) {
         Ok(out) => out,
@@ -276,9 +252,7 @@ fn gives(
     said: &str,
     mentioned: [bool; 3],
     wanted: [Option<i64>; 4],
-)
-    requires { IsSoundKind kind }
-{
+) {
     update(rt, alloc, &mut kind, said, true);
     let out = stepped(rt, alloc, &mut kind, &known(rt, alloc, None, 0), 0, false);
     assert!(rt; axes(&out) == mentioned && values(&out) == wanted);
@@ -329,10 +303,7 @@ fn fault(
     place: Option<(i64, i64)>,
     depth: i64,
     stamp: u64,
-) -> Option<BhvFault>
-    requires { IsSoundKind kind.old }
-    ensures { IsSoundKind kind.new }
-{
+) -> Option<BhvFault> {
     let info = known(rt, alloc, place, depth);
     let out = stepped(rt, alloc, kind, &info, stamp, false);
     assert!(rt; axes(&out) == [false; 3] && out.func.is_none());

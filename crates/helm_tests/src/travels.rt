@@ -1,5 +1,4 @@
 // Steps of behaviours that go to places, one after the other.
-ghost use Rattle.bhv_kinds.specs.Standing.{IsSoundKind};
 
 use crate::kinds::{known, station, stepped, update, value};
 use bhv_file::{Shape, Spec, Spots};
@@ -84,10 +83,7 @@ fn read(row: &str) -> (&str, Option<(i64, i64)>, Option<(i64, i64, i64)>) {
 }
 
 // Makes the step of a row.
-fn steps(rt: &impl Abort, alloc: Global, kind: &mut Kind, row: &str)
-    requires { IsSoundKind kind.old }
-    ensures { IsSoundKind kind.new }
-{
+fn steps(rt: &impl Abort, alloc: Global, kind: &mut Kind, row: &str) {
     let (how, place, led_to) = read(row);
     let info = known(rt, alloc, place, 0);
     let out = stepped(rt, alloc, kind, &info, 0, how == "fresh");
@@ -95,10 +91,7 @@ fn steps(rt: &impl Abort, alloc: Global, kind: &mut Kind, row: &str)
 }
 
 // Takes an update, and then makes these steps.
-fn travels(rt: &impl Abort, alloc: Global, kind: &mut Kind, said: &str, rows: &str)
-    requires { IsSoundKind kind.old }
-    ensures { IsSoundKind kind.new }
-{
+fn travels(rt: &impl Abort, alloc: Global, kind: &mut Kind, said: &str, rows: &str) {
     update(rt, alloc, kind, said, true);
     for row in rows.lines() {
         steps(rt, alloc, kind, row);
@@ -107,9 +100,7 @@ fn travels(rt: &impl Abort, alloc: Global, kind: &mut Kind, said: &str, rows: &s
 
 // A list of one point.
 #[tactic(auto, using(bhv_kinds::proofs::KindExamples::waypoint_valid))]
-fn waypoint(rt: &impl Abort, alloc: Global) -> Kind
-    ensures { IsSoundKind result }
-{
+fn waypoint(rt: &impl Abort, alloc: Global) -> Kind {
     match Vec::from_slice(alloc, &[Spot { x: 0, y: 0 }]) {
         Ok(points) => Kind::make(Spec {
             weight: 100,
@@ -128,9 +119,7 @@ fn waypoint(rt: &impl Abort, alloc: Global) -> Kind
 
 // A square of a hundred, listed counterclockwise.
 #[tactic(auto, using(bhv_kinds::proofs::KindExamples::loiter_valid))]
-fn loiter(rt: &impl Abort, alloc: Global) -> Kind
-    ensures { IsSoundKind result }
-{
+fn loiter(rt: &impl Abort, alloc: Global) -> Kind {
     let vertices = [
         Spot { x: 0, y: 0 },
         Spot { x: 100_000, y: 0 },

@@ -1,0 +1,107 @@
+-- The first step of a behaviour is made in its first running iteration.
+use Rattle.std.proofs.Common.{◌≡◌, ℕ, zero, suc, Bool, true, false, cond, List, [], ◌∷◌, ◌++◌, map, Option, Some, None, refl, ap, sym, ◌∙◌, subst}
+use Rattle.std.specs.Prelude.{fold, if◌then◌else◌, option_map, slice_get, bytes_eq}
+use Rattle.std.specs.List.{find, list_any}
+use Rattle.std.specs.Option.{option_eq, option_or}
+use Rattle.std.proofs.lemmas.List.Folds.{find-append}
+use Rattle.moos_post.specs.declared.value.Pair.{Pair}
+use Rattle.moos_post.specs.declared.value.Value.{Value}
+use Rattle.moos_post.specs.declared.value.Value.TheVariants.{Num, Text}
+use Rattle.bhv_file.specs.declared.file.Block.{Block}
+use Rattle.bhv_file.specs.declared.spec.Spec.{Spec}
+use Rattle.bhv_kinds.specs.Turns.{first_step}
+use Rattle.bhv_life.specs.Lives.{BhvPast, can_run, is_stepped, turn_after}
+use Rattle.bhv_life.specs.Runs.{FirstRunIsStepped, NoTimeNoStep, first_stepped}
+use Rattle.bhv_life.proofs.Turning.{past_push}
+use Rattle.ivp_domain.specs.declared.axis.Axis.{Axis}
+use Rattle.helm_core.specs.Behaviors.{BhvSoFar, Judged, all_begun, begun_at, begun_by_step, behaviors_before, beginning_at, bhv_after, has_fault, heard_with, judged_at, judged_with, none_judged, past_so_far, turn_at, unstarted}
+use Rattle.helm_core.specs.FirstSteps.{CountsFromFirstRun, NeverSteppedWithoutTime}
+use Rattle.helm_core.specs.Plans.{Plan}
+use Rattle.helm_core.specs.Ticks.{Seen, Tick, seen_at}
+
+-- updates are no steps
+judged_first : (spec : Spec) (so_far : Judged) (value : Value) → first_step (judged_with spec so_far value).turns ≡ first_step so_far.turns
+judged_first spec so_far (Num number) = refl
+judged_first spec so_far (Text text) = refl
+
+heard_first : (updates : Option (List ℕ)) (spec : Spec) (so_far : Judged) (letter : Pair) → first_step (heard_with updates spec so_far letter).turns ≡ first_step so_far.turns
+heard_first updates spec so_far letter = by (option_eq bytes_eq updates (Some letter.var))
+  where
+    by : (b : Bool) → first_step (if b then judged_with spec so_far letter.value else so_far).turns ≡ first_step so_far.turns
+    by true = judged_first spec so_far letter.value
+    by false = refl
+
+all_heard_first : (updates : Option (List ℕ)) (spec : Spec) (so_far : Judged) (letters : List Pair) → first_step (fold (heard_with updates spec) so_far letters).turns ≡ first_step so_far.turns
+all_heard_first updates spec so_far [] = refl
+all_heard_first updates spec so_far (letter ∷ letters) = all_heard_first updates spec (heard_with updates spec so_far letter) letters ∙ heard_first updates spec so_far letter
+
+-- the first step is the first turn with one
+abbrev KeepsFirst : BhvSoFar → Type 0
+KeepsFirst one = first_step one.turns ≡ first_stepped (past_so_far one)
+
+-- a turn more
+stamped : (past : List BhvPast) (one : BhvPast) (b : Bool) → one.stepped ≡ b → first_stepped (past ++ one ∷ []) ≡ option_or (first_stepped past) (if b then Some one.stamp else None)
+stamped past one b is =
+    ap (option_map (λ (one : BhvPast). one.stamp)) (find-append (λ (one : BhvPast). one.stepped) past (one ∷ [])) ∙ by (find (λ (one : BhvPast). one.stepped) past)
+  where
+    last : (c : Bool) → option_map (λ (one : BhvPast). one.stamp) (cond c (Some one) None) ≡ (if c then Some one.stamp else None)
+    last true = refl
+    last false = refl
+
+    by : (o : Option BhvPast) → option_map (λ (one : BhvPast). one.stamp) (option_or o (find (λ (one : BhvPast). one.stepped) (one ∷ []))) ≡ option_or (option_map (λ (one : BhvPast). one.stamp) o) (if b then Some one.stamp else None)
+    by None = last one.stepped ∙ ap (λ (c : Bool). if c then Some one.stamp else None) is
+    by (Some x) = refl
+
+or_none : {X : Type 0} (o : Option X) → option_or o None ≡ o
+or_none None = refl
+or_none (Some x) = refl
+
+turn_first : (axes : List Axis) (seen : Seen) (fault : Bool) (one : BhvSoFar) (judged : Judged) (stepped : Bool) → is_stepped one.block.common (past_so_far one) (beginning_at seen one.block.common) ≡ stepped
+    → first_step judged.turns ≡ first_step one.turns → KeepsFirst one → KeepsFirst (bhv_after seen fault (begun_by_step axes seen one judged stepped))
+turn_first axes seen fault one judged true is same keeps =
+    let begun = begun_by_step axes seen one judged true in
+    ap (λ (o : Option ℕ). option_or o (Some seen.stamp)) (same ∙ keeps)
+    ∙ sym (stamped (past_so_far one) (turn_after one.block.common (past_so_far one) (turn_at seen fault begun)) true is)
+    ∙ ap first_stepped (sym (past_push one.block.common one.lived (turn_at seen fault begun)))
+turn_first axes seen fault one judged false is same keeps =
+    let begun = begun_by_step axes seen one judged false in
+    (same ∙ keeps) ∙ sym (or_none (first_stepped (past_so_far one)))
+    ∙ sym (stamped (past_so_far one) (turn_after one.block.common (past_so_far one) (turn_at seen fault begun)) false is)
+    ∙ ap first_stepped (sym (past_push one.block.common one.lived (turn_at seen fault begun)))
+
+one_first : (axes : List Axis) (seen : Seen) (fault : Bool) (one : BhvSoFar) → KeepsFirst one → KeepsFirst (bhv_after seen fault (begun_at axes seen one))
+one_first axes seen fault one keeps =
+    let letters = if can_run one.block.common (past_so_far one) then seen.letters else [] in
+    turn_first axes seen fault one (judged_at seen one) (is_stepped one.block.common (past_so_far one) (beginning_at seen one.block.common)) refl
+    (all_heard_first one.block.common.updates one.block.spec (none_judged one.turns) letters) keeps
+
+-- all behaviours keep it
+abbrev AllKeep : List BhvSoFar → Type 0
+AllKeep [] = Unit {0}
+AllKeep (one ∷ ones) = KeepsFirst one × AllKeep ones
+
+all_first : (axes : List Axis) (seen : Seen) (fault : Bool) (ones : List BhvSoFar) → AllKeep ones → AllKeep (map (bhv_after seen fault) (map (begun_at axes seen) ones))
+all_first axes seen fault [] keeps = tt
+all_first axes seen fault (one ∷ ones) keeps = (one_first axes seen fault one keeps.0, all_first axes seen fault ones keeps.1)
+
+none_first : (blocks : List Block) → AllKeep (map unstarted blocks)
+none_first [] = tt
+none_first (block ∷ blocks) = (refl, none_first blocks)
+
+before_first : (plan : Plan) (ticks : List Tick) (i : ℕ) → AllKeep (behaviors_before plan ticks i)
+before_first plan ticks zero = none_first plan.blocks
+before_first plan ticks (suc i) =
+    let seen = seen_at plan.decls ticks i in
+    let ones = behaviors_before plan ticks i in
+    all_first plan.axes seen (list_any has_fault (all_begun plan.axes seen ones)) ones (before_first plan ticks i)
+
+kept_at : (ones : List BhvSoFar) (place : ℕ) (one : BhvSoFar) → AllKeep ones → slice_get ones place ≡ Some one → KeepsFirst one
+kept_at [] place one keeps at = absurd cc
+kept_at (first ∷ ones) zero one keeps at = let same : first ≡ one = cc in subst KeepsFirst same keeps.0
+kept_at (first ∷ ones) (suc place) one keeps at = kept_at ones place one keeps.1 at
+
+pub counts : FirstRunIsStepped → CountsFromFirstRun
+counts law plan ticks i place one at lasts = kept_at (behaviors_before plan ticks i) place one (before_first plan ticks i) at ∙ law one.block.common one.lived lasts
+
+pub never : NoTimeNoStep → NeverSteppedWithoutTime
+never law plan ticks i place one at none = kept_at (behaviors_before plan ticks i) place one (before_first plan ticks i) at ∙ law one.block.common one.lived none

@@ -1,5 +1,0 @@
-use Rattle.bhv_kinds.specs.Standing.{IsSoundKind}
-use Rattle.helm_tests.proofs.travels.travels.Given as goal
-
-abbrev pub invariant-loop-row : goal.invariant-loop-row
-invariant-loop-row g l = IsSoundKind l.kind
