@@ -139,19 +139,23 @@ fn pattern_fault(rt: &impl Abort, alloc: Global, bytes: &[u8]) -> Option<Pattern
     }
 }
 
+const NO_PATTERN: Option<PatternFault> = Some(PatternFault::BadPattern);
+
+// Bytes, and why they are no pattern.
+const PATTERNS: &[(&[u8], Option<PatternFault>)] = &[
+    (b"NAV_*", None),
+    (b"9?.-", None),
+    (b"*", None),
+    (&[b'?'; 64], None),
+    (&[b'?'; 65], NO_PATTERN),
+    (b"", NO_PATTERN),
+    (b"a#", NO_PATTERN),
+];
+
 #[test]
 fn bytes_of_patterns(rt: HostRuntime) {
-    let bad = Some(PatternFault::BadPattern);
-    for (bytes, fault) in [
-        (b"NAV_*".as_slice(), None),
-        (b"9?.-", None),
-        (b"*", None),
-        ([b'?'; 64].as_slice(), None),
-        ([b'?'; 65].as_slice(), bad),
-        (b"", bad),
-        (b"a#", bad),
-    ] {
-        assert_eq!(rt; pattern_fault(&rt, rt.alloc(), bytes), fault);
+    for (bytes, fault) in PATTERNS {
+        assert_eq!(rt; pattern_fault(&rt, rt.alloc(), *bytes), *fault);
     }
 }
 

@@ -116,26 +116,28 @@ fn selections(rt: HostRuntime) {
     }
 }
 
+// The stamp of the last post, that of the next one, the interval, and whether it is due.
+const DUES: &[(Option<u64>, u64, u64, bool)] = &[
+    (None, 0, u64::MAX, true),
+    // exactly the interval later, and a millisecond less
+    (Some(1000), 1500, 500, true),
+    (Some(1000), 1499, 500, false),
+    // at equal stamps
+    (Some(5), 5, 0, true),
+    (Some(5), 5, 1, false),
+    // a stamp that falls back
+    (Some(5), 4, 0, false),
+    (Some(5), 4, u64::MAX, false),
+    // at the u64::MAX stamp and interval
+    (Some(u64::MAX), u64::MAX, 0, true),
+    (Some(u64::MAX), u64::MAX, u64::MAX, false),
+    (Some(0), u64::MAX, u64::MAX, true),
+    (Some(1), u64::MAX, u64::MAX, false),
+];
+
 #[test]
 fn dues(rt: HostRuntime) {
-    let greatest = u64::MAX;
-    for (last, stamp, interval, good) in [
-        (None, 0, greatest, true),
-        // exactly the interval later, and a millisecond less
-        (Some(1000), 1500, 500, true),
-        (Some(1000), 1499, 500, false),
-        // at equal stamps
-        (Some(5), 5, 0, true),
-        (Some(5), 5, 1, false),
-        // a stamp that falls back
-        (Some(5), 4, 0, false),
-        (Some(5), 4, greatest, false),
-        // at the greatest stamp and interval
-        (Some(greatest), greatest, 0, true),
-        (Some(greatest), greatest, greatest, false),
-        (Some(0), greatest, greatest, true),
-        (Some(1), greatest, greatest, false),
-    ] {
-        assert_eq!(rt; due(last, stamp, interval), good);
+    for (last, stamp, interval, good) in DUES {
+        assert_eq!(rt; due(*last, *stamp, *interval), *good);
     }
 }

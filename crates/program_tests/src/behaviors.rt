@@ -46,113 +46,115 @@ fn comes_to<R: Threads + Wait + Sync + Abort>(
     }
 }
 
+// A script, a mission and behaviours, and the parts of the report in their order.
+const PLAYED: &[([&str; 3], &[&str])] = &[
+    // A timer ends for good.
+    (
+        [
+            "0 nav post DEPLOY=true # MOOS_MANUAL_OVERRIDE=false\n1 until\n",
+            COURSE_MISSION,
+            "Behavior = BHV_Timer {\nname = t\ncondition = DEPLOY = true\nduration = 0.5\nrunflag = A=1\nendflag = B=1\n}\n",
+        ],
+        &[
+            "%% moosdb play 1\n%% client 0 nav\n%% client 1 pHelmIvP\n%% entry 0 0 pHelmIvP register\n\
+            %% reg MOOS_MANUAL_OVERRIDE * 0\n%% reg MOOS_MANUAL_OVERIDE * 0\n%% reg NAV_X * 0\n\
+            %% reg NAV_Y * 0\n%% reg NAV_DEPTH * 0\n%% reg DEPLOY * 0\n\
+            %% entry 1 0 nav post 0 2\n0 DEPLOY nav \"true\"\n0 MOOS_MANUAL_OVERRIDE nav \"false\"\n\
+            %% entry 2 0 pHelmIvP fetch\n%% mail 0 0 DEPLOY nav \"true\"\n\
+            %% mail 1 0 MOOS_MANUAL_OVERRIDE nav \"false\"\n%% entry 3 0 pHelmIvP post 2 4\n\
+            0 IVPHELM_STATE pHelmIvP \"DRIVE\"\n0 A pHelmIvP 1\n0 DESIRED_SPEED pHelmIvP 0\n\
+            0 IVPHELM_ALLSTOP pHelmIvP \"NothingToDo\"\n%% iteration 0 0 DRIVE\n%% behavior t running\n%% none\n\
+            %% entry 4 0.25 pHelmIvP fetch\n%% entry 5 0.25 pHelmIvP post 6 1\n\
+            0.25 DESIRED_SPEED pHelmIvP 0\n%% iteration 1 0.25 DRIVE\n%% behavior t running\n%% none\n\
+            %% entry 6 0.5 pHelmIvP fetch\n%% entry 7 0.5 pHelmIvP post 7 2\n0.5 B pHelmIvP 1\n\
+            0.5 DESIRED_SPEED pHelmIvP 0\n%% iteration 2 0.5 DRIVE\n%% behavior t completed\n%% none\n\
+            %% entry 8 0.75 pHelmIvP fetch\n%% entry 9 0.75 pHelmIvP post 9 1\n\
+            0.75 DESIRED_SPEED pHelmIvP 0\n%% iteration 3 0.75 DRIVE\n%% behavior t completed\n%% none\n\
+            %% entry 10 1 pHelmIvP fetch\n%% entry 11 1 pHelmIvP post 10 1\n\
+            1 DESIRED_SPEED pHelmIvP 0\n%% iteration 4 1 DRIVE\n%% behavior t completed\n%% none\n\
+            %% end 12 11\n",
+        ],
+    ),
+    // A heading and a speed are decided on, or neither counts.
+    (
+        [
+            DEPLOYING_SCRIPT,
+            COURSE_AND_SPEED,
+            "Behavior = BHV_ConstantHeading {\nname = h\nheading = 90\n}\nBehavior = BHV_ConstantSpeed {\nname = s\nspeed = 2\n}\n",
+        ],
+        &[
+            "%% entry 3 0 pHelmIvP post 2 4\n0 IVPHELM_STATE pHelmIvP \"DRIVE\"\n\
+            0 DESIRED_HEADING pHelmIvP 90\n0 DESIRED_SPEED pHelmIvP 2\n\
+            0 IVPHELM_ALLSTOP pHelmIvP \"clear\"\n%% iteration 0 0 DRIVE\n\
+            %% behavior h active\n%% behavior s active\n%% ivp 1\n%% domain course:0:359:360\n\
+            %% domain speed:0:4:41\n%% function 100\n",
+            "%% end\n%% decision 90 20 20000000\n%% cut ",
+            "%% done\n%% entry 4 0.25 pHelmIvP fetch\n%% entry 5 0.25 pHelmIvP post 6 2\n\
+            0.25 DESIRED_HEADING pHelmIvP 90\n0.25 DESIRED_SPEED pHelmIvP 2\n%% iteration 1 0.25 DRIVE\n",
+            "%% decision 90 20 20000000\n",
+            "%% done\n%% end 6 8\n",
+        ],
+    ),
+    (
+        [
+            DEPLOYING_SCRIPT,
+            COURSE_AND_SPEED,
+            "Behavior = BHV_ConstantHeading {\nname = h\npwt = 0\nheading = 90\n}\nBehavior = BHV_ConstantSpeed {\nname = s\npwt = 0\nspeed = 2\n}\n",
+        ],
+        &[
+            "0 DESIRED_SPEED pHelmIvP 0\n0 IVPHELM_ALLSTOP pHelmIvP \"NothingToDo\"\n%% iteration 0 0 DRIVE\n\
+            %% behavior h running\n%% behavior s running\n%% none\n\
+            %% entry 4 0.25 pHelmIvP fetch\n%% entry 5 0.25 pHelmIvP post 5 1\n\
+            0.25 DESIRED_SPEED pHelmIvP 0\n%% iteration 1 0.25 DRIVE\n\
+            %% behavior h running\n%% behavior s running\n%% none\n%% end 6 6\n",
+        ],
+    ),
+    // An update is refused as a whole, and another one is taken, whose radius captures the point. Then the helm is parked.
+    (
+        [
+            "0 nav post MOOS_MANUAL_OVERRIDE=false # NAV_X=0 # NAV_Y=0\n\
+            0.25 nav post UP=\"speed=2 # radius=abc\"\n0.5 nav post UP=\"speed=2 # radius=4\"\n\
+            0.75 nav post MOOS_MANUAL_OVERRIDE=true\n1 nav post MOOS_MANUAL_OVERRIDE=false\n",
+            COURSE_AND_SPEED,
+            "Behavior = BHV_Waypoint {\nname = w\nupdates = UP\nspeed = 1\npoints = 0,4 : 100,0\n}\n",
+        ],
+        &[
+            "0 DESIRED_HEADING pHelmIvP 0\n0 DESIRED_SPEED pHelmIvP 1\n",
+            "0.25 DESIRED_HEADING pHelmIvP 0\n0.25 DESIRED_SPEED pHelmIvP 1\n\
+            %% iteration 1 0.25 DRIVE\n%% update w refused\n%% behavior w active\n",
+            "0.5 DESIRED_HEADING pHelmIvP 90\n0.5 DESIRED_SPEED pHelmIvP 2\n\
+            %% iteration 2 0.5 DRIVE\n%% update w taken\n%% behavior w active\n",
+            "0.75 pHelmIvP post 14 3\n0.75 IVPHELM_STATE pHelmIvP \"PARK\"\n0.75 DESIRED_SPEED pHelmIvP 0\n\
+            0.75 IVPHELM_ALLSTOP pHelmIvP \"ManualOverride\"\n%% iteration 3 0.75 PARK\n\
+            %% behavior w idle\n%% none\n",
+            "1 pHelmIvP post 18 4\n1 IVPHELM_STATE pHelmIvP \"DRIVE\"\n1 DESIRED_HEADING pHelmIvP 90\n\
+            1 DESIRED_SPEED pHelmIvP 2\n1 IVPHELM_ALLSTOP pHelmIvP \"clear\"\n",
+            "%% end 16 22\n",
+        ],
+    ),
+    (
+        ALPHA,
+        &[
+            "%% unused 13 lead\n%% unused 19 visual_hints\n",
+            "0 pHelmIvP post 4 3\n0 IVPHELM_STATE pHelmIvP \"PARK\"\n0 DESIRED_SPEED pHelmIvP 0\n\
+            0 IVPHELM_ALLSTOP pHelmIvP \"ManualOverride\"\n%% iteration 0 0 PARK\n",
+            "0.25 pHelmIvP post 9 5\n0.25 IVPHELM_STATE pHelmIvP \"DRIVE\"\n\
+            0.25 DESIRED_HEADING pHelmIvP 124\n0.25 DESIRED_SPEED pHelmIvP 2\n\
+            0.25 DESIRED_DEPTH pHelmIvP 10\n0.25 IVPHELM_ALLSTOP pHelmIvP \"clear\"\n\
+            %% iteration 1 0.25 DRIVE\n",
+            "%% decision 124 20 10 20000000\n",
+            "10 DESIRED_HEADING pHelmIvP 180\n",
+            "%% iteration 40 10 DRIVE\n",
+            "%% iteration 240 60 DRIVE\n",
+            "%% end 487 733\n",
+        ],
+    ),
+];
+
 #[test]
 fn behaviors_live_and_decide(rt: HostRuntime) {
-    for (files, parts) in [
-        // A timer ends for good.
-        (
-            [
-                "0 nav post DEPLOY=true # MOOS_MANUAL_OVERRIDE=false\n1 until\n",
-                COURSE_MISSION,
-                "Behavior = BHV_Timer {\nname = t\ncondition = DEPLOY = true\nduration = 0.5\nrunflag = A=1\nendflag = B=1\n}\n",
-            ],
-            [
-                "%% moosdb play 1\n%% client 0 nav\n%% client 1 pHelmIvP\n%% entry 0 0 pHelmIvP register\n\
-                %% reg MOOS_MANUAL_OVERRIDE * 0\n%% reg MOOS_MANUAL_OVERIDE * 0\n%% reg NAV_X * 0\n\
-                %% reg NAV_Y * 0\n%% reg NAV_DEPTH * 0\n%% reg DEPLOY * 0\n\
-                %% entry 1 0 nav post 0 2\n0 DEPLOY nav \"true\"\n0 MOOS_MANUAL_OVERRIDE nav \"false\"\n\
-                %% entry 2 0 pHelmIvP fetch\n%% mail 0 0 DEPLOY nav \"true\"\n\
-                %% mail 1 0 MOOS_MANUAL_OVERRIDE nav \"false\"\n%% entry 3 0 pHelmIvP post 2 4\n\
-                0 IVPHELM_STATE pHelmIvP \"DRIVE\"\n0 A pHelmIvP 1\n0 DESIRED_SPEED pHelmIvP 0\n\
-                0 IVPHELM_ALLSTOP pHelmIvP \"NothingToDo\"\n%% iteration 0 0 DRIVE\n%% behavior t running\n%% none\n\
-                %% entry 4 0.25 pHelmIvP fetch\n%% entry 5 0.25 pHelmIvP post 6 1\n\
-                0.25 DESIRED_SPEED pHelmIvP 0\n%% iteration 1 0.25 DRIVE\n%% behavior t running\n%% none\n\
-                %% entry 6 0.5 pHelmIvP fetch\n%% entry 7 0.5 pHelmIvP post 7 2\n0.5 B pHelmIvP 1\n\
-                0.5 DESIRED_SPEED pHelmIvP 0\n%% iteration 2 0.5 DRIVE\n%% behavior t completed\n%% none\n\
-                %% entry 8 0.75 pHelmIvP fetch\n%% entry 9 0.75 pHelmIvP post 9 1\n\
-                0.75 DESIRED_SPEED pHelmIvP 0\n%% iteration 3 0.75 DRIVE\n%% behavior t completed\n%% none\n\
-                %% entry 10 1 pHelmIvP fetch\n%% entry 11 1 pHelmIvP post 10 1\n\
-                1 DESIRED_SPEED pHelmIvP 0\n%% iteration 4 1 DRIVE\n%% behavior t completed\n%% none\n\
-                %% end 12 11\n",
-            ]
-            .as_slice(),
-        ),
-        // A heading and a speed are decided on, or neither counts.
-        (
-            [
-                DEPLOYING_SCRIPT,
-                COURSE_AND_SPEED,
-                "Behavior = BHV_ConstantHeading {\nname = h\nheading = 90\n}\nBehavior = BHV_ConstantSpeed {\nname = s\nspeed = 2\n}\n",
-            ],
-            &[
-                "%% entry 3 0 pHelmIvP post 2 4\n0 IVPHELM_STATE pHelmIvP \"DRIVE\"\n\
-                0 DESIRED_HEADING pHelmIvP 90\n0 DESIRED_SPEED pHelmIvP 2\n\
-                0 IVPHELM_ALLSTOP pHelmIvP \"clear\"\n%% iteration 0 0 DRIVE\n\
-                %% behavior h active\n%% behavior s active\n%% ivp 1\n%% domain course:0:359:360\n\
-                %% domain speed:0:4:41\n%% function 100\n",
-                "%% end\n%% decision 90 20 20000000\n%% cut ",
-                "%% done\n%% entry 4 0.25 pHelmIvP fetch\n%% entry 5 0.25 pHelmIvP post 6 2\n\
-                0.25 DESIRED_HEADING pHelmIvP 90\n0.25 DESIRED_SPEED pHelmIvP 2\n%% iteration 1 0.25 DRIVE\n",
-                "%% decision 90 20 20000000\n",
-                "%% done\n%% end 6 8\n",
-            ],
-        ),
-        (
-            [
-                DEPLOYING_SCRIPT,
-                COURSE_AND_SPEED,
-                "Behavior = BHV_ConstantHeading {\nname = h\npwt = 0\nheading = 90\n}\nBehavior = BHV_ConstantSpeed {\nname = s\npwt = 0\nspeed = 2\n}\n",
-            ],
-            &[
-                "0 DESIRED_SPEED pHelmIvP 0\n0 IVPHELM_ALLSTOP pHelmIvP \"NothingToDo\"\n%% iteration 0 0 DRIVE\n\
-                %% behavior h running\n%% behavior s running\n%% none\n\
-                %% entry 4 0.25 pHelmIvP fetch\n%% entry 5 0.25 pHelmIvP post 5 1\n\
-                0.25 DESIRED_SPEED pHelmIvP 0\n%% iteration 1 0.25 DRIVE\n\
-                %% behavior h running\n%% behavior s running\n%% none\n%% end 6 6\n",
-            ],
-        ),
-        // An update is refused as a whole, and another one is taken, whose radius captures the point. Then the helm is parked.
-        (
-            [
-                "0 nav post MOOS_MANUAL_OVERRIDE=false # NAV_X=0 # NAV_Y=0\n\
-                0.25 nav post UP=\"speed=2 # radius=abc\"\n0.5 nav post UP=\"speed=2 # radius=4\"\n\
-                0.75 nav post MOOS_MANUAL_OVERRIDE=true\n1 nav post MOOS_MANUAL_OVERRIDE=false\n",
-                COURSE_AND_SPEED,
-                "Behavior = BHV_Waypoint {\nname = w\nupdates = UP\nspeed = 1\npoints = 0,4 : 100,0\n}\n",
-            ],
-            &[
-                "0 DESIRED_HEADING pHelmIvP 0\n0 DESIRED_SPEED pHelmIvP 1\n",
-                "0.25 DESIRED_HEADING pHelmIvP 0\n0.25 DESIRED_SPEED pHelmIvP 1\n\
-                %% iteration 1 0.25 DRIVE\n%% update w refused\n%% behavior w active\n",
-                "0.5 DESIRED_HEADING pHelmIvP 90\n0.5 DESIRED_SPEED pHelmIvP 2\n\
-                %% iteration 2 0.5 DRIVE\n%% update w taken\n%% behavior w active\n",
-                "0.75 pHelmIvP post 14 3\n0.75 IVPHELM_STATE pHelmIvP \"PARK\"\n0.75 DESIRED_SPEED pHelmIvP 0\n\
-                0.75 IVPHELM_ALLSTOP pHelmIvP \"ManualOverride\"\n%% iteration 3 0.75 PARK\n\
-                %% behavior w idle\n%% none\n",
-                "1 pHelmIvP post 18 4\n1 IVPHELM_STATE pHelmIvP \"DRIVE\"\n1 DESIRED_HEADING pHelmIvP 90\n\
-                1 DESIRED_SPEED pHelmIvP 2\n1 IVPHELM_ALLSTOP pHelmIvP \"clear\"\n",
-                "%% end 16 22\n",
-            ],
-        ),
-        (
-            ALPHA,
-            &[
-                "%% unused 13 lead\n%% unused 19 visual_hints\n",
-                "0 pHelmIvP post 4 3\n0 IVPHELM_STATE pHelmIvP \"PARK\"\n0 DESIRED_SPEED pHelmIvP 0\n\
-                0 IVPHELM_ALLSTOP pHelmIvP \"ManualOverride\"\n%% iteration 0 0 PARK\n",
-                "0.25 pHelmIvP post 9 5\n0.25 IVPHELM_STATE pHelmIvP \"DRIVE\"\n\
-                0.25 DESIRED_HEADING pHelmIvP 124\n0.25 DESIRED_SPEED pHelmIvP 2\n\
-                0.25 DESIRED_DEPTH pHelmIvP 10\n0.25 IVPHELM_ALLSTOP pHelmIvP \"clear\"\n\
-                %% iteration 1 0.25 DRIVE\n",
-                "%% decision 124 20 10 20000000\n",
-                "10 DESIRED_HEADING pHelmIvP 180\n",
-                "%% iteration 40 10 DRIVE\n",
-                "%% iteration 240 60 DRIVE\n",
-                "%% end 487 733\n",
-            ],
-        ),
-    ] {
-        comes_to(&rt, rt.alloc(), files, parts);
+    for (files, parts) in PLAYED {
+        comes_to(&rt, rt.alloc(), *files, *parts);
     }
 }
 

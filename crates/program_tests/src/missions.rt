@@ -65,16 +65,19 @@ fn end_of(rt: &impl Abort, alloc: Global, report: &[u8]) -> Option<usize> {
     None
 }
 
+// Both play one script with a helm, in order Stamp.
+const LINES: &[&[&str]] = &[
+    &["play", "s.txt", "m.moos"],
+    &["play", "--workers", "16", "s.txt", "m.moos"],
+];
+
 #[test]
 fn a_helm_hears_the_client_of_its_stamp(rt: HostRuntime) {
-    for line in [
-        ["play", "s.txt", "m.moos"].as_slice(),
-        &["play", "--workers", "16", "s.txt", "m.moos"],
-    ] {
+    for line in LINES {
         let (status, out) = run_beside(
             &rt,
             rt.alloc(),
-            line,
+            *line,
             [DEPLOYING_SCRIPT, COURSE_MISSION, MODES],
         );
         assert_eq!(rt; status, Status::Done);

@@ -27,14 +27,10 @@ fn is_solved<R: Threads + Wait + Sync + Abort>(rt: &R, alloc: Global, text: &str
 
 #[test]
 fn good_problems_are_solved_by_any_number_of_workers(rt: HostRuntime) {
+    is_solved(&rt, rt.alloc(), FIRST_PROBLEM, FIRST_DECISION);
+    is_solved(&rt, rt.alloc(), SECOND_PROBLEM, SECOND_DECISION);
     let levels = levels(&rt, rt.alloc(), "10000");
-    for (text, decision) in [
-        (FIRST_PROBLEM, FIRST_DECISION),
-        (SECOND_PROBLEM, SECOND_DECISION),
-        (levels.as_str(), LEVELS_DECISION),
-    ] {
-        is_solved(&rt, rt.alloc(), text, decision);
-    }
+    is_solved(&rt, rt.alloc(), levels.as_str(), LEVELS_DECISION);
 }
 
 // A check of the second problem with this decision ends so, and writes this.
@@ -50,40 +46,43 @@ fn is_checked<R: Threads + Wait + Sync + Abort>(
     ends_so(rt, alloc, &line, text.as_str(), status, written);
 }
 
+// Decisions of the second problem, how a check of each ends, and what it writes.
+const CHECKED: &[(&str, Status, &str)] = &[
+    (SECOND_DECISION, Status::Done, "accepted\n"),
+    (
+        "decision 0 1 0 75\ncut 0 0 : 74 2\ncut 0 1 : 55 10\ndone\n",
+        Status::CheckNo,
+        "not accepted\n",
+    ),
+    (
+        "decision 0 1 0 75\ncut 0 0 : 75 2\ndone\n",
+        Status::CheckNo,
+        "not accepted\n",
+    ),
+    (
+        "decision 0 1 0 75\ncut 0 0 : 75 2\ncut 0 0 : 75 2\ncut 0 1 : 55 10\ndone\n",
+        Status::CheckNo,
+        "not accepted\n",
+    ),
+    (
+        "decision 2 1 0 55\ncut 0 0 : 75 2\ncut 0 1 : 55 10\ndone\n",
+        Status::CheckNo,
+        "not accepted\n",
+    ),
+    (
+        "decision 0 1 0 75\ncut 0 0 : 75 2\ncut 0 1 : 55 10\n",
+        Status::Refused(Refusal {
+            file: FileKind::Decision,
+            line: 13,
+            cause: Cause::P9,
+        }),
+        "",
+    ),
+];
+
 #[test]
 fn decisions_are_checked(rt: HostRuntime) {
-    for (decision, status, written) in [
-        (SECOND_DECISION, Status::Done, "accepted\n"),
-        (
-            "decision 0 1 0 75\ncut 0 0 : 74 2\ncut 0 1 : 55 10\ndone\n",
-            Status::CheckNo,
-            "not accepted\n",
-        ),
-        (
-            "decision 0 1 0 75\ncut 0 0 : 75 2\ndone\n",
-            Status::CheckNo,
-            "not accepted\n",
-        ),
-        (
-            "decision 0 1 0 75\ncut 0 0 : 75 2\ncut 0 0 : 75 2\ncut 0 1 : 55 10\ndone\n",
-            Status::CheckNo,
-            "not accepted\n",
-        ),
-        (
-            "decision 2 1 0 55\ncut 0 0 : 75 2\ncut 0 1 : 55 10\ndone\n",
-            Status::CheckNo,
-            "not accepted\n",
-        ),
-        (
-            "decision 0 1 0 75\ncut 0 0 : 75 2\ncut 0 1 : 55 10\n",
-            Status::Refused(Refusal {
-                file: FileKind::Decision,
-                line: 13,
-                cause: Cause::P9,
-            }),
-            "",
-        ),
-    ] {
-        is_checked(&rt, rt.alloc(), decision, status, written);
+    for (decision, status, written) in CHECKED {
+        is_checked(&rt, rt.alloc(), *decision, *status, *written);
     }
 }

@@ -14,47 +14,58 @@ use std::thread::Threads;
 const FAST: &str =
     "ProcessConfig = pHelmIvP\n{\nAppTick = 1000\nbehaviors = alpha.bhv\ndomain = course:0:359:360\n}\n";
 
-#[test]
-fn bad_files_are_refused(rt: HostRuntime) {
-    let heavy = levels(&rt, rt.alloc(), "10001");
-    for (job, text, file, line, cause) in [
-        (
-            "play",
-            "1 a post X=1\n0.5 a fetch\n",
-            FileKind::Script,
-            2,
-            Cause::S2,
-        ),
-        ("play", "0 pHelmIvP fetch", FileKind::Script, 1, Cause::S9),
-        ("play", "0 a jump", FileKind::Script, 1, Cause::S3),
-        ("play", "0 a post X=\"open", FileKind::Script, 1, Cause::S5),
-        ("play", "0 a register N#", FileKind::Script, 1, Cause::S6),
-        ("play", "0 a register X -1", FileKind::Script, 1, Cause::S7),
-        ("play", FIRST_PROBLEM, FileKind::Script, 1, Cause::S1),
-        ("solve", "", FileKind::Problem, 1, Cause::P9),
-        ("solve", heavy.as_str(), FileKind::Problem, 3, Cause::P6),
-        (
-            "solve",
-            "ivp 1\ndomain a:0:2:3\nfunction 1\npiece 0 1 0 0\npiece 1 2 0 0\nend\n",
-            FileKind::Problem,
-            3,
-            Cause::P4,
-        ),
-        (
-            "solve",
-            "ivp 1\ndomain a:0:2:3\nfunction 1\npiece 0 0 0 0\npiece 2 2 0 0\nend\n",
-            FileKind::Problem,
-            3,
-            Cause::P4,
-        ),
-    ] {
-        let status = Status::Refused(Refusal { file, line, cause });
-        ends_so(&rt, rt.alloc(), &[job, "f.txt"], text, status, "");
-    }
-}
-
 fn refused(file: FileKind, line: u32, cause: Cause) -> Status {
     Status::Refused(Refusal { file, line, cause })
+}
+
+// Jobs, files that are refused, and the kind, the line and the cause of the refusal of each.
+const REFUSED: &[(&str, &str, FileKind, u32, Cause)] = &[
+    (
+        "play",
+        "1 a post X=1\n0.5 a fetch\n",
+        FileKind::Script,
+        2,
+        Cause::S2,
+    ),
+    ("play", "0 pHelmIvP fetch", FileKind::Script, 1, Cause::S9),
+    ("play", "0 a jump", FileKind::Script, 1, Cause::S3),
+    ("play", "0 a post X=\"open", FileKind::Script, 1, Cause::S5),
+    ("play", "0 a register N#", FileKind::Script, 1, Cause::S6),
+    ("play", "0 a register X -1", FileKind::Script, 1, Cause::S7),
+    ("play", FIRST_PROBLEM, FileKind::Script, 1, Cause::S1),
+    ("solve", "", FileKind::Problem, 1, Cause::P9),
+    (
+        "solve",
+        "ivp 1\ndomain a:0:2:3\nfunction 1\npiece 0 1 0 0\npiece 1 2 0 0\nend\n",
+        FileKind::Problem,
+        3,
+        Cause::P4,
+    ),
+    (
+        "solve",
+        "ivp 1\ndomain a:0:2:3\nfunction 1\npiece 0 0 0 0\npiece 2 2 0 0\nend\n",
+        FileKind::Problem,
+        3,
+        Cause::P4,
+    ),
+];
+
+#[test]
+fn bad_files_are_refused(rt: HostRuntime) {
+    for (job, text, file, line, cause) in REFUSED {
+        let status = refused(*file, *line, *cause);
+        ends_so(&rt, rt.alloc(), &[*job, "f.txt"], *text, status, "");
+    }
+    let heavy = levels(&rt, rt.alloc(), "10001");
+    let status = refused(FileKind::Problem, 3, Cause::P6);
+    ends_so(
+        &rt,
+        rt.alloc(),
+        &["solve", "f.txt"],
+        heavy.as_str(),
+        status,
+        "",
+    );
 }
 
 // Played, these files end so, and nothing is written.
@@ -69,27 +80,49 @@ fn is_told<R: Threads + Wait + Sync + Abort>(
     assert_eq!(rt; out.bytes().len(), 0);
 }
 
+// A script, a mission and behaviours, and how a run of them ends.
+const FAILING: &[([&str; 3], Status)] = &[
+    (
+        ["0 a", "", ""],
+        Status::Refused(Refusal {
+            file: FileKind::Script,
+            line: 1,
+            cause: Cause::S3,
+        }),
+    ),
+    ([DEPLOYING_SCRIPT, "", MODES], Status::LoadFault),
+    (
+        [DEPLOYING_SCRIPT, "}\n", ""],
+        Status::Refused(Refusal {
+            file: FileKind::Mission,
+            line: 1,
+            cause: Cause::M1,
+        }),
+    ),
+    ([DEPLOYING_SCRIPT, COURSE_MISSION, ""], Status::LoadFault),
+    (
+        [DEPLOYING_SCRIPT, COURSE_MISSION, "}\n"],
+        Status::Refused(Refusal {
+            file: FileKind::Behaviors,
+            line: 1,
+            cause: Cause::B1,
+        }),
+    ),
+    (
+        ["20 until\n", FAST, ""],
+        Status::Refused(Refusal {
+            file: FileKind::Mission,
+            line: 6,
+            cause: Cause::M8,
+        }),
+    ),
+    (["19.999 until\n", FAST, ""], Status::LoadFault),
+];
+
 #[test]
 fn the_first_file_that_fails_is_told(rt: HostRuntime) {
-    for (files, status) in [
-        (["0 a", "", ""], refused(FileKind::Script, 1, Cause::S3)),
-        ([DEPLOYING_SCRIPT, "", MODES], Status::LoadFault),
-        (
-            [DEPLOYING_SCRIPT, "}\n", ""],
-            refused(FileKind::Mission, 1, Cause::M1),
-        ),
-        ([DEPLOYING_SCRIPT, COURSE_MISSION, ""], Status::LoadFault),
-        (
-            [DEPLOYING_SCRIPT, COURSE_MISSION, "}\n"],
-            refused(FileKind::Behaviors, 1, Cause::B1),
-        ),
-        (
-            ["20 until\n", FAST, ""],
-            refused(FileKind::Mission, 6, Cause::M8),
-        ),
-        (["19.999 until\n", FAST, ""], Status::LoadFault),
-    ] {
-        is_told(&rt, rt.alloc(), files, status);
+    for (files, status) in FAILING {
+        is_told(&rt, rt.alloc(), *files, *status);
     }
 }
 
@@ -118,32 +151,35 @@ fn survey_ends<R: Threads + Wait + Sync + Abort>(
     is_told(rt, alloc, files, status);
 }
 
+// Words of the survey's files, what stands in their place, and the refusal; None is the end of the file.
+const CHANGES: &[(&str, Option<&str>, FileKind, u32, Cause)] = &[
+    (
+        "  capture_radius = 2.0\n",
+        None,
+        FileKind::Behaviors,
+        30,
+        Cause::B2,
+    ),
+    (
+        "BHV_Waypoint",
+        Some("BHV_Way"),
+        FileKind::Behaviors,
+        4,
+        Cause::B3,
+    ),
+    (
+        "speed:0:4:41",
+        Some("speed:4:4:1"),
+        FileKind::Mission,
+        10,
+        Cause::M3,
+    ),
+];
+
 #[test]
 fn a_changed_survey_is_refused(rt: HostRuntime) {
-    for (old, new, file, line, cause) in [
-        (
-            "  capture_radius = 2.0\n",
-            None,
-            FileKind::Behaviors,
-            30,
-            Cause::B2,
-        ),
-        (
-            "BHV_Waypoint",
-            Some("BHV_Way"),
-            FileKind::Behaviors,
-            4,
-            Cause::B3,
-        ),
-        (
-            "speed:0:4:41",
-            Some("speed:4:4:1"),
-            FileKind::Mission,
-            10,
-            Cause::M3,
-        ),
-    ] {
-        survey_ends(&rt, rt.alloc(), old, new, refused(file, line, cause));
+    for (old, new, file, line, cause) in CHANGES {
+        survey_ends(&rt, rt.alloc(), *old, *new, refused(*file, *line, *cause));
     }
 }
 

@@ -3,65 +3,76 @@ use crate::files::{FIRST_DECISION, FIRST_PROBLEM, FIRST_REPORT, FIRST_SCRIPT, de
 use crate::runs::{command_line, ends, ends_so};
 use moos_jobs::{Status, Word};
 
+// Words that have the first script played.
+const PLAYING: &[&[&str]] = &[
+    &["play", "f.txt", "--race"],
+    &["play", "--race", "f.txt"],
+    &["play", "--", "f.txt"],
+];
+
+// Words that have the first problem solved.
+const SOLVING: &[&[&str]] = &[
+    &["solve", "f.txt"],
+    &["solve", "--workers=2", "f.txt"],
+    &["solve", "f.txt", "--workers", "+2"],
+    &["solve", "f.txt", "--workers", "002"],
+];
+
 #[test]
 fn words_that_are_taken(rt: HostRuntime) {
-    let decided = decided(&rt, rt.alloc(), FIRST_PROBLEM, FIRST_DECISION);
-    for (line, text, written) in [
-        (
-            ["play", "f.txt", "--race"].as_slice(),
+    for line in PLAYING {
+        ends_so(
+            &rt,
+            rt.alloc(),
+            *line,
             FIRST_SCRIPT,
+            Status::Done,
             FIRST_REPORT,
-        ),
-        (&["play", "--race", "f.txt"], FIRST_SCRIPT, FIRST_REPORT),
-        (&["play", "--", "f.txt"], FIRST_SCRIPT, FIRST_REPORT),
-        (&["solve", "f.txt"], FIRST_PROBLEM, decided.as_str()),
-        (
-            &["solve", "--workers=2", "f.txt"],
+        );
+    }
+    let decided = decided(&rt, rt.alloc(), FIRST_PROBLEM, FIRST_DECISION);
+    for line in SOLVING {
+        ends_so(
+            &rt,
+            rt.alloc(),
+            *line,
             FIRST_PROBLEM,
+            Status::Done,
             decided.as_str(),
-        ),
-        (
-            &["solve", "f.txt", "--workers", "+2"],
-            FIRST_PROBLEM,
-            decided.as_str(),
-        ),
-        (
-            &["solve", "f.txt", "--workers", "002"],
-            FIRST_PROBLEM,
-            decided.as_str(),
-        ),
-    ] {
-        ends_so(&rt, rt.alloc(), line, text, Status::Done, written);
+        );
     }
 }
 
+// Words that name no job.
+const OTHER_WORDS: &[&[&str]] = &[
+    &[],
+    &["play"],
+    &["Play", "s.txt"],
+    &["s.txt"],
+    &["play", "s.txt", "m.moos", "b.bhv"],
+    &["play", "s\n"],
+    &["play", "s.txt", "--race", "--race"],
+    &["play", "s.txt", "--race=1"],
+    &["play", "s.txt", "--workers", "17"],
+    &["play", "s.txt", "--help"],
+    &["play", "s.txt", "-h"],
+    &["solve"],
+    &["solve", "p.txt", "q.txt"],
+    &["solve", "p.txt", "--race"],
+    &["solve", "p.txt", "--workers", "17"],
+    &["solve", "p.txt", "--workers", "0"],
+    &["solve", "p.txt", "--workers"],
+    &["solve", "p.txt", "--workers", "two"],
+    &["solve", "p.txt", "--workers=2", "--workers=2"],
+    &["check"],
+    &["check", "d.txt", "--workers", "2"],
+    &["--help"],
+];
+
 #[test]
 fn other_words_are_usage(rt: HostRuntime) {
-    for line in [
-        [].as_slice(),
-        &["play"],
-        &["Play", "s.txt"],
-        &["s.txt"],
-        &["play", "s.txt", "m.moos", "b.bhv"],
-        &["play", "s\n"],
-        &["play", "s.txt", "--race", "--race"],
-        &["play", "s.txt", "--race=1"],
-        &["play", "s.txt", "--workers", "17"],
-        &["play", "s.txt", "--help"],
-        &["play", "s.txt", "-h"],
-        &["solve"],
-        &["solve", "p.txt", "q.txt"],
-        &["solve", "p.txt", "--race"],
-        &["solve", "p.txt", "--workers", "17"],
-        &["solve", "p.txt", "--workers", "0"],
-        &["solve", "p.txt", "--workers"],
-        &["solve", "p.txt", "--workers", "two"],
-        &["solve", "p.txt", "--workers=2", "--workers=2"],
-        &["check"],
-        &["check", "d.txt", "--workers", "2"],
-        &["--help"],
-    ] {
-        let words = command_line(&rt, rt.alloc(), line);
+    for line in OTHER_WORDS {
+        let words = command_line(&rt, rt.alloc(), *line);
         assert_eq!(rt; ends(&rt, rt.alloc(), &words), Status::Usage, "{line:?}");
     }
 }

@@ -92,29 +92,28 @@ fn is_accepted(rt: &impl Abort, alloc: Global, text: &[u8]) -> Option<bool> {
     }
 }
 
+// Problems, the places of their best points, and the lines of their decisions.
+const SOLVED: &[(&[u8], [u32; 4], &[u8])] = &[
+    (LEVEL, [0; 4], b"decision 0 700\ncut : 700 0\ndone\n"),
+    (
+        TWO,
+        [0, 1, 0, 0],
+        b"decision 0 1 0 75\ncut 0 0 : 75 2\ncut 0 1 : 55 10\ndone\n",
+    ),
+    (
+        THREE,
+        [0; 4],
+        b"decision 0 15\ncut 0 0 0 : 15 0\ncut 0 1 : 15 1\ncut 1 : 10 2\ndone\n",
+    ),
+    (HALVES, [0; 4], b"decision 0 7\ncut : 7 0\ndone\n"),
+];
+
 #[test]
 fn decisions_with_certificates(rt: HostRuntime) {
     let alloc = rt.alloc();
-    for (problem, at, lines) in [
-        (
-            LEVEL,
-            [0; 4],
-            b"decision 0 700\ncut : 700 0\ndone\n".as_slice(),
-        ),
-        (
-            TWO,
-            [0, 1, 0, 0],
-            b"decision 0 1 0 75\ncut 0 0 : 75 2\ncut 0 1 : 55 10\ndone\n",
-        ),
-        (
-            THREE,
-            [0; 4],
-            b"decision 0 15\ncut 0 0 0 : 15 0\ncut 0 1 : 15 1\ncut 1 : 10 2\ndone\n",
-        ),
-        (HALVES, [0; 4], b"decision 0 7\ncut : 7 0\ndone\n"),
-    ] {
-        let expected = joined(&rt, alloc, problem, lines);
-        let sink = solved(&rt, alloc, problem, at, b"");
+    for (problem, at, lines) in SOLVED {
+        let expected = joined(&rt, alloc, *problem, *lines);
+        let sink = solved(&rt, alloc, *problem, *at, b"");
         assert!(rt; sink.bytes() == expected.as_slice());
         assert_eq!(rt; is_accepted(&rt, alloc, &expected), Some(true));
     }
@@ -155,179 +154,196 @@ fn greatest_sum(rt: HostRuntime) {
     assert_eq!(rt; is_accepted(&rt, alloc, &expected), Some(true));
 }
 
+// A good decision and changes of it, and whether each is accepted; None where it isn't read.
+const CHANGED_DECISIONS: &[(&[u8], Option<bool>)] = &[
+    (
+        b"decision 0 1 0 75\ncut 0 0 : 75 2\ncut 0 1 : 55 10\ndone\n",
+        Some(true),
+    ),
+    (
+        b"decision 0 1 0 75\ncut 0 0 : 74 2\ncut 0 1 : 55 10\ndone\n",
+        Some(false),
+    ),
+    (b"decision 0 1 0 75\ncut 0 0 : 75 2\ndone\n", Some(false)),
+    (
+        b"decision 0 1 0 75\ncut 0 0 : 75 2\ncut 0 0 : 75 2\ncut 0 1 : 55 10\ndone\n",
+        Some(false),
+    ),
+    (
+        b"decision 2 1 0 55\ncut 0 0 : 75 2\ncut 0 1 : 55 10\ndone\n",
+        Some(false),
+    ),
+    (
+        b"decision 0 1 0 75\ncut 0 0 : 75 2\ncut 0 1 : 55 10\n",
+        None,
+    ),
+];
+
 #[test]
 fn changed_decisions(rt: HostRuntime) {
     let alloc = rt.alloc();
-    for (lines, accepted) in [
-        (
-            b"decision 0 1 0 75\ncut 0 0 : 75 2\ncut 0 1 : 55 10\ndone\n".as_slice(),
-            Some(true),
-        ),
-        (
-            b"decision 0 1 0 75\ncut 0 0 : 74 2\ncut 0 1 : 55 10\ndone\n",
-            Some(false),
-        ),
-        (b"decision 0 1 0 75\ncut 0 0 : 75 2\ndone\n", Some(false)),
-        (
-            b"decision 0 1 0 75\ncut 0 0 : 75 2\ncut 0 0 : 75 2\ncut 0 1 : 55 10\ndone\n",
-            Some(false),
-        ),
-        (
-            b"decision 2 1 0 55\ncut 0 0 : 75 2\ncut 0 1 : 55 10\ndone\n",
-            Some(false),
-        ),
-        (
-            b"decision 0 1 0 75\ncut 0 0 : 75 2\ncut 0 1 : 55 10\n",
-            None,
-        ),
-    ] {
-        let text = joined(&rt, alloc, TWO, lines);
-        assert_eq!(rt; is_accepted(&rt, alloc, &text), accepted, "{lines:?}");
+    for (lines, accepted) in CHANGED_DECISIONS {
+        let text = joined(&rt, alloc, TWO, *lines);
+        assert_eq!(rt; is_accepted(&rt, alloc, &text), *accepted, "{lines:?}");
     }
 }
+
+// A good certificate and changes of it, and whether each is accepted.
+const CHANGED_CERTIFICATES: &[(&[u8], bool)] = &[
+    (
+        b"decision 0 15\ncut 0 0 0 : 15 0\ncut 0 1 : 15 1\ncut 1 : 10 2\ndone\n",
+        true,
+    ),
+    // Nodes below the topmost ones cover as much.
+    (
+        b"decision 0 15\ncut 0 0 0 : 15 0\ncut 0 1 0 : 15 1\ncut 1 1 : 5 2\ndone\n",
+        true,
+    ),
+    // A line moved, doubled and left out.
+    (
+        b"decision 0 15\ncut 0 1 : 15 1\ncut 0 0 0 : 15 0\ncut 1 : 10 2\ndone\n",
+        false,
+    ),
+    (
+        b"decision 0 15\ncut 0 0 0 : 15 0\ncut 1 : 10 2\ncut 0 1 : 15 1\ndone\n",
+        false,
+    ),
+    (
+        b"decision 0 15\ncut 0 0 0 : 15 0\ncut 0 1 : 15 1\ncut 1 : 10 2\ncut 1 : 10 2\ndone\n",
+        false,
+    ),
+    (
+        b"decision 0 15\ncut 0 0 0 : 15 0\ncut 0 1 : 15 1\ncut 1 : 10 2\ncut 1 1 : 5 2\ndone\n",
+        false,
+    ),
+    (
+        b"decision 0 15\ncut 0 1 : 15 1\ncut 1 : 10 2\ndone\n",
+        false,
+    ),
+    (
+        b"decision 0 15\ncut 0 0 0 : 15 0\ncut 1 : 10 2\ndone\n",
+        false,
+    ),
+    (
+        b"decision 0 15\ncut 0 0 0 : 15 0\ncut 0 1 : 15 1\ndone\n",
+        false,
+    ),
+    (b"decision 0 15\ndone\n", false),
+    // A path cut, lengthened and led to no node.
+    (
+        b"decision 0 15\ncut 0 0 : 15 0\ncut 0 1 : 15 1\ncut 1 : 10 2\ndone\n",
+        false,
+    ),
+    (
+        b"decision 0 15\ncut 0 0 : 20 0\ncut 0 1 : 15 1\ncut 1 : 10 2\ndone\n",
+        false,
+    ),
+    (b"decision 0 15\ncut : 20 0\ndone\n", false),
+    (
+        b"decision 0 15\ncut 0 0 0 : 15 0\ncut 0 1 : 15 1\ncut 1 1 : 10 2\ndone\n",
+        false,
+    ),
+    (
+        b"decision 0 15\ncut 0 0 0 0 : 15 0\ncut 0 1 : 15 1\ncut 1 : 10 2\ndone\n",
+        false,
+    ),
+    (
+        b"decision 0 15\ncut 0 0 1 : 15 0\ncut 0 1 : 15 1\ncut 1 : 10 2\ndone\n",
+        false,
+    ),
+    // A bound's sum and index changed.
+    (
+        b"decision 0 15\ncut 0 0 0 : 15 0\ncut 0 1 : 14 1\ncut 1 : 10 2\ndone\n",
+        false,
+    ),
+    (
+        b"decision 0 15\ncut 0 0 0 : 15 0\ncut 0 1 : 16 1\ncut 1 : 10 2\ndone\n",
+        false,
+    ),
+    (
+        b"decision 0 15\ncut 0 0 0 : 15 0\ncut 0 1 : 15 0\ncut 1 : 10 2\ndone\n",
+        false,
+    ),
+    (
+        b"decision 0 15\ncut 0 0 0 : 15 0\ncut 0 1 : 15 1\ncut 1 : 10 3\ndone\n",
+        false,
+    ),
+    // Another sum, a point of equal sum but greater index, and a worse point.
+    (
+        b"decision 0 16\ncut 0 0 0 : 15 0\ncut 0 1 : 15 1\ncut 1 : 10 2\ndone\n",
+        false,
+    ),
+    (
+        b"decision 1 15\ncut 0 0 0 : 15 0\ncut 0 1 : 15 1\ncut 1 : 10 2\ndone\n",
+        false,
+    ),
+    (
+        b"decision 2 0\ncut 0 0 0 : 15 0\ncut 0 1 : 15 1\ncut 1 : 10 2\ndone\n",
+        false,
+    ),
+];
 
 #[test]
 fn changed_certificates(rt: HostRuntime) {
     let alloc = rt.alloc();
-    for (lines, accepted) in [
-        (
-            b"decision 0 15\ncut 0 0 0 : 15 0\ncut 0 1 : 15 1\ncut 1 : 10 2\ndone\n".as_slice(),
-            true,
-        ),
-        // Nodes below the topmost ones cover as much.
-        (
-            b"decision 0 15\ncut 0 0 0 : 15 0\ncut 0 1 0 : 15 1\ncut 1 1 : 5 2\ndone\n",
-            true,
-        ),
-        // A line moved, doubled and left out.
-        (
-            b"decision 0 15\ncut 0 1 : 15 1\ncut 0 0 0 : 15 0\ncut 1 : 10 2\ndone\n",
-            false,
-        ),
-        (
-            b"decision 0 15\ncut 0 0 0 : 15 0\ncut 1 : 10 2\ncut 0 1 : 15 1\ndone\n",
-            false,
-        ),
-        (
-            b"decision 0 15\ncut 0 0 0 : 15 0\ncut 0 1 : 15 1\ncut 1 : 10 2\ncut 1 : 10 2\ndone\n",
-            false,
-        ),
-        (
-            b"decision 0 15\ncut 0 0 0 : 15 0\ncut 0 1 : 15 1\ncut 1 : 10 2\ncut 1 1 : 5 2\ndone\n",
-            false,
-        ),
-        (
-            b"decision 0 15\ncut 0 1 : 15 1\ncut 1 : 10 2\ndone\n",
-            false,
-        ),
-        (
-            b"decision 0 15\ncut 0 0 0 : 15 0\ncut 1 : 10 2\ndone\n",
-            false,
-        ),
-        (
-            b"decision 0 15\ncut 0 0 0 : 15 0\ncut 0 1 : 15 1\ndone\n",
-            false,
-        ),
-        (b"decision 0 15\ndone\n", false),
-        // A path cut, lengthened and led to no node.
-        (
-            b"decision 0 15\ncut 0 0 : 15 0\ncut 0 1 : 15 1\ncut 1 : 10 2\ndone\n",
-            false,
-        ),
-        (
-            b"decision 0 15\ncut 0 0 : 20 0\ncut 0 1 : 15 1\ncut 1 : 10 2\ndone\n",
-            false,
-        ),
-        (b"decision 0 15\ncut : 20 0\ndone\n", false),
-        (
-            b"decision 0 15\ncut 0 0 0 : 15 0\ncut 0 1 : 15 1\ncut 1 1 : 10 2\ndone\n",
-            false,
-        ),
-        (
-            b"decision 0 15\ncut 0 0 0 0 : 15 0\ncut 0 1 : 15 1\ncut 1 : 10 2\ndone\n",
-            false,
-        ),
-        (
-            b"decision 0 15\ncut 0 0 1 : 15 0\ncut 0 1 : 15 1\ncut 1 : 10 2\ndone\n",
-            false,
-        ),
-        // A bound's sum and index changed.
-        (
-            b"decision 0 15\ncut 0 0 0 : 15 0\ncut 0 1 : 14 1\ncut 1 : 10 2\ndone\n",
-            false,
-        ),
-        (
-            b"decision 0 15\ncut 0 0 0 : 15 0\ncut 0 1 : 16 1\ncut 1 : 10 2\ndone\n",
-            false,
-        ),
-        (
-            b"decision 0 15\ncut 0 0 0 : 15 0\ncut 0 1 : 15 0\ncut 1 : 10 2\ndone\n",
-            false,
-        ),
-        (
-            b"decision 0 15\ncut 0 0 0 : 15 0\ncut 0 1 : 15 1\ncut 1 : 10 3\ndone\n",
-            false,
-        ),
-        // Another sum, a point of equal sum but greater index, and a worse point.
-        (
-            b"decision 0 16\ncut 0 0 0 : 15 0\ncut 0 1 : 15 1\ncut 1 : 10 2\ndone\n",
-            false,
-        ),
-        (
-            b"decision 1 15\ncut 0 0 0 : 15 0\ncut 0 1 : 15 1\ncut 1 : 10 2\ndone\n",
-            false,
-        ),
-        (
-            b"decision 2 0\ncut 0 0 0 : 15 0\ncut 0 1 : 15 1\ncut 1 : 10 2\ndone\n",
-            false,
-        ),
-    ] {
-        let text = joined(&rt, alloc, THREE, lines);
-        assert_eq!(rt; is_accepted(&rt, alloc, &text), Some(accepted), "{lines:?}");
+    for (lines, accepted) in CHANGED_CERTIFICATES {
+        let text = joined(&rt, alloc, THREE, *lines);
+        assert_eq!(rt;
+            is_accepted(&rt, alloc, &text),
+            Some(*accepted),
+            "{lines:?}"
+        );
     }
 }
+
+// What stands behind a problem of five lines, and the line and the cause of its refusal.
+const REFUSED: &[(&[u8], u32, Cause)] = &[
+    // A decision outside its form, before a point outside the domain.
+    (b"decision\n", 6, Cause::P1),
+    (b"decision x 700\n", 6, Cause::P1),
+    (b"decision 0 +700\n", 6, Cause::P1),
+    (b"decision 360 x\n", 6, Cause::P1),
+    (b"decision 4294967296 700\n", 6, Cause::P1),
+    (b"decision 0 64000000001\n", 6, Cause::P1),
+    (b"cut : 700 0\n", 6, Cause::P1),
+    (b"done\n", 6, Cause::P1),
+    (b"end\n", 6, Cause::P1),
+    // A point that isn't one of the domain.
+    (b"decision 360 700\n", 6, Cause::P10),
+    (b"decision 4294967295 64000000000\n", 6, Cause::P10),
+    (b"decision 700\n", 6, Cause::P10),
+    (b"decision 0 0 700\n", 6, Cause::P10),
+    // A line of the certificate outside its form.
+    (b"decision 0 700\ndecision 0 700\n", 7, Cause::P1),
+    (b"decision 0 700\n\ncut 700 0\n", 8, Cause::P1),
+    (b"decision 0 700\ncut\n", 7, Cause::P1),
+    (b"decision 0 700\ncut :\n", 7, Cause::P1),
+    (b"decision 0 700\ncut : 700\n", 7, Cause::P1),
+    (b"decision 0 700\ncut : 700 0 0\n", 7, Cause::P1),
+    (b"decision 0 700\ncut : : 700 0\n", 7, Cause::P1),
+    (b"decision 0 700\ncut -1 : 700 0\n", 7, Cause::P1),
+    (b"decision 0 700\ncut 4294967296 : 700 0\n", 7, Cause::P1),
+    (b"decision 0 700\ncut : 64000000001 0\n", 7, Cause::P1),
+    (b"decision 0 700\ncut : 700 4294967296\n", 7, Cause::P1),
+    (b"decision 0 700\ndone now\n", 7, Cause::P1),
+    (b"decision 0 700\ndone\n\ndone\n", 9, Cause::P1),
+    // The bytes end too early.
+    (b"", 5, Cause::P9),
+    (b"decision 0 700\n", 6, Cause::P9),
+    (b"decision 0 700\ncut : 700 0\n\n", 8, Cause::P9),
+];
 
 #[test]
 fn refusals(rt: HostRuntime) {
     let alloc = rt.alloc();
-    for (lines, line, cause) in [
-        // A decision outside its form, before a point outside the domain.
-        (b"decision\n".as_slice(), 6, Cause::P1),
-        (b"decision x 700\n", 6, Cause::P1),
-        (b"decision 0 +700\n", 6, Cause::P1),
-        (b"decision 360 x\n", 6, Cause::P1),
-        (b"decision 4294967296 700\n", 6, Cause::P1),
-        (b"decision 0 64000000001\n", 6, Cause::P1),
-        (b"cut : 700 0\n", 6, Cause::P1),
-        (b"done\n", 6, Cause::P1),
-        (b"end\n", 6, Cause::P1),
-        // A point that isn't one of the domain.
-        (b"decision 360 700\n", 6, Cause::P10),
-        (b"decision 4294967295 64000000000\n", 6, Cause::P10),
-        (b"decision 700\n", 6, Cause::P10),
-        (b"decision 0 0 700\n", 6, Cause::P10),
-        // A line of the certificate outside its form.
-        (b"decision 0 700\ndecision 0 700\n", 7, Cause::P1),
-        (b"decision 0 700\n\ncut 700 0\n", 8, Cause::P1),
-        (b"decision 0 700\ncut\n", 7, Cause::P1),
-        (b"decision 0 700\ncut :\n", 7, Cause::P1),
-        (b"decision 0 700\ncut : 700\n", 7, Cause::P1),
-        (b"decision 0 700\ncut : 700 0 0\n", 7, Cause::P1),
-        (b"decision 0 700\ncut : : 700 0\n", 7, Cause::P1),
-        (b"decision 0 700\ncut -1 : 700 0\n", 7, Cause::P1),
-        (b"decision 0 700\ncut 4294967296 : 700 0\n", 7, Cause::P1),
-        (b"decision 0 700\ncut : 64000000001 0\n", 7, Cause::P1),
-        (b"decision 0 700\ncut : 700 4294967296\n", 7, Cause::P1),
-        (b"decision 0 700\ndone now\n", 7, Cause::P1),
-        (b"decision 0 700\ndone\n\ndone\n", 9, Cause::P1),
-        // The bytes end too early.
-        (b"", 5, Cause::P9),
-        (b"decision 0 700\n", 6, Cause::P9),
-        (b"decision 0 700\ncut : 700 0\n\n", 8, Cause::P9),
-    ] {
-        let text = joined(&rt, alloc, LEVEL, lines);
+    for (lines, line, cause) in REFUSED {
+        let text = joined(&rt, alloc, LEVEL, *lines);
         let fault = read(&rt, alloc, &text).err();
-        assert_eq!(rt; fault, Some(ReadFault::At { line, cause }), "{lines:?}");
+        let wanted = ReadFault::At {
+            line: *line,
+            cause: *cause,
+        };
+        assert_eq!(rt; fault, Some(wanted), "{lines:?}");
     }
     let empty = read(&rt, alloc, b"").err();
     let at_1 = ReadFault::At {

@@ -79,154 +79,161 @@ fn written_otherwise(rt: HostRuntime) {
     assert!(rt; is_term(&problem, 0, 1, &[piece(0, 1, 0, 7, [-7, 0])]));
 }
 
+// Files that are no problem, and the line and the cause of the refusal of each.
+const REFUSED: &[(&[u8], u32, Cause)] = &[
+    // A line outside the form or the order.
+    (b"\ndomain a:0:1:2\n", 2, Cause::P1),
+    (b"ivp 2\n", 1, Cause::P1),
+    (b"ivp 1 1\n", 1, Cause::P1),
+    (b"ivp 1 // one\n", 1, Cause::P1),
+    (b"%%\nivp 1\n", 1, Cause::P1),
+    (b"%% %% ivp 1\n", 1, Cause::P1),
+    (b"ivp 1\nend\n", 2, Cause::P1),
+    (b"ivp 1\nfunction 1\n", 2, Cause::P1),
+    (b"ivp 1\ndomain a:0:1:2 b:0:1:2\n", 2, Cause::P1),
+    (b"ivp 1\ndomain a:0:1:2\npiece 0 1 0 0\n", 3, Cause::P1),
+    (b"ivp 1\ndomain a:0:1:2\nfunction\n", 3, Cause::P1),
+    (b"ivp 1\ndomain a:0:1:2\nend now\n", 3, Cause::P1),
+    (
+        b"ivp 1\ndomain a:0:1:2\nfunction 1\ndomain b:0:1:2\n",
+        4,
+        Cause::P1,
+    ),
+    (
+        b"ivp 1\ndomain a:0:1:2\nfunction 1\npiece 0 1 0\n",
+        4,
+        Cause::P1,
+    ),
+    (
+        b"ivp 1\ndomain a:0:1:2\nfunction 1\npiece 0 1 0 1 0 0 0\n",
+        4,
+        Cause::P1,
+    ),
+    (
+        b"ivp 1\ndomain a:0:1:2\nfunction 1\npiece -0 1 0 0\n",
+        4,
+        Cause::P1,
+    ),
+    (
+        b"ivp 1\ndomain a:0:1:2\nfunction 1\npiece 0 1 - 0\n",
+        4,
+        Cause::P1,
+    ),
+    (
+        b"ivp 1\ndomain a:0:1:2\nfunction 1\npiece 0 1 +1 0\n",
+        4,
+        Cause::P1,
+    ),
+    (
+        b"ivp 1\ndomain a:0:1:2\nfunction 1\npiece 0 4294967296 0 0\n",
+        4,
+        Cause::P1,
+    ),
+    (
+        b"ivp 1\ndomain a:0:1:2\nfunction 1\npiece 0 1 -1000000000001 0\n",
+        4,
+        Cause::P1,
+    ),
+    (
+        b"ivp 1\ndomain a:0:1:2\nfunction 1\npiece 0 1 0 100001\n",
+        4,
+        Cause::P1,
+    ),
+    (
+        b"ivp 1\ndomain a:0:1:2\nfunction 1\npiece 0 1 0 0\nend\n\nend\n",
+        7,
+        Cause::P1,
+    ),
+    // An axis.
+    (b"ivp 1\ndomain a:0:1\n", 2, Cause::P2),
+    (b"ivp 1\ndomain a:0:1:2:3\n", 2, Cause::P2),
+    (b"ivp 1\ndomain a,0,1,2\n", 2, Cause::P2),
+    (b"ivp 1\ndomain 1a:0:1:2\n", 2, Cause::P2),
+    (b"ivp 1\ndomain a:0:1:1\n", 2, Cause::P2),
+    (b"ivp 1\ndomain a:0:1:2.5\n", 2, Cause::P2),
+    (b"ivp 1\ndomain a:1:1:2\n", 2, Cause::P2),
+    (
+        b"ivp 1\ndomain a:0:1:2\ndomain A:0:1:2\ndomain a:0:1:2\n",
+        4,
+        Cause::P2,
+    ),
+    (
+        b"ivp 1\ndomain a:0:1:2\ndomain b:0:1:2\ndomain c:0:1:2\ndomain d:0:1:2\ndomain e:0:1:2\n",
+        6,
+        Cause::P2,
+    ),
+    (
+        b"ivp 1\ndomain a:0:1:2048\ndomain b:0:1:2049\n",
+        3,
+        Cause::P2,
+    ),
+    // A box.
+    (
+        b"ivp 1\ndomain course:0:359:360\nfunction 100\npiece 0 360 7 0\nend\n",
+        4,
+        Cause::P3,
+    ),
+    (
+        b"ivp 1\ndomain a:0:1:2\nfunction 1\npiece 1 0 0 0\n",
+        4,
+        Cause::P3,
+    ),
+    (
+        b"ivp 1\ndomain a:0:1:2\ndomain b:0:1:2\nfunction 1\npiece 0 1 0 2 0 0 0\n",
+        5,
+        Cause::P3,
+    ),
+    // Pieces that are no partition, before a value out of range and before all else of the line.
+    (
+        b"ivp 1\ndomain a:0:1:2\nfunction 1\n\nfunction\n",
+        3,
+        Cause::P4,
+    ),
+    (
+        b"ivp 1\ndomain a:0:1:2\nfunction 1\npiece 0 1 -1 0\npiece 1 1 0 0\nend now\n",
+        3,
+        Cause::P4,
+    ),
+    (
+        b"ivp 1\ndomain a:0:1:2\nfunction 1\npiece 0 1 0 0\nfunction 1\npiece 0 0 0 0\nend\n",
+        5,
+        Cause::P4,
+    ),
+    // A value out of range.
+    (
+        b"ivp 1\ndomain course:0:359:360\nfunction 100\npiece 0 359 7 300\nend\n",
+        3,
+        Cause::P5,
+    ),
+    (
+        b"ivp 1\ndomain a:0:1:2\nfunction 1\npiece 0 1 6 -7\nfunction 0\n",
+        3,
+        Cause::P5,
+    ),
+    // A weight.
+    (b"ivp 1\ndomain a:0:1:2\nfunction 0\n", 3, Cause::P6),
+    (b"ivp 1\ndomain a:0:1:2\nfunction 10001\n", 3, Cause::P6),
+    (b"ivp 1\ndomain a:0:1:2\nfunction 1.5\n", 3, Cause::P6),
+    (b"ivp 1\ndomain a:0:1:2\nfunction one\n", 3, Cause::P6),
+    // No function.
+    (b"ivp 1\ndomain course:0:359:360\nend\n", 3, Cause::P8),
+    (b"ivp 1\n\ndomain a:0:1:2\n\nend\nend\n", 5, Cause::P8),
+    // No end.
+    (b"", 1, Cause::P9),
+    (b"\n", 1, Cause::P9),
+    (b"ivp 1\ndomain a:0:1:2\nfunction 1\n\n\n", 5, Cause::P9),
+];
+
 #[test]
 fn refusals(rt: HostRuntime) {
     let alloc = rt.alloc();
-    for (text, line, cause) in [
-        // A line outside the form or the order.
-        (b"\ndomain a:0:1:2\n".as_slice(), 2, Cause::P1),
-        (b"ivp 2\n", 1, Cause::P1),
-        (b"ivp 1 1\n", 1, Cause::P1),
-        (b"ivp 1 // one\n", 1, Cause::P1),
-        (b"%%\nivp 1\n", 1, Cause::P1),
-        (b"%% %% ivp 1\n", 1, Cause::P1),
-        (b"ivp 1\nend\n", 2, Cause::P1),
-        (b"ivp 1\nfunction 1\n", 2, Cause::P1),
-        (b"ivp 1\ndomain a:0:1:2 b:0:1:2\n", 2, Cause::P1),
-        (b"ivp 1\ndomain a:0:1:2\npiece 0 1 0 0\n", 3, Cause::P1),
-        (b"ivp 1\ndomain a:0:1:2\nfunction\n", 3, Cause::P1),
-        (b"ivp 1\ndomain a:0:1:2\nend now\n", 3, Cause::P1),
-        (
-            b"ivp 1\ndomain a:0:1:2\nfunction 1\ndomain b:0:1:2\n",
-            4,
-            Cause::P1,
-        ),
-        (
-            b"ivp 1\ndomain a:0:1:2\nfunction 1\npiece 0 1 0\n",
-            4,
-            Cause::P1,
-        ),
-        (
-            b"ivp 1\ndomain a:0:1:2\nfunction 1\npiece 0 1 0 1 0 0 0\n",
-            4,
-            Cause::P1,
-        ),
-        (
-            b"ivp 1\ndomain a:0:1:2\nfunction 1\npiece -0 1 0 0\n",
-            4,
-            Cause::P1,
-        ),
-        (
-            b"ivp 1\ndomain a:0:1:2\nfunction 1\npiece 0 1 - 0\n",
-            4,
-            Cause::P1,
-        ),
-        (
-            b"ivp 1\ndomain a:0:1:2\nfunction 1\npiece 0 1 +1 0\n",
-            4,
-            Cause::P1,
-        ),
-        (
-            b"ivp 1\ndomain a:0:1:2\nfunction 1\npiece 0 4294967296 0 0\n",
-            4,
-            Cause::P1,
-        ),
-        (
-            b"ivp 1\ndomain a:0:1:2\nfunction 1\npiece 0 1 -1000000000001 0\n",
-            4,
-            Cause::P1,
-        ),
-        (
-            b"ivp 1\ndomain a:0:1:2\nfunction 1\npiece 0 1 0 100001\n",
-            4,
-            Cause::P1,
-        ),
-        (
-            b"ivp 1\ndomain a:0:1:2\nfunction 1\npiece 0 1 0 0\nend\n\nend\n",
-            7,
-            Cause::P1,
-        ),
-        // An axis.
-        (b"ivp 1\ndomain a:0:1\n", 2, Cause::P2),
-        (b"ivp 1\ndomain a:0:1:2:3\n", 2, Cause::P2),
-        (b"ivp 1\ndomain a,0,1,2\n", 2, Cause::P2),
-        (b"ivp 1\ndomain 1a:0:1:2\n", 2, Cause::P2),
-        (b"ivp 1\ndomain a:0:1:1\n", 2, Cause::P2),
-        (b"ivp 1\ndomain a:0:1:2.5\n", 2, Cause::P2),
-        (b"ivp 1\ndomain a:1:1:2\n", 2, Cause::P2),
-        (
-            b"ivp 1\ndomain a:0:1:2\ndomain A:0:1:2\ndomain a:0:1:2\n",
-            4,
-            Cause::P2,
-        ),
-        (
-            b"ivp 1\ndomain a:0:1:2\ndomain b:0:1:2\ndomain c:0:1:2\ndomain d:0:1:2\ndomain e:0:1:2\n",
-            6,
-            Cause::P2,
-        ),
-        (
-            b"ivp 1\ndomain a:0:1:2048\ndomain b:0:1:2049\n",
-            3,
-            Cause::P2,
-        ),
-        // A box.
-        (
-            b"ivp 1\ndomain course:0:359:360\nfunction 100\npiece 0 360 7 0\nend\n",
-            4,
-            Cause::P3,
-        ),
-        (
-            b"ivp 1\ndomain a:0:1:2\nfunction 1\npiece 1 0 0 0\n",
-            4,
-            Cause::P3,
-        ),
-        (
-            b"ivp 1\ndomain a:0:1:2\ndomain b:0:1:2\nfunction 1\npiece 0 1 0 2 0 0 0\n",
-            5,
-            Cause::P3,
-        ),
-        // Pieces that are no partition, before a value out of range and before all else of the line.
-        (
-            b"ivp 1\ndomain a:0:1:2\nfunction 1\n\nfunction\n",
-            3,
-            Cause::P4,
-        ),
-        (
-            b"ivp 1\ndomain a:0:1:2\nfunction 1\npiece 0 1 -1 0\npiece 1 1 0 0\nend now\n",
-            3,
-            Cause::P4,
-        ),
-        (
-            b"ivp 1\ndomain a:0:1:2\nfunction 1\npiece 0 1 0 0\nfunction 1\npiece 0 0 0 0\nend\n",
-            5,
-            Cause::P4,
-        ),
-        // A value out of range.
-        (
-            b"ivp 1\ndomain course:0:359:360\nfunction 100\npiece 0 359 7 300\nend\n",
-            3,
-            Cause::P5,
-        ),
-        (
-            b"ivp 1\ndomain a:0:1:2\nfunction 1\npiece 0 1 6 -7\nfunction 0\n",
-            3,
-            Cause::P5,
-        ),
-        // A weight.
-        (b"ivp 1\ndomain a:0:1:2\nfunction 0\n", 3, Cause::P6),
-        (b"ivp 1\ndomain a:0:1:2\nfunction 10001\n", 3, Cause::P6),
-        (b"ivp 1\ndomain a:0:1:2\nfunction 1.5\n", 3, Cause::P6),
-        (b"ivp 1\ndomain a:0:1:2\nfunction one\n", 3, Cause::P6),
-        // No function.
-        (b"ivp 1\ndomain course:0:359:360\nend\n", 3, Cause::P8),
-        (b"ivp 1\n\ndomain a:0:1:2\n\nend\nend\n", 5, Cause::P8),
-        // No end.
-        (b"", 1, Cause::P9),
-        (b"\n", 1, Cause::P9),
-        (b"ivp 1\ndomain a:0:1:2\nfunction 1\n\n\n", 5, Cause::P9),
-    ] {
-        let fault = read(&rt, alloc, text).err();
-        assert_eq!(rt; fault, Some(ReadFault::At { line, cause }), "{text:?}");
+    for (text, line, cause) in REFUSED {
+        let fault = read(&rt, alloc, *text).err();
+        let wanted = ReadFault::At {
+            line: *line,
+            cause: *cause,
+        };
+        assert_eq!(rt; fault, Some(wanted), "{text:?}");
     }
 }
 
