@@ -1,0 +1,10 @@
+pub mod ApproachExamples
+pub mod ContactExamples
+pub mod Fields
+pub mod Hearing
+pub mod Learning
+pub mod Lines
+pub mod Named
+pub mod Shares
+pub mod Turning
+pub mod Worded

@@ -1,0 +1,31 @@
+//! Contacts: what a node report tells of one, which contacts a manager knows and what it posts when they come near and are
+//! clear again, and the utility of a speed and a course by the closest approach of one.
+//!
+//! The layer above relies on this: the ranges that are read are those of the file; what a manager posts at each turn is
+//! `batches_of` of all its turns so far; a utility is `approach_utility` of its numbers. No call but those on a manager and
+//! `read_report` takes memory.
+//!
+//! Reading order: `range_name` and `ranges`, the contacts file; `report`; then `contact`, `contacts`, `posts`, `situation` and
+//! `manager`. The closest approach stands by itself: `vector`, `sizes`, `approach`, `worth` and `motion`. Of specs/ read
+//! `RangeFiles`, `Reports`, `Contacts`, `Standing` and `Approach`; `Kept` serves what is kept between turns, and `Bounds` says
+//! how great numbers are.
+#![tactic(auto)]
+
+mod approach;
+mod contact;
+mod contacts;
+mod manager;
+mod motion;
+mod posts;
+mod range_name;
+mod ranges;
+mod report;
+mod situation;
+mod sizes;
+mod vector;
+mod worth;
+
+pub use manager::Manager;
+pub use motion::{Track, approach_utility};
+pub use ranges::Ranges;
+pub use report::{Report, read_report};
