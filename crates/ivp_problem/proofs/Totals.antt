@@ -51,14 +51,6 @@ most_one f a (p ∷ ps) = by (greater a (f p)) (most_one f (max a (f p)) ps)
     by (inr second) (inl same) = inr (0, p, refl, sym second ∙ sym same)
     by either (inr found) = inr (suc found.0, found.1, found.2, found.3)
 
--- a greatest number above 0 is that of a point of the list
-pub greatest_one : (f : Point → ℕ) (ps : List Point) → 0 < greatest f ps → (n : ℕ) × (p : Point) × (slice_get ps n ≡ Some p) × (f p ≡ greatest f ps)
-greatest_one f ps some = by (most_one f 0 ps)
-  where
-    by : Attained f 0 (greatest f ps) ps → (n : ℕ) × (p : Point) × (slice_get ps n ≡ Some p) × (f p ≡ greatest f ps)
-    by (inl none) = absurd (omega arith)
-    by (inr found) = found
-
 least_start : (f : Point → ℕ) (a : ℕ) (ps : List Point) → least_from f a ps ≤ a
 least_start f a [] = omega arith
 least_start f a (p ∷ ps) = let rest = least_start f (min a (f p)) ps in omega arith
