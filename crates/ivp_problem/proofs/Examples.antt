@@ -8,12 +8,15 @@ use Rattle.ivp_func.specs.declared.piece.Piece.{Piece}
 use Rattle.ivp_func.proofs.PointTests.{passes_partition, passes_values}
 use Rattle.ivp_problem.specs.declared.term.Term.{Term}
 use Rattle.ivp_problem.specs.declared.term.ProblemFault.TheVariants.{NoFunction, TooMany, BadWeight, OtherDomain}
+use Rattle.ivp_problem.specs.declared.key.Key.{Key}
 use Rattle.ivp_problem.specs.declared.node.Node.{Node}
 use Rattle.ivp_problem.specs.Corners.{Beats, IsSmall}
 use Rattle.ivp_problem.specs.Keys.{AtMost, greater_own, is_at_most, key_of, Reaches}
 use Rattle.ivp_problem.specs.Problems.{IsProblem, IsTermOf, problem_from, WeightedSum}
 use Rattle.ivp_problem.specs.Sums.{best_of, key_at, sum_at}
+use Rattle.ivp_problem.specs.Found.{IsKnownSum, IsOwnKey}
 use Rattle.ivp_problem.specs.Nodes.{nodes_of, tree_size}
+use Rattle.ivp_problem.proofs.KeyOrder.{best_most}
 use Rattle.ivp_problem.proofs.Nodes.{node_keeps}
 use Rattle.ivp_problem.specs.Trees.{AreTops, bound_of, child_of, children_of, chosen_at, has_in, IsNode, node_of, own_top, root_of, slope_at}
 
@@ -163,6 +166,18 @@ reached = inr (refl, omega arith)
 
 unreached : Reaches None (key_of 0 3) → ⊥
 unreached is = is
+
+-- the best point's sum and key may have been found, and no key above that of each point
+found_best : IsKnownSum two 75 × IsOwnKey two (Some (key_of 75 2)) × IsKnownSum two 0 × IsOwnKey two None
+found_best = (inr (point_from 0 1 0 0, refl, refl), inr (point_from 0 1 0 0, refl, refl), inl refl, inl refl)
+
+above_best : AtMost (key_of 115 0) (key_of 75 2) → ⊥
+above_best (inl less) = omega arith
+above_best (inr (same, index)) = omega arith
+
+found_too_much : IsOwnKey two (Some (key_of 115 0)) → ⊥
+found_too_much (inl none) = absurd (cc)
+found_too_much (inr (p, inside, same)) = let key : key_at two p ≡ key_of 115 0 = cc in above_best (subst (λ (k : Key). AtMost k (key_of 75 2)) key (best_most two p inside))
 
 -- no function, then too many, then a bad weight, then another domain
 none : problem_from twelve [] ≡ Err NoFunction
