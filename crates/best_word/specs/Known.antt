@@ -6,16 +6,16 @@ use Rattle.atomic_table.specs.Table.{Me, State, Step}
 use Rattle.ivp_domain.specs.declared.boxes.Point.{Point}
 use Rattle.ivp_domain.specs.Domains.{is_point}
 use Rattle.ivp_problem.specs.Problems.{WeightedSum}
-use Rattle.ivp_problem.specs.Sums.{key_at}
 use Rattle.best_word.specs.declared.best.View.{View}
+use Rattle.best_word.specs.Words.{point_word}
 
--- the key of a point of the problem
+-- the word of the key of a point of the problem
 abbrev pub IsKeyOf : WeightedSum → ℕ → Type 0
-IsKeyOf problem key = (p : Point) × IsTrue (is_point problem.axes p) × (key_at problem p ≡ key)
+IsKeyOf problem word = (p : Point) × IsTrue (is_point problem.axes p) × (point_word problem p ≡ word)
 
--- 0, which is no point's key, or the key of a point of the problem
+-- 0, which is no point's word, or the word of the key of a point of the problem
 abbrev pub IsKnownKey : WeightedSum → ℕ → Type 0
-IsKnownKey problem key = (key ≡ 0) ⊎ IsKeyOf problem key
+IsKnownKey problem word = (word ≡ 0) ⊎ IsKeyOf problem word
 
 -- a scout that isn't spent is one of the problem, and knows no more than the word
 abbrev pub IsScoutOf : WeightedSum → ℕ → View → Type 0

@@ -1,13 +1,15 @@
 -- Certificates and decisions worked by hand.
-use Rattle.std.proofs.Common.{◌≡◌, ℕ, true, false, Some, None, List, [], ◌∷◌, ◌++◌, refl, ap, sym, arith}
+use Rattle.std.proofs.Common.{◌≡◌, ℕ, true, false, Some, None, List, [], ◌∷◌, ◌++◌, refl, ap, sym, subst, arith}
 use Rattle.std.specs.Prelude.{codes, Ok, Err, pos}
 use Rattle.ivp_domain.specs.Boxes.{point_from}
-use Rattle.ivp_problem.specs.Keys.{key_of}
 use Rattle.ivp_problem.specs.declared.node.Node.{Node}
 use Rattle.ivp_problem.specs.Trees.{bound_of, node_of, root_of}
 use Rattle.ivp_problem.proofs.Examples.{left, two}
 use Rattle.moos_text.specs.declared.cause.Cause.TheVariants.{P1, P9, P10}
 use Rattle.moos_text.specs.declared.cause.ReadFault.TheVariants.{At}
+use Rattle.ivp_problem.specs.declared.key.Key.{Key}
+use Rattle.ivp_problem.specs.Keys.{AtMost, key_of}
+use Rattle.ivp_problem.proofs.KeyOrder.{at_most_self, at_most_sum, true_at_most}
 use Rattle.ivp_cert.specs.declared.cert.Line.{Line}
 use Rattle.ivp_cert.specs.declared.claim.Claim.{Claim}
 use Rattle.ivp_cert.specs.declared.claim.Decision.{Decision}
@@ -71,19 +73,22 @@ abbrev pub line : List ℕ → ℕ → ℕ → Line
 line path sum index = record { path = path; sum = sum; index = index }
 
 leaf_line : IsLine two (key_of 75 2) (line (0 ∷ 0 ∷ []) 75 2)
-leaf_line = record { node = left; reached = refl; sum = refl; index = refl; most = omega arith }
+leaf_line = record { node = left; reached = refl; sum = refl; index = refl; most = at_most_self (key_of 75 2) }
 
 bound_of_leaf : (node : Node) → node_of two (0 ∷ 0 ∷ []) ≡ Some node → bound_of two node ≡ key_of 75 2
 bound_of_leaf node reached = let same : left ≡ node = cc in sym (ap (bound_of two) same)
 
 other_sum_of_leaf : IsLine two (key_of 75 2) (line (0 ∷ 0 ∷ []) 74 2) → ⊥
-other_sum_of_leaf is = omega (arith, is.sum, bound_of_leaf is.node is.reached)
+other_sum_of_leaf is = omega (arith, is.sum, ap (λ (k : Key). k.sum) (bound_of_leaf is.node is.reached))
 
 other_index_of_leaf : IsLine two (key_of 75 2) (line (0 ∷ 0 ∷ []) 75 3) → ⊥
-other_index_of_leaf is = omega (arith, is.index, bound_of_leaf is.node is.reached)
+other_index_of_leaf is = omega (arith, is.index, ap (λ (k : Key). k.index) (bound_of_leaf is.node is.reached))
+
+two_above_three : AtMost (key_of 75 2) (key_of 75 3) → ⊥
+two_above_three most = let told : false ≡ true = true_at_most (key_of 75 2) (key_of 75 3) most in absurd (cc)
 
 leaf_above_the_key : IsLine two (key_of 75 3) (line (0 ∷ 0 ∷ []) 75 2) → ⊥
-leaf_above_the_key is = omega (arith, is.most, bound_of_leaf is.node is.reached)
+leaf_above_the_key is = two_above_three (subst (λ (k : Key). AtMost k (key_of 75 3)) (bound_of_leaf is.node is.reached) is.most)
 
 no_third_leaf : IsLine two (key_of 75 2) (line (0 ∷ 2 ∷ []) 55 10) → ⊥
 no_third_leaf is = let reached = is.reached in absurd (cc)
@@ -109,7 +114,7 @@ other_sum_refused : Accepts two (record { point = point_from 0 1 0 0; sum = 74 }
 other_sum_refused is = omega (arith, is.sum)
 
 lesser_point_refused : Accepts two (record { point = point_from 2 1 0 0; sum = 55 }) lines → ⊥
-lesser_point_refused is = let first = is.lines 0 (record { path = 0 ∷ 0 ∷ []; sum = 75; index = 2 }) refl in omega (arith, first.sum, first.most)
+lesser_point_refused is = let first = is.lines 0 (record { path = 0 ∷ 0 ∷ []; sum = 75; index = 2 }) refl in omega (arith, first.sum, at_most_sum (bound_of two first.node) (key_of 55 10) first.most)
 
 abbrev pub problem_bytes : List ℕ
 problem_bytes = codes "ivp 1\ndomain a:0:2:3\ndomain b:0:1:2\ndomain d:0:1:2\nfunction 2\npiece 0 2 0 1 0 1 0 10 0 0\nfunction 3\npiece 0 0 0 1 0 1 20 0 5 0\npiece 1 2 0 1 0 1 0 0 5 0\nend\n"

@@ -6,22 +6,23 @@ use Rattle.std.proofs.lemmas.Option.{option_and_then_some, slice_get_within}
 use Rattle.moos_io.proofs.Lists.{each_append, each_weaker}
 use Rattle.ivp_problem.specs.declared.node.Node.{Node}
 use Rattle.ivp_problem.specs.declared.term.Term.{Term}
-use Rattle.ivp_problem.specs.Keys.{index_of_key, sum_of}
 use Rattle.ivp_problem.specs.Problems.{WeightedSum}
 use Rattle.ivp_problem.specs.Trees.{bound_of, child_in, node_below}
+use Rattle.ivp_problem.specs.Keys.{AtMost}
+use Rattle.ivp_problem.specs.declared.key.Key.{Key}
 use Rattle.ivp_problem.proofs.Nodes.{child_parts}
 use Rattle.ivp_cert.specs.declared.cert.Line.{Line}
 use Rattle.ivp_cert.specs.Certificates.{begins, is_before, Rise}
 use Rattle.ivp_cert.proofs.Paths.{beginning, beginning_append, beginning_none, beginning_one, begins_append, less_before, parted, rise_append, StandsBefore}
 
 -- the line is that of the node which its path reaches from this one
-pub record IsUnder (problem : WeightedSum) (key : ℕ) (terms : List Term) (path : List ℕ) (node : Node) (line : Line) (more : List ℕ) : Type 0 where
+pub record IsUnder (problem : WeightedSum) (key : Key) (terms : List Term) (path : List ℕ) (node : Node) (line : Line) (more : List ℕ) : Type 0 where
   pub split : line.path ≡ path ++ more
   pub below : Node
   pub reached : node_below terms more node ≡ Some below
-  pub sum : line.sum ≡ sum_of (bound_of problem below)
-  pub index : line.index ≡ index_of_key (bound_of problem below)
-  pub most : bound_of problem below ≤ key
+  pub sum : line.sum ≡ (bound_of problem below).sum
+  pub index : line.index ≡ (bound_of problem below).index
+  pub most : AtMost (bound_of problem below) key
 
 -- how a path goes on below a node: anyhow, or with a number from this one on
 abbrev pub Anyhow : List ℕ → Type 0
@@ -31,11 +32,11 @@ abbrev pub From : ℕ → List ℕ → Type 0
 From low [] = ⊥
 From low (number ∷ more) = low ≤ number
 
-abbrev pub Under : (List ℕ → Type 0) → WeightedSum → ℕ → List Term → List ℕ → Node → Line → Type 0
+abbrev pub Under : (List ℕ → Type 0) → WeightedSum → Key → List Term → List ℕ → Node → Line → Type 0
 Under P problem key terms path node line = (more : List ℕ) × P more × IsUnder problem key terms path node line more
 
 -- the lines cover the nodes of full depth that such paths reach, each once
-pub record Covers (P : List ℕ → Type 0) (problem : WeightedSum) (key : ℕ) (terms : List Term) (path : List ℕ) (node : Node) (lines : List Line) : Type 0 where
+pub record Covers (P : List ℕ → Type 0) (problem : WeightedSum) (key : Key) (terms : List Term) (path : List ℕ) (node : Node) (lines : List Line) : Type 0 where
   pub under : Each (Under P problem key terms path node) lines
   pub once : (more : List ℕ) (leaf : Node) → P more → node_below terms more node ≡ Some leaf → length more ≡ length terms → beginning (path ++ more) lines ≡ 1
   pub rise : Rise lines
@@ -44,7 +45,7 @@ pub one_more : (path more : List ℕ) (number : ℕ) → (path ++ number ∷ [])
 one_more path more number = append_assoc path (number ∷ []) more
 
 -- a line of the node itself
-pub covers_own : (problem : WeightedSum) (key : ℕ) (terms : List Term) (path : List ℕ) (node : Node) (line : Line) → IsUnder problem key terms path node line [] → Covers Anyhow problem key terms path node (line ∷ [])
+pub covers_own : (problem : WeightedSum) (key : Key) (terms : List Term) (path : List ℕ) (node : Node) (line : Line) → IsUnder problem key terms path node line [] → Covers Anyhow problem key terms path node (line ∷ [])
 covers_own problem key terms path node line own =
     record {
       under = (([], tt, own), tt);
@@ -56,7 +57,7 @@ pub past_all : (term : Term) (node child : Node) (number : ℕ) → child_in ter
 past_all term node child number e = let of = child_parts term node number child e in slice_get_within term.func.pieces number of.piece of.stands
 
 -- no child is left
-pub covers_none : (problem : WeightedSum) (key : ℕ) (term : Term) (terms : List Term) (path : List ℕ) (node : Node) (low : ℕ) → length term.func.pieces ≤ low → Covers (From low) problem key (term ∷ terms) path node []
+pub covers_none : (problem : WeightedSum) (key : Key) (term : Term) (terms : List Term) (path : List ℕ) (node : Node) (low : ℕ) → length term.func.pieces ≤ low → Covers (From low) problem key (term ∷ terms) path node []
 covers_none problem key term terms path node low past = record { under = tt; once = once; rise = tt }
   where
     once : (more : List ℕ) (leaf : Node) → From low more → node_below (term ∷ terms) more node ≡ Some leaf → length more ≡ length (term ∷ terms) → beginning (path ++ more) [] ≡ 1
@@ -70,7 +71,7 @@ pub number_is : (low number : ℕ) → low ≤ number → (low < number) ⊎ (nu
 number_is low number h = elim (cases_lt low number) [ inl less ↦ inl less | inr past ↦ inr (omega arith) ]
 
 -- lines of a child
-child_lines : (problem : WeightedSum) (key : ℕ) (term : Term) (terms : List Term) (path : List ℕ) (node child : Node) (low : ℕ) → child_in term node low ≡ Some child → (line : Line) → Under Anyhow problem key terms (path ++ low ∷ []) child line → Under (From low) problem key (term ∷ terms) path node line
+child_lines : (problem : WeightedSum) (key : Key) (term : Term) (terms : List Term) (path : List ℕ) (node child : Node) (low : ℕ) → child_in term node low ≡ Some child → (line : Line) → Under Anyhow problem key terms (path ++ low ∷ []) child line → Under (From low) problem key (term ∷ terms) path node line
 child_lines problem key term terms path node child low is line (more, any, own) = (
   low ∷ more,
   omega arith,
@@ -84,7 +85,7 @@ child_lines problem key term terms path node child low is line (more, any, own) 
   },
 )
 
-wider : (problem : WeightedSum) (key : ℕ) (terms : List Term) (path : List ℕ) (node : Node) (low : ℕ) (line : Line) → Under (From (suc low)) problem key terms path node line → Under (From low) problem key terms path node line
+wider : (problem : WeightedSum) (key : Key) (terms : List Term) (path : List ℕ) (node : Node) (low : ℕ) (line : Line) → Under (From (suc low)) problem key terms path node line → Under (From low) problem key terms path node line
 wider problem key terms path node low line ([], from, own) = absurd from
 wider problem key terms path node low line (number ∷ more, from, own) = (number ∷ more, omega (arith, from), own)
 
@@ -92,10 +93,10 @@ wider problem key terms path node low line (number ∷ more, from, own) = (numbe
 abbrev pub Starts : List ℕ → (ℕ → Type 0) → Line → Type 0
 Starts path P line = (number : ℕ) × (more : List ℕ) × P number × (line.path ≡ path ++ number ∷ more)
 
-starts_child : (problem : WeightedSum) (key : ℕ) (terms : List Term) (path : List ℕ) (child : Node) (low : ℕ) (line : Line) → Under Anyhow problem key terms (path ++ low ∷ []) child line → Starts path (λ number. number ≡ low) line
+starts_child : (problem : WeightedSum) (key : Key) (terms : List Term) (path : List ℕ) (child : Node) (low : ℕ) (line : Line) → Under Anyhow problem key terms (path ++ low ∷ []) child line → Starts path (λ number. number ≡ low) line
 starts_child problem key terms path child low line (more, any, own) = (low, more, refl, own.split ∙ one_more path more low)
 
-pub starts_from : (problem : WeightedSum) (key : ℕ) (terms : List Term) (path : List ℕ) (node : Node) (low : ℕ) (line : Line) → Under (From low) problem key terms path node line → Starts path (λ number. low ≤ number) line
+pub starts_from : (problem : WeightedSum) (key : Key) (terms : List Term) (path : List ℕ) (node : Node) (low : ℕ) (line : Line) → Under (From low) problem key terms path node line → Starts path (λ number. low ≤ number) line
 starts_from problem key terms path node low line ([], from, own) = absurd from
 starts_from problem key terms path node low line (number ∷ more, from, own) = (number, more, from, own.split)
 
@@ -113,7 +114,7 @@ before_all path low firsts rest h k =
     (λ later t. ap (λ q. is_before q later.path) s.3 ∙ (ap (is_before (path ++ s.0 ∷ s.1)) t.3 ∙ less_before path s.1 t.1 s.0 t.0 (omega (arith, s.2, t.2)))) rest k) firsts h
 
 -- the lines of one child, and those of the later ones
-pub covers_join : (problem : WeightedSum) (key : ℕ) (term : Term) (terms : List Term) (path : List ℕ) (node child : Node) (low : ℕ) (firsts rest : List Line) → child_in term node low ≡ Some child → Covers Anyhow problem key terms (path ++ low ∷ []) child firsts → Covers (From (suc low)) problem key (term ∷ terms) path node rest → Covers (From low) problem key (term ∷ terms) path node (firsts ++ rest)
+pub covers_join : (problem : WeightedSum) (key : Key) (term : Term) (terms : List Term) (path : List ℕ) (node child : Node) (low : ℕ) (firsts rest : List Line) → child_in term node low ≡ Some child → Covers Anyhow problem key terms (path ++ low ∷ []) child firsts → Covers (From (suc low)) problem key (term ∷ terms) path node rest → Covers (From low) problem key (term ∷ terms) path node (firsts ++ rest)
 covers_join problem key term terms path node child low firsts rest is one others =
     record {
       under =
@@ -147,7 +148,7 @@ covers_join problem key term terms path node child low firsts rest is one others
     once (number ∷ more) leaf from reached full = at number more leaf (number_is low number from) reached full
 
 -- a number without a child
-pub covers_skip : (problem : WeightedSum) (key : ℕ) (term : Term) (terms : List Term) (path : List ℕ) (node : Node) (low : ℕ) (lines : List Line) → child_in term node low ≡ None → Covers (From (suc low)) problem key (term ∷ terms) path node lines → Covers (From low) problem key (term ∷ terms) path node lines
+pub covers_skip : (problem : WeightedSum) (key : Key) (term : Term) (terms : List Term) (path : List ℕ) (node : Node) (low : ℕ) (lines : List Line) → child_in term node low ≡ None → Covers (From (suc low)) problem key (term ∷ terms) path node lines → Covers (From low) problem key (term ∷ terms) path node lines
 covers_skip problem key term terms path node low lines none others =
     record {
       under = each_weaker (Under (From (suc low)) problem key (term ∷ terms) path node) (Under (From low) problem key (term ∷ terms) path node) (wider problem key (term ∷ terms) path node low) lines others.under;
@@ -164,7 +165,7 @@ covers_skip problem key term terms path node low lines none others =
     once (number ∷ more) leaf from reached full = at number more leaf (number_is low number from) reached full
 
 -- all children
-pub covers_all : (problem : WeightedSum) (key : ℕ) (term : Term) (terms : List Term) (path : List ℕ) (node : Node) (lines : List Line) → Covers (From 0) problem key (term ∷ terms) path node lines → Covers Anyhow problem key (term ∷ terms) path node lines
+pub covers_all : (problem : WeightedSum) (key : Key) (term : Term) (terms : List Term) (path : List ℕ) (node : Node) (lines : List Line) → Covers (From 0) problem key (term ∷ terms) path node lines → Covers Anyhow problem key (term ∷ terms) path node lines
 covers_all problem key term terms path node lines all =
     record {
       under = each_weaker (Under (From 0) problem key (term ∷ terms) path node) (Under Anyhow problem key (term ∷ terms) path node) (λ line u. (u.0, tt, u.2)) lines all.under;

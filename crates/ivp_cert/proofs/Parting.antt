@@ -8,6 +8,7 @@ use Rattle.ivp_problem.specs.declared.node.Node.{Node}
 use Rattle.ivp_problem.specs.declared.term.Term.{Term}
 use Rattle.ivp_problem.specs.Problems.{IsProblem, WeightedSum}
 use Rattle.ivp_problem.specs.Trees.{child_in, node_below}
+use Rattle.ivp_problem.specs.declared.key.Key.{Key}
 use Rattle.ivp_cert.specs.declared.cert.Line.{Line}
 use Rattle.ivp_cert.specs.Certificates.{begins, is_before, Rise}
 use Rattle.ivp_cert.proofs.Covering.{Anyhow, Covers, From, IsUnder, none_begins, number_is, one_more, past_all, Starts, starts_from, Under}
@@ -15,18 +16,18 @@ use Rattle.ivp_cert.proofs.Leaves.{below_append, below_length, below_reached, Re
 use Rattle.ivp_cert.proofs.Paths.{beginning, beginning_append, beginning_cons, begins_append, before_append, before_less, rise_parts, StandsBefore}
 
 -- a line of the child by this number
-abbrev Of : ℕ → WeightedSum → ℕ → List Term → List ℕ → Node → Line → Type 0
+abbrev Of : ℕ → WeightedSum → Key → List Term → List ℕ → Node → Line → Type 0
 Of low problem key terms path node line = (more : List ℕ) × IsUnder problem key terms path node line (low ∷ more)
 
 -- the lines of the child by a number, and those behind them
-record Parted (problem : WeightedSum) (key : ℕ) (terms : List Term) (path : List ℕ) (node : Node) (low : ℕ) (lines : List Line) : Type 0 where
+record Parted (problem : WeightedSum) (key : Key) (terms : List Term) (path : List ℕ) (node : Node) (low : ℕ) (lines : List Line) : Type 0 where
   pub firsts : List Line
   pub rest : List Line
   pub whole : lines ≡ firsts ++ rest
   pub of : Each (Of low problem key terms path node) firsts
   pub others : Each (Under (From (suc low)) problem key terms path node) rest
 
-later_from : (path more : List ℕ) (low number : ℕ) (line later : Line) (P : List ℕ → Type 0) (problem : WeightedSum) (key : ℕ) (terms : List Term) (node : Node) → low < number → line.path ≡ path ++ number ∷ more → is_before line.path later.path ≡ true → Under (From low) problem key terms path node later → Under (From (suc low)) problem key terms path node later
+later_from : (path more : List ℕ) (low number : ℕ) (line later : Line) (P : List ℕ → Type 0) (problem : WeightedSum) (key : Key) (terms : List Term) (node : Node) → low < number → line.path ≡ path ++ number ∷ more → is_before line.path later.path ≡ true → Under (From low) problem key terms path node later → Under (From (suc low)) problem key terms path node later
 later_from path more low number line later P problem key terms node less split before ([], from, own) = absurd from
 later_from path more low number line later P problem key terms node less split before (other ∷ rest, from, own) =
     let same = ap (λ q. is_before q later.path) (sym split) in
@@ -34,12 +35,12 @@ later_from path more low number line later P problem key terms node less split b
     let le = before_less path more rest number other h in
     (other ∷ rest, omega arith, own)
 
-all_later : (path more : List ℕ) (low number : ℕ) (line : Line) (problem : WeightedSum) (key : ℕ) (terms : List Term) (node : Node) (lines : List Line) → low < number → line.path ≡ path ++ number ∷ more → StandsBefore lines line → Each (Under (From low) problem key terms path node) lines → Each (Under (From (suc low)) problem key terms path node) lines
+all_later : (path more : List ℕ) (low number : ℕ) (line : Line) (problem : WeightedSum) (key : Key) (terms : List Term) (node : Node) (lines : List Line) → low < number → line.path ≡ path ++ number ∷ more → StandsBefore lines line → Each (Under (From low) problem key terms path node) lines → Each (Under (From (suc low)) problem key terms path node) lines
 all_later path more low number line problem key terms node [] less split before under = tt
 all_later path more low number line problem key terms node (later ∷ lines) less split before under =
     (later_from path more low number line later Anyhow problem key terms node less split before.0 under.0, all_later path more low number line problem key terms node lines less split before.1 under.1)
 
-part_lines : (problem : WeightedSum) (key : ℕ) (terms : List Term) (path : List ℕ) (node : Node) (low : ℕ) (lines : List Line) → Each (Under (From low) problem key terms path node) lines → Rise lines → Parted problem key terms path node low lines
+part_lines : (problem : WeightedSum) (key : Key) (terms : List Term) (path : List ℕ) (node : Node) (low : ℕ) (lines : List Line) → Each (Under (From low) problem key terms path node) lines → Rise lines → Parted problem key terms path node low lines
 part_lines problem key terms path node low [] under rise = record { firsts = []; rest = []; whole = refl; of = tt; others = tt }
 part_lines problem key terms path node low (line ∷ lines) under rise = by under.0 (part_lines problem key terms path node low lines under.1 rise.1)
   where
@@ -61,17 +62,17 @@ part_lines problem key terms path node low (line ∷ lines) under rise = by unde
     by (number ∷ more, from, own) parted = at number more own (number_is low number from) parted
 
 -- what covers the children from a number on covers the child by it, and then those behind it
-pub record Parts (problem : WeightedSum) (key : ℕ) (term : Term) (terms : List Term) (path : List ℕ) (node child : Node) (low : ℕ) (lines : List Line) : Type 0 where
+pub record Parts (problem : WeightedSum) (key : Key) (term : Term) (terms : List Term) (path : List ℕ) (node child : Node) (low : ℕ) (lines : List Line) : Type 0 where
   pub firsts : List Line
   pub rest : List Line
   pub whole : lines ≡ firsts ++ rest
   pub one : Covers Anyhow problem key terms (path ++ low ∷ []) child firsts
   pub others : Covers (From (suc low)) problem key (term ∷ terms) path node rest
 
-of_starts : (problem : WeightedSum) (key : ℕ) (terms : List Term) (path : List ℕ) (node : Node) (low : ℕ) (line : Line) → Of low problem key terms path node line → Starts path (λ number. number ≡ low) line
+of_starts : (problem : WeightedSum) (key : Key) (terms : List Term) (path : List ℕ) (node : Node) (low : ℕ) (line : Line) → Of low problem key terms path node line → Starts path (λ number. number ≡ low) line
 of_starts problem key terms path node low line of = (low, of.0, refl, of.1.split)
 
-of_child : (problem : WeightedSum) (key : ℕ) (term : Term) (terms : List Term) (path : List ℕ) (node child : Node) (low : ℕ) → child_in term node low ≡ Some child → (line : Line) → Of low problem key (term ∷ terms) path node line → Under Anyhow problem key terms (path ++ low ∷ []) child line
+of_child : (problem : WeightedSum) (key : Key) (term : Term) (terms : List Term) (path : List ℕ) (node child : Node) (low : ℕ) → child_in term node low ≡ Some child → (line : Line) → Of low problem key (term ∷ terms) path node line → Under Anyhow problem key terms (path ++ low ∷ []) child line
 of_child problem key term terms path node child low is line (more, own) = (
   more,
   tt,
@@ -85,7 +86,7 @@ of_child problem key term terms path node child low is line (more, own) = (
   },
 )
 
-pub covers_part : (problem : WeightedSum) (key : ℕ) (term : Term) (terms : List Term) (path : List ℕ) (node child : Node) (low : ℕ) (lines : List Line) → child_in term node low ≡ Some child → Covers (From low) problem key (term ∷ terms) path node lines → Parts problem key term terms path node child low lines
+pub covers_part : (problem : WeightedSum) (key : Key) (term : Term) (terms : List Term) (path : List ℕ) (node child : Node) (low : ℕ) (lines : List Line) → child_in term node low ≡ Some child → Covers (From low) problem key (term ∷ terms) path node lines → Parts problem key term terms path node child low lines
 covers_part problem key term terms path node child low lines is all =
     record {
       firsts = firsts;
@@ -128,7 +129,7 @@ covers_part problem key term terms path node child low lines is all =
         omega (arith, none, once)
 
 -- a number without a child
-pub covers_pass : (problem : WeightedSum) (key : ℕ) (term : Term) (terms : List Term) (path : List ℕ) (node : Node) (low : ℕ) (lines : List Line) → child_in term node low ≡ None → Covers (From low) problem key (term ∷ terms) path node lines → Covers (From (suc low)) problem key (term ∷ terms) path node lines
+pub covers_pass : (problem : WeightedSum) (key : Key) (term : Term) (terms : List Term) (path : List ℕ) (node : Node) (low : ℕ) (lines : List Line) → child_in term node low ≡ None → Covers (From low) problem key (term ∷ terms) path node lines → Covers (From (suc low)) problem key (term ∷ terms) path node lines
 covers_pass problem key term terms path node low lines none all =
     record { under = each_weaker (Under (From low) problem key (term ∷ terms) path node) (Under (From (suc low)) problem key (term ∷ terms) path node) past lines all.under; once = once; rise = all.rise }
   where
@@ -145,7 +146,7 @@ covers_pass problem key term terms path node low lines none all =
     once (number ∷ more) leaf from reached full = all.once (number ∷ more) leaf (omega (arith, from)) reached full
 
 -- behind the last child no line is left
-pub covers_last : (problem : WeightedSum) (key : ℕ) (term : Term) (terms : List Term) (path : List ℕ) (node : Node) (low : ℕ) (lines : List Line) → length term.func.pieces ≤ low → Covers (From low) problem key (term ∷ terms) path node lines → lines ≡ []
+pub covers_last : (problem : WeightedSum) (key : Key) (term : Term) (terms : List Term) (path : List ℕ) (node : Node) (low : ℕ) (lines : List Line) → length term.func.pieces ≤ low → Covers (From low) problem key (term ∷ terms) path node lines → lines ≡ []
 covers_last problem key term terms path node low [] past all = refl
 covers_last problem key term terms path node low (line ∷ lines) past all = by all.under.0
   where
@@ -156,7 +157,7 @@ covers_last problem key term terms path node low (line ∷ lines) past all = by 
         (λ child first later. let within = past_all term node child number first in absurd (omega (arith, within, from, past)))
 
 -- where the first line isn't the node's own, all lines are of its children
-pub covers_below : (problem : WeightedSum) (key : ℕ) (terms : List Term) (path : List ℕ) (node : Node) (line : Line) (lines : List Line) (number : ℕ) (more : List ℕ) → IsUnder problem key terms path node line (number ∷ more) → Covers Anyhow problem key terms path node (line ∷ lines) → Covers (From 0) problem key terms path node (line ∷ lines)
+pub covers_below : (problem : WeightedSum) (key : Key) (terms : List Term) (path : List ℕ) (node : Node) (line : Line) (lines : List Line) (number : ℕ) (more : List ℕ) → IsUnder problem key terms path node line (number ∷ more) → Covers Anyhow problem key terms path node (line ∷ lines) → Covers (From 0) problem key terms path node (line ∷ lines)
 covers_below problem key terms path node line lines number more own all =
     record { under = ((number ∷ more, omega arith, own), later lines (each_true (λ (l : Line). is_before line.path l.path) lines all.rise.0) all.under.1); once = once; rise = all.rise }
   where
@@ -174,7 +175,7 @@ covers_below problem key terms path node line lines number more own all =
     once more leaf from reached full = all.once more leaf tt reached full
 
 -- the node's own line stands alone
-pub covers_alone : (problem : WeightedSum) (key : ℕ) (terms : List Term) (path : List ℕ) (node : Node) (line : Line) (lines : List Line) → IsProblem problem → Reached problem terms path node → IsUnder problem key terms path node line [] → Covers Anyhow problem key terms path node (line ∷ lines) → lines ≡ []
+pub covers_alone : (problem : WeightedSum) (key : Key) (terms : List Term) (path : List ℕ) (node : Node) (line : Line) (lines : List Line) → IsProblem problem → Reached problem terms path node → IsUnder problem key terms path node line [] → Covers Anyhow problem key terms path node (line ∷ lines) → lines ≡ []
 covers_alone problem key terms path node line [] h at own all = refl
 covers_alone problem key terms path node line (next ∷ lines) h at own all = by all.under.1.0
   where

@@ -1,17 +1,19 @@
 -- The walk over the tree finds the lines that cover a node, and no others.
-use Rattle.std.proofs.Common.{◌≡◌, ℕ, zero, suc, ◌+◌, ◌≤◌, Bool, true, false, cond, ◌&&◌, ◌==◌, nat_le, Option, Some, None, List, [], ◌∷◌, ◌++◌, length, refl, sym, ap, subst, ◌∙◌, arith, append_assoc, append-nil}
+use Rattle.std.proofs.Common.{◌≡◌, ℕ, zero, suc, ◌+◌, Bool, true, false, cond, ◌&&◌, ◌==◌, Option, Some, None, List, [], ◌∷◌, ◌++◌, length, refl, sym, ap, subst, ◌∙◌, arith, append_assoc, append-nil}
 use Rattle.std.specs.List.{flat_map}
 use Rattle.std.specs.Option.{option_and_then, option_to_list}
 use Rattle.std.specs.Str.{bytes_eq}
-use Rattle.std.proofs.lemmas.Bool.{and_from, and_parts, eq-eqb, eqb-true, false_from_ne_true, le-leb, leb-true}
+use Rattle.std.proofs.lemmas.Bool.{and_from, and_parts, eq-eqb, eqb-true, false_from_ne_true}
 use Rattle.std.proofs.lemmas.Option.{option_and_then_some}
 use Rattle.std.proofs.lemmas.Slice.Eq.{bytes_eq-Decides}
 use Rattle.ivp_domain.specs.Boxes.{numbers_from}
 use Rattle.ivp_problem.specs.declared.node.Node.{Node}
 use Rattle.ivp_problem.specs.declared.term.Term.{Term}
-use Rattle.ivp_problem.specs.Keys.{index_of_key, sum_of}
 use Rattle.ivp_problem.specs.Problems.{IsProblem, WeightedSum}
 use Rattle.ivp_problem.specs.Trees.{bound_of, child_in}
+use Rattle.ivp_problem.specs.Keys.{AtMost, is_at_most}
+use Rattle.ivp_problem.specs.declared.key.Key.{Key}
+use Rattle.ivp_problem.proofs.KeyOrder.{at_most_true, true_at_most}
 use Rattle.ivp_cert.specs.declared.cert.Line.{Line}
 use Rattle.ivp_cert.specs.Certificates.{line_of, topmost}
 use Rattle.ivp_cert.specs.Walks.{behind_child, behind_each, behind_node, behind_own, is_line_of, or_else}
@@ -20,36 +22,36 @@ use Rattle.ivp_cert.proofs.Leaves.{child_reached, Reached, some_leaf}
 use Rattle.ivp_cert.proofs.Parting.{covers_alone, covers_below, covers_last, covers_part, covers_pass}
 
 -- the test on one line
-own_line : (problem : WeightedSum) (key : ℕ) (terms : List Term) (path : List ℕ) (node : Node) (line : Line) → is_line_of problem key path node line ≡ true → IsUnder problem key terms path node line []
+own_line : (problem : WeightedSum) (key : Key) (terms : List Term) (path : List ℕ) (node : Node) (line : Line) → is_line_of problem key path node line ≡ true → IsUnder problem key terms path node line []
 own_line problem key terms path node line h =
     let bound = bound_of problem node in
-    let one = and_parts (bytes_eq line.path path && line.sum == sum_of bound && line.index == index_of_key bound) (nat_le bound key) h in
-    let two = and_parts (bytes_eq line.path path && line.sum == sum_of bound) (line.index == index_of_key bound) one.0 in
-    let three = and_parts (bytes_eq line.path path) (line.sum == sum_of bound) two.0 in
+    let one = and_parts (bytes_eq line.path path && line.sum == bound.sum && line.index == bound.index) (is_at_most bound key) h in
+    let two = and_parts (bytes_eq line.path path && line.sum == bound.sum) (line.index == bound.index) one.0 in
+    let three = and_parts (bytes_eq line.path path) (line.sum == bound.sum) two.0 in
     let same : line.path ≡ path = (bytes_eq-Decides line.path path).0 three.0 in
     record {
       split = same ∙ sym (append-nil path);
       below = node;
       reached = refl;
-      sum = eqb-true line.sum (sum_of bound) three.1;
-      index = eqb-true line.index (index_of_key bound) two.1;
-      most = leb-true bound key one.1;
+      sum = eqb-true line.sum (bound.sum) three.1;
+      index = eqb-true line.index (bound.index) two.1;
+      most = at_most_true bound key one.1;
     }
 
-line_own : (problem : WeightedSum) (key : ℕ) (terms : List Term) (path : List ℕ) (node : Node) (line : Line) → IsUnder problem key terms path node line [] → is_line_of problem key path node line ≡ true
+line_own : (problem : WeightedSum) (key : Key) (terms : List Term) (path : List ℕ) (node : Node) (line : Line) → IsUnder problem key terms path node line [] → is_line_of problem key path node line ≡ true
 line_own problem key terms path node line own =
     let same : node ≡ own.below = let e = own.reached in cc in
     let bound = bound_of problem node in
     let is : bound_of problem own.below ≡ bound = ap (bound_of problem) (sym same) in
     let path_is : bytes_eq line.path path ≡ true = (bytes_eq-Decides line.path path).1 (own.split ∙ append-nil path) in
-    let sum_is = eq-eqb line.sum (sum_of bound) (own.sum ∙ ap sum_of is) in
-    let index_is = eq-eqb line.index (index_of_key bound) (own.index ∙ ap index_of_key is) in
-    let most_is = le-leb bound key (subst (λ n. n ≤ key) is own.most) in
-    and_from (bytes_eq line.path path && line.sum == sum_of bound && line.index == index_of_key bound) (nat_le bound key)
-    (and_from (bytes_eq line.path path && line.sum == sum_of bound) (line.index == index_of_key bound) (and_from (bytes_eq line.path path) (line.sum == sum_of bound) path_is sum_is) index_is) most_is
+    let sum_is = eq-eqb line.sum (bound.sum) (own.sum ∙ ap (λ (k : Key). k.sum) is) in
+    let index_is = eq-eqb line.index (bound.index) (own.index ∙ ap (λ (k : Key). k.index) is) in
+    let most_is = true_at_most bound key (subst (λ (k : Key). AtMost k key) is own.most) in
+    and_from (bytes_eq line.path path && line.sum == bound.sum && line.index == bound.index) (is_at_most bound key)
+    (and_from (bytes_eq line.path path && line.sum == bound.sum) (line.index == bound.index) (and_from (bytes_eq line.path path) (line.sum == bound.sum) path_is sum_is) index_is) most_is
 
 -- a line of a node below isn't this node's
-line_below : (problem : WeightedSum) (key : ℕ) (path : List ℕ) (node : Node) (line : Line) (number : ℕ) (more : List ℕ) → line.path ≡ path ++ number ∷ more → is_line_of problem key path node line ≡ false
+line_below : (problem : WeightedSum) (key : Key) (path : List ℕ) (node : Node) (line : Line) (number : ℕ) (more : List ℕ) → line.path ≡ path ++ number ∷ more → is_line_of problem key path node line ≡ false
 line_below problem key path node line number more split =
     false_from_ne_true (is_line_of problem key path node line) (λ e. let own = own_line problem key [] path node line e in longer path (sym split ∙ (own.split ∙ append-nil path)))
   where
@@ -62,13 +64,13 @@ line_below problem key path node line number more split =
         simple (y ∷ ys) = omega (arith, simple ys)
 
 -- what the walk says of a node, as it is handed to the walk over its children
-abbrev Walks : WeightedSum → ℕ → List Term → List ℕ → Type 0
+abbrev Walks : WeightedSum → Key → List Term → List ℕ → Type 0
 Walks problem key terms path = (child : Node) (number : ℕ) (lines rest : List Line) → Reached problem terms (path ++ number ∷ []) child → Covers Anyhow problem key terms (path ++ number ∷ []) child lines → behind_node problem key terms (path ++ number ∷ []) child (lines ++ rest) ≡ Some rest
 
-abbrev pub into : WeightedSum → ℕ → Term → List Term → List ℕ → Node → ℕ → List Line → Option (List Line)
+abbrev pub into : WeightedSum → Key → Term → List Term → List ℕ → Node → ℕ → List Line → Option (List Line)
 into problem key term terms path node number = behind_child (behind_node problem key terms (path ++ number ∷ [])) (child_in term node number)
 
-each_walk : (problem : WeightedSum) (key : ℕ) (term : Term) (terms : List Term) (path : List ℕ) (node : Node) → Walks problem key terms path → Reached problem (term ∷ terms) path node → (low count : ℕ) (lines rest : List Line) → low + count ≡ length term.func.pieces → Covers (From low) problem key (term ∷ terms) path node lines → behind_each (into problem key term terms path node) low count (lines ++ rest) ≡ Some rest
+each_walk : (problem : WeightedSum) (key : Key) (term : Term) (terms : List Term) (path : List ℕ) (node : Node) → Walks problem key terms path → Reached problem (term ∷ terms) path node → (low count : ℕ) (lines rest : List Line) → low + count ≡ length term.func.pieces → Covers (From low) problem key (term ∷ terms) path node lines → behind_each (into problem key term terms path node) low count (lines ++ rest) ≡ Some rest
 each_walk problem key term terms path node walks at low zero lines rest all covers =
     let none = covers_last problem key term terms path node low lines (omega (arith, all)) covers in ap (λ ls. Some (ls ++ rest)) none
 each_walk problem key term terms path node walks at low (suc count) lines rest all covers = by (child_in term node low) refl (each_walk problem key term terms path node walks at (suc low) count)
@@ -85,7 +87,7 @@ each_walk problem key term terms path node walks at low (suc count) lines rest a
         rw (e, whole, first) (later parts.rest rest next parts.others)
 
 -- lines that cover a node are walked past
-pub covers_walk : (problem : WeightedSum) (key : ℕ) (terms : List Term) (path : List ℕ) (node : Node) (lines rest : List Line) → IsProblem problem → Reached problem terms path node → Covers Anyhow problem key terms path node lines → behind_node problem key terms path node (lines ++ rest) ≡ Some rest
+pub covers_walk : (problem : WeightedSum) (key : Key) (terms : List Term) (path : List ℕ) (node : Node) (lines rest : List Line) → IsProblem problem → Reached problem terms path node → Covers Anyhow problem key terms path node lines → behind_node problem key terms path node (lines ++ rest) ≡ Some rest
 covers_walk problem key terms path node [] rest h at covers =
     let leaf = (some_leaf problem terms path node h at).1 in
     let once = covers.once leaf.path leaf.leaf tt leaf.reached leaf.full in
@@ -109,12 +111,12 @@ covers_walk problem key (term ∷ terms) path node (line ∷ lines) rest h at co
         (each_walk problem key term terms path node walks at 0 (length term.func.pieces) (line ∷ lines) rest (omega arith) (covers_below problem key (term ∷ terms) path node line lines number more own covers))
 
 -- lines that were walked past cover the node
-pub record Past (P : List ℕ → Type 0) (problem : WeightedSum) (key : ℕ) (terms : List Term) (path : List ℕ) (node : Node) (lines rest : List Line) : Type 0 where
+pub record Past (P : List ℕ → Type 0) (problem : WeightedSum) (key : Key) (terms : List Term) (path : List ℕ) (node : Node) (lines rest : List Line) : Type 0 where
   pub passed : List Line
   pub whole : lines ≡ passed ++ rest
   pub covers : Covers P problem key terms path node passed
 
-own_past : (problem : WeightedSum) (key : ℕ) (terms : List Term) (path : List ℕ) (node : Node) (lines rest : List Line) → behind_own problem key path node lines ≡ Some rest → Past Anyhow problem key terms path node lines rest
+own_past : (problem : WeightedSum) (key : Key) (terms : List Term) (path : List ℕ) (node : Node) (lines rest : List Line) → behind_own problem key path node lines ≡ Some rest → Past Anyhow problem key terms path node lines rest
 own_past problem key terms path node [] rest e = absurd (cc)
 own_past problem key terms path node (line ∷ lines) rest e = by (is_line_of problem key path node line) refl e
   where
@@ -122,10 +124,10 @@ own_past problem key terms path node (line ∷ lines) rest e = by (is_line_of pr
     by true is e = let same : lines ≡ rest = cc in record { passed = line ∷ []; whole = ap (λ ls. line ∷ ls) same; covers = covers_own problem key terms path node line (own_line problem key terms path node line is) }
     by false is e = absurd (cc)
 
-abbrev Finds : WeightedSum → ℕ → List Term → List ℕ → Type 0
+abbrev Finds : WeightedSum → Key → List Term → List ℕ → Type 0
 Finds problem key terms path = (child : Node) (number : ℕ) (lines rest : List Line) → behind_node problem key terms (path ++ number ∷ []) child lines ≡ Some rest → Past Anyhow problem key terms (path ++ number ∷ []) child lines rest
 
-each_past : (problem : WeightedSum) (key : ℕ) (term : Term) (terms : List Term) (path : List ℕ) (node : Node) → Finds problem key terms path → (low count : ℕ) (lines rest : List Line) → low + count ≡ length term.func.pieces → behind_each (into problem key term terms path node) low count lines ≡ Some rest → Past (From low) problem key (term ∷ terms) path node lines rest
+each_past : (problem : WeightedSum) (key : Key) (term : Term) (terms : List Term) (path : List ℕ) (node : Node) → Finds problem key terms path → (low count : ℕ) (lines rest : List Line) → low + count ≡ length term.func.pieces → behind_each (into problem key term terms path node) low count lines ≡ Some rest → Past (From low) problem key (term ∷ terms) path node lines rest
 each_past problem key term terms path node finds low zero lines rest all e =
     let same : lines ≡ rest = cc in record { passed = []; whole = same; covers = covers_none problem key term terms path node low (omega (arith, all)) }
 each_past problem key term terms path node finds low (suc count) lines rest all e =
@@ -149,7 +151,7 @@ each_past problem key term terms path node finds low (suc count) lines rest all 
           covers = covers_join problem key term terms path node child low one.passed more.passed is one.covers more.covers;
         })
 
-pub walk_covers : (problem : WeightedSum) (key : ℕ) (terms : List Term) (path : List ℕ) (node : Node) (lines rest : List Line) → behind_node problem key terms path node lines ≡ Some rest → Past Anyhow problem key terms path node lines rest
+pub walk_covers : (problem : WeightedSum) (key : Key) (terms : List Term) (path : List ℕ) (node : Node) (lines rest : List Line) → behind_node problem key terms path node lines ≡ Some rest → Past Anyhow problem key terms path node lines rest
 walk_covers problem key [] path node lines rest e = own_past problem key [] path node lines rest e
 walk_covers problem key (term ∷ terms) path node lines rest e =
     by (behind_own problem key path node lines) refl e (λ child number ls rs walked. walk_covers problem key terms (path ++ number ∷ []) child ls rs walked)
@@ -161,19 +163,19 @@ walk_covers problem key (term ∷ terms) path node lines rest e =
         record { passed = past.passed; whole = past.whole; covers = covers_all problem key term terms path node past.passed past.covers }
 
 -- the lines of the topmost nodes cover a node
-abbrev Attains : WeightedSum → ℕ → Type 0
-Attains problem key = (path : List ℕ) (node : Node) → Reached problem [] path node → bound_of problem node ≤ key
+abbrev Attains : WeightedSum → Key → Type 0
+Attains problem key = (path : List ℕ) (node : Node) → Reached problem [] path node → AtMost (bound_of problem node) key
 
-top_line : (problem : WeightedSum) (key : ℕ) (terms : List Term) (path : List ℕ) (node : Node) → bound_of problem node ≤ key → Covers Anyhow problem key terms path node (line_of problem path node ∷ [])
+top_line : (problem : WeightedSum) (key : Key) (terms : List Term) (path : List ℕ) (node : Node) → AtMost (bound_of problem node) key → Covers Anyhow problem key terms path node (line_of problem path node ∷ [])
 top_line problem key terms path node most = covers_own problem key terms path node (line_of problem path node) (record { split = sym (append-nil path); below = node; reached = refl; sum = refl; index = refl; most = most })
 
-abbrev Tops : WeightedSum → ℕ → List Term → List ℕ → Type 0
+abbrev Tops : WeightedSum → Key → List Term → List ℕ → Type 0
 Tops problem key terms path = (child : Node) (number : ℕ) → Reached problem terms (path ++ number ∷ []) child → Covers Anyhow problem key terms (path ++ number ∷ []) child (topmost problem key terms (path ++ number ∷ []) child)
 
-abbrev pub below_by : WeightedSum → ℕ → Term → List Term → List ℕ → Node → ℕ → List Line
+abbrev pub below_by : WeightedSum → Key → Term → List Term → List ℕ → Node → ℕ → List Line
 below_by problem key term terms path node number = flat_map (topmost problem key terms (path ++ number ∷ [])) (option_to_list (child_in term node number))
 
-each_top : (problem : WeightedSum) (key : ℕ) (term : Term) (terms : List Term) (path : List ℕ) (node : Node) → Tops problem key terms path → Reached problem (term ∷ terms) path node → (low count : ℕ) → low + count ≡ length term.func.pieces → Covers (From low) problem key (term ∷ terms) path node (flat_map (below_by problem key term terms path node) (numbers_from low count))
+each_top : (problem : WeightedSum) (key : Key) (term : Term) (terms : List Term) (path : List ℕ) (node : Node) → Tops problem key terms path → Reached problem (term ∷ terms) path node → (low count : ℕ) → low + count ≡ length term.func.pieces → Covers (From low) problem key (term ∷ terms) path node (flat_map (below_by problem key term terms path node) (numbers_from low count))
 each_top problem key term terms path node tops at low zero all = covers_none problem key term terms path node low (omega (arith, all))
 each_top problem key term terms path node tops at low (suc count) all = by (child_in term node low) refl (each_top problem key term terms path node tops at (suc low) count (omega (arith, all)))
   where
@@ -186,13 +188,13 @@ each_top problem key term terms path node tops at low (suc count) all = by (chil
         rw (is, append-nil (topmost problem key terms (path ++ low ∷ []) child))
         (covers_join problem key term terms path node child low (topmost problem key terms (path ++ low ∷ []) child) others is (tops child low (child_reached problem term terms path node child low at is)) more)
 
-pub topmost_covers : (problem : WeightedSum) (key : ℕ) (terms : List Term) (path : List ℕ) (node : Node) → Attains problem key → Reached problem terms path node → Covers Anyhow problem key terms path node (topmost problem key terms path node)
+pub topmost_covers : (problem : WeightedSum) (key : Key) (terms : List Term) (path : List ℕ) (node : Node) → Attains problem key → Reached problem terms path node → Covers Anyhow problem key terms path node (topmost problem key terms path node)
 topmost_covers problem key [] path node attains at =
     let most = attains path node at in
-    rw (le-leb (bound_of problem node) key most) (top_line problem key [] path node most)
+    rw (true_at_most (bound_of problem node) key most) (top_line problem key [] path node most)
 topmost_covers problem key (term ∷ terms) path node attains at =
-    by (nat_le (bound_of problem node) key) refl (λ child number reached. topmost_covers problem key terms (path ++ number ∷ []) child attains reached)
+    by (is_at_most (bound_of problem node) key) refl (λ child number reached. topmost_covers problem key terms (path ++ number ∷ []) child attains reached)
   where
-    by : (b : Bool) → nat_le (bound_of problem node) key ≡ b → Tops problem key terms path → Covers Anyhow problem key (term ∷ terms) path node (cond b (line_of problem path node ∷ []) (flat_map (below_by problem key term terms path node) (numbers_from 0 (length term.func.pieces))))
-    by true is tops = top_line problem key (term ∷ terms) path node (leb-true (bound_of problem node) key is)
+    by : (b : Bool) → is_at_most (bound_of problem node) key ≡ b → Tops problem key terms path → Covers Anyhow problem key (term ∷ terms) path node (cond b (line_of problem path node ∷ []) (flat_map (below_by problem key term terms path node) (numbers_from 0 (length term.func.pieces))))
+    by true is tops = top_line problem key (term ∷ terms) path node (at_most_true (bound_of problem node) key is)
     by false is tops = covers_all problem key term terms path node (flat_map (below_by problem key term terms path node) (numbers_from 0 (length term.func.pieces))) (each_top problem key term terms path node tops at 0 (length term.func.pieces) (omega arith))

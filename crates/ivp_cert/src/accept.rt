@@ -9,7 +9,7 @@ use crate::cert::{Cert, Line};
 use crate::claim::Claim;
 use crate::trail::Trail;
 use ivp_problem::{
-    Key, Node, Problem, bound_of, index_of_key, key_of, problem_law, sum_at, sum_of,
+    Key, Node, Problem, at_most, bound_of, index_of_key, key_of, problem_law, sum_at, sum_of,
 };
 
 /// Whether a certificate is accepted for what is claimed of a problem: the claim's sum is the one at its point; each line is
@@ -42,7 +42,7 @@ fn is_line_of(problem: &Problem, key: Key, node: &Node, path: &[u32], line: &Lin
         return false;
     }
     let bound = bound_of(problem, node);
-    line.sum == sum_of(bound) && line.index == index_of_key(bound) && bound <= key
+    line.sum == sum_of(bound) && line.index == index_of_key(bound) && at_most(bound, key)
 }
 
 // The place behind the line at this one, where that line is the node's.

@@ -1,5 +1,4 @@
 ghost use Rattle.std.specs.Prelude.{◌≡◌, ◌++◌, ◌∷◌, [], ◌≤◌, IfOk, OnOk, drop, length};
-ghost use Rattle.ivp_problem.specs.Keys.{index_of_key, sum_of};
 ghost use Rattle.ivp_problem.specs.Sums.{best_of, key_at};
 ghost use Rattle.ivp_problem.specs.Trees.{IsNode};
 ghost use Rattle.ivp_cert.specs.Certificates.{certificate_of, topmost};
@@ -7,7 +6,7 @@ ghost use Rattle.ivp_cert.specs.Certificates.{certificate_of, topmost};
 use crate::cert::{Cert, Line};
 use crate::path::Path;
 use crate::trail::Trail;
-use ivp_problem::{Key, Node, Problem, bound_of, index_of_key, problem_law, sum_of};
+use ivp_problem::{Key, Node, Problem, at_most, bound_of, index_of_key, problem_law, sum_of};
 use moos_post::NoMemory;
 use std::alloc::Global;
 
@@ -36,7 +35,7 @@ pub fn cut(alloc: Global, problem: &Problem, key: Key) -> Result<Cert, NoMemory>
 // Adds the line of a node with this bound.
 fn add_line(alloc: Global, numbers: &[u32], bound: Key, cert: &mut Cert) -> Result<(), NoMemory>
     requires { length numbers.now ≤ 64 }
-    ensures { OnOk result (cert.new ≡ cert.old ++ record { path = numbers.now; sum = sum_of bound; index = index_of_key bound } ∷ []) }
+    ensures { OnOk result (cert.new ≡ cert.old ++ record { path = numbers.now; sum = bound.sum; index = bound.index } ∷ []) }
 {
     let path = Path::of(alloc, numbers)?;
     let line = Line {
@@ -62,7 +61,7 @@ fn add_topmost(
     ensures trail { OnOk result (trail.new ≡ trail.old) }
 {
     let bound = bound_of(problem, node);
-    if bound <= key {
+    if at_most(bound, key) {
         add_line(alloc, trail.all(), bound, cert)?;
         return Ok(());
     }

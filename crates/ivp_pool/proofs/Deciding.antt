@@ -1,18 +1,21 @@
 -- What a whole search decides: the best key, and its point.
-use Rattle.std.proofs.Common.{◌≡◌, ℕ, ◌<◌, ◌≤◌, inl, inr, Some, List, length, sym, ◌∙◌, subst, arith}
+use Rattle.std.proofs.Common.{◌≡◌, ℕ, ◌^◌, ◌<◌, ◌≤◌, inl, inr, Some, List, length, sym, ◌∙◌, subst, arith}
 use Rattle.std.specs.Prelude.{IsTrue, slice_get}
 use Rattle.std.proofs.lemmas.Option.{slice_get_within}
 use Rattle.ivp_domain.specs.declared.axis.Axis.{Axis}
 use Rattle.ivp_domain.specs.declared.boxes.Point.{Point}
 use Rattle.ivp_domain.specs.Domains.{index_of, is_point, points_of}
+use Rattle.ivp_problem.specs.Keys.{AtMost}
 use Rattle.ivp_problem.specs.Problems.{WeightedSum}
 use Rattle.ivp_problem.specs.Sums.{best_of, key_at}
 use Rattle.best_word.specs.Known.{IsKnownKey}
+use Rattle.best_word.specs.Words.{point_word}
+use Rattle.best_word.proofs.Words.{word_some, word_up}
 
--- a known key that none exceeds is the best one
-pub best_key : (problem : WeightedSum) (key : ℕ) → IsKnownKey problem key → ((p : Point) → IsTrue (is_point problem.axes p) → key_at problem p ≤ key) → IsTrue (is_point problem.axes (best_of problem)) → ((p : Point) → IsTrue (is_point problem.axes p) → 0 < key_at problem p) → ((p : Point) → IsTrue (is_point problem.axes p) → key_at problem p ≤ key_at problem (best_of problem)) → key ≡ key_at problem (best_of problem)
-best_key problem key (inl none) most point some best = absurd (omega (arith, none, some (best_of problem) point, most (best_of problem) point))
-best_key problem key (inr (p, inside, is)) most point some best = omega (arith, is, best p inside, most (best_of problem) point)
+-- a known word that none exceeds is that of the best key
+pub best_word : (problem : WeightedSum) (word : ℕ) → IsKnownKey problem word → ((p : Point) → IsTrue (is_point problem.axes p) → point_word problem p ≤ word) → IsTrue (is_point problem.axes (best_of problem)) → ((p : Point) → IsTrue (is_point problem.axes p) → (key_at problem p).index < 2 ^ 22) → ((p : Point) → IsTrue (is_point problem.axes p) → AtMost (key_at problem p) (key_at problem (best_of problem))) → word ≡ point_word problem (best_of problem)
+best_word problem word (inl none) most point small best = absurd (omega (arith, none, word_some (key_at problem (best_of problem)) (small (best_of problem) point), most (best_of problem) point))
+best_word problem word (inr (p, inside, is)) most point small best = omega (arith, is, word_up (key_at problem p) (key_at problem (best_of problem)) (best p inside), most (best_of problem) point)
 
 -- the best point stands among all points at its index
 abbrev pub IsListed : WeightedSum → Type 0

@@ -10,9 +10,12 @@ use Rattle.ivp_domain.specs.Boxes.{has_point, point_from}
 use Rattle.ivp_domain.specs.Domains.{is_point}
 use Rattle.ivp_problem.specs.declared.node.Node.{Node}
 use Rattle.ivp_problem.specs.Keys.{key_of}
+use Rattle.ivp_problem.specs.Sums.{key_at}
 use Rattle.ivp_problem.specs.Trees.{IsNode, has_in, root_of}
 use Rattle.ivp_problem.proofs.Examples.{first, left, twelve, two, two_is_lawful}
 use Rattle.ivp_problem.proofs.KeyOrder.{best_most}
+use Rattle.best_word.specs.Words.{word_of}
+use Rattle.best_word.proofs.Words.{word_up}
 use Rattle.ivp_pool.specs.declared.team.Worker.{Worker}
 use Rattle.ivp_pool.specs.Closing.{AreCovered, Closed, Pushed}
 use Rattle.ivp_pool.specs.Solving.{AreClosed, IsNew, IsSearched, IsWorker, low_of, total_of, WentOn}
@@ -22,11 +25,21 @@ use Rattle.ivp_pool.proofs.Teams.{closed_one, searched}
 use Rattle.ivp_pool.specs.Tallies.{AreLinked, IsTally, IsWholeTree, Tally}
 use Rattle.ivp_pool.specs.Parts.{Done, Handed, handed_in, handed_within, IsPart, TreePart, Pruned, part_size, Expanded, Then}
 
+-- the words of the best key, of the other leaf's, and of one that is just less than the best
+abbrev best : ℕ
+best = word_of (key_of 75 2)
+
+abbrev second : ℕ
+second = word_of (key_of 55 10)
+
+abbrev short_of_best : ℕ
+short_of_best = word_of (key_of 75 3)
+
 -- the root and its child are split, and both leaves are pruned: the first has the best point, of sum 75 at index 2
 abbrev all_here : TreePart
 all_here = Expanded (Then (Expanded (Then Pruned (Then Pruned Done))) Done)
 
-all_here_is_one : IsPart two (key_of 75 2) (root_of two) all_here
+all_here_is_one : IsPart two best (root_of two) all_here
 all_here_is_one = (omega arith, ((omega arith, (omega arith, (omega arith, tt))), tt))
 
 all_here_has_four : (part_size all_here ≡ 4) × (handed_within two (root_of two) all_here ≡ [])
@@ -36,18 +49,18 @@ all_here_has_four = (refl, refl)
 abbrev one_handed : TreePart
 one_handed = Expanded (Then (Expanded (Then Handed (Then Pruned Done))) Done)
 
-one_handed_is_one : IsPart two (key_of 55 10) (root_of two) one_handed
+one_handed_is_one : IsPart two second (root_of two) one_handed
 one_handed_is_one = (omega arith, ((omega arith, (tt, (omega arith, tt))), tt))
 
 one_handed_has_left : (part_size one_handed ≡ 4) × (handed_within two (root_of two) one_handed ≡ left ∷ [])
 one_handed_has_left = (refl, refl)
 
 -- an expanded node has a part for each of its children
-one_child_too_few : IsPart two (key_of 75 2) (root_of two) (Expanded (Then (Expanded (Then Pruned Done)) Done)) → ⊥
+one_child_too_few : IsPart two best (root_of two) (Expanded (Then (Expanded (Then Pruned Done)) Done)) → ⊥
 one_child_too_few is = is.1.0.1.1
 
 -- and a node whose bound is above what is known is not pruned
-too_little_known : IsPart two (key_of 75 3) (root_of two) all_here → ⊥
+too_little_known : IsPart two short_of_best (root_of two) all_here → ⊥
 too_little_known is = omega (arith, is.1.0.1.0)
 
 -- two calls: the first hands the first leaf on, and the second finds the best point there
@@ -57,26 +70,26 @@ calls = record { node = root_of two; part = one_handed } ∷ record { node = lef
 calls_are_linked : AreLinked two (root_of two ∷ []) calls
 calls_are_linked = λ weigh. omega arith
 
-first_call : IsTally two (key_of 75 2) (record { node = root_of two; part = one_handed })
+first_call : IsTally two best (record { node = root_of two; part = one_handed })
 first_call = record { node = record { path = []; reached = refl }; is = (omega arith, ((omega arith, (tt, (omega arith, tt))), tt)); here = λ same. absurd (cc) }
 
 -- a node that nobody took up is not linked, and who hands its own node on makes no part of it
 taken_up_by_nobody : AreLinked two (root_of two ∷ []) (record { node = root_of two; part = one_handed } ∷ []) → ⊥
 taken_up_by_nobody are = omega (arith, are (λ node. 1))
 
-handed_itself : IsTally two (key_of 75 2) (record { node = left; part = Handed }) → ⊥
+handed_itself : IsTally two best (record { node = left; part = Handed }) → ⊥
 handed_itself is = is.here refl
 
 -- so the part that they make together has the four nodes of the tree
-calls_have_four : IsWholeTree two (key_of 75 2) calls → (whole : TreePart) × (part_size whole ≡ 4)
+calls_have_four : IsWholeTree two best calls → (whole : TreePart) × (part_size whole ≡ 4)
 calls_have_four whole = let size = whole.size in (whole.part, omega arith)
 
 -- a search of the whole tree closes four nodes
-four_closed : IsSearched two (key_of 75 2) 4
+four_closed : IsSearched two best 4
 four_closed = record { part = all_here; is = all_here_is_one; none = refl; size = refl }
 
 -- and with the best key known every search of it closes just four: the root and its child can't be pruned
-child_has_three : (part : TreePart) → IsPart two (key_of 75 2) first part → handed_in two (first ∷ []) (Then part Done) ≡ [] → part_size part ≡ 3
+child_has_three : (part : TreePart) → IsPart two best first part → handed_in two (first ∷ []) (Then part Done) ≡ [] → part_size part ≡ 3
 child_has_three Pruned is none = absurd (omega (arith, is))
 child_has_three Handed is none = absurd (cc)
 child_has_three (Expanded Done) is none = absurd is.1
@@ -88,14 +101,14 @@ child_has_three (Expanded (Then Pruned (Then (Expanded below) parts))) is none =
 child_has_three (Expanded (Then Pruned (Then Pruned Done))) is none = refl
 child_has_three (Expanded (Then Pruned (Then Pruned (Then part parts)))) is none = absurd is.1.1.1
 
-root_has_four : (part : TreePart) → IsPart two (key_of 75 2) (root_of two) part → handed_within two (root_of two) part ≡ [] → part_size part ≡ 4
+root_has_four : (part : TreePart) → IsPart two best (root_of two) part → handed_within two (root_of two) part ≡ [] → part_size part ≡ 4
 root_has_four Pruned is none = absurd (omega (arith, is))
 root_has_four Handed is none = absurd (cc)
 root_has_four (Expanded Done) is none = absurd is.1
 root_has_four (Expanded (Then part Done)) is none = omega (arith, child_has_three part is.1.0 none)
 root_has_four (Expanded (Then part (Then other parts))) is none = absurd is.1.1
 
-always_four : (count : ℕ) → IsSearched two (key_of 75 2) count → count ≡ 4
+always_four : (count : ℕ) → IsSearched two best count → count ≡ 4
 always_four count is = omega (arith, is.size, root_has_four is.part is.is is.none)
 
 -- a node that a tray took, and one that came back
@@ -110,7 +123,7 @@ other_back : Pushed [] [] left (Some (root_of two)) → ⊥
 other_back is = omega (arith, ap (λ (node : Node). node.depth) is.0)
 
 -- the first call: three nodes were closed, and the first leaf was taken
-closed_three : Closed two (key_of 55 10) [] (left ∷ []) (root_of two) 3
+closed_three : Closed two second [] (left ∷ []) (root_of two) 3
 closed_three = record { part = one_handed; is = one_handed_is_one; here = λ same. absurd (cc); taken = refl; counted = refl }
 
 -- two workers closed two nodes and three
@@ -118,14 +131,14 @@ closed_five : total_of (record { closed = 2 } ∷ record { closed = 3 } ∷ []) 
 closed_five = refl
 
 -- where the best key is known every point is covered, and the points of a node that was handed on are whatever is known
-all_covered : AreCovered two (key_of 75 2) [] [] (is_point twelve)
-all_covered = ([], refl, λ p inside. inl (best_most two p inside))
+all_covered : AreCovered two best [] [] (is_point twelve)
+all_covered = ([], refl, λ p inside. inl (word_up (key_at two p) (key_of 75 2) (best_most two p inside)))
 
 left_covered : AreCovered two 0 [] (left ∷ []) (has_point left.area)
 left_covered = (left ∷ [], refl, λ p here. inr (rw here refl))
 
 -- but not where less than the best key is known, and nothing was handed on
-less_known : (low : ℕ) → low < key_of 75 2 → AreCovered two low [] [] (is_point twelve) → ⊥
+less_known : (low : ℕ) → low < best → AreCovered two low [] [] (is_point twelve) → ⊥
 less_known low less is =
     elim (is.2 (point_from 0 1 0 0) refl) [
       | inl known ↦ omega arith
@@ -136,13 +149,13 @@ less_known low less is =
 root_is_a_node : IsNode two (root_of two)
 root_is_a_node = record { path = []; reached = refl }
 
-closed_early : Closed two (key_of 75 3) [] [] (root_of two) 4 → ⊥
-closed_early is = less_known (key_of 75 3) (omega arith) (closed_covers two (key_of 75 3) [] [] (root_of two) 4 two_is_lawful root_is_a_node is)
+closed_early : Closed two short_of_best [] [] (root_of two) 4 → ⊥
+closed_early is = less_known short_of_best (omega arith) (closed_covers two short_of_best [] [] (root_of two) 4 two_is_lawful root_is_a_node is)
 
-searched_early : IsSearched two (key_of 75 3) 4 → ⊥
-searched_early is = less_known (key_of 75 3) (omega arith) (closed_covers two (key_of 75 3) [] [] (root_of two) 4 two_is_lawful root_is_a_node closed)
+searched_early : IsSearched two short_of_best 4 → ⊥
+searched_early is = less_known short_of_best (omega arith) (closed_covers two short_of_best [] [] (root_of two) 4 two_is_lawful root_is_a_node closed)
   where
-    closed : Closed two (key_of 75 3) [] [] (root_of two) 4
+    closed : Closed two short_of_best [] [] (root_of two) 4
     closed =
         record {
           part = is.part;
@@ -153,19 +166,19 @@ searched_early is = less_known (key_of 75 3) (omega arith) (closed_covers two (k
         }
 
 -- the two calls are together the whole tree, and not while one key less is known
-second_call : IsTally two (key_of 75 2) (record { node = left; part = Pruned })
+second_call : IsTally two best (record { node = left; part = Pruned })
 second_call = record { node = record { path = 0 ∷ 0 ∷ []; reached = refl }; is = omega arith; here = λ same. absurd (cc) }
 
-calls_are_whole : IsWholeTree two (key_of 75 2) calls
-calls_are_whole = whole two two_is_lawful (key_of 75 2) calls (first_call, (second_call, tt)) calls_are_linked
+calls_are_whole : IsWholeTree two best calls
+calls_are_whole = whole two two_is_lawful best calls (first_call, (second_call, tt)) calls_are_linked
 
-whole_early : IsWholeTree two (key_of 75 3) calls → ⊥
+whole_early : IsWholeTree two short_of_best calls → ⊥
 whole_early is = omega (arith, is.most (point_from 0 1 0 0) refl)
 
 -- one call, which hands the first leaf on, and so closed three nodes
-called_once : AreClosed two (key_of 55 10) (root_of two ∷ []) (left ∷ []) 3
+called_once : AreClosed two second (root_of two ∷ []) (left ∷ []) 3
 unfolding closed_three
-called_once = closed_one two (key_of 55 10) [] (left ∷ []) (root_of two) 3 root_is_a_node closed_three
+called_once = closed_one two second [] (left ∷ []) (root_of two) 3 root_is_a_node closed_three
 
 -- where nobody was called, no node was closed, and none was handed on
 idle : AreClosed two 0 [] [] 0
@@ -192,9 +205,9 @@ closed_nothing key is = at_least is.tallies (is.called (λ node. 1)) is.size
     at_least (tally ∷ tallies) one size = omega (arith, sum_by-cons (λ (tally : Tally). part_size tally.part) tally tallies, own tally.part)
 
 -- and no calls close the whole tree so early
-all_closed_early : AreClosed two (key_of 75 3) (root_of two ∷ []) [] 4 → ⊥
+all_closed_early : AreClosed two short_of_best (root_of two ∷ []) [] 4 → ⊥
 all_closed_early is =
-    let searched = searched two two_is_lawful (key_of 75 3) (root_of two ∷ []) [] 4 (λ weigh. omega arith) is in
+    let searched = searched two two_is_lawful short_of_best (root_of two ∷ []) [] 4 (λ weigh. omega arith) is in
     omega (arith, searched.most (point_from 0 1 0 0) refl)
 
 -- a worker at this word by what it knows, its calls, and the nodes that they closed
@@ -233,10 +246,10 @@ other_word : IsWorker two (record word { atom = 1 }) (worker 7 1 3) → ⊥
 other_word is = omega (arith, ap (λ (table : TableId). table.atom) is.at_word)
 
 -- its first call closed three nodes, and it didn't forget what it knew; the count of closed nodes goes round at 2^64, and counts nothing more
-went_on : WentOn two (root_of two ∷ []) (left ∷ []) (worker 0 0 0) (worker (key_of 55 10) 1 3)
+went_on : WentOn two (root_of two ∷ []) (left ∷ []) (worker 0 0 0) (worker second 1 3)
 went_on = record { at_word = refl; scout = refl; later = omega arith; count = 3; wraps = 0; counted = refl; closed = called_once }
 
-went_round : WentOn two (root_of two ∷ []) (left ∷ []) (worker 0 0 (2 ^ 64 - 1)) (worker (key_of 55 10) 1 2)
+went_round : WentOn two (root_of two ∷ []) (left ∷ []) (worker 0 0 (2 ^ 64 - 1)) (worker second 1 2)
 went_round = record { at_word = refl; scout = refl; later = omega arith; count = 3; wraps = 1; counted = omega arith; closed = called_once }
 
 forgot : WentOn two [] [] (worker 7 0 0) (worker 6 0 0) → ⊥

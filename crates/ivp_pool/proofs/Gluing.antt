@@ -7,12 +7,12 @@ use Rattle.ivp_domain.specs.declared.boxes.Point.{Point}
 use Rattle.ivp_func.proofs.Counting.{one_if}
 use Rattle.ivp_problem.specs.declared.node.Node.{Node}
 use Rattle.ivp_problem.specs.Problems.{IsProblem, WeightedSum}
-use Rattle.ivp_problem.specs.Sums.{key_at}
 use Rattle.ivp_problem.specs.Trees.{children_of, has_in, IsNode, root_of}
+use Rattle.ivp_problem.proofs.SameNodes.{is_same, is_same-self, is_same-true}
+use Rattle.best_word.specs.Words.{point_word}
 use Rattle.ivp_pool.specs.Parts.{AreParts, Done, Handed, handed_in, handed_within, IsPart, TreePart, TreeParts, Pruned, size_in, part_size, Expanded, Then}
 use Rattle.ivp_pool.specs.Tallies.{AreLinked, handed_by, IsTally, IsWholeTree, Tally}
 use Rattle.ivp_pool.proofs.Growing.{covered}
-use Rattle.ivp_pool.proofs.SameNodes.{is_same, is_same-self, is_same-true}
 use Rattle.ivp_pool.proofs.Standing.{children_stand, standing, Stands}
 use Rattle.ivp_pool.proofs.Weights.{children_weight, some_weight, weight_cons, weight_in, weight_of}
 
@@ -242,7 +242,7 @@ whole problem h key tallies each linked = by (glue problem h key (length tallies
           most = λ p inside. known p (covered problem h key 0 (length problem.terms) (root_of problem) part (standing problem (root_of problem) root) are.0 p inside) empty;
         }
       where
-        known : (p : Point) → (key_at problem p ≤ key) ⊎ (has_in (handed_within problem (root_of problem) part) p ≡ true) → handed_within problem (root_of problem) part ≡ [] → key_at problem p ≤ key
+        known : (p : Point) → (point_word problem p ≤ key) ⊎ (has_in (handed_within problem (root_of problem) part) p ≡ true) → handed_within problem (root_of problem) part ≡ [] → point_word problem p ≤ key
         known p (inl less) empty = less
         known p (inr there) empty = let no = subst (λ ns. has_in ns p ≡ true) empty there in absurd (cc)
 

@@ -10,15 +10,16 @@ use Rattle.ivp_domain.specs.declared.boxes.Point.{Point}
 use Rattle.ivp_domain.specs.Boxes.{has_point}
 use Rattle.ivp_problem.specs.declared.node.Node.{Node}
 use Rattle.ivp_problem.specs.Problems.{IsProblem, WeightedSum}
-use Rattle.ivp_problem.specs.Sums.{key_at}
-use Rattle.ivp_problem.specs.Trees.{bound_of, child_of, children_of, has_in, IsNode}
-use Rattle.ivp_problem.proofs.Bounds.{key_bound}
+use Rattle.ivp_problem.specs.Trees.{child_of, children_of, has_in, IsNode}
+use Rattle.ivp_problem.proofs.Children.{once_in}
 use Rattle.ivp_problem.proofs.Nodes.{node_keeps}
 use Rattle.ivp_problem.proofs.Pieces.{children_more, children_to, has_all}
+use Rattle.best_word.specs.Words.{bound_word, point_word}
+use Rattle.best_word.proofs.Words.{word_bound}
 use Rattle.ivp_pool.specs.Closing.{AreCovered, Closed, Pushed}
 use Rattle.ivp_pool.specs.Parts.{AreParts, Done, Handed, handed_in, handed_within, IsPart, TreePart, TreeParts, Pruned, size_in, part_size, Expanded, Then}
 use Rattle.ivp_pool.proofs.Standing.{children_stand, first_stand, standing, Stands}
-use Rattle.ivp_pool.proofs.Weights.{few_weight, first_weight, once_in, sizes_most}
+use Rattle.ivp_pool.proofs.Weights.{few_weight, first_weight, sizes_most}
 
 mutual
   -- a part stays one where the scout learns more
@@ -34,35 +35,35 @@ mutual
   all_raised problem low high up (node ∷ nodes) (Then part parts) are = (raised problem low high up node part are.0, all_raised problem low high up nodes parts are.1)
 
 -- a point of one of these nodes lies in the first one or in a later one
-first_or_later : (problem : WeightedSum) (low : ℕ) (node : Node) (nodes some more : List Node) (p : Point) → (has_point node.area p ≡ true → (key_at problem p ≤ low) ⊎ (has_in some p ≡ true)) → (has_in nodes p ≡ true → (key_at problem p ≤ low) ⊎ (has_in more p ≡ true)) → has_in (node ∷ nodes) p ≡ true → (key_at problem p ≤ low) ⊎ (has_in (some ++ more) p ≡ true)
+first_or_later : (problem : WeightedSum) (low : ℕ) (node : Node) (nodes some more : List Node) (p : Point) → (has_point node.area p ≡ true → (point_word problem p ≤ low) ⊎ (has_in some p ≡ true)) → (has_in nodes p ≡ true → (point_word problem p ≤ low) ⊎ (has_in more p ≡ true)) → has_in (node ∷ nodes) p ≡ true → (point_word problem p ≤ low) ⊎ (has_in (some ++ more) p ≡ true)
 first_or_later problem low node nodes some more p in_first in_later inside = either (has_point node.area p) refl inside
   where
     all : has_in (some ++ more) p ≡ (has_in some p || has_in more p)
     all = list_any-append (λ (n : Node). has_point n.area p) some more
 
-    first : (key_at problem p ≤ low) ⊎ (has_in some p ≡ true) → (key_at problem p ≤ low) ⊎ (has_in (some ++ more) p ≡ true)
+    first : (point_word problem p ≤ low) ⊎ (has_in some p ≡ true) → (point_word problem p ≤ low) ⊎ (has_in (some ++ more) p ≡ true)
     first (inl less) = inl less
     first (inr found) = inr (all ∙ ap (λ t. t || has_in more p) found)
 
-    later : (key_at problem p ≤ low) ⊎ (has_in more p ≡ true) → (key_at problem p ≤ low) ⊎ (has_in (some ++ more) p ≡ true)
+    later : (point_word problem p ≤ low) ⊎ (has_in more p ≡ true) → (point_word problem p ≤ low) ⊎ (has_in (some ++ more) p ≡ true)
     later (inl less) = inl less
     later (inr found) = inr (all ∙ (ap (λ t. has_in some p || t) found ∙ or-true (has_in some p)))
 
-    either : (t : Bool) → has_point node.area p ≡ t → (t || has_in nodes p) ≡ true → (key_at problem p ≤ low) ⊎ (has_in (some ++ more) p ≡ true)
+    either : (t : Bool) → has_point node.area p ≡ t → (t || has_in nodes p) ≡ true → (point_word problem p ≤ low) ⊎ (has_in (some ++ more) p ≡ true)
     either true e inside = first (in_first e)
     either false e inside = later (in_later inside)
 
 mutual
   -- each point of a node has a key of at most `low`, or lies in a node that was handed to others
-  pub covered : (problem : WeightedSum) → IsProblem problem → (low from levels : ℕ) (node : Node) (part : TreePart) → Stands problem from levels node → IsPart problem low node part → (p : Point) → has_point node.area p ≡ true → (key_at problem p ≤ low) ⊎ (has_in (handed_within problem node part) p ≡ true)
-  covered problem h low from levels node Pruned stands is p inside = inl (omega (arith, key_bound problem node p (node_keeps problem node h stands.is) inside, is))
+  pub covered : (problem : WeightedSum) → IsProblem problem → (low from levels : ℕ) (node : Node) (part : TreePart) → Stands problem from levels node → IsPart problem low node part → (p : Point) → has_point node.area p ≡ true → (point_word problem p ≤ low) ⊎ (has_in (handed_within problem node part) p ≡ true)
+  covered problem h low from levels node Pruned stands is p inside = inl (omega (arith, word_bound problem node p (node_keeps problem node h stands.is) inside, is))
   covered problem h low from levels node Handed stands is p inside = inr (ap (λ t. t || false) inside)
   covered problem h low from zero node (Expanded parts) stands is p inside = absurd (omega (arith, stands.most, is.0))
   covered problem h low from (suc levels) node (Expanded parts) stands is p inside =
       let children = children_of problem node in
       all_covered problem h low (suc from) levels children parts (children_stand problem from levels node stands) is.1 p (sym (has_all node children p (once_in problem node p h stands.is is.0)) ∙ inside)
 
-  all_covered : (problem : WeightedSum) → IsProblem problem → (low from levels : ℕ) (nodes : List Node) (parts : TreeParts) → Each (Stands problem from levels) nodes → AreParts problem low nodes parts → (p : Point) → has_in nodes p ≡ true → (key_at problem p ≤ low) ⊎ (has_in (handed_in problem nodes parts) p ≡ true)
+  all_covered : (problem : WeightedSum) → IsProblem problem → (low from levels : ℕ) (nodes : List Node) (parts : TreeParts) → Each (Stands problem from levels) nodes → AreParts problem low nodes parts → (p : Point) → has_in nodes p ≡ true → (point_word problem p ≤ low) ⊎ (has_in (handed_in problem nodes parts) p ≡ true)
   all_covered problem h low from levels [] Done stand are p inside = absurd (cc)
   all_covered problem h low from levels (node ∷ nodes) Done stand are p inside = absurd are
   all_covered problem h low from levels [] (Then part parts) stand are p inside = absurd are
@@ -182,7 +183,7 @@ searched_all problem low took took' node count below searched =
     }
 
 -- a node was pruned, since its bound is no more than what the scout knows
-pub pruned : (problem : WeightedSum) (low : ℕ) (took : List Node) (node : Node) → bound_of problem node ≤ low → Closed problem low took took node 1
+pub pruned : (problem : WeightedSum) (low : ℕ) (took : List Node) (node : Node) → bound_word problem node ≤ low → Closed problem low took took node 1
 pruned problem low took node is =
     record {
       part = Pruned;

@@ -9,8 +9,8 @@ use Rattle.ivp_domain.specs.declared.boxes.Point.{Point}
 use Rattle.ivp_domain.specs.Domains.{is_point}
 use Rattle.ivp_problem.specs.declared.node.Node.{Node}
 use Rattle.ivp_problem.specs.Problems.{IsProblem, WeightedSum}
-use Rattle.ivp_problem.specs.Sums.{key_at}
 use Rattle.ivp_problem.specs.Trees.{IsNode, root_of}
+use Rattle.best_word.specs.Words.{point_word}
 use Rattle.ivp_pool.specs.Closing.{Closed}
 use Rattle.ivp_pool.specs.Parts.{handed_within, part_size}
 use Rattle.ivp_pool.specs.Solving.{AreClosed, IsSearched, low_of, WentOn}
@@ -93,7 +93,7 @@ went_more problem nodes handed nodes' handed' old mid new went went' =
 -- the whole tree was searched, so no point has a greater key
 pub record Searched (problem : WeightedSum) (key count : ℕ) : Type 0 where
   pub all : IsSearched problem key count
-  pub most : (p : Point) → IsTrue (is_point problem.axes p) → key_at problem p ≤ key
+  pub most : (p : Point) → IsTrue (is_point problem.axes p) → point_word problem p ≤ key
 
 -- calls searched it together, where their nodes are the root and what they handed on
 pub searched : (problem : WeightedSum) → IsProblem problem → (key : ℕ) (nodes handed : List Node) (count : ℕ) → ((weigh : Node → ℕ) → sum_by weigh nodes ≡ sum_by weigh (root_of problem ∷ []) + sum_by weigh handed) → AreClosed problem key nodes handed count → Searched problem key count

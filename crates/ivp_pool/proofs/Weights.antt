@@ -1,11 +1,11 @@
 -- How many nodes a part may have: nodes side by side share no point, and each has one of the domain.
-use Rattle.std.proofs.Common.{◌≡◌, ℕ, zero, suc, ◌+◌, ◌-◌, ◌*◌, ◌^◌, ◌<◌, ◌≤◌, cond, List, [], ◌∷◌, length, get_or, refl, ap, ◌∙◌, subst, arith}
+use Rattle.std.proofs.Common.{◌≡◌, ℕ, zero, suc, ◌+◌, ◌-◌, ◌*◌, ◌^◌, ◌<◌, ◌≤◌, List, [], ◌∷◌, length, get_or, refl, ap, ◌∙◌, subst, arith}
 use Rattle.std.specs.Prelude.{count_by}
 use Rattle.std.specs.List.{sum_by, AllByRecursion as Each}
 use Rattle.std.specs.Option.{option_to_list}
 use Rattle.std.proofs.Math.Nat.{mul-add, mul-le-mul_left, suc-mul}
 use Rattle.std.proofs.lemmas.List.Sums.{count_by-le-length, get_or-le-sum_by, sum_by-append, sum_by-cons, sum_by-le-sum_by}
-use Rattle.std.proofs.lemmas.Option.{get_or_from_slice_get, slice_get-get_or, slice_get_within}
+use Rattle.std.proofs.lemmas.Option.{get_or_from_slice_get, slice_get_within}
 use Rattle.ivp_domain.specs.declared.boxes.Point.{Point}
 use Rattle.ivp_domain.specs.Boxes.{has_point}
 use Rattle.ivp_domain.specs.Domains.{points_of, whole}
@@ -16,8 +16,8 @@ use Rattle.ivp_func.proofs.Facts.{area_point, box_parts}
 use Rattle.ivp_problem.specs.declared.node.Node.{Node}
 use Rattle.ivp_problem.specs.Problems.{IsProblem, WeightedSum}
 use Rattle.ivp_problem.specs.Trees.{child_of, children_of, IsNode}
-use Rattle.ivp_problem.proofs.Children.{count_children, has}
-use Rattle.ivp_problem.proofs.Nodes.{blank_term, node_keeps}
+use Rattle.ivp_problem.proofs.Children.{has, once_in}
+use Rattle.ivp_problem.proofs.Nodes.{node_keeps}
 use Rattle.ivp_problem.proofs.Pieces.{children_more, children_to}
 use Rattle.ivp_problem.proofs.Terms.{at_places, listed_at}
 use Rattle.ivp_pool.specs.Parts.{AreParts, Done, Handed, IsPart, TreePart, TreeParts, Pruned, size_in, part_size, Expanded, Then}
@@ -68,10 +68,6 @@ few_weight problem node h = omega (arith, count_by-le-length (has_point node.are
 -- nodes that have each point of a node at most once weigh no more than it
 weight_most : (problem : WeightedSum) (node : Node) (nodes : List Node) → ((p : Point) → count_by (has p) nodes ≤ one_if (has_point node.area p)) → weight_in problem nodes ≤ weight_of problem node
 weight_most problem node nodes once = sum_by-le-sum_by (λ (p : Point). count_by (has p) nodes) (λ (p : Point). one_if (has_point node.area p)) (points_of problem.axes) once
-
--- each point of a node below full depth lies in one child
-pub once_in : (problem : WeightedSum) (node : Node) (p : Point) → IsProblem problem → IsNode problem node → node.depth < length problem.terms → count_by (has p) (children_of problem node) ≡ cond (has_point node.area p) 1 0
-once_in problem node p h is below = count_children problem node (get_or problem.terms node.depth blank_term) p h (node_keeps problem node h is) (slice_get-get_or problem.terms node.depth blank_term below)
 
 pub children_weight : (problem : WeightedSum) (node : Node) → IsProblem problem → IsNode problem node → node.depth < length problem.terms → weight_in problem (children_of problem node) ≤ weight_of problem node
 children_weight problem node h is below = weight_most problem node (children_of problem node) (λ p. omega (arith, once_in problem node p h is below))

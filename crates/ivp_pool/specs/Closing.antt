@@ -3,8 +3,8 @@ use Rattle.std.specs.Prelude.{◌≡◌, ◌≢◌, ℕ, ◌+◌, ◌≤◌, ◌
 use Rattle.ivp_domain.specs.declared.boxes.Point.{Point}
 use Rattle.ivp_problem.specs.declared.node.Node.{Node}
 use Rattle.ivp_problem.specs.Problems.{WeightedSum}
-use Rattle.ivp_problem.specs.Sums.{key_at}
 use Rattle.ivp_problem.specs.Trees.{has_in}
+use Rattle.best_word.specs.Words.{point_word}
 use Rattle.ivp_pool.specs.Parts.{handed_within, IsPart, TreePart, Handed, part_size}
 
 -- what a tray has taken after a push: the node at the end, or as before, where the node came back
@@ -23,4 +23,4 @@ pub record Closed (problem : WeightedSum) (low : ℕ) (took took' : List Node) (
 -- each of these points has a key that the scout knows of, or lies in a node that the tray took since
 abbrev pub AreCovered : WeightedSum → ℕ → List Node → List Node → (Point → Bool) → Type 0
 AreCovered problem low took took' passes =
-    (since : List Node) × (took' ≡ took ++ since) × ((p : Point) → IsTrue (passes p) → (key_at problem p ≤ low) ⊎ IsTrue (has_in since p))
+    (since : List Node) × (took' ≡ took ++ since) × ((p : Point) → IsTrue (passes p) → (point_word problem p ≤ low) ⊎ IsTrue (has_in since p))

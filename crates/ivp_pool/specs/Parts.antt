@@ -1,8 +1,9 @@
--- Parts of a tree: what a search made of a node and of the nodes below it.
+-- Parts of a tree: what a search made of a node and of the nodes below it. A key is told by its word.
 use Rattle.std.specs.Prelude.{ℕ, ◌+◌, ◌<◌, ◌≤◌, List, [], ◌∷◌, ◌++◌, length}
 use Rattle.ivp_problem.specs.declared.node.Node.{Node}
 use Rattle.ivp_problem.specs.Problems.{WeightedSum}
-use Rattle.ivp_problem.specs.Trees.{bound_of, children_of}
+use Rattle.ivp_problem.specs.Trees.{children_of}
+use Rattle.best_word.specs.Words.{bound_word}
 
 mutual
   -- what became of a node: it was pruned with all below it, handed to others, or expanded into its children
@@ -19,7 +20,7 @@ mutual
 abbrev mutual
   -- the part is one of this node: a pruned node's bound is at most this key, and an expanded one isn't at full depth and has a part for each of its children
   pub IsPart : WeightedSum → ℕ → Node → TreePart → Type 0
-  IsPart problem low node Pruned = bound_of problem node ≤ low
+  IsPart problem low node Pruned = bound_word problem node ≤ low
   IsPart problem low node Handed = Unit {0}
   IsPart problem low node (Expanded parts) = (node.depth < length problem.terms) × AreParts problem low (children_of problem node) parts
 

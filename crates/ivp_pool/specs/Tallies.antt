@@ -5,8 +5,8 @@ use Rattle.ivp_domain.specs.declared.boxes.Point.{Point}
 use Rattle.ivp_domain.specs.Domains.{is_point}
 use Rattle.ivp_problem.specs.declared.node.Node.{Node}
 use Rattle.ivp_problem.specs.Problems.{WeightedSum}
-use Rattle.ivp_problem.specs.Sums.{key_at}
 use Rattle.ivp_problem.specs.Trees.{IsNode, root_of}
+use Rattle.best_word.specs.Words.{point_word}
 use Rattle.ivp_pool.specs.Parts.{Handed, handed_within, IsPart, TreePart, part_size}
 
 -- a node, and the part that was made of it
@@ -34,4 +34,4 @@ pub record IsWholeTree (problem : WeightedSum) (key : ℕ) (tallies : List Tally
   pub is : IsPart problem key (root_of problem) part
   pub none : handed_within problem (root_of problem) part ≡ []
   pub size : part_size part + sum_by (λ tally. length (handed_by problem tally)) tallies ≡ sum_by (λ tally. part_size tally.part) tallies
-  pub most : (p : Point) → IsTrue (is_point problem.axes p) → key_at problem p ≤ key
+  pub most : (p : Point) → IsTrue (is_point problem.axes p) → point_word problem p ≤ key

@@ -1,12 +1,13 @@
 ghost use Rattle.std.specs.Prelude.{◌≡◌, ◌≤◌, Some};
 ghost use Rattle.ivp_domain.specs.Boxes.{has_point};
-ghost use Rattle.ivp_problem.specs.Trees.{bound_of, IsNode};
+ghost use Rattle.ivp_problem.specs.Trees.{IsNode};
 ghost use Rattle.best_word.specs.Known.{IsKnownKey};
+ghost use Rattle.best_word.specs.Words.{bound_word};
 ghost use Rattle.ivp_pool.specs.Closing.{AreCovered, Closed};
 
 use crate::tray::Tray;
-use best_word::{Best, Scout};
-use ivp_problem::{Node, Problem, bound_of};
+use best_word::{Best, Scout, key_in};
+use ivp_problem::{Node, Problem, at_most, bound_of};
 
 /// Closes a node. It looks at the word first: where the node's bound is at most the key there, nothing below it can be
 /// better, and it is pruned. At full depth its best point is offered. Else each child goes to the tray, pieces in order, and
@@ -25,7 +26,7 @@ pub fn close_one<T: Tray>(
     requires node { IsNode problem.now node }
     ensures closed { Closed problem.now scout.new.me.0.low (T.took tray.old) (T.took tray.new) node result }
     ensures covered { AreCovered problem.now scout.new.me.0.low (T.took tray.old) (T.took tray.new) (has_point node.area) }
-    ensures pruned { bound_of problem.now node ≤ scout.old.me.0.low → (result ≡ 1) × (T.took tray.new ≡ T.took tray.old) }
+    ensures pruned { bound_word problem.now node ≤ scout.old.me.0.low → (result ≡ 1) × (T.took tray.new ≡ T.took tray.old) }
     ensures known { IsKnownKey problem.now scout.new.me.0.low }
     ensures later { scout.old.me.0.low ≤ scout.new.me.0.low }
     ensures scout { (scout.new.table_id ≡ scout.old.table_id) × (scout.new.me ≡ (record scout.old.me.0 { low = scout.new.me.0.low }, scout.old.me.1)) }
@@ -33,9 +34,9 @@ pub fn close_one<T: Tray>(
     ensures kept { T.kept tray.new ≡ T.kept tray.old }
 {
     let len = problem.len();
-    let known = best.known(scout);
+    let known = key_in(best.known(scout));
     let bound = bound_of(problem, &node);
-    if bound <= known {
+    if at_most(bound, known) {
         return 1;
     }
     if node.depth >= len {

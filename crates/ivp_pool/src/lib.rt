@@ -20,7 +20,7 @@ mod tray;
 mod work;
 
 pub use close::close_one;
-pub use law::{core_law, parts_law, tally_law};
+pub use law::{parts_law, tally_law};
 pub use solved::{Solved, solve};
 pub use tray::Tray;
 pub use work::{Work, Works};

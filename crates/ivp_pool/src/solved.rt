@@ -1,6 +1,7 @@
 ghost use Rattle.std.specs.Prelude.{◌≡◌, ◌≤◌, length, map, IfOk, IsTrue, Some};
 ghost use Rattle.ivp_domain.specs.Domains.{is_point};
 ghost use Rattle.ivp_problem.specs.Sums.{best_of, key_at};
+ghost use Rattle.best_word.specs.Words.{point_word, word_of};
 ghost use Rattle.ivp_pool.specs.Solving.{IsSearched, total_of};
 ghost use Rattle.ivp_pool.specs.Teams.{AreBelow, AreWorkers};
 
@@ -9,7 +10,7 @@ use crate::search::search;
 use crate::setup::team_of;
 use crate::team::Member;
 use crate::work::Works;
-use best_word::{Best, Scout};
+use best_word::{Best, Scout, key_in};
 use ivp_domain::Point;
 use ivp_problem::{Key, Problem, best_law, index_of_key, keys_law};
 use moos_io::{Gate, NoMemory};
@@ -48,7 +49,7 @@ pub fn solve<R: Threads + Wait + Sync, G: Gate>(
     // A number for each worker. They add up to the size of a part of the tree: each of its nodes has all its children there,
     // or none and a bound of at most the best key.
     ensures workers { IfOk result (λ solved. length solved.work ≡ workers) }
-    ensures closed { IfOk result (λ solved. IsSearched problem.now (key_at problem.now (best_of problem.now)) (total_of solved.work)) }
+    ensures closed { IfOk result (λ solved. IsSearched problem.now (point_word problem.now (best_of problem.now)) (total_of solved.work)) }
 {
     solve_as::<Brand, R, G>(rt, alloc, problem, workers, gate)
 }
@@ -67,7 +68,7 @@ fn solve_as<K: About + Send + Sync, R: Threads + Wait + Sync, G: Gate>(
     ensures point { IfOk result (λ solved. solved.point ≡ best_of problem.now) }
     ensures key { IfOk result (λ solved. solved.key ≡ key_at problem.now (best_of problem.now)) }
     ensures workers { IfOk result (λ solved. length solved.work ≡ workers) }
-    ensures closed { IfOk result (λ solved. IsSearched problem.now (key_at problem.now (best_of problem.now)) (total_of solved.work)) }
+    ensures closed { IfOk result (λ solved. IsSearched problem.now (point_word problem.now (best_of problem.now)) (total_of solved.work)) }
 {
     let (best, mut scout) = Best::make(alloc, problem)?;
     let mut team = team_of::<K>(alloc, problem, &best, &mut scout, workers)?;
@@ -101,16 +102,16 @@ fn works_of<K: About>(
     Ok(works)
 }
 
-/// The best key, which the word holds once the whole tree was searched.
+/// The best key, whose word stands there once the whole tree was searched.
 fn best_key(problem: &Problem, best: &Best, scout: &mut Scout) -> Key
     requires word { scout.old.table_id ≡ best.now }
     requires problem { scout.old.me.0.about ≡ Some problem.now }
-    requires searched { (p : Point) → IsTrue (is_point problem.now.axes p) → key_at problem.now p ≤ scout.old.me.0.low }
+    requires searched { (p : Point) → IsTrue (is_point problem.now.axes p) → point_word problem.now p ≤ scout.old.me.0.low }
     ensures best { result ≡ key_at problem.now (best_of problem.now) }
-    ensures later { scout.old.me.0.low ≤ result }
+    ensures later { scout.old.me.0.low ≤ word_of result }
 {
     keys_law(problem);
-    best.known(scout)
+    key_in(best.known(scout))
 }
 
 /// The best point, by its key.

@@ -1,5 +1,5 @@
 -- The bound of a node: attained at the corner where each slope adds most, and no key in the node is above it.
-use Rattle.std.proofs.Common.{◌≡◌, ℕ, ◌+◌, ◌<◌, ◌≤◌, ◌⊎◌, inl, inr, true, false, cond, Bool, nat_lt, ℤ, pos, ◌+ℤ◌, ◌<ℤ◌, List, length, take, drop, refl, sym, subst, ◌∙◌, arith}
+use Rattle.std.proofs.Common.{◌≡◌, ℕ, ◌+◌, ◌<◌, ◌≤◌, ◌⊎◌, inl, inr, true, false, cond, Bool, nat_lt, ℤ, pos, ◌+ℤ◌, ◌<ℤ◌, List, length, take, drop, refl, sym, ap, subst, ◌∙◌, arith}
 use Rattle.std.specs.Prelude.{slice_index}
 use Rattle.std.proofs.lemmas.Bool.Decides.{nat_tests}
 use Rattle.std.proofs.lemmas.Int.{ints}
@@ -13,15 +13,16 @@ use Rattle.ivp_domain.specs.Domains.{index_of, size_on}
 use Rattle.ivp_domain.proofs.BoxLemmas.{has_low_corner, listed_point}
 use Rattle.ivp_func.proofs.Facts.{area_point, box_parts, has_first_point, place_in}
 use Rattle.ivp_problem.specs.declared.node.Node.{Node}
-use Rattle.ivp_problem.specs.Keys.{key_of}
+use Rattle.ivp_problem.specs.declared.key.Key.{Key}
+use Rattle.ivp_problem.specs.Keys.{AtMost, key_of}
 use Rattle.ivp_problem.specs.Problems.{IsProblem, WeightedSum}
-use Rattle.ivp_problem.specs.Sums.{greatest, key_at, least, sum_at, weighted_at, weighted_sum}
+use Rattle.ivp_problem.specs.Sums.{best_among, greatest, key_at, least, sum_at, weighted_at, weighted_sum}
 use Rattle.ivp_problem.specs.Corners.{Beats}
-use Rattle.ivp_problem.specs.Trees.{bound_of, chosen_at, rest_of, slope_at}
-use Rattle.ivp_problem.proofs.KeyOrder.{index_le, index_small, key_le, key_lt, key_places, key_some}
+use Rattle.ivp_problem.specs.Trees.{bound_of, chosen_at, partial_bound, rest_of, slope_at}
+use Rattle.ivp_problem.proofs.KeyOrder.{among_each, among_is, among_one, at_most_from, index_le, key_places}
 use Rattle.ivp_problem.proofs.Nodes.{Keeps}
 use Rattle.ivp_problem.proofs.Terms.{at_places, listed_at, weighted_sums_places, weighted_sums_tops}
-use Rattle.ivp_problem.proofs.Totals.{greatest_each, greatest_is, greatest_one, least_each, least_is}
+use Rattle.ivp_problem.proofs.Totals.{greatest_each, greatest_is, least_each, least_is}
 
 -- more, or as much and P
 abbrev Ahead : ℤ → ℤ → Type 0 → Type 0
@@ -66,19 +67,13 @@ greatest_chosen problem node corner keeps h =
     greatest_is (weighted_sum terms) (points_in node.area) (weighted_sum terms corner) at.0 (at_places corner) at.1 (weighted_sums_places terms corner)
     (λ k q e. elim (corner_most problem node corner q keeps h (listed_point node.area k q e)) [ inl less ↦ omega arith | inr (same, index) ↦ omega arith ])
 
--- the greatest key in a node of full depth
-pub greatest_key : (problem : WeightedSum) (node : Node) (corner : Point) → Keeps problem node → IsHighCorner node corner → length problem.terms ≤ node.depth → greatest (key_at problem) (points_in node.area) ≡ key_of (weighted_sum (take node.depth problem.terms) corner) (index_of problem.axes corner)
+-- the point of greatest key in a node of full depth
+pub greatest_key : (problem : WeightedSum) (node : Node) (corner : Point) → Keeps problem node → IsHighCorner node corner → length problem.terms ≤ node.depth → key_at problem (best_among problem (points_in node.area)) ≡ key_at problem corner
 greatest_key problem node corner keeps h full =
     let all : take node.depth problem.terms ≡ problem.terms = take_all node.depth problem.terms full in
     let at = listed_at node.area corner h.inside in
-    rw all
-    (greatest_is (key_at problem) (points_in node.area) (key_at problem corner) at.0 (at_places corner) at.1 (key_places problem corner)
-    (λ k q e.
-    let ahead = subst (λ ts. (weighted_sum ts q < weighted_sum ts corner) ⊎ ((weighted_sum ts q ≡ weighted_sum ts corner) × (index_of problem.axes corner ≤ index_of problem.axes q))) all (corner_most problem node corner q keeps h (listed_point node.area k q e)) in
-    elim ahead [
-      | inl less ↦ omega (arith, key_lt (sum_at problem q) (sum_at problem corner) (index_of problem.axes q) (index_of problem.axes corner) less)
-      | inr (same, index) ↦ let most : sum_at problem q ≤ sum_at problem corner = omega arith in key_le (sum_at problem q) (sum_at problem corner) (index_of problem.axes q) (index_of problem.axes corner) most index
-    ]))
+    among_is problem (points_in node.area) at.0 (at_places corner) corner at.1 (key_places problem corner)
+    (λ k q e. subst (λ ts. (weighted_sum ts q < weighted_sum ts corner) ⊎ ((weighted_sum ts q ≡ weighted_sum ts corner) × (index_of problem.axes corner ≤ index_of problem.axes q))) all (corner_most problem node corner q keeps h (listed_point node.area k q e)))
 
 -- the least index in a box is that of its low corner
 pub least_index : (axes : List Axis) (area : BoxN) (first : Point) → is_box area ≡ true → first.at ≡ area.low → least (index_of axes) (points_in area) ≡ index_of axes first
@@ -90,11 +85,10 @@ least_index axes area first proper low =
     index_le (slice_index first.at 0) (slice_index first.at 1) (slice_index first.at 2) (slice_index first.at 3) (slice_index q.at 0) (slice_index q.at 1) (slice_index q.at 2) (slice_index q.at 3) (size_on 1 axes) (size_on 2 axes) (size_on 3 axes) (place 0 (omega arith)) (place 1 (omega arith)) (place 2 (omega arith)) (place 3 (omega arith)))
 
 -- no key in a node is above its bound
-pub key_bound : (problem : WeightedSum) (node : Node) (p : Point) → Keeps problem node → has_point node.area p ≡ true → key_at problem p ≤ bound_of problem node
-key_bound problem node p keeps inside =
-    by (nat_lt node.depth (length problem.terms))
+pub key_bound : (problem : WeightedSum) (node : Node) (p : Point) → Keeps problem node → has_point node.area p ≡ true → AtMost (key_at problem p) (bound_of problem node)
+key_bound problem node p keeps inside = by (nat_lt node.depth (length problem.terms))
   where
-    by : (t : Bool) → key_at problem p ≤ cond t (key_of (greatest (weighted_sum (take node.depth problem.terms)) (points_in node.area) + rest_of problem node) (least (index_of problem.axes) (points_in node.area))) (greatest (key_at problem) (points_in node.area))
+    by : (t : Bool) → AtMost (key_at problem p) (cond t (partial_bound problem node) (key_at problem (best_among problem (points_in node.area))))
     by true =
         let at = listed_at node.area p inside in
         let terms = take node.depth problem.terms in
@@ -103,10 +97,10 @@ key_bound problem node p keeps inside =
         let first : least (index_of problem.axes) (points_in node.area) ≤ index_of problem.axes p = least_each (index_of problem.axes) (points_in node.area) at.0 (at_places p) at.1 in
         let whole = sum_by-take-drop (weighted_at p) problem.terms node.depth in
         let sum : sum_at problem p ≤ greatest (weighted_sum terms) (points_in node.area) + rest_of problem node = omega arith in
-        key_le (sum_at problem p) (greatest (weighted_sum terms) (points_in node.area) + rest_of problem node) (index_of problem.axes p) (least (index_of problem.axes) (points_in node.area)) sum first
+        at_most_from (key_at problem p) (partial_bound problem node) sum first
     by false =
         let at = listed_at node.area p inside in
-        subst (λ n. n ≤ greatest (key_at problem) (points_in node.area)) (key_places problem p) (greatest_each (key_at problem) (points_in node.area) at.0 (at_places p) at.1)
+        subst (λ (k : Key). AtMost k (key_at problem (best_among problem (points_in node.area)))) (key_places problem p) (among_each problem (points_in node.area) at.0 (at_places p) at.1)
 
 -- what the bound is, by the corner
 pub bound_below : (problem : WeightedSum) (node : Node) (corner first : Point) → Keeps problem node → IsHighCorner node corner → first.at ≡ node.area.low → node.depth < length problem.terms → key_of (weighted_sum (take node.depth problem.terms) corner + rest_of problem node) (index_of problem.axes first) ≡ bound_of problem node
@@ -115,19 +109,23 @@ bound_below problem node corner first keeps h low below =
     let test : nat_lt node.depth (length problem.terms) ≡ true = grind (arith, nat_tests) in
     rw test (sym (rw (greatest_chosen problem node corner keeps h, least_index problem.axes node.area first proper low) refl))
 
-pub bound_full : (problem : WeightedSum) (node : Node) (corner : Point) → Keeps problem node → IsHighCorner node corner → length problem.terms ≤ node.depth → key_of (weighted_sum (take node.depth problem.terms) corner) (index_of problem.axes corner) ≡ bound_of problem node
+pub bound_full : (problem : WeightedSum) (node : Node) (corner : Point) → Keeps problem node → IsHighCorner node corner → length problem.terms ≤ node.depth → key_at problem corner ≡ bound_of problem node
 bound_full problem node corner keeps h full =
     let test : nat_lt node.depth (length problem.terms) ≡ false = grind (arith, nat_tests) in
     rw test (sym (greatest_key problem node corner keeps h full))
+
+-- the same, by the chosen sum
+pub bound_chosen : (problem : WeightedSum) (node : Node) (corner : Point) → Keeps problem node → IsHighCorner node corner → length problem.terms ≤ node.depth → key_of (weighted_sum (take node.depth problem.terms) corner) (index_of problem.axes corner) ≡ bound_of problem node
+bound_chosen problem node corner keeps h full =
+    let all = take_all node.depth problem.terms full in
+    ap (λ ts. key_of (weighted_sum ts corner) (index_of problem.axes corner)) all ∙ bound_full problem node corner keeps h full
 
 -- at full depth the bound is the key of a point of the node
 pub bound_attained : (problem : WeightedSum) (node : Node) → IsProblem problem → Keeps problem node → length problem.terms ≤ node.depth → (p : Point) × (has_point node.area p ≡ true) × (key_at problem p ≡ bound_of problem node)
 bound_attained problem node h keeps full =
     let low : Point = record { at = node.area.low } in
     let inside = has_low_corner node.area (box_parts problem.axes node.area keeps.inside).0 in
-    let some : 0 < key_at problem low = key_some (sum_at problem low) (index_of problem.axes low) (index_small problem.axes low h.domain (area_point problem.axes node.area low keeps.inside inside)) in
-    let below = key_bound problem node low keeps inside in
+    let at = listed_at node.area low inside in
     let test : nat_lt node.depth (length problem.terms) ≡ false = grind (arith, nat_tests) in
-    let greatest : bound_of problem node ≡ greatest (key_at problem) (points_in node.area) = rw test refl in
-    let one = greatest_one (key_at problem) (points_in node.area) (omega arith) in
-    (one.1, listed_point node.area one.0 one.1 one.2, one.3 ∙ sym greatest)
+    let one = among_one problem (points_in node.area) at.0 (at_places low) at.1 in
+    (best_among problem (points_in node.area), listed_point node.area one.0 (best_among problem (points_in node.area)) one.1, rw test refl)

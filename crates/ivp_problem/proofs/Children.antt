@@ -1,10 +1,11 @@
 -- The children of a node have its points, each in exactly one of them.
-use Rattle.std.proofs.Common.{◌≡◌, ℕ, zero, suc, ◌+◌, Bool, true, false, cond, ◌&&◌, Option, Some, None, List, [], ◌∷◌, ◌++◌, length, refl, sym, ap, subst, ◌∙◌, arith}
+use Rattle.std.proofs.Common.{◌≡◌, ℕ, zero, suc, ◌+◌, ◌<◌, Bool, true, false, cond, ◌&&◌, Option, Some, None, List, [], ◌∷◌, ◌++◌, length, get_or, refl, sym, ap, subst, ◌∙◌, arith}
 use Rattle.std.specs.Prelude.{slice_get, count_by}
 use Rattle.std.specs.List.{flat_map}
 use Rattle.std.specs.Option.{option_map, option_and_then, option_to_list}
 use Rattle.std.proofs.lemmas.List.{append-nil}
 use Rattle.std.proofs.lemmas.List.Sums.{sum_by-append, sum_by-cons}
+use Rattle.std.proofs.lemmas.Option.{slice_get-get_or}
 use Rattle.ivp_domain.specs.declared.axis.Axis.{Axis}
 use Rattle.ivp_domain.specs.declared.boxes.Point.{Point}
 use Rattle.ivp_domain.specs.Boxes.{common, has_point, is_box, numbers_from}
@@ -13,12 +14,12 @@ use Rattle.ivp_func.specs.declared.piece.Piece.{Piece}
 use Rattle.ivp_func.specs.Functions.{IsPartition}
 use Rattle.ivp_func.specs.Pieces.{count_at, piece_has}
 use Rattle.ivp_func.proofs.Counting.{count_at-cons, one_if}
+use Rattle.ivp_func.proofs.Facts.{area_point}
 use Rattle.ivp_problem.specs.declared.node.Node.{Node}
 use Rattle.ivp_problem.specs.declared.term.Term.{Term}
 use Rattle.ivp_problem.specs.Problems.{IsProblem, WeightedSum}
-use Rattle.ivp_problem.specs.Trees.{child_with, children_in, children_of, with_chosen}
-use Rattle.ivp_problem.proofs.Nodes.{Keeps}
-use Rattle.ivp_func.proofs.Facts.{area_point}
+use Rattle.ivp_problem.specs.Trees.{child_with, children_in, children_of, IsNode, with_chosen}
+use Rattle.ivp_problem.proofs.Nodes.{blank_term, Keeps, node_keeps}
 
 -- a list over the numbers of a list's elements is one over the elements
 shifted : {A : Type 0} (f : ℕ → List A) (low n : ℕ) → flat_map f (numbers_from (suc low) n) ≡ flat_map (λ k. f (suc k)) (numbers_from low n)
@@ -76,3 +77,7 @@ count_children problem node term p h keeps stands =
     once : (t : Bool) → has_point node.area p ≡ t → (has_point node.area p ≡ true → count_at term.func.pieces p ≡ 1) → cond t (count_at term.func.pieces p) 0 ≡ cond t 1 0
     once true e h = h e
     once false e h = refl
+
+-- so each point of a node below full depth lies in one child
+pub once_in : (problem : WeightedSum) (node : Node) (p : Point) → IsProblem problem → IsNode problem node → node.depth < length problem.terms → count_by (has p) (children_of problem node) ≡ cond (has_point node.area p) 1 0
+once_in problem node p h is below = count_children problem node (get_or problem.terms node.depth blank_term) p h (node_keeps problem node h is) (slice_get-get_or problem.terms node.depth blank_term below)

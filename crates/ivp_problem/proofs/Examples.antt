@@ -8,12 +8,15 @@ use Rattle.ivp_func.specs.declared.piece.Piece.{Piece}
 use Rattle.ivp_func.proofs.PointTests.{passes_partition, passes_values}
 use Rattle.ivp_problem.specs.declared.term.Term.{Term}
 use Rattle.ivp_problem.specs.declared.term.ProblemFault.TheVariants.{NoFunction, TooMany, BadWeight, OtherDomain}
+use Rattle.ivp_problem.specs.declared.key.Key.{Key}
 use Rattle.ivp_problem.specs.declared.node.Node.{Node}
 use Rattle.ivp_problem.specs.Corners.{Beats, IsSmall}
-use Rattle.ivp_problem.specs.Keys.{index_of_key, key_of, sum_of}
+use Rattle.ivp_problem.specs.Keys.{AtMost, greater_own, is_at_most, key_of, Reaches}
 use Rattle.ivp_problem.specs.Problems.{IsProblem, IsTermOf, problem_from, WeightedSum}
 use Rattle.ivp_problem.specs.Sums.{best_of, key_at, sum_at}
+use Rattle.ivp_problem.specs.Found.{IsKnownSum, IsOwnKey}
 use Rattle.ivp_problem.specs.Nodes.{nodes_of, tree_size}
+use Rattle.ivp_problem.proofs.KeyOrder.{best_most}
 use Rattle.ivp_problem.proofs.Nodes.{node_keeps}
 use Rattle.ivp_problem.specs.Trees.{AreTops, bound_of, child_of, children_of, chosen_at, has_in, IsNode, node_of, own_top, root_of, slope_at}
 
@@ -145,9 +148,36 @@ sum_of_most = refl
 nodes_of_most : tree_size (record { axes = course; terms = replicate 64 most }) ≡ 65
 nodes_of_most = refl
 
--- a key gives its sum and its index back
-read_off : (sum_of (key_of 64000000000 4194303) ≡ 64000000000) × (index_of_key (key_of 64000000000 4194303) ≡ 4194303)
-read_off = (refl, refl)
+-- keys in order: by sum, then by least index
+ordered : (is_at_most (key_of 75 2) (key_of 76 9) ≡ true) × (is_at_most (key_of 75 2) (key_of 75 1) ≡ true) × (is_at_most (key_of 75 2) (key_of 75 2) ≡ true) × (is_at_most (key_of 75 1) (key_of 75 2) ≡ false) × (is_at_most (key_of 76 9) (key_of 75 2) ≡ false)
+ordered = (refl, refl, refl, refl, refl)
+
+lesser_index : AtMost (key_of 75 1) (key_of 75 2) → ⊥
+lesser_index (inl less) = omega arith
+lesser_index (inr (same, index)) = omega arith
+
+-- the greater of two keys that may be none
+greater_ones : (greater_own (Some (key_of 75 2)) (Some (key_of 75 1)) ≡ Some (key_of 75 1)) × (greater_own (Some (key_of 75 2)) (Some (key_of 55 1)) ≡ Some (key_of 75 2)) × (greater_own None (Some (key_of 0 3)) ≡ Some (key_of 0 3)) × (greater_own (Some (key_of 0 3)) None ≡ Some (key_of 0 3))
+greater_ones = (refl, refl, refl, refl)
+
+-- a key reaches itself, and none reaches nothing
+reached : Reaches (Some (key_of 75 2)) (key_of 75 2)
+reached = inr (refl, omega arith)
+
+unreached : Reaches None (key_of 0 3) → ⊥
+unreached is = is
+
+-- the best point's sum and key may have been found, and no key above that of each point
+found_best : IsKnownSum two 75 × IsOwnKey two (Some (key_of 75 2)) × IsKnownSum two 0 × IsOwnKey two None
+found_best = (inr (point_from 0 1 0 0, refl, refl), inr (point_from 0 1 0 0, refl, refl), inl refl, inl refl)
+
+above_best : AtMost (key_of 115 0) (key_of 75 2) → ⊥
+above_best (inl less) = omega arith
+above_best (inr (same, index)) = omega arith
+
+found_too_much : IsOwnKey two (Some (key_of 115 0)) → ⊥
+found_too_much (inl none) = absurd (cc)
+found_too_much (inr (p, inside, same)) = let key : key_at two p ≡ key_of 115 0 = cc in above_best (subst (λ (k : Key). AtMost k (key_of 75 2)) key (best_most two p inside))
 
 -- no function, then too many, then a bad weight, then another domain
 none : problem_from twelve [] ≡ Err NoFunction

@@ -1,5 +1,5 @@
 -- The greatest and the least of numbers at the points of a list.
-use Rattle.std.proofs.Common.{◌≡◌, ℕ, zero, suc, ◌<◌, ◌≤◌, ◌⊎◌, inl, inr, max, min, List, [], ◌∷◌, Some, refl, sym, ap, ◌∙◌, arith}
+use Rattle.std.proofs.Common.{◌≡◌, ℕ, zero, suc, ◌≤◌, ◌⊎◌, max, min, List, [], ◌∷◌, Some, refl, ap, arith}
 use Rattle.std.specs.Prelude.{slice_get}
 use Rattle.std.specs.List.{fold}
 use Rattle.ivp_domain.specs.declared.boxes.Point.{Point}
@@ -34,30 +34,9 @@ greatest_within f ps m each = most_within f 0 m ps (omega arith) each
 pub greatest_is : (f : Point → ℕ) (ps : List Point) (m n : ℕ) (p : Point) → slice_get ps n ≡ Some p → f p ≡ m → ((k : ℕ) (q : Point) → slice_get ps k ≡ Some q → f q ≤ m) → greatest f ps ≡ m
 greatest_is f ps m n p e same each = omega (arith, greatest_each f ps n p e, greatest_within f ps m each)
 
--- one of these numbers is the start, or the number of a point of the list
-abbrev Attained : (Point → ℕ) → ℕ → ℕ → List Point → Type 0
-Attained f a m ps = (m ≡ a) ⊎ ((n : ℕ) × (p : Point) × (slice_get ps n ≡ Some p) × (f p ≡ m))
-
 -- the greater of two numbers is one of them
 pub greater : (m n : ℕ) → (max m n ≡ m) ⊎ (max m n ≡ n)
 greater m n = grind arith
-
-most_one : (f : Point → ℕ) (a : ℕ) (ps : List Point) → Attained f a (most_from f a ps) ps
-most_one f a [] = inl refl
-most_one f a (p ∷ ps) = by (greater a (f p)) (most_one f (max a (f p)) ps)
-  where
-    by : (max a (f p) ≡ a) ⊎ (max a (f p) ≡ f p) → Attained f (max a (f p)) (most_from f (max a (f p)) ps) ps → Attained f a (most_from f a (p ∷ ps)) (p ∷ ps)
-    by (inl first) (inl same) = inl (same ∙ first)
-    by (inr second) (inl same) = inr (0, p, refl, sym second ∙ sym same)
-    by either (inr found) = inr (suc found.0, found.1, found.2, found.3)
-
--- a greatest number above 0 is that of a point of the list
-pub greatest_one : (f : Point → ℕ) (ps : List Point) → 0 < greatest f ps → (n : ℕ) × (p : Point) × (slice_get ps n ≡ Some p) × (f p ≡ greatest f ps)
-greatest_one f ps some = by (most_one f 0 ps)
-  where
-    by : Attained f 0 (greatest f ps) ps → (n : ℕ) × (p : Point) × (slice_get ps n ≡ Some p) × (f p ≡ greatest f ps)
-    by (inl none) = absurd (omega arith)
-    by (inr found) = found
 
 least_start : (f : Point → ℕ) (a : ℕ) (ps : List Point) → least_from f a ps ≤ a
 least_start f a [] = omega arith

@@ -1,12 +1,13 @@
 -- The weighted sum and the key of a point, and the best point of all.
-use Rattle.std.specs.Prelude.{ℕ, ◌*◌, nat_abs, max, min, nat_lt, if◌then◌else◌, List, [], ◌∷◌}
+use Rattle.std.specs.Prelude.{ℕ, ◌*◌, nat_abs, max, min, if◌then◌else◌, List, [], ◌∷◌}
 use Rattle.std.specs.List.{fold, sum_by}
 use Rattle.ivp_domain.specs.declared.boxes.Point.{Point}
 use Rattle.ivp_domain.specs.Boxes.{point_from}
 use Rattle.ivp_domain.specs.Domains.{index_of, points_of}
 use Rattle.ivp_func.specs.Pieces.{value_at}
 use Rattle.ivp_problem.specs.declared.term.Term.{Term}
-use Rattle.ivp_problem.specs.Keys.{key_of}
+use Rattle.ivp_problem.specs.declared.key.Key.{Key}
+use Rattle.ivp_problem.specs.Keys.{is_at_most, key_of}
 use Rattle.ivp_problem.specs.Problems.{WeightedSum}
 
 -- the weighted value of a term at a point: weight times value, which is never below 0
@@ -22,7 +23,7 @@ abbrev pub sum_at : WeightedSum → Point → ℕ
 sum_at problem point = weighted_sum problem.terms point
 
 -- the key of a point: its weighted sum with its index
-abbrev pub key_at : WeightedSum → Point → ℕ
+abbrev pub key_at : WeightedSum → Point → Key
 key_at problem point = key_of (sum_at problem point) (index_of problem.axes point)
 
 -- the greatest of these numbers, one for each point; 0 where there is no point
@@ -36,7 +37,12 @@ least number (first ∷ points) = fold (λ least point. min least (number point)
 
 -- the one of two points that has the greater key
 abbrev pub better : WeightedSum → Point → Point → Point
-better problem one other = if nat_lt (key_at problem one) (key_at problem other) then other else one
+better problem one other = if is_at_most (key_at problem other) (key_at problem one) then one else other
+
+-- the point of greatest key among these
+abbrev pub best_among : WeightedSum → List Point → Point
+best_among problem [] = point_from 0 0 0 0
+best_among problem (point ∷ points) = fold (better problem) point points
 
 -- the best point: the one of greatest key among all points of the domain
 abbrev pub best_of : WeightedSum → Point

@@ -11,9 +11,10 @@ use Rattle.ivp_func.specs.declared.piece.Piece.{Piece}
 use Rattle.ivp_func.specs.Pieces.{slope_on, value_at, piece_value}
 use Rattle.ivp_problem.specs.declared.term.Term.{Term}
 use Rattle.ivp_problem.specs.declared.node.Node.{Node}
+use Rattle.ivp_problem.specs.declared.key.Key.{Key}
 use Rattle.ivp_problem.specs.Keys.{key_of}
 use Rattle.ivp_problem.specs.Problems.{WeightedSum}
-use Rattle.ivp_problem.specs.Sums.{greatest, key_at, least, weighted_sum}
+use Rattle.ivp_problem.specs.Sums.{best_among, greatest, key_at, least, weighted_sum}
 
 -- no piece chosen yet: the whole domain
 abbrev pub root_of : WeightedSum → Node
@@ -101,10 +102,10 @@ abbrev pub rest_of : WeightedSum → Node → ℕ
 rest_of problem node = sum_by (top_of problem.axes) (drop node.depth problem.terms)
 
 -- below full depth: the greatest sum of the chosen functions in the box, with the tops of the others, and the least index in the box
-abbrev pub partial_bound : WeightedSum → Node → ℕ
+abbrev pub partial_bound : WeightedSum → Node → Key
 partial_bound problem node =
     key_of (greatest (weighted_sum (take node.depth problem.terms)) (points_in node.area) + rest_of problem node) (least (index_of problem.axes) (points_in node.area))
 
 -- the bound of a node: at full depth the greatest key in the box
-abbrev pub bound_of : WeightedSum → Node → ℕ
-bound_of problem node = if nat_lt node.depth (length problem.terms) then partial_bound problem node else greatest (key_at problem) (points_in node.area)
+abbrev pub bound_of : WeightedSum → Node → Key
+bound_of problem node = if nat_lt node.depth (length problem.terms) then partial_bound problem node else key_at problem (best_among problem (points_in node.area))

@@ -1,42 +1,63 @@
-ghost use Rattle.std.specs.Prelude.{◌≡◌, ◌^◌, ◌<◌, ◌≤◌};
-ghost use Rattle.ivp_problem.specs.Keys.{index_of_key, key_of, sum_of};
+ghost use Rattle.std.specs.Prelude.{◌≡◌, ◌↔◌, ◌^◌, ◌<◌, ◌≤◌, IsTrue};
+ghost use Rattle.ivp_problem.specs.Keys.{AtMost, greater_own, key_of, Reaches};
 
-/// A weighted sum and the index of a point in one number: `sum * 2^24 + (2^24 - 1 - index)`. The
-/// greater sum has the greater key, and of equal sums the lesser index. The key of a point is never
-/// 0 and is below 2^60.
-pub type Key = u64;
+/// The sum and the index of a point. The greater sum has the greater key, and of equal sums the lesser
+/// index.
+#[derive(Clone, Copy, Debug, PartialEq, Eq)]
+pub struct Key {
+    pub sum: u64,
+    pub index: u32,
+}
 
 /// The greatest sum of a problem: 64 functions of weight 10,000 and value 100,000.
 pub const MOST_SUM: u64 = 64_000_000_000;
-
-/// What a sum counts in a key: 2^24.
-const UNIT: u64 = 16_777_216;
 
 /// The key of a sum and an index.
 pub fn key_of(sum: u64, index: u32) -> Key
     requires sum { sum ≤ 64000000000 }
     requires index { index < 2 ^ 22 }
-    ensures key { result ≡ key_of sum index }
-    ensures some { 0 < result }
-    ensures small { result < 2 ^ 60 }
-
-    // The sum and the index can be read off.
-    ensures sum { sum_of result ≡ sum }
-    ensures index { index_of_key result ≡ index }
+    ensures { result ≡ key_of sum index }
 {
-    sum * UNIT + (UNIT - 1 - index as u64)
+    Key { sum, index }
 }
 
 /// The sum of a key.
 pub fn sum_of(key: Key) -> u64
-    ensures { result ≡ sum_of key }
+    ensures { result ≡ key.sum }
 {
-    key / UNIT
+    key.sum
 }
 
 /// The index of a key.
 pub fn index_of_key(key: Key) -> u32
-    ensures { result ≡ index_of_key key }
+    ensures { result ≡ key.index }
 {
-    (UNIT - 1 - key % UNIT) as u32
+    key.index
+}
+
+/// Whether a key is at most another.
+pub fn at_most(one: Key, other: Key) -> bool
+    ensures { IsTrue result ↔ AtMost one other }
+{
+    one.sum < other.sum || (one.sum == other.sum && other.index <= one.index)
+}
+
+/// Whether there is a key, and another one is at most it.
+pub fn reaches(own: Option<Key>, key: Key) -> bool
+    ensures { IsTrue result ↔ Reaches own key }
+{
+    match own {
+        Some(one) => at_most(key, one),
+        None => false,
+    }
+}
+
+/// The greater of two keys that may be none.
+pub fn greater_own(one: Option<Key>, other: Option<Key>) -> Option<Key>
+    ensures { result ≡ greater_own one other }
+{
+    match other {
+        Some(key) if !reaches(one, key) => other,
+        _ => one,
+    }
 }

@@ -1,22 +1,22 @@
-ghost use Rattle.std.specs.Prelude.{◌≡◌, ◌<◌, ◌≤◌, ◌^◌, ◌⊎◌, length, IsTrue, if◌then◌else◌, count_by, slice_get, Some};
+ghost use Rattle.std.specs.Prelude.{◌≡◌, ◌<◌, ◌≤◌, ◌^◌, length, IsTrue, if◌then◌else◌, count_by, slice_get, Some};
 ghost use Rattle.ivp_domain.specs.Boxes.{has_point};
 ghost use Rattle.ivp_domain.specs.Domains.{index_of, is_point, points_of};
-ghost use Rattle.ivp_problem.specs.Keys.{index_of_key, sum_of};
-ghost use Rattle.ivp_problem.specs.Sums.{best_of, key_at, sum_at};
+ghost use Rattle.ivp_problem.specs.Keys.{AtMost};
+ghost use Rattle.ivp_problem.specs.Sums.{best_of, key_at};
 ghost use Rattle.ivp_problem.specs.Trees.{bound_of, children_of, IsNode};
 
 use crate::node::Node;
 use crate::problem::{Problem, problem_law};
 use ivp_domain::Point;
 
-/// What holds of the keys of a problem's points: none is 0, each is below 2^60, different points
+/// What holds of the keys of a problem's points: their sums and indices are small, different points
 /// have different keys, and the best point is one whose key none exceeds. It does nothing.
 pub fn keys_law(problem: &Problem)
-    ensures some { (p : Point) → IsTrue (is_point problem.now.axes p) → 0 < key_at problem.now p }
-    ensures small { (p : Point) → IsTrue (is_point problem.now.axes p) → key_at problem.now p < 2 ^ 60 }
+    ensures sums { (p : Point) → IsTrue (is_point problem.now.axes p) → (key_at problem.now p).sum ≤ 64000000000 }
+    ensures indices { (p : Point) → IsTrue (is_point problem.now.axes p) → (key_at problem.now p).index < 2 ^ 22 }
     ensures distinct { (p q : Point) → IsTrue (is_point problem.now.axes p) → IsTrue (is_point problem.now.axes q) → length p.at ≡ 4 → length q.at ≡ 4 → key_at problem.now p ≡ key_at problem.now q → p ≡ q }
     ensures point { IsTrue (is_point problem.now.axes (best_of problem.now)) }
-    ensures best { (p : Point) → IsTrue (is_point problem.now.axes p) → key_at problem.now p ≤ key_at problem.now (best_of problem.now) }
+    ensures best { (p : Point) → IsTrue (is_point problem.now.axes p) → AtMost (key_at problem.now p) (key_at problem.now (best_of problem.now)) }
 {
     problem_law(problem);
 }
@@ -41,14 +41,9 @@ pub fn bound_law(problem: &Problem, node: &Node)
     problem_law(problem);
 }
 
-/// What holds of the best point: each other point has a lesser sum, or the same and no lesser index.
-/// It stands among all points at its index, and its key gives its sum and its index. It does nothing.
+/// What holds of the best point: it stands among all points at its index. It does nothing.
 pub fn best_law(problem: &Problem)
-    ensures greatest { (p : Point) → IsTrue (is_point problem.now.axes p) → (sum_at problem.now p < sum_at problem.now (best_of problem.now))
-        ⊎ ((sum_at problem.now p ≡ sum_at problem.now (best_of problem.now)) × (index_of problem.now.axes (best_of problem.now) ≤ index_of problem.now.axes p)) }
-    ensures listed { slice_get (points_of problem.now.axes) (index_of problem.now.axes (best_of problem.now)) ≡ Some (best_of problem.now) }
-    ensures sum { sum_of (key_at problem.now (best_of problem.now)) ≡ sum_at problem.now (best_of problem.now) }
-    ensures index { index_of_key (key_at problem.now (best_of problem.now)) ≡ index_of problem.now.axes (best_of problem.now) }
+    ensures { slice_get (points_of problem.now.axes) (index_of problem.now.axes (best_of problem.now)) ≡ Some (best_of problem.now) }
 {
     problem_law(problem);
 }

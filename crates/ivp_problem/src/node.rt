@@ -3,6 +3,7 @@ ghost use Rattle.ivp_domain.specs.Boxes.{has_point, is_box};
 ghost use Rattle.ivp_domain.specs.Domains.{is_point};
 ghost use Rattle.ivp_func.specs.Pieces.{is_small};
 ghost use Rattle.ivp_problem.specs.Problems.{is_weight};
+ghost use Rattle.ivp_problem.specs.Keys.{AtMost};
 ghost use Rattle.ivp_problem.specs.Sums.{key_at, weighted_sum};
 ghost use Rattle.ivp_problem.specs.Corners.{Beats, IsSmall};
 ghost use Rattle.ivp_problem.specs.Trees.{bound_of, child_of, chosen_at, IsNode, next_of, root_of, slope_at, slope_with, with_chosen};
@@ -184,7 +185,7 @@ impl Problem {
     fn bound_key(&self, node: &Node) -> Key
         requires { IsNode self.now node.now }
         ensures bound { result ≡ bound_of self.now node.now }
-        ensures above { (p : Point) → IsTrue (has_point node.now.area p) → key_at self.now p ≤ result }
+        ensures above { (p : Point) → IsTrue (has_point node.now.area p) → AtMost (key_at self.now p) result }
     {
         let len = self.len();
         let domain = self.lent_domain();
@@ -216,7 +217,7 @@ impl Problem {
     pub fn bound<L: Ledger>(&self, node: &Node, steps: &mut Steps<L>) -> Key
         requires { IsNode self.now node.now }
         ensures bound { result ≡ bound_of self.now node.now }
-        ensures above { (p : Point) → IsTrue (has_point node.now.area p) → key_at self.now p ≤ result }
+        ensures above { (p : Point) → IsTrue (has_point node.now.area p) → AtMost (key_at self.now p) result }
         ensures counted { steps.new ≡ steps.old + 1 }
     {
         steps.tick();

@@ -3,6 +3,7 @@ ghost use Rattle.std.specs.Prelude.{◌≡◌, ◌<◌, ◌≤◌, IsTrue};
 ghost use Rattle.ivp_domain.specs.declared.boxes.Point.{Point};
 ghost use Rattle.ivp_domain.specs.Boxes.{has_point};
 ghost use Rattle.ivp_domain.specs.Domains.{is_point};
+ghost use Rattle.ivp_problem.specs.Keys.{AtMost};
 ghost use Rattle.ivp_problem.specs.Sums.{key_at, sum_at};
 ghost use Rattle.ivp_problem.specs.Trees.{bound_of, IsNode};
 
@@ -20,7 +21,7 @@ fn bound_by<L: Ledger>(problem: &Problem, node: &Node, blank: Blank) -> Key
     requires parts { blank.parts ≡ L.parts }
     requires some { 0 < blank.parts }
     ensures bound { result ≡ bound_of problem.now node.now }
-    ensures above { (p : Point) → IsTrue (has_point node.now.area p) → key_at problem.now p ≤ result }
+    ensures above { (p : Point) → IsTrue (has_point node.now.area p) → AtMost (key_at problem.now p) result }
 {
     let mut steps = Steps::<L>::new(blank);
     problem.bound(node, &mut steps)
@@ -31,7 +32,7 @@ fn bound_by<L: Ledger>(problem: &Problem, node: &Node, blank: Blank) -> Key
 pub fn bound_of(problem: &Problem, node: &Node) -> Key
     requires { IsNode problem.now node.now }
     ensures bound { result ≡ bound_of problem.now node.now }
-    ensures above { (p : Point) → IsTrue (has_point node.now.area p) → key_at problem.now p ≤ result }
+    ensures above { (p : Point) → IsTrue (has_point node.now.area p) → AtMost (key_at problem.now p) result }
 {
     bound_by::<Brand>(problem, node, Blank::new(1))
 }

@@ -1,28 +1,30 @@
 -- The definition of a best key where no point passes the test, and where each point of a small problem does.
-use Rattle.std.proofs.Common.{Bool, false, inl, inr, pos, List, [], ◌∷◌, refl, arith}
+use Rattle.std.proofs.Common.{◌≡◌, Bool, false, inl, inr, pos, Option, Some, None, List, [], ◌∷◌, refl, sym, ap, subst, arith}
 use Rattle.std.specs.Prelude.{codes}
 use Rattle.ivp_domain.specs.declared.axis.Axis.{Axis}
 use Rattle.ivp_domain.specs.declared.boxes.Point.{Point}
 use Rattle.ivp_domain.specs.Boxes.{point_from}
 use Rattle.ivp_domain.specs.Domains.{is_point}
 use Rattle.ivp_func.specs.declared.piece.Piece.{Piece}
-use Rattle.ivp_problem.specs.Keys.{key_of}
+use Rattle.ivp_problem.specs.declared.key.Key.{Key}
+use Rattle.ivp_problem.specs.Keys.{AtMost, key_of}
 use Rattle.ivp_problem.specs.Problems.{WeightedSum}
-use Rattle.ivp_problem.proofs.KeyOrder.{best_most}
+use Rattle.ivp_problem.specs.Sums.{key_at}
+use Rattle.ivp_problem.proofs.KeyOrder.{at_most_self, at_most_then, best_most}
 use Rattle.ivp_search.specs.Incumbents.{IsBest}
 
 abbrev none_pass : Point → Bool
 none_pass _ = false
 
--- the incumbent stays
-stays : (problem : WeightedSum) → IsBest problem none_pass 7 7
-stays problem = record { kept = omega arith; above = λ p no. absurd (cc); found = inl refl }
+-- the incumbent stays, be it none or a key
+stays : (problem : WeightedSum) (incumbent : Option Key) → IsBest problem none_pass incumbent incumbent
+stays problem incumbent = record { kept = λ key reach. reach; above = λ p no. absurd (cc); found = inl refl }
 
 -- and nothing above it is found
-no_more : (problem : WeightedSum) → IsBest problem none_pass 7 8 → ⊥
+no_more : (problem : WeightedSum) → IsBest problem none_pass (Some (key_of 7 0)) (Some (key_of 8 0)) → ⊥
 no_more problem best =
     elim best.found [
-      | inl same ↦ absurd (omega arith)
+      | inl same ↦ let key : key_of 8 0 ≡ key_of 7 0 = cc in let sum : (key_of 8 0).sum ≡ (key_of 7 0).sum = ap (λ (k : Key). k.sum) key in absurd (omega arith)
       | inr point ↦ absurd (cc)
     ]
 
@@ -37,22 +39,30 @@ abbrev one : WeightedSum
 one = record { axes = axes; terms = record { weight = 1; func = record { axes = axes; pieces = rising ∷ [] } } ∷ [] }
 
 -- the greatest key is the last point's, unless the incumbent is greater
-last_is_best : IsBest one (is_point axes) 0 (key_of 6 1)
-last_is_best = record { kept = omega arith; above = λ p inside. best_most one p inside; found = inr (point_from 1 0 0 0, refl, refl) }
+last_is_best : IsBest one (is_point axes) None (Some (key_of 6 1))
+last_is_best = record { kept = λ key none. absurd none; above = λ p inside. best_most one p inside; found = inr (point_from 1 0 0 0, refl, refl) }
 
-incumbent_is_best : IsBest one (is_point axes) (key_of 7 0) (key_of 7 0)
-incumbent_is_best = record { kept = omega arith; above = λ p inside. omega (arith, best_most one p inside); found = inl refl }
+incumbent_is_best : IsBest one (is_point axes) (Some (key_of 7 0)) (Some (key_of 7 0))
+incumbent_is_best = record { kept = λ key reach. reach; above = λ p inside. at_most_then (key_at one p) (key_of 6 1) (key_of 7 0) (best_most one p inside) (inl (omega arith)); found = inl refl }
 
 -- not the first point's, which is less, nor a key that no point has; and no greater incumbent is given up
-lesser_key : IsBest one (is_point axes) 0 (key_of 5 0) → ⊥
-lesser_key is = omega (arith, is.above (point_from 1 0 0 0) refl)
+six_above_five : AtMost (key_of 6 1) (key_of 5 0) → ⊥
+six_above_five (inl less) = omega arith
+six_above_five (inr (same, index)) = omega arith
 
-key_of_no_point : IsBest one (is_point axes) 0 (key_of 7 0) → ⊥
+lesser_key : IsBest one (is_point axes) None (Some (key_of 5 0)) → ⊥
+lesser_key is = six_above_five (is.above (point_from 1 0 0 0) refl)
+
+seven_above_six : AtMost (key_of 7 0) (key_of 6 1) → ⊥
+seven_above_six (inl less) = omega arith
+seven_above_six (inr (same, index)) = omega arith
+
+key_of_no_point : IsBest one (is_point axes) None (Some (key_of 7 0)) → ⊥
 key_of_no_point is =
     elim is.found [
-      | inl same ↦ absurd (omega arith)
-      | inr point ↦ omega (arith, point.2, best_most one point.0 point.1)
+      | inl same ↦ absurd (cc)
+      | inr (point, inside, same) ↦ let key : key_of 7 0 ≡ key_at one point = cc in seven_above_six (subst (λ (k : Key). AtMost k (key_of 6 1)) (sym key) (best_most one point inside))
     ]
 
-given_up : IsBest one (is_point axes) (key_of 7 0) (key_of 6 1) → ⊥
-given_up is = omega (arith, is.kept)
+given_up : IsBest one (is_point axes) (Some (key_of 7 0)) (Some (key_of 6 1)) → ⊥
+given_up is = seven_above_six (is.kept (key_of 7 0) (at_most_self (key_of 7 0)))

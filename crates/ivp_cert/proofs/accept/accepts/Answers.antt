@@ -20,7 +20,7 @@ returns-in-Some-clause-accepts c =
     let cert = c.args.cert.now in
     let place = c.in-Some.place in
     let sum = c.if-claim-sum_at.false ∙ c.sum_at.ensures.sum in
-    let key = claim_key problem claim c.domain.result c.index_of.result c.key_of-key.result c.sum_at.result c.domain.ensures c.index_of.ensures.index c.if-claim-sum_at.false c.sum_at.ensures.sum c.key_of-key.ensures.key in
+    let key = claim_key problem claim c.domain.result c.index_of.result c.key_of-key.result c.sum_at.result c.domain.ensures c.index_of.ensures.index c.if-claim-sum_at.false c.sum_at.ensures.sum c.key_of-key.ensures in
     let walk = whole_tree problem c.key_of-key.result _ c.root.result c.new.result cert (Some (drop place cert)) c.root.ensures.root c.new.ensures key c.in-Some.ensures.behind in (
       λ test.
           let last : place ≡ length cert = grind (arith, nat_tests, c.len.ensures) in
@@ -42,6 +42,6 @@ returns-in-None-clause-accepts c =
     let problem = c.args.problem.now in
     let claim = c.args.claim.now in
     let cert = c.args.cert.now in
-    let key = claim_key problem claim c.domain.result c.index_of.result c.key_of-key.result c.sum_at.result c.domain.ensures c.index_of.ensures.index c.if-claim-sum_at.false c.sum_at.ensures.sum c.key_of-key.ensures.key in
+    let key = claim_key problem claim c.domain.result c.index_of.result c.key_of-key.result c.sum_at.result c.domain.ensures c.index_of.ensures.index c.if-claim-sum_at.false c.sum_at.ensures.sum c.key_of-key.ensures in
     let walk = whole_tree problem c.key_of-key.result _ c.root.result c.new.result cert None c.root.ensures.root c.new.ensures key c.in-None.ensures.behind in
     (λ no. absurd (cc), λ is. let bad = walk ∙ accepts_walked problem claim cert c.problem_law.ensures is in absurd (cc))

@@ -1,19 +1,24 @@
-use Rattle.std.proofs.Common.{◌≡◌, ◌<◌, ◌≤◌, ◌∷◌, [], ◌++◌, length, refl, sym, ap, ◌∙◌, arith, append-nil}
+use Rattle.std.proofs.Common.{◌≡◌, ◌<◌, ◌≤◌, ◌∷◌, [], ◌++◌, length, refl, sym, ap, subst, ◌∙◌, arith, append-nil}
+use Rattle.std.proofs.lemmas.Bool.{false≢true}
+use Rattle.ivp_problem.specs.declared.key.Key.{Key}
+use Rattle.ivp_problem.specs.Keys.{AtMost}
+use Rattle.ivp_problem.specs.Trees.{bound_of}
 use Rattle.ivp_problem.proofs.Pieces.{child_depth}
+use Rattle.ivp_problem.proofs.KeyOrder.{false_at_most}
 use Rattle.ivp_cert.proofs.Stepping.{child_added, left_full, left_last, left_start, one_longer, popped_back, own_added}
 use Rattle.ivp_cert.proofs.cutting.+add_topmost.Goals as goal
 
-pub returns-then-bound-key-clause-lines : goal.returns-then-bound-key-clause-lines
-returns-then-bound-key-clause-lines t c =
+pub returns-then-at_most-clause-lines : goal.returns-then-at_most-clause-lines
+returns-then-at_most-clause-lines t c =
     let problem = c.args.problem.now in
-    own_added problem c.args.key c.args.trail.now c.all.result.now c.args.node.now c.bound_of-bound.result c.args.cert.now c.add_line.new.cert c.bound_of-bound.ensures.bound c.all.ensures.all (omega (arith, c.if-bound-key.true, c.bound_of-bound.ensures.bound)) c.in_ok-add_line.ensures
+    own_added problem c.args.key c.args.trail.now c.all.result.now c.args.node.now c.bound_of-bound.result c.args.cert.now c.add_line.new.cert c.bound_of-bound.ensures.bound c.all.ensures.all (subst (λ (k : Key). AtMost k c.args.key) c.bound_of-bound.ensures.bound (c.at_most.ensures.0 c.if-at_most.true)) c.in_ok-add_line.ensures
 
 pub returns-then-node-len-clause-lines : goal.returns-then-node-len-clause-lines
 returns-then-node-len-clause-lines t c =
     let problem = c.args.problem.now in
     let node = c.args.node.now in
     let full : length problem.terms ≤ node.depth = omega (arith, c.if-node-len.true, c.len.ensures.len) in
-    let none = left_full problem c.args.key c.args.trail.now node full (omega (arith, c.if-bound-key.false, c.bound_of-bound.ensures.bound)) in
+    let none = left_full problem c.args.key c.args.trail.now node full (false_at_most (bound_of c.args.problem.now c.args.node.now) c.args.key (λ le. absurd (false≢true (sym c.if-at_most.false ∙ c.at_most.ensures.1 (subst (λ (k : Key). AtMost k c.args.key) (sym c.bound_of-bound.ensures.bound) le))))) in
     sym (ap (λ ls. c.args.cert.now ++ ls) none ∙ append-nil c.args.cert.now)
 
 pub loop-child-init : goal.loop-child-init
@@ -22,7 +27,7 @@ loop-child-init t c =
     let node = c.args.node.now in
     record {
       few = omega arith;
-      lines = ap (λ ls. c.args.cert.now ++ ls) (left_start problem c.args.key c.args.trail.now node (omega (arith, c.if-node-len.false, c.len.ensures.len)) (omega (arith, c.if-bound-key.false, c.bound_of-bound.ensures.bound)));
+      lines = ap (λ ls. c.args.cert.now ++ ls) (left_start problem c.args.key c.args.trail.now node (omega (arith, c.if-node-len.false, c.len.ensures.len)) (false_at_most (bound_of c.args.problem.now c.args.node.now) c.args.key (λ le. absurd (false≢true (sym c.if-at_most.false ∙ c.at_most.ensures.1 (subst (λ (k : Key). AtMost k c.args.key) (sym c.bound_of-bound.ensures.bound) le))))));
       trail = refl;
     }
 

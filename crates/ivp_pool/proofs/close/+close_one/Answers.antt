@@ -1,7 +1,13 @@
-use Rattle.std.proofs.Common.{rules, ◌≡◌, ◌+◌, ◌<◌, length, refl, subst, ap, ◌∙◌, arith}
+use Rattle.std.proofs.Common.{rules, ◌≡◌, ℕ, ◌+◌, ◌<◌, ◌≤◌, length, refl, sym, subst, ap, ◌∙◌, arith}
+use Rattle.std.proofs.lemmas.Bool.{false≢true}
 use Rattle.atomic_table.specs.Table.{Me}
 use Rattle.best_word.specs.declared.best.View.{View}
+use Rattle.ivp_problem.specs.declared.key.Key.{Key}
+use Rattle.ivp_problem.specs.Keys.{AtMost}
 use Rattle.ivp_problem.proofs.Pieces.{among_all, children_end, none_to}
+use Rattle.best_word.specs.Known.{IsKnownKey}
+use Rattle.best_word.specs.Words.{key_in, word_of}
+use Rattle.best_word.proofs.Words.{word_above, word_down}
 use Rattle.ivp_pool.specs.Closing.{Pushed}
 use Rattle.ivp_pool.proofs.Growing.{closed_covers, nothing_searched, pruned, Searched, searched_all, searched_closed, searched_few, searched_on, searched_passed}
 use Rattle.ivp_pool.proofs.close.+close_one.Goals as goal
@@ -11,21 +17,39 @@ use Rattle.ivp_pool.proofs.close.+close_one.Goals.{in-Some-push, in_default-push
 learned : (start mid last : Me (Unit {0}) View) → mid ≡ (record start.0 { low = mid.0.low }, start.1) → last ≡ (record mid.0 { low = last.0.low }, mid.1) → last ≡ (record start.0 { low = last.0.low }, start.1)
 learned start mid last e e' = e' ∙ ap (λ m. (record m.0 { low = last.0.low }, m.1)) e
 
-pub returns-then-bound-known-clause-closed : goal.returns-then-bound-known-clause-closed
-returns-then-bound-known-clause-closed g t c =
-    let low = ap (λ m. m.0.low) c.known-known.ensures.scout.1 in
-    pruned c.args.problem.now c.known-known.new.scout.me.0.low (g.T.Tray.took c.args.tray.now) c.args.node (omega (arith, c.bound_of-bound.ensures.bound, c.if-bound-known.true, low))
+-- a bound that isn't at most the key of a word has a greater word
+over : (bound known : Key) (word low : ℕ) → known ≡ key_in word → (AtMost bound known → ⊥) → low ≤ word → word_of bound ≤ low → ⊥
+over bound known word low is none later within = none (subst (AtMost bound) (sym is) (word_above bound word (omega arith)))
 
-pub returns-then-bound-known-clause-covered : goal.returns-then-bound-known-clause-covered
-returns-then-bound-known-clause-covered g t c =
+pub returns-then-at_most-clause-closed : goal.returns-then-at_most-clause-closed
+returns-then-at_most-clause-closed g t c =
+    let low = ap (λ m. m.0.low) c.known.ensures.scout.1 in
+    let bound = ap word_of c.bound_of-bound.ensures.bound in
+    let within = word_down c.bound_of-bound.result c.known.result (subst (AtMost c.bound_of-bound.result) c.key_in-known.ensures (c.at_most.ensures.0 c.if-at_most.true)) in
+    pruned c.args.problem.now c.known.new.scout.me.0.low (g.T.Tray.took c.args.tray.now) c.args.node (omega (arith, bound, within, low))
+
+pub returns-then-at_most-clause-covered : goal.returns-then-at_most-clause-covered
+returns-then-at_most-clause-covered g t c =
     let took = g.T.Tray.took c.args.tray.now in
-    closed_covers c.args.problem.now c.known-known.new.scout.me.0.low took took c.args.node 1 c.len-len.ensures.problem c.requires.node (returns-then-bound-known-clause-closed g t c)
+    closed_covers c.args.problem.now c.known.new.scout.me.0.low took took c.args.node 1 c.len-len.ensures.problem c.requires.node (returns-then-at_most-clause-closed g t c)
+
+pub returns-then-at_most-clause-known : goal.returns-then-at_most-clause-known
+returns-then-at_most-clause-known g t c =
+    let low = ap (λ m. m.0.low) c.known.ensures.scout.1 in
+    subst (IsKnownKey c.args.problem.now) (sym low) (c.known.ensures.known c.args.problem.now c.requires.problem)
+
+pub returns-then-node-len-clause-pruned : goal.returns-then-node-len-clause-pruned
+returns-then-node-len-clause-pruned g t c = λ within.
+    absurd
+    (over c.bound_of-bound.result c.key_in-known.result c.known.result c.args.scout.now.me.0.low c.key_in-known.ensures (λ most. false≢true (sym c.if-at_most.false ∙ c.at_most.ensures.1 most)) c.known.ensures.later
+    (omega (arith, within, ap word_of c.bound_of-bound.ensures.bound)))
 
 pub returns-then-node-len-clause-closed : goal.returns-then-node-len-clause-closed
 returns-then-node-len-clause-closed g t c =
     let low = ap (λ m. m.0.low) c.offer.ensures.scout.1 in
     let greater = c.offer.ensures.greater in
-    pruned c.args.problem.now c.offer.new.scout.me.0.low (g.T.Tray.took c.args.tray.now) c.args.node (omega (arith, c.bound_of-bound.ensures.bound, greater.1, low))
+    let bound = ap word_of c.bound_of-bound.ensures.bound in
+    pruned c.args.problem.now c.offer.new.scout.me.0.low (g.T.Tray.took c.args.tray.now) c.args.node (omega (arith, bound, greater.1, low))
 
 pub returns-then-node-len-clause-covered : goal.returns-then-node-len-clause-covered
 returns-then-node-len-clause-covered g t c =
@@ -34,13 +58,13 @@ returns-then-node-len-clause-covered g t c =
 
 pub loop-next-init : goal.loop-next-init
 loop-next-init g t c =
-    let low = ap (λ m. m.0.low) c.known-known.ensures.scout.1 in
+    let low = ap (λ m. m.0.low) c.known.ensures.scout.1 in
     record {
       few = omega arith;
-      searched = nothing_searched c.args.problem.now c.known-known.new.scout.me.0.low (g.T.Tray.took c.args.tray.now);
-      known = search rules;
+      searched = nothing_searched c.args.problem.now c.known.new.scout.me.0.low (g.T.Tray.took c.args.tray.now);
+      known = subst (IsKnownKey c.args.problem.now) (sym low) (c.known.ensures.known c.args.problem.now c.requires.problem);
       later = search rules;
-      word = c.known-known.ensures.scout.0;
+      word = c.known.ensures.scout.0;
       scout = search rules;
       tray = c.requires.tray;
       kept = refl;
@@ -113,3 +137,9 @@ returns-clause-closed g t c =
 pub returns-clause-covered : goal.returns-clause-covered
 returns-clause-covered g t c =
     closed_covers c.args.problem.now c.loop-next.scout.me.0.low (g.T.Tray.took c.args.tray.now) (g.T.Tray.took c.loop-next.tray) c.args.node c.loop-next.closed c.len-len.ensures.problem c.requires.node (returns-clause-closed g t c)
+
+pub returns-clause-pruned : goal.returns-clause-pruned
+returns-clause-pruned g t c = λ within.
+    absurd
+    (over c.bound_of-bound.result c.key_in-known.result c.known.result c.args.scout.now.me.0.low c.key_in-known.ensures (λ most. false≢true (sym c.if-at_most.false ∙ c.at_most.ensures.1 most)) c.known.ensures.later
+    (omega (arith, within, ap word_of c.bound_of-bound.ensures.bound)))

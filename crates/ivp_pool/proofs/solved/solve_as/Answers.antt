@@ -1,6 +1,7 @@
 use Rattle.std.proofs.Common.{◌≡◌, ℕ, List, [], ◌∷◌, ◌++◌, refl, drop, length, map, take, ap, arith, subst, sym, ◌∙◌}
 use Rattle.std.proofs.lemmas.List.Sums.{sum_by-cons}
 use Rattle.std.proofs.Math.Seq.{take-append_seam}
+use Rattle.best_word.specs.Words.{word_of}
 use Rattle.ivp_pool.specs.declared.work.Work.{Work}
 use Rattle.ivp_pool.specs.declared.team.Member.{Member}
 use Rattle.ivp_pool.specs.Teams.{AreBelow, closed_in}
@@ -28,6 +29,6 @@ returns-clause-closed g c =
     let team = c.search.new.members in
     let back = came_back c.in_ok-team.team.len team (drop (length team) c.in_ok-team.team.items) (omega (arith, c.in_ok-search.ensures.len, ap length c.deref_mut.ensures.value, c.in_ok-team.team.ok)) in
     let known = subst (AreBelow c.works_of.new.scout.me.0.low) back c.in_ok-work.ensures.later in
-    let all = c.in_ok-search.ensures.searched c.best_key-key.result (λ k d within. omega (arith, known k d within, c.best_key-key.ensures.later)) in
+    let all = c.in_ok-search.ensures.searched (word_of c.best_key-key.result) (λ k d within. omega (arith, known k d within, c.best_key-key.ensures.later)) in
     let works = c.in_ok-work.ensures.works ∙ ap (map (λ (member : Member g.row.K.Denot). member.worker.work)) back in
-    subst (λ (i : ℕ × List Work). IsSearched problem i.0 (total_of i.1)) (λ t. (c.best_key-key.ensures.best t, sym works t)) (subst (IsSearched problem c.best_key-key.result) (counts team) all)
+    subst (λ (i : ℕ × List Work). IsSearched problem i.0 (total_of i.1)) (λ t. (ap word_of c.best_key-key.ensures.best t, sym works t)) (subst (IsSearched problem (word_of c.best_key-key.result)) (counts team) all)

@@ -1,4 +1,5 @@
 use Rattle.std.proofs.Common.{◌≡◌, ◌+◌, ◌-◌, ◌<◌, suc, Some, length, List, sym, subst, ap, ◌∙◌, arith}
+use Rattle.std.proofs.lemmas.Bool.{false≢true}
 use Rattle.ivp_domain.specs.Boxes.{has_point}
 use Rattle.ivp_problem.specs.declared.node.Node.{Node}
 use Rattle.ivp_problem.specs.Nodes.{nodes_from, nodes_under}
@@ -8,11 +9,11 @@ use Rattle.ivp_problem.proofs.Pieces.{child_depth, children_end, children_to, ha
 use Rattle.ivp_search.proofs.Closing.{closed_child, none_closed, one_counted, pruned, reached, same_points, size_all, size_more, size_under}
 use Rattle.ivp_search.proofs.search.+close.Goals as goal
 
-pub returns-then-bound-incumbent-clause-best : goal.returns-then-bound-incumbent-clause-best
-returns-then-bound-incumbent-clause-best g t c = pruned c.args.problem.now (has_point c.args.node.now.area) c.args.incumbent c.bound-bound.result c.if-bound-incumbent.true c.bound-bound.ensures.above
+pub returns-then-reaches-clause-best : goal.returns-then-reaches-clause-best
+returns-then-reaches-clause-best g t c = pruned c.args.problem.now (has_point c.args.node.now.area) c.args.incumbent c.bound-bound.result (c.reaches.ensures.0 c.if-reaches.true) c.bound-bound.ensures.above
 
-pub returns-then-bound-incumbent-clause-counted : goal.returns-then-bound-incumbent-clause-counted
-returns-then-bound-incumbent-clause-counted g t c = one_counted c.args.problem.now c.args.node.now c.args.steps.now c.bound-bound.new.steps c.bound-bound.ensures.counted
+pub returns-then-reaches-clause-counted : goal.returns-then-reaches-clause-counted
+returns-then-reaches-clause-counted g t c = one_counted c.args.problem.now c.args.node.now c.args.steps.now c.bound-bound.new.steps c.bound-bound.ensures.counted
 
 pub bound_law-requires-clause-full : goal.bound_law-requires-clause-full
 bound_law-requires-clause-full g t c = omega (arith, c.if-node-len.true, c.len.ensures.len)
@@ -21,7 +22,7 @@ pub returns-then-node-len-clause-best : goal.returns-then-node-len-clause-best
 returns-then-node-len-clause-best g t c =
     let problem = c.args.problem.now in
     let node = c.args.node.now in
-    reached problem (has_point node.area) c.args.incumbent c.bound-bound.result (bound_of problem node) c.if-bound-incumbent.false c.bound-bound.ensures.above c.bound-bound.ensures.bound c.bound_law.ensures
+    reached problem (has_point node.area) c.args.incumbent c.bound-bound.result (bound_of problem node) (λ reach. absurd (false≢true (sym c.if-reaches.false ∙ c.reaches.ensures.1 reach))) c.bound-bound.ensures.above c.bound-bound.ensures.bound c.bound_law.ensures
 
 pub returns-then-node-len-clause-counted : goal.returns-then-node-len-clause-counted
 returns-then-node-len-clause-counted g t c = one_counted c.args.problem.now c.args.node.now c.args.steps.now c.bound-bound.new.steps c.bound-bound.ensures.counted

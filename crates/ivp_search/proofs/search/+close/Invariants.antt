@@ -13,7 +13,7 @@ abbrev pub invariant-loop-next : goal.invariant-loop-next
 invariant-loop-next g l =
     record {
       few : l.from ≤ 4096;
-      best : IsBest l.problem (has_in (children_to l.problem l.node l.from)) l.incumbent l.best;
+      best : IsBest l.problem (has_in (children_to l.problem l.node l.from)) l.fn.incumbent l.best;
       steps : l.steps ≤ l.fn.steps + 1 + size_under l.problem (length l.problem.terms - (l.node.depth + 1)) (children_to l.problem l.node l.from);
     }
 

@@ -1,10 +1,4 @@
-use Rattle.std.proofs.Common.{◌≡◌, subst}
-use Rattle.std.proofs.lemmas.List.{take_all}
-use Rattle.ivp_domain.specs.Domains.{index_of}
 use Rattle.ivp_func.proofs.Facts.{area_point, box_parts}
-use Rattle.ivp_problem.specs.Keys.{key_of}
-use Rattle.ivp_problem.specs.Sums.{weighted_sum}
-use Rattle.ivp_problem.specs.Trees.{bound_of}
 use Rattle.ivp_problem.proofs.Bounds.{bound_full, IsHighCorner}
 use Rattle.ivp_problem.proofs.Nodes.{node_keeps}
 use Rattle.ivp_problem.proofs.problem.Problem.best_corner.Goals as goal
@@ -28,4 +22,4 @@ returns-clause-best c =
     let corner = c.high_corner.result in
     let keeps = node_keeps problem node c.problem_law.ensures c.requires.node in
     let high : IsHighCorner node corner = record { inside = c.high_corner.ensures.inside; most = c.high_corner.ensures.most } in
-    subst (λ terms. key_of (weighted_sum terms corner) (index_of problem.axes corner) ≡ bound_of problem node) (take_all node.depth problem.terms c.requires.full) (bound_full problem node corner keeps high c.requires.full)
+    bound_full problem node corner keeps high c.requires.full

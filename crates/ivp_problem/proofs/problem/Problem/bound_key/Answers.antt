@@ -6,7 +6,7 @@ use Rattle.ivp_problem.specs.Keys.{key_of}
 use Rattle.ivp_problem.specs.declared.node.Node.{Node}
 use Rattle.ivp_problem.specs.Problems.{IsProblem, WeightedSum}
 use Rattle.ivp_problem.specs.Trees.{bound_of, rest_of}
-use Rattle.ivp_problem.proofs.Bounds.{bound_below, bound_full, IsHighCorner, key_bound}
+use Rattle.ivp_problem.proofs.Bounds.{bound_below, bound_chosen, IsHighCorner, key_bound}
 use Rattle.ivp_problem.proofs.KeyOrder.{index_small}
 use Rattle.ivp_problem.proofs.Nodes.{Keeps, node_keeps}
 use Rattle.ivp_problem.proofs.Terms.{each_drop, tops_most}
@@ -90,7 +90,7 @@ returns-then-node-len-clause-bound c =
     let high : IsHighCorner node corner = record { inside = c.high_corner-corner.ensures.inside; most = c.high_corner-corner.ensures.most } in
     let same : c.index_of.result ≡ index_of problem.axes first = c.index_of.ensures.index ∙ ap (λ a. index_of a first) c.lent_domain-domain.ensures in
     let bound = bound_below problem node corner first keeps high refl (omega (arith, c.if-node-len.true, c.len-len.ensures.len)) in
-    c.key_of.ensures.key ∙ (rw (c.chosen_sum-most.ensures.sum, c.tops_from.ensures, same) bound)
+    c.key_of.ensures ∙ (rw (c.chosen_sum-most.ensures.sum, c.tops_from.ensures, same) bound)
 
 pub returns-then-node-len-clause-above : goal.returns-then-node-len-clause-above
 returns-then-node-len-clause-above c = λ p inside.
@@ -103,7 +103,7 @@ returns-then-node-len-clause-above c = λ p inside.
     let same : c.index_of.result ≡ index_of problem.axes first = c.index_of.ensures.index ∙ ap (λ a. index_of a first) c.lent_domain-domain.ensures in
     let bound = bound_below problem node corner first keeps high refl (omega (arith, c.if-node-len.true, c.len-len.ensures.len)) in
     let whole : key_of (c.chosen_sum-most.result + c.tops_from.result) c.index_of.result ≡ bound_of problem node = rw (c.chosen_sum-most.ensures.sum, c.tops_from.ensures, same) bound in
-    rw (c.key_of.ensures.key ∙ whole) (key_bound problem node p keeps inside)
+    rw (c.key_of.ensures ∙ whole) (key_bound problem node p keeps inside)
 
 pub returns-else-node-len-clause-bound : goal.returns-else-node-len-clause-bound
 returns-else-node-len-clause-bound c =
@@ -113,8 +113,8 @@ returns-else-node-len-clause-bound c =
     let corner = c.high_corner-corner.result in
     let high : IsHighCorner node corner = record { inside = c.high_corner-corner.ensures.inside; most = c.high_corner-corner.ensures.most } in
     let same : c.index_of-else-node-len.result ≡ index_of problem.axes corner = c.index_of-else-node-len.ensures.index ∙ ap (λ a. index_of a corner) c.lent_domain-domain.ensures in
-    let bound = bound_full problem node corner keeps high (omega (arith, c.if-node-len.false, c.len-len.ensures.len)) in
-    c.key_of-else-node-len.ensures.key ∙ (rw (c.chosen_sum-most.ensures.sum, same) bound)
+    let bound = bound_chosen problem node corner keeps high (omega (arith, c.if-node-len.false, c.len-len.ensures.len)) in
+    c.key_of-else-node-len.ensures ∙ (rw (c.chosen_sum-most.ensures.sum, same) bound)
 
 pub returns-else-node-len-clause-above : goal.returns-else-node-len-clause-above
 returns-else-node-len-clause-above c = λ p inside.
@@ -124,6 +124,6 @@ returns-else-node-len-clause-above c = λ p inside.
     let corner = c.high_corner-corner.result in
     let high : IsHighCorner node corner = record { inside = c.high_corner-corner.ensures.inside; most = c.high_corner-corner.ensures.most } in
     let same : c.index_of-else-node-len.result ≡ index_of problem.axes corner = c.index_of-else-node-len.ensures.index ∙ ap (λ a. index_of a corner) c.lent_domain-domain.ensures in
-    let bound = bound_full problem node corner keeps high (omega (arith, c.if-node-len.false, c.len-len.ensures.len)) in
+    let bound = bound_chosen problem node corner keeps high (omega (arith, c.if-node-len.false, c.len-len.ensures.len)) in
     let whole : key_of c.chosen_sum-most.result c.index_of-else-node-len.result ≡ bound_of problem node = rw (c.chosen_sum-most.ensures.sum, same) bound in
-    rw (c.key_of-else-node-len.ensures.key ∙ whole) (key_bound problem node p keeps inside)
+    rw (c.key_of-else-node-len.ensures ∙ whole) (key_bound problem node p keeps inside)

@@ -1,21 +1,27 @@
 -- The core on worked examples: a run of two workers at the worked problem, whose root has one child with two leaves, and steps that are none.
-use Rattle.std.proofs.Common.{◌≡◌, ℕ, zero, suc, inl, inr, pos, Some, List, [], ◌∷◌, refl, sym, ap, ◌∙◌, arith}
+use Rattle.std.proofs.Common.{◌≡◌, ℕ, zero, suc, inl, inr, pos, Some, None, List, [], ◌∷◌, refl, sym, ap, subst, ◌∙◌, arith}
 use Rattle.std.specs.Prelude.{slice_get}
 use Rattle.ivp_domain.specs.Boxes.{point_from}
 use Rattle.ivp_problem.specs.declared.node.Node.{Node}
-use Rattle.ivp_problem.specs.Keys.{key_of}
+use Rattle.ivp_problem.specs.declared.key.Key.{Key}
 use Rattle.ivp_problem.specs.Problems.{WeightedSum}
 use Rattle.ivp_problem.specs.Trees.{bound_of, root_of}
+use Rattle.ivp_problem.specs.Sums.{best_of, key_at}
+use Rattle.ivp_problem.specs.Keys.{key_of, Reaches}
+use Rattle.ivp_problem.proofs.KeyOrder.{at_most_self}
 use Rattle.ivp_problem.proofs.Examples.{first, left, right, split, twelve, two, two_is_lawful}
-use Rattle.ivp_pool.specs.Cores.{Core, Drop, Frame, Holds, Keep, Load, CoreWorker, pieces_of, Pop, Push, Raise, StepsTo, Skip, start_of, Steal, Step, Stepped}
-use Rattle.ivp_pool.specs.Places.{IsDoneOnce, IsOver}
-use Rattle.ivp_pool.proofs.Ending.{finished, ran_keeps, start_keeps}
+use Rattle.search_core.specs.Cores.{Core, Drop, Frame, Holds, Keep, Load, CoreWorker, pieces_of, Pop, Push, Raise, StepsTo, Skip, start_of, Steal, Step, Stepped}
+use Rattle.search_core.specs.Places.{greatest_own, IsDoneOnce, IsOver}
+use Rattle.search_core.proofs.Ending.{finished, ran_keeps, start_keeps}
 
 abbrev frame : Node → ℕ → Frame
 frame node next = record { node = node; next = next }
 
 abbrev member : ℕ → List Node → List Frame → List Node → CoreWorker
-member low deque hand done = record { low = low; deque = deque; hand = hand; done = done }
+member low deque hand done = record { low = low; own = None; deque = deque; hand = hand; done = done }
+
+abbrev finder : ℕ → Key → List Node → List Frame → List Node → CoreWorker
+finder low own deque hand done = record { low = low; own = Some own; deque = deque; hand = hand; done = done }
 
 abbrev core : ℕ → CoreWorker → CoreWorker → Core
 core word one other = record { word = word; members = one ∷ other ∷ [] }
@@ -27,7 +33,10 @@ abbrev root : Node
 root = root_of two
 
 abbrev best : ℕ
-best = key_of 75 2
+best = 75
+
+abbrev best_key : Key
+best_key = key_of 75 2
 
 abbrev idle : CoreWorker
 idle = member 0 [] [] []
@@ -71,10 +80,10 @@ abbrev thief : CoreWorker
 thief = member 0 [] (frame left 0 ∷ []) []
 
 abbrev offered : CoreWorker
-offered = member best [] (frame left 0 ∷ []) []
+offered = finder best best_key [] (frame left 0 ∷ []) []
 
 abbrev over : CoreWorker
-over = member best [] [] (left ∷ [])
+over = finder best best_key [] [] (left ∷ [])
 
 abbrev last : Core
 last = core best all_done over
@@ -83,7 +92,7 @@ push_first : Stepped two (Push 0) (start_of two 1) (core 0 dealt idle)
 push_first = (holds (start_of two 1) 0 begun (frame root 0) [] refl refl, first, refl, (member 0 [] (frame root 1 ∷ []) [], refl, refl))
 
 drop_root : Stepped two (Drop 0) (core 0 dealt idle) (core 0 ready idle)
-drop_root = (holds (core 0 dealt idle) 0 dealt (frame root 1) [] refl refl, inr (omega arith, omega arith), refl)
+drop_root = (holds (core 0 dealt idle) 0 dealt (frame root 1) [] refl refl, inr (inr (omega arith, omega arith)), refl)
 
 pop_first : Stepped two (Pop 0) (core 0 ready idle) (core 0 popped idle)
 pop_first = (ready, refl, [], first, [], refl, (record { member = member 0 [] [] (root ∷ []); has = refl; hand = refl }, refl))
@@ -98,10 +107,10 @@ steal_left : Stepped two (Steal 1 0) (core 0 kept idle) (core 0 robbed thief)
 steal_left = (kept, refl, left, [], refl, (record { member = idle; has = refl; hand = refl }, refl))
 
 raise_best : Stepped two (Raise 1 (point_from 0 1 0 0)) (core 0 robbed thief) (core best robbed offered)
-raise_best = (refl, (thief, refl, refl))
+raise_best = (refl, thief, refl, refl)
 
 drop_left : Stepped two (Drop 1) (core best robbed offered) (core best robbed over)
-drop_left = (holds (core best robbed offered) 1 offered (frame left 0) [] refl refl, inl (omega arith), refl)
+drop_left = (holds (core best robbed offered) 1 offered (frame left 0) [] refl refl, inr (inl (at_most_self best_key)), refl)
 
 load_best : Stepped two (Load 0) (core best robbed over) (core best told over)
 load_best = (robbed, refl, refl)
@@ -110,7 +119,7 @@ drop_right : Stepped two (Drop 0) (core best told over) (core best pruned over)
 drop_right = (holds (core best told over) 0 told (frame right 0) (frame first 2 ∷ []) refl refl, inl (omega arith), refl)
 
 drop_first : Stepped two (Drop 0) (core best pruned over) last
-drop_first = (holds (core best pruned over) 0 pruned (frame first 2) [] refl refl, inr (omega arith, omega arith), refl)
+drop_first = (holds (core best pruned over) 0 pruned (frame first 2) [] refl refl, inr (inr (omega arith, omega arith)), refl)
 
 -- the whole run
 run : StepsTo two steps (start_of two 1) last
@@ -156,7 +165,13 @@ all_finished =
     let is = finished two [] last last (ran_keeps two two_is_lawful steps (start_of two 1) last run (start_keeps two two_is_lawful 1)) refl nothing_left in
     is.done left (3, refl)
 
--- no step: a leaf goes though its bound is above what is known
+-- and the greatest own key is that of the best point
+best_found : greatest_own last.members ≡ Some (key_at two (best_of two))
+best_found =
+    let is = finished two [] last last (ran_keeps two two_is_lawful steps (start_of two 1) last run (start_keeps two two_is_lawful 1)) refl nothing_left in
+    is.best
+
+-- no step: a leaf goes though its bound's sum is no less than what is known, and no own key reaches it
 top_is : (c : Core) (m : CoreWorker) (f : Frame) → slice_get c.members 0 ≡ Some m → m.hand ≡ f ∷ [] → (h : Holds c 0) → (h.member ≡ m) × (h.frame ≡ f)
 top_is c m f has hand h =
     let both : Some h.member ≡ Some m = sym h.has ∙ has in
@@ -164,16 +179,23 @@ top_is c m f has hand h =
     let hands : h.frame ∷ h.below ≡ f ∷ [] = sym h.hand ∙ (ap (λ (x : CoreWorker). x.hand) same ∙ hand) in
     (same, let first : h.frame ≡ f = cc in first)
 
-abbrev unknown : Core
-unknown = core 0 (member 0 [] (frame left 0 ∷ []) []) idle
+-- not even where the known sum is that of its bound: an equal sum of a lesser index may be there
+abbrev equal_known : Core
+equal_known = core 75 (member 75 [] (frame left 0 ∷ []) []) idle
 
-too_soon : (after : Core) → Stepped two (Drop 0) unknown after → ⊥
+too_soon : (after : Core) → Stepped two (Drop 0) equal_known after → ⊥
 too_soon after (h, may, e) =
-    let top = top_is unknown (member 0 [] (frame left 0 ∷ []) []) (frame left 0) refl refl h in
-    let low : h.member.low ≡ 0 = ap (λ (m : CoreWorker). m.low) top.0 in
+    let m = member 75 [] (frame left 0 ∷ []) [] in
+    let top = top_is equal_known m (frame left 0) refl refl h in
+    let low : h.member.low ≡ 75 = ap (λ (n : CoreWorker). n.low) top.0 in
+    let own : h.member.own ≡ None = ap (λ (n : CoreWorker). n.own) top.0 in
     let depth : h.frame.node.depth ≡ 2 = ap (λ (f : Frame). f.node.depth) top.1 in
-    let bound : bound_of two h.frame.node ≡ key_of 75 2 = ap (λ (f : Frame). bound_of two f.node) top.1 in
-    elim may [ inl less ↦ absurd (omega arith) | inr (below, past) ↦ absurd (omega arith) ]
+    let bound : (bound_of two h.frame.node).sum ≡ 75 = ap (λ (f : Frame). (bound_of two f.node).sum) top.1 in
+    elim may [
+      | inl less ↦ absurd (omega (arith, less, bound, low))
+      | inr (inl reach) ↦ subst (λ o. Reaches o (bound_of two h.frame.node)) own reach
+      | inr (inr (below, past)) ↦ absurd (omega (arith, below, depth))
+    ]
 
 -- the hand of the second worker
 abbrev second_hand : List CoreWorker → List Frame

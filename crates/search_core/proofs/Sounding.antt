@@ -10,11 +10,11 @@ use Rattle.ivp_problem.specs.declared.node.Node.{Node}
 use Rattle.ivp_problem.specs.Problems.{WeightedSum}
 use Rattle.ivp_problem.specs.Trees.{child_of}
 use Rattle.ivp_problem.proofs.Children.{has}
-use Rattle.ivp_pool.specs.Cores.{Core, Frame}
-use Rattle.ivp_pool.specs.Places.{AreDifferent, InDeque, InDone, InHand, IsIn, IsSound, IsTaken, node_in, open_in, NodePlace, node_places}
-use Rattle.ivp_pool.proofs.SameNodes.{is_same}
-use Rattle.ivp_pool.proofs.Stepping.{KeepsShape}
-use Rattle.ivp_pool.proofs.Weighing.{alike, at, has_at, heavy, holds, holds_some, self, some_holds, taken, weigh, weigh_at}
+use Rattle.ivp_problem.proofs.SameNodes.{is_same}
+use Rattle.search_core.specs.Cores.{Core, Frame}
+use Rattle.search_core.specs.Places.{AreDifferent, InDeque, InDone, InHand, IsIn, IsSound, IsTaken, node_in, open_in, NodePlace, node_places}
+use Rattle.search_core.proofs.Stepping.{KeepsShape}
+use Rattle.search_core.proofs.Weighing.{alike, at, has_at, heavy, holds, holds_some, self, some_holds, taken, weigh, weigh_at}
 
 -- a list that was mapped, by place
 mapped : {X Y : Type 0} (f : X → Y) (xs : List X) (k : ℕ) (y : Y) → slice_get (map f xs) k ≡ Some y → (x : X) × (slice_get xs k ≡ Some x) × (f x ≡ y)
@@ -96,9 +96,11 @@ pub sound_from : (problem : WeightedSum) (core : Core) → KeepsShape problem co
 sound_from problem core keeps =
     let places = node_places core in
     let stand = keeps.stand in
+    let scores = keeps.scores in
     record {
       known = keeps.known;
-      lows = keeps.lows;
+      lows = scores.lows;
+      owns = scores.owns;
       covered = λ p inside. elim (stand.covered p inside) [ inl less ↦ inl less | inr one ↦ inr (count_open problem p places ∙ one) ];
       different = λ i j node e e'. two_at places node i j e e' (stand.once node);
       linked = λ node there. elim (stand.linked node (in_some places node there)) [ inl root ↦ inl root | inr of ↦ inr (record { parent = of.parent; number = of.number; child = of.child; taken = some_taken core of.parent of.taken }) ];
@@ -110,7 +112,7 @@ sound_keeps problem core sound =
     let places = node_places core in
     record {
       known = sound.known;
-      lows = sound.lows;
+      scores = record { lows = sound.lows; owns = sound.owns };
       stand =
           record {
             once = λ node. differ_once places sound.different node;

@@ -2,10 +2,12 @@
 use Rattle.std.specs.Prelude.{◌≡◌, ℕ, ◌+◌, ◌%◌, ◌<◌, ◌≤◌, ◌⊎◌, ◌==◌, if◌then◌else◌, max, Option, Some, None, List, [], ◌∷◌, ◌++◌, length, IsTrue, slice_get, replicate, set}
 use Rattle.ivp_domain.specs.declared.boxes.Point.{Point}
 use Rattle.ivp_domain.specs.Domains.{is_point}
+use Rattle.ivp_problem.specs.declared.key.Key.{Key}
 use Rattle.ivp_problem.specs.declared.node.Node.{Node}
 use Rattle.ivp_problem.specs.declared.term.Term.{Term}
+use Rattle.ivp_problem.specs.Keys.{greater_own, Reaches}
 use Rattle.ivp_problem.specs.Problems.{WeightedSum}
-use Rattle.ivp_problem.specs.Sums.{key_at}
+use Rattle.ivp_problem.specs.Sums.{key_at, sum_at}
 use Rattle.ivp_problem.specs.Trees.{bound_of, child_of, next_of, root_of}
 
 -- a node that is being closed, and the number of its next child
@@ -13,14 +15,15 @@ pub record Frame : Type 0 where
   pub node : Node
   pub next : ℕ
 
--- a worker: the key that it knows, its deque, its hand with the top frame first, and the nodes that it is done with
+-- a worker: the sum that it knows, the greatest key that it found, its deque, its hand with the top frame first, and the nodes that it is done with
 pub record CoreWorker : Type 0 where
   pub low : ℕ
+  pub own : Option Key
   pub deque : List Node
   pub hand : List Frame
   pub done : List Node
 
--- the word that all share, and the workers
+-- the word that all share, which is a sum, and the workers
 pub record Core : Type 0 where
   pub word : ℕ
   pub members : List CoreWorker
@@ -33,9 +36,9 @@ fresh node = record { node = node; next = 0 }
 abbrev pub frame_passed : Frame → Frame
 frame_passed frame = record { node = frame.node; next = frame.next + 1 }
 
--- a worker that knows nothing and holds these frames alone
+-- a worker that knows and found nothing and holds these frames alone
 abbrev pub holder_of : List Frame → CoreWorker
-holder_of hand = record { low = 0; deque = []; hand = hand; done = [] }
+holder_of hand = record { low = 0; own = None; deque = []; hand = hand; done = [] }
 
 -- the start: worker 0 holds the root, and so many others hold nothing
 abbrev pub start_of : WeightedSum → ℕ → Core
@@ -103,16 +106,22 @@ went_on core worker h = with_member core worker (record h.member { hand = frame_
 abbrev pub taker_of : Core → ℕ → Frame → ℕ
 taker_of core worker frame = if frame.node.depth == 0 then frame.next % length core.members else worker
 
--- a frame may go: its node's bound is at most the known key, or its node is below full depth and all children were passed on
-abbrev pub MayDrop : WeightedSum → ℕ → Frame → Type 0
-MayDrop problem low frame = (bound_of problem frame.node ≤ low) ⊎ ((frame.node.depth < length problem.terms) × (pieces_of problem frame.node ≤ frame.next))
+-- a worker that found the point: the greater of its own key and the point's becomes its own
+abbrev pub found_by : WeightedSum → CoreWorker → Point → CoreWorker
+found_by problem member point = record member { own = greater_own member.own (Some (key_at problem point)) }
+
+-- a worker's top frame may go: its bound's sum is below what the worker knows, or its bound is at most the worker's own key, or its node is below full depth and all children were passed on
+abbrev pub MayDrop : WeightedSum → CoreWorker → Frame → Type 0
+MayDrop problem member frame = ((bound_of problem frame.node).sum < member.low) ⊎ Reaches member.own (bound_of problem frame.node) ⊎ ((frame.node.depth < length problem.terms) × (pieces_of problem frame.node ≤ frame.next))
 
 -- what a step makes of a core
 abbrev pub Stepped : WeightedSum → Step → Core → Core → Type 0
 -- what the worker knows becomes the word
 Stepped problem (Load worker) core core' = Learnt core worker core'
--- the word becomes the greater of itself and the point's key, and what the worker knows becomes the word
-Stepped problem (Raise worker point) core core' = IsTrue (is_point problem.axes point) × Learnt (record core { word = max core.word (key_at problem point) }) worker core'
+-- the word becomes the greater of itself and the point's sum, what the worker knows becomes the word, and the worker found the point
+Stepped problem (Raise worker point) core core' =
+    IsTrue (is_point problem.axes point) × (member : CoreWorker) × Has core worker member
+    × (core' ≡ with_member (record core { word = max core.word (sum_at problem point) }) worker (record (found_by problem member point) { low = max core.word (sum_at problem point) }))
 -- the next child of the top frame goes to a deque
 Stepped problem (Push worker) core core' = (h : Holds core worker) × (child : Node) × (child_of problem h.frame.node h.frame.next ≡ Some child) × Received (went_on core worker h) (taker_of core worker h.frame) child core'
 -- the next child of the top frame becomes the top frame
@@ -132,7 +141,7 @@ Stepped problem (Steal worker from) core core' =
     × Began (with_member core from (record victim { deque = rest })) worker node core'
 -- the top frame goes, and the worker is done with its node
 Stepped problem (Drop worker) core core' =
-    (h : Holds core worker) × MayDrop problem h.member.low h.frame
+    (h : Holds core worker) × MayDrop problem h.member h.frame
     × (core' ≡ with_member core worker (record h.member { hand = h.below; done = h.frame.node ∷ h.member.done }))
 
 -- what a list of steps makes of a core, one after the other

@@ -1,16 +1,18 @@
 -- Where the nodes of a core are, and what holds of them after any steps.
-use Rattle.std.specs.Prelude.{◌≡◌, ℕ, ◌-◌, ◌≤◌, ◌⊎◌, nat_lt, if◌then◌else◌, Some, List, [], ◌∷◌, ◌++◌, length, map, IsTrue, slice_get, count_by}
-use Rattle.std.specs.List.{flat_map}
+use Rattle.std.specs.Prelude.{◌≡◌, ℕ, ◌-◌, ◌<◌, ◌≤◌, ◌⊎◌, nat_lt, if◌then◌else◌, Option, Some, None, List, [], ◌∷◌, ◌++◌, length, map, IsTrue, slice_get, count_by}
+use Rattle.std.specs.List.{flat_map, fold}
 use Rattle.std.specs.Option.{option_to_list}
-use Rattle.best_word.specs.Known.{IsKnownKey}
 use Rattle.ivp_domain.specs.declared.boxes.Point.{Point}
 use Rattle.ivp_domain.specs.Boxes.{has_point, numbers_from}
 use Rattle.ivp_domain.specs.Domains.{is_point}
 use Rattle.ivp_problem.specs.declared.node.Node.{Node}
+use Rattle.ivp_problem.specs.declared.key.Key.{Key}
+use Rattle.ivp_problem.specs.Keys.{greater_own, Reaches}
 use Rattle.ivp_problem.specs.Problems.{WeightedSum}
-use Rattle.ivp_problem.specs.Sums.{best_of, key_at}
+use Rattle.ivp_problem.specs.Sums.{sum_at, best_of, key_at}
+use Rattle.ivp_problem.specs.Found.{IsKnownSum, IsOwnKey}
 use Rattle.ivp_problem.specs.Trees.{child_of, root_of}
-use Rattle.ivp_pool.specs.Cores.{Core, Frame, Has, CoreWorker, pieces_of}
+use Rattle.search_core.specs.Cores.{Core, Frame, Has, CoreWorker, pieces_of}
 
 -- where a node of the core is: in a deque, in a hand with the number of its next child, or in a done list
 pub data NodePlace : Type 0 where
@@ -73,13 +75,22 @@ pub record HasParent (problem : WeightedSum) (core : Core) (node : Node) : Type 
   pub child : child_of problem parent number ≡ Some node
   pub taken : IsTaken core parent
 
+-- some worker's own key reaches this one
+abbrev pub IsReached : Core → Key → Type 0
+IsReached core key = (worker : ℕ) × (member : CoreWorker) × Has core worker member × Reaches member.own key
+
+-- nobody needs to look at the point any more: its sum is below the word, or its key is at most some worker's own
+abbrev pub IsOutdone : WeightedSum → Core → Point → Type 0
+IsOutdone problem core p = (sum_at problem p < core.word) ⊎ IsReached core (key_at problem p)
+
 -- what holds of a core at any time
 pub record IsSound (problem : WeightedSum) (core : Core) : Type 0 where
-  -- the word is 0 or the key of a point, and no worker knows more
-  pub known : IsKnownKey problem core.word
+  -- the word is 0 or the sum of a point, no worker knows more, and each worker's own is none or the key of a point
+  pub known : IsKnownSum problem core.word
   pub lows : (worker : ℕ) (member : CoreWorker) → Has core worker member → member.low ≤ core.word
-  -- each point's key is at most the word, or it lies in exactly one of what deques and frames hold
-  pub covered : (p : Point) → IsTrue (is_point problem.axes p) → (key_at problem p ≤ core.word) ⊎ (count_by (λ node. has_point node.area p) (open_of problem core) ≡ 1)
+  pub owns : (worker : ℕ) (member : CoreWorker) → Has core worker member → IsOwnKey problem member.own
+  -- each point's sum is below the word, or its key is at most some worker's own, or it lies in exactly one of what deques and frames hold
+  pub covered : (p : Point) → IsTrue (is_point problem.axes p) → IsOutdone problem core p ⊎ (count_by (λ node. has_point node.area p) (open_of problem core) ≡ 1)
   -- the nodes of deques, frames and done lists are all different
   pub different : AreDifferent (nodes_in core)
   -- each is the root, or a child of a node of a frame or of a done list
@@ -101,7 +112,11 @@ pub record IsDoneOnce (core : Core) (node : Node) : Type 0 where
   pub by : IsDoneBy core node worker
   pub only : (other : ℕ) → IsDoneBy core node other → other ≡ worker
 
--- what holds of a core where no node is left: each node that was there at an earlier time is in exactly one worker's done list, and the word is the key of the best point
+-- the greatest of the workers' own keys
+abbrev pub greatest_own : List CoreWorker → Option Key
+greatest_own members = fold (λ most member. greater_own most member.own) None members
+
+-- what holds of a core where no node is left: each node that was there at an earlier time is in exactly one worker's done list, and the greatest own key is that of the best point
 pub record IsFinished (problem : WeightedSum) (earlier core : Core) : Type 0 where
   pub done : (node : Node) → IsIn (nodes_in earlier) node → IsDoneOnce core node
-  pub best : core.word ≡ key_at problem (best_of problem)
+  pub best : greatest_own core.members ≡ Some (key_at problem (best_of problem))

@@ -1,25 +1,27 @@
 -- The start of a core, lists of steps, and what holds where no node is left.
-use Rattle.std.proofs.Common.{◌≡◌, ℕ, zero, suc, ◌<◌, ◌≤◌, inl, inr, Some, List, [], ◌∷◌, map, replicate, refl, sym, ap, subst, arith}
+use Rattle.std.proofs.Common.{◌≡◌, ℕ, zero, suc, ◌<◌, ◌≤◌, ◌⊎◌, inl, inr, Option, Some, None, List, [], ◌∷◌, map, replicate, refl, sym, ap, subst, ◌∙◌, arith}
 use Rattle.std.specs.Prelude.{slice_get}
-use Rattle.std.specs.List.{flat_map}
+use Rattle.std.specs.List.{flat_map, fold}
 use Rattle.std.proofs.lemmas.Bool.{cases_lt}
 use Rattle.ivp_domain.specs.declared.boxes.Point.{Point}
 use Rattle.ivp_func.proofs.Counting.{one_if}
-use Rattle.best_word.specs.Known.{IsKnownKey}
 use Rattle.ivp_problem.specs.declared.node.Node.{Node}
+use Rattle.ivp_problem.specs.declared.key.Key.{Key}
 use Rattle.ivp_problem.specs.Problems.{IsProblem, WeightedSum}
-use Rattle.ivp_problem.specs.Sums.{best_of, key_at}
+use Rattle.ivp_problem.specs.Sums.{sum_at, best_of, key_at}
 use Rattle.ivp_problem.specs.Trees.{IsNode, root_of}
-use Rattle.ivp_problem.proofs.KeyOrder.{best_most, best_point}
+use Rattle.ivp_problem.specs.Keys.{AtMost, greater_own, Reaches}
+use Rattle.ivp_problem.specs.Found.{IsKnownSum, IsOwnKey}
 use Rattle.ivp_problem.proofs.Pieces.{child_depth}
-use Rattle.ivp_pool.specs.Cores.{Core, fresh, holder_of, CoreWorker, StepsTo, start_of, Step}
-use Rattle.ivp_pool.specs.Places.{InDeque, InDone, InHand, IsDoneOnce, IsFinished, IsIn, IsOver, nodes_in, NodePlace, places_in, node_places}
-use Rattle.ivp_pool.proofs.Moving.{beside, Lows, weigh_member}
-use Rattle.ivp_pool.proofs.Opening.{held_fresh, same_places, Stand}
-use Rattle.ivp_pool.proofs.Sounding.{in_some, some_in}
-use Rattle.ivp_pool.proofs.Stepping.{KeepsShape, step_keeps, step_stays}
-use Rattle.ivp_pool.proofs.SameNodes.{is_same}
-use Rattle.ivp_pool.proofs.Weighing.{alike, at, has_at, one_at_most, self, weigh, weigh_append}
+use Rattle.ivp_problem.proofs.KeyOrder.{at_most_both, at_most_sum, best_most, best_point, greater_own_one, reaches_first, reaches_second}
+use Rattle.ivp_problem.proofs.SameNodes.{is_same}
+use Rattle.search_core.specs.Cores.{Core, fresh, holder_of, CoreWorker, StepsTo, start_of, Step}
+use Rattle.search_core.specs.Places.{greatest_own, InDeque, InDone, InHand, IsDoneOnce, IsFinished, IsIn, IsOver, IsOutdone, nodes_in, NodePlace, places_in, node_places}
+use Rattle.search_core.proofs.Moving.{beside, Lows, Owns, weigh_member}
+use Rattle.search_core.proofs.Opening.{held_fresh, same_places, Stand}
+use Rattle.search_core.proofs.Sounding.{in_some, some_in}
+use Rattle.search_core.proofs.Stepping.{KeepsShape, step_keeps, step_stays}
+use Rattle.search_core.proofs.Weighing.{alike, at, has_at, one_at_most, self, weigh, weigh_append}
 
 -- workers that hold nothing
 no_places : (h : NodePlace → ℕ) (others : ℕ) → weigh h (flat_map places_in (replicate others (holder_of []))) ≡ 0
@@ -35,8 +37,17 @@ lows_start : (problem : WeightedSum) (others : ℕ) → Lows 0 (start_of problem
 lows_start problem others zero member e = let same : holder_of (fresh (root_of problem) ∷ []) ≡ member = cc in omega (arith, ap (λ (m : CoreWorker). m.low) same)
 lows_start problem others (suc worker) member e = low_start others worker member e
 
-root_stand : (problem : WeightedSum) → IsProblem problem → Stand problem 0 (InHand (fresh (root_of problem)) ∷ [])
-root_stand problem h =
+own_start : (problem : WeightedSum) (others worker : ℕ) (member : CoreWorker) → slice_get (replicate others (holder_of [])) worker ≡ Some member → IsOwnKey problem member.own
+own_start problem zero worker member e = absurd (cc)
+own_start problem (suc others) zero member e = let same : holder_of [] ≡ member = cc in inl (ap (λ (m : CoreWorker). m.own) (sym same))
+own_start problem (suc others) (suc worker) member e = own_start problem others worker member e
+
+owns_start : (problem : WeightedSum) (others : ℕ) → Owns problem (start_of problem others).members
+owns_start problem others zero member e = let same : holder_of (fresh (root_of problem) ∷ []) ≡ member = cc in inl (ap (λ (m : CoreWorker). m.own) (sym same))
+owns_start problem others (suc worker) member e = own_start problem others worker member e
+
+root_stand : (problem : WeightedSum) → IsProblem problem → (outdone : Point → Type 0) → Stand problem outdone (InHand (fresh (root_of problem)) ∷ [])
+root_stand problem h outdone =
     let root = root_of problem in
     let is : IsNode problem root = record { path = []; reached = refl } in
     record {
@@ -54,8 +65,8 @@ pub start_keeps : (problem : WeightedSum) → IsProblem problem → (others : �
 start_keeps problem h others =
     record {
       known = inl refl;
-      lows = lows_start problem others;
-      stand = same_places problem 0 (InHand (fresh (root_of problem)) ∷ []) (node_places (start_of problem others)) (λ g. omega (arith, no_places g others)) (root_stand problem h);
+      scores = record { lows = lows_start problem others; owns = owns_start problem others };
+      stand = same_places problem (IsOutdone problem (start_of problem others)) (InHand (fresh (root_of problem)) ∷ []) (node_places (start_of problem others)) (λ g. omega (arith, no_places g others)) (root_stand problem h (IsOutdone problem (start_of problem others)));
     }
 
 -- so each list of steps from there keeps it too
@@ -140,18 +151,56 @@ none_open problem p (m ∷ members) over =
       none_open problem p members (λ k n e. over (suc k) n e),
     )
 
-best_word : (problem : WeightedSum) (core : Core) → IsKnownKey problem core.word → key_at problem (best_of problem) ≤ core.word → core.word ≡ key_at problem (best_of problem)
-best_word problem core (inl none) least = omega (arith, none, least)
-best_word problem core (inr (p, inside, is)) least = omega (arith, is, best_most problem p inside, least)
+-- the greatest own key reaches what the first or any worker's reaches
+abbrev own_from : Option Key → List CoreWorker → Option Key
+own_from start members = fold (λ most (member : CoreWorker). greater_own most member.own) start members
+
+own_first : (start : Option Key) (members : List CoreWorker) (key : Key) → Reaches start key → Reaches (own_from start members) key
+own_first start [] key reach = reach
+own_first start (m ∷ members) key reach = own_first (greater_own start m.own) members key (reaches_first start m.own key reach)
+
+own_each : (start : Option Key) (members : List CoreWorker) (key : Key) (worker : ℕ) (member : CoreWorker) → slice_get members worker ≡ Some member → Reaches member.own key → Reaches (own_from start members) key
+own_each start [] key worker member e reach = absurd (cc)
+own_each start (m ∷ members) key zero member e reach =
+    let same : member ≡ m = cc in
+    own_first (greater_own start m.own) members key (reaches_second start m.own key (subst (λ (n : CoreWorker). Reaches n.own key) same reach))
+own_each start (m ∷ members) key (suc worker) member e reach = own_each (greater_own start m.own) members key worker member e reach
+
+-- and is the key of a point
+own_key : (problem : WeightedSum) (start : Option Key) (members : List CoreWorker) → IsOwnKey problem start → Owns problem members → IsOwnKey problem (own_from start members)
+own_key problem start [] own owns = own
+own_key problem start (m ∷ members) own owns = own_key problem (greater_own start m.own) members (by (greater_own start m.own) (greater_own_one start m.own)) (λ k n e. owns (suc k) n e)
+  where
+    by : (both : Option Key) → (both ≡ start) ⊎ (both ≡ m.own) → IsOwnKey problem both
+    by both (inl first) = subst (IsOwnKey problem) (sym first) own
+    by both (inr second) = subst (IsOwnKey problem) (sym second) (owns 0 m refl)
+
+-- no word is above the sum of the best point
+word_most : (problem : WeightedSum) (word : ℕ) → IsKnownSum problem word → word ≤ sum_at problem (best_of problem)
+word_most problem word (inl none) = omega (arith, none)
+word_most problem word (inr (p, inside, is)) = omega (arith, is, at_most_sum (key_at problem p) (key_at problem (best_of problem)) (best_most problem p inside))
+
+-- a point's key that reaches the best key is it
+best_own : (problem : WeightedSum) (own : Option Key) → IsOwnKey problem own → Reaches own (key_at problem (best_of problem)) → own ≡ Some (key_at problem (best_of problem))
+best_own problem own (inl none) reach = absurd (subst (λ o. Reaches o (key_at problem (best_of problem))) none reach)
+best_own problem own (inr (p, inside, is)) reach =
+    let up : AtMost (key_at problem (best_of problem)) (key_at problem p) = subst (λ o. Reaches o (key_at problem (best_of problem))) is reach in
+    is ∙ ap Some (at_most_both (key_at problem p) (key_at problem (best_of problem)) (best_most problem p inside) up)
 
 pub finished : (problem : WeightedSum) (steps : List Step) (earlier core : Core) → KeepsShape problem core → StepsTo problem steps earlier core → IsOver core → IsFinished problem earlier core
-finished problem steps earlier core keeps ran over = record { done = done; best = best_word problem core keeps.known known }
+finished problem steps earlier core keeps ran over = record { done = done; best = best }
   where
-    known : key_at problem (best_of problem) ≤ core.word
-    known =
+    outdone : IsOutdone problem core (best_of problem) → greatest_own core.members ≡ Some (key_at problem (best_of problem))
+    outdone (inl less) = absurd (omega (arith, less, word_most problem core.word keeps.known))
+    outdone (inr (worker, member, has, reach)) =
+        let scores = keeps.scores in
+        best_own problem (greatest_own core.members) (own_key problem None core.members (inl refl) scores.owns) (own_each None core.members (key_at problem (best_of problem)) worker member has reach)
+
+    best : greatest_own core.members ≡ Some (key_at problem (best_of problem))
+    best =
         let stand = keeps.stand in
         elim (stand.covered (best_of problem) (best_point problem)) [
-          | inl less ↦ less
+          | inl is ↦ outdone is
           | inr one ↦ absurd (omega (arith, one, none_open problem (best_of problem) core.members over))
         ]
 

@@ -1,11 +1,17 @@
 -- What the changes of a worker do to the places of a core: which go, and which come.
-use Rattle.std.proofs.Common.{◌≡◌, ℕ, zero, suc, ◌+◌, ◌≤◌, ◌⊎◌, inl, inr, Some, List, [], ◌∷◌, ◌++◌, map, ap, arith}
+use Rattle.std.proofs.Common.{◌≡◌, ℕ, zero, suc, ◌+◌, ◌≤◌, ◌⊎◌, inl, inr, Some, List, [], ◌∷◌, ◌++◌, map, ap, sym, subst, refl, arith}
 use Rattle.std.specs.Prelude.{set, slice_get}
 use Rattle.std.specs.List.{flat_map}
+use Rattle.ivp_domain.specs.declared.boxes.Point.{Point}
 use Rattle.ivp_problem.specs.declared.node.Node.{Node}
-use Rattle.ivp_pool.specs.Cores.{Core, Frame, fresh, Has, Holds, CoreWorker, Rests, with_member}
-use Rattle.ivp_pool.specs.Places.{InDeque, InDone, InHand, NodePlace, places_in, node_places}
-use Rattle.ivp_pool.proofs.Weighing.{weigh, weigh_append}
+use Rattle.ivp_problem.specs.declared.key.Key.{Key}
+use Rattle.ivp_problem.specs.Problems.{WeightedSum}
+use Rattle.ivp_problem.specs.Sums.{key_at}
+use Rattle.ivp_problem.specs.Keys.{Reaches}
+use Rattle.ivp_problem.specs.Found.{IsOwnKey}
+use Rattle.search_core.specs.Cores.{Core, Frame, fresh, Has, Holds, CoreWorker, Rests, with_member}
+use Rattle.search_core.specs.Places.{InDeque, InDone, InHand, IsReached, IsOutdone, NodePlace, places_in, node_places}
+use Rattle.search_core.proofs.Weighing.{weigh, weigh_append}
 
 -- the places of a worker
 pub weigh_member : (h : NodePlace → ℕ) (m : CoreWorker) → weigh h (places_in m) ≡ weigh h (map InDeque m.deque) + weigh h (map InHand m.hand) + weigh h (map InDone m.done)
@@ -92,9 +98,58 @@ got_set (m ∷ members) zero other (suc j) member e = inr e
 got_set (m ∷ members) (suc k) other zero member e = inr e
 got_set (m ∷ members) (suc k) other (suc j) member e = got_set members k other j member e
 
-pub lows_set : (word : ℕ) (members : List CoreWorker) (k : ℕ) (other : CoreWorker) → Lows word members → other.low ≤ word → Lows word (set members k other)
+lows_set : (word : ℕ) (members : List CoreWorker) (k : ℕ) (other : CoreWorker) → Lows word members → other.low ≤ word → Lows word (set members k other)
 lows_set word members k other lows low = λ j member e.
     elim (got_set members k other j member e) [
       | inl same ↦ omega (arith, low, ap (λ (m : CoreWorker). m.low) same)
       | inr old ↦ lows j member old
     ]
+
+-- each worker's own key is none or that of a point
+abbrev pub Owns : WeightedSum → List CoreWorker → Type 0
+Owns problem members = (worker : ℕ) (member : CoreWorker) → slice_get members worker ≡ Some member → IsOwnKey problem member.own
+
+owns_set : (problem : WeightedSum) (members : List CoreWorker) (k : ℕ) (other : CoreWorker) → Owns problem members → IsOwnKey problem other.own → Owns problem (set members k other)
+owns_set problem members k other owns own = λ j member e.
+    elim (got_set members k other j member e) [
+      | inl same ↦ subst (λ (m : CoreWorker). IsOwnKey problem m.own) (sym same) own
+      | inr old ↦ owns j member old
+    ]
+
+-- where a worker stands after another was put in the place of one
+set_keeps : (members : List CoreWorker) (k : ℕ) (old other : CoreWorker) (j : ℕ) (member : CoreWorker) → slice_get members k ≡ Some old → slice_get members j ≡ Some member → ((member ≡ old) × (slice_get (set members k other) j ≡ Some other)) ⊎ (slice_get (set members k other) j ≡ Some member)
+set_keeps [] k old other j member e e' = absurd (cc)
+set_keeps (m ∷ members) zero old other zero member e e' = inl (let same : member ≡ old = cc in same, refl)
+set_keeps (m ∷ members) zero old other (suc j) member e e' = inr e'
+set_keeps (m ∷ members) (suc k) old other zero member e e' = inr e'
+set_keeps (m ∷ members) (suc k) old other (suc j) member e e' = set_keeps members k old other j member e e'
+
+-- what workers know and found
+pub record Scores (problem : WeightedSum) (core : Core) : Type 0 where
+  pub lows : Lows core.word core.members
+  pub owns : Owns problem core.members
+
+-- all that was outdone is outdone still
+abbrev pub StaysOutdone : WeightedSum → Core → Core → Type 0
+StaysOutdone problem core core' = (p : Point) → IsOutdone problem core p → IsOutdone problem core' p
+
+-- a worker that knows no more than the word, and whose own key is that of a point and reaches no less
+pub set_scores : (problem : WeightedSum) (core : Core) (worker : ℕ) (member other : CoreWorker) → Has core worker member → other.low ≤ core.word → IsOwnKey problem other.own → ((key : Key) → Reaches member.own key → Reaches other.own key) → Scores problem core → Scores problem (with_member core worker other) × StaysOutdone problem core (with_member core worker other)
+set_scores problem core worker member other has low own up scores =
+    (record { lows = lows_set core.word core.members worker other scores.lows low; owns = owns_set problem core.members worker other scores.owns own }, λ p outdone. by p outdone)
+  where
+    reached : (key : Key) → IsReached core key → IsReached (with_member core worker other) key
+    reached key (j, one, is, reach) =
+        elim (set_keeps core.members worker member other j one has is) [
+          | inl (same, now) ↦ (j, other, now, up key (subst (λ (m : CoreWorker). Reaches m.own key) same reach))
+          | inr now ↦ (j, one, now, reach)
+        ]
+
+    by : (p : Point) → IsOutdone problem core p → IsOutdone problem (with_member core worker other) p
+    by p (inl less) = inl less
+    by p (inr reach) = inr (reached (key_at problem p) reach)
+
+-- a worker that knows and found the same
+pub same_scores : (problem : WeightedSum) (core : Core) (worker : ℕ) (member other : CoreWorker) → Has core worker member → other.low ≡ member.low → other.own ≡ member.own → Scores problem core → Scores problem (with_member core worker other) × StaysOutdone problem core (with_member core worker other)
+same_scores problem core worker member other has low own scores =
+    set_scores problem core worker member other has (omega (arith, low, scores.lows worker member has)) (subst (IsOwnKey problem) (sym own) (scores.owns worker member has)) (λ key reach. subst (λ o. Reaches o key) (sym own) reach) scores

@@ -14,17 +14,18 @@ use Rattle.ivp_func.proofs.Counting.{one_if}
 use Rattle.ivp_problem.specs.declared.node.Node.{Node}
 use Rattle.ivp_problem.specs.declared.term.Term.{Term}
 use Rattle.ivp_problem.specs.Problems.{IsProblem, WeightedSum}
-use Rattle.ivp_problem.specs.Sums.{key_at}
-use Rattle.ivp_problem.specs.Trees.{child_of, IsNode, next_of, root_of}
-use Rattle.ivp_problem.proofs.Bounds.{key_bound}
-use Rattle.ivp_problem.proofs.Children.{has}
+use Rattle.ivp_problem.specs.Sums.{sum_at, key_at}
+use Rattle.ivp_problem.specs.Trees.{child_of, IsNode, next_of, root_of, bound_of}
+use Rattle.ivp_problem.specs.Keys.{Reaches}
+use Rattle.ivp_problem.proofs.Children.{has, once_in}
 use Rattle.ivp_problem.proofs.Nodes.{blank_term, child_parts, node_keeps}
 use Rattle.ivp_problem.proofs.Pieces.{child_depth, children_all}
-use Rattle.ivp_pool.specs.Cores.{Frame, fresh, MayDrop, frame_passed, pieces_in, pieces_of}
-use Rattle.ivp_pool.specs.Places.{children_from, InDeque, InDone, InHand, NodePlace}
-use Rattle.ivp_pool.proofs.Kin.{child_is, child_is_node, one_parent}
-use Rattle.ivp_pool.proofs.Weighing.{alike, at, has_at, holds, holds_less, holds_most, holds_some, self, some_holds, taken, taken_most, weigh, weigh_le}
-use Rattle.ivp_pool.proofs.Weights.{once_in}
+use Rattle.ivp_problem.proofs.KeyOrder.{at_most_sum, reaches_less}
+use Rattle.ivp_problem.proofs.Bounds.{key_bound}
+use Rattle.search_core.specs.Cores.{CoreWorker, Frame, fresh, MayDrop, frame_passed, pieces_in, pieces_of}
+use Rattle.search_core.specs.Places.{children_from, InDeque, InDone, InHand, NodePlace}
+use Rattle.search_core.proofs.Kin.{child_is, child_is_node, one_parent}
+use Rattle.search_core.proofs.Weighing.{alike, at, has_at, holds, holds_less, holds_most, holds_some, self, some_holds, taken, taken_most, weigh, weigh_le}
 
 -- the first of some numbers, and the others
 split_from : (f : ℕ → List Node) (next pieces : ℕ) → next < pieces → flat_map f (numbers_from next (pieces - next)) ≡ f next ++ flat_map f (numbers_from (next + 1) (pieces - (next + 1)))
@@ -131,14 +132,31 @@ held_most problem h p frame is =
       | inr full ↦ omega (arith, held_full problem p frame full)
     ]
 
--- a frame that may go holds only points whose keys are known
-held_done : (problem : WeightedSum) → IsProblem problem → (low word : ℕ) (p : Point) (frame : Frame) → IsNode problem frame.node → low ≤ word → MayDrop problem low frame → (key_at problem p ≤ word) ⊎ (has_at problem p (InHand frame) ≡ 0)
-held_done problem h low word p frame is up (inl bound) =
-    elim (has_point frame.node.area p) as (λ t. has_point frame.node.area p ≡ t → (key_at problem p ≤ word) ⊎ (has_at problem p (InHand frame) ≡ 0)) [
-      | true ↦ λ inside. inl (omega (arith, key_bound problem frame.node p (node_keeps problem frame.node h is) inside, bound, up))
-      | false ↦ λ outside. inr (omega (arith, held_most problem h p frame is, ap one_if outside))
-    ] refl
-held_done problem h low word p frame is up (inr (below, past)) = inr (held_below problem p frame below ∙ none_from problem p frame.node frame.next past)
+-- what a worker knows and found shows that the point needs no look
+abbrev pub Spared : WeightedSum → CoreWorker → Point → Type 0
+Spared problem member p = (sum_at problem p < member.low) ⊎ Reaches member.own (key_at problem p)
+
+-- a frame that may go holds only points that need no look
+held_done : (problem : WeightedSum) → IsProblem problem → (member : CoreWorker) (p : Point) (frame : Frame) → IsNode problem frame.node → MayDrop problem member frame → Spared problem member p ⊎ (has_at problem p (InHand frame) ≡ 0)
+held_done problem h member p frame is may = by may
+  where
+    below : has_point frame.node.area p ≡ true → (bound_of problem frame.node).sum < member.low → Spared problem member p
+    below inside less = inl (omega (arith, at_most_sum (key_at problem p) (bound_of problem frame.node) (key_bound problem frame.node p (node_keeps problem frame.node h is) inside), less))
+
+    reached : has_point frame.node.area p ≡ true → Reaches member.own (bound_of problem frame.node) → Spared problem member p
+    reached inside own = inr (reaches_less member.own (key_at problem p) (bound_of problem frame.node) (key_bound problem frame.node p (node_keeps problem frame.node h is) inside) own)
+
+    inside_only : (has_point frame.node.area p ≡ true → Spared problem member p) → Spared problem member p ⊎ (has_at problem p (InHand frame) ≡ 0)
+    inside_only spared =
+        elim (has_point frame.node.area p) as (λ t. has_point frame.node.area p ≡ t → Spared problem member p ⊎ (has_at problem p (InHand frame) ≡ 0)) [
+          | true ↦ λ inside. inl (spared inside)
+          | false ↦ λ outside. inr (omega (arith, held_most problem h p frame is, ap one_if outside))
+        ] refl
+
+    by : MayDrop problem member frame → Spared problem member p ⊎ (has_at problem p (InHand frame) ≡ 0)
+    by (inl less) = inside_only (λ inside. below inside less)
+    by (inr (inl own)) = inside_only (λ inside. reached inside own)
+    by (inr (inr (under, past))) = inr (held_below problem p frame under ∙ none_from problem p frame.node frame.next past)
 
 -- the node is a child of a taken one
 pub record Parented (problem : WeightedSum) (places : List NodePlace) (node : Node) : Type 0 where
@@ -148,34 +166,34 @@ pub record Parented (problem : WeightedSum) (places : List NodePlace) (node : No
   pub taken : 0 < weigh (taken parent) places
 
 -- what holds of places at any time, by their weights
-pub record Stand (problem : WeightedSum) (word : ℕ) (places : List NodePlace) : Type 0 where
+pub record Stand (problem : WeightedSum) (outdone : Point → Type 0) (places : List NodePlace) : Type 0 where
   pub once : (node : Node) → weigh (at node) places ≤ 1
   pub linked : (node : Node) → 0 < weigh (at node) places → (node ≡ root_of problem) ⊎ Parented problem places node
   pub ahead : (node : Node) (number : ℕ) (child : Node) → child_of problem node number ≡ Some child → 0 < weigh (holds node number) places → weigh (at child) places ≡ 0
-  pub covered : (p : Point) → is_point problem.axes p ≡ true → (key_at problem p ≤ word) ⊎ (weigh (has_at problem p) places ≡ 1)
+  pub covered : (p : Point) → is_point problem.axes p ≡ true → outdone p ⊎ (weigh (has_at problem p) places ≡ 1)
 
 -- the nodes of places are nodes of the tree
-nodes_are : (problem : WeightedSum) (word : ℕ) (places : List NodePlace) → Stand problem word places → (n : ℕ) (node : Node) → node.depth ≤ n → 0 < weigh (at node) places → IsNode problem node
-nodes_are problem word places stand zero node deep some =
+nodes_are : (problem : WeightedSum) (outdone : Point → Type 0) (places : List NodePlace) → Stand problem outdone places → (n : ℕ) (node : Node) → node.depth ≤ n → 0 < weigh (at node) places → IsNode problem node
+nodes_are problem outdone places stand zero node deep some =
     elim (stand.linked node some) [
       | inl root ↦ subst (IsNode problem) (sym root) (record { path = []; reached = refl })
       | inr of ↦ absurd (omega (arith, deep, child_depth problem of.parent node of.number of.child))
     ]
-nodes_are problem word places stand (suc n) node deep some =
+nodes_are problem outdone places stand (suc n) node deep some =
     elim (stand.linked node some) [
       | inl root ↦ subst (IsNode problem) (sym root) (record { path = []; reached = refl })
       | inr of ↦
           child_is_node problem of.parent of.number node
-          (nodes_are problem word places stand n of.parent (omega (arith, deep, child_depth problem of.parent node of.number of.child)) (omega (arith, of.taken, weigh_le (taken of.parent) (at of.parent) (taken_most of.parent) places)))
+          (nodes_are problem outdone places stand n of.parent (omega (arith, deep, child_depth problem of.parent node of.number of.child)) (omega (arith, of.taken, weigh_le (taken of.parent) (at of.parent) (taken_most of.parent) places)))
           of.child
     ]
 
-pub node_at : (problem : WeightedSum) (word : ℕ) (places : List NodePlace) → Stand problem word places → (node : Node) → 0 < weigh (at node) places → IsNode problem node
-node_at problem word places stand node some = nodes_are problem word places stand node.depth node (omega arith) some
+pub node_at : (problem : WeightedSum) (outdone : Point → Type 0) (places : List NodePlace) → Stand problem outdone places → (node : Node) → 0 < weigh (at node) places → IsNode problem node
+node_at problem outdone places stand node some = nodes_are problem outdone places stand node.depth node (omega arith) some
 
 -- places that weigh the same stand alike
-pub same_places : (problem : WeightedSum) (word : ℕ) (xs ys : List NodePlace) → ((h : NodePlace → ℕ) → weigh h ys ≡ weigh h xs) → Stand problem word xs → Stand problem word ys
-same_places problem word xs ys same stand =
+pub same_places : (problem : WeightedSum) (outdone : Point → Type 0) (xs ys : List NodePlace) → ((h : NodePlace → ℕ) → weigh h ys ≡ weigh h xs) → Stand problem outdone xs → Stand problem outdone ys
+same_places problem outdone xs ys same stand =
     record {
       once = λ node. omega (arith, same (at node), stand.once node);
       linked = λ node some. elim (stand.linked node (omega (arith, same (at node), some))) [ inl root ↦ inl root | inr of ↦ inr (record { parent = of.parent; number = of.number; child = of.child; taken = omega (arith, same (taken of.parent), of.taken) }) ];
@@ -183,22 +201,22 @@ same_places problem word xs ys same stand =
       covered = λ p inside. elim (stand.covered p inside) [ inl less ↦ inl less | inr one ↦ inr (omega (arith, same (has_at problem p), one)) ];
     }
 
--- and where more is known
-pub known_more : (problem : WeightedSum) (word word' : ℕ) (xs : List NodePlace) → word ≤ word' → Stand problem word xs → Stand problem word' xs
-known_more problem word word' xs up stand =
+-- and where more is outdone
+pub outdone_more : (problem : WeightedSum) (outdone outdone' : Point → Type 0) (xs : List NodePlace) → ((p : Point) → outdone p → outdone' p) → Stand problem outdone xs → Stand problem outdone' xs
+outdone_more problem outdone outdone' xs up stand =
     record {
       once = stand.once;
       linked = stand.linked;
       ahead = stand.ahead;
-      covered = λ p inside. elim (stand.covered p inside) [ inl less ↦ inl (omega (arith, less, up)) | inr one ↦ inr one ];
+      covered = λ p inside. elim (stand.covered p inside) [ inl less ↦ inl (up p less) | inr one ↦ inr one ];
     }
 
 -- a child is pushed
-pub pushed_stand : (problem : WeightedSum) → IsProblem problem → (word : ℕ) (frame : Frame) (child : Node) (rest : List NodePlace) → child_of problem frame.node frame.next ≡ Some child → Stand problem word (InHand frame ∷ rest) → Stand problem word (InHand (frame_passed frame) ∷ InDeque child ∷ rest)
-pushed_stand problem h word frame child rest e stand = record { once = once; linked = linked; ahead = ahead; covered = covered }
+pub pushed_stand : (problem : WeightedSum) → IsProblem problem → (outdone : Point → Type 0) (frame : Frame) (child : Node) (rest : List NodePlace) → child_of problem frame.node frame.next ≡ Some child → Stand problem outdone (InHand frame ∷ rest) → Stand problem outdone (InHand (frame_passed frame) ∷ InDeque child ∷ rest)
+pushed_stand problem h outdone frame child rest e stand = record { once = once; linked = linked; ahead = ahead; covered = covered }
   where
     is_node : IsNode problem frame.node
-    is_node = node_at problem word (InHand frame ∷ rest) stand frame.node (omega (arith, self frame.node))
+    is_node = node_at problem outdone (InHand frame ∷ rest) stand frame.node (omega (arith, self frame.node))
 
     none : weigh (at child) (InHand frame ∷ rest) ≡ 0
     none = stand.ahead frame.node frame.next child e (omega (arith, holds_some frame frame.node frame.next refl (omega arith)))
@@ -223,7 +241,7 @@ pushed_stand problem h word frame child rest e stand = record { once = once; lin
         let old = stand.ahead node number other of (omega (arith, less, some)) in
         elim (alike child other) [
           | inl (same, one, _) ↦
-              let is = node_at problem word (InHand frame ∷ rest) stand node (omega (arith, less, some, weigh_le (holds node number) (at node) (holds_most node number) (InHand frame ∷ rest))) in
+              let is = node_at problem outdone (InHand frame ∷ rest) stand node (omega (arith, less, some, weigh_le (holds node number) (at node) (holds_most node number) (InHand frame ∷ rest))) in
               let kin = one_parent problem h node frame.node number frame.next other is is_node of (e ∙ ap Some same) in
               let here : 0 < weigh (holds frame.node frame.next) (InHand (frame_passed frame) ∷ InDeque child ∷ rest) = subst (λ (n : Node). 0 < weigh (holds n frame.next) (InHand (frame_passed frame) ∷ InDeque child ∷ rest)) kin.0 (subst (λ (k : ℕ). 0 < weigh (holds node k) (InHand (frame_passed frame) ∷ InDeque child ∷ rest)) kin.1 some) in
               elim (cases_lt 0 (holds frame.node frame.next (InHand (frame_passed frame)))) [
@@ -233,12 +251,12 @@ pushed_stand problem h word frame child rest e stand = record { once = once; lin
           | inr (apart, _) ↦ omega (arith, old, apart)
         ]
 
-    covered : (p : Point) → is_point problem.axes p ≡ true → (key_at problem p ≤ word) ⊎ (weigh (has_at problem p) (InHand (frame_passed frame) ∷ InDeque child ∷ rest) ≡ 1)
+    covered : (p : Point) → is_point problem.axes p ≡ true → outdone p ⊎ (weigh (has_at problem p) (InHand (frame_passed frame) ∷ InDeque child ∷ rest) ≡ 1)
     covered p inside = elim (stand.covered p inside) [ inl less ↦ inl less | inr one ↦ inr (omega (arith, one, held_next problem p frame child e)) ]
 
 -- a piece that meets no child is passed over
-pub skipped_stand : (problem : WeightedSum) (word : ℕ) (frame : Frame) (rest : List NodePlace) → frame.next < pieces_of problem frame.node → child_of problem frame.node frame.next ≡ None → Stand problem word (InHand frame ∷ rest) → Stand problem word (InHand (frame_passed frame) ∷ rest)
-skipped_stand problem word frame rest less e stand =
+pub skipped_stand : (problem : WeightedSum) (outdone : Point → Type 0) (frame : Frame) (rest : List NodePlace) → frame.next < pieces_of problem frame.node → child_of problem frame.node frame.next ≡ None → Stand problem outdone (InHand frame ∷ rest) → Stand problem outdone (InHand (frame_passed frame) ∷ rest)
+skipped_stand problem outdone frame rest less e stand =
     record {
       once = λ node. omega (arith, stand.once node);
       linked = λ node some. elim (stand.linked node (omega (arith, some))) [ inl root ↦ inl root | inr of ↦ inr (record { parent = of.parent; number = of.number; child = of.child; taken = omega (arith, of.taken) }) ];
@@ -247,11 +265,11 @@ skipped_stand problem word frame rest less e stand =
     }
 
 -- a node of a deque becomes a frame
-pub taken_stand : (problem : WeightedSum) → IsProblem problem → (word : ℕ) (node : Node) (rest : List NodePlace) → Stand problem word (InDeque node ∷ rest) → Stand problem word (InHand (fresh node) ∷ rest)
-taken_stand problem h word node rest stand = record { once = λ one. omega (arith, stand.once one); linked = linked; ahead = ahead; covered = covered }
+pub taken_stand : (problem : WeightedSum) → IsProblem problem → (outdone : Point → Type 0) (node : Node) (rest : List NodePlace) → Stand problem outdone (InDeque node ∷ rest) → Stand problem outdone (InHand (fresh node) ∷ rest)
+taken_stand problem h outdone node rest stand = record { once = λ one. omega (arith, stand.once one); linked = linked; ahead = ahead; covered = covered }
   where
     is_node : IsNode problem node
-    is_node = node_at problem word (InDeque node ∷ rest) stand node (omega (arith, self node))
+    is_node = node_at problem outdone (InDeque node ∷ rest) stand node (omega (arith, self node))
 
     linked : (one : Node) → 0 < weigh (at one) (InHand (fresh node) ∷ rest) → (one ≡ root_of problem) ⊎ Parented problem (InHand (fresh node) ∷ rest) one
     linked one some = elim (stand.linked one (omega (arith, some))) [ inl root ↦ inl root | inr of ↦ inr (record { parent = of.parent; number = of.number; child = of.child; taken = omega (arith, of.taken) }) ]
@@ -265,7 +283,7 @@ taken_stand problem h word node rest stand = record { once = λ one. omega (arit
                     elim (stand.linked child there) [
                       | inl root ↦ absurd (omega (arith, child_depth problem one child number of, ap (λ (n : Node). n.depth) root))
                       | inr by ↦
-                          let is = node_at problem word (InDeque node ∷ rest) stand by.parent (omega (arith, by.taken, weigh_le (taken by.parent) (at by.parent) (taken_most by.parent) (InDeque node ∷ rest))) in
+                          let is = node_at problem outdone (InDeque node ∷ rest) stand by.parent (omega (arith, by.taken, weigh_le (taken by.parent) (at by.parent) (taken_most by.parent) (InDeque node ∷ rest))) in
                           let kin = one_parent problem h by.parent one by.number number child is (subst (IsNode problem) same is_node) by.child of in
                           let here : 0 < weigh (taken node) rest = subst (λ (n : Node). 0 < weigh (taken n) rest) (kin.0 ∙ sym same) (omega (arith, by.taken)) in
                           absurd (omega (arith, here, weigh_le (taken node) (at node) (taken_most node) rest, self node, stand.once node))
@@ -275,12 +293,12 @@ taken_stand problem h word node rest stand = record { once = λ one. omega (arit
           | inr (other, _) ↦ omega (arith, stand.ahead one number child of (omega (arith, some, holds_most one number (InHand (fresh node)), other)))
         ]
 
-    covered : (p : Point) → is_point problem.axes p ≡ true → (key_at problem p ≤ word) ⊎ (weigh (has_at problem p) (InHand (fresh node) ∷ rest) ≡ 1)
+    covered : (p : Point) → is_point problem.axes p ≡ true → outdone p ⊎ (weigh (has_at problem p) (InHand (fresh node) ∷ rest) ≡ 1)
     covered p inside = elim (stand.covered p inside) [ inl less ↦ inl less | inr one ↦ inr (omega (arith, one, count_one problem p node, held_fresh problem h p node is_node)) ]
 
 -- a frame that may go is done
-pub dropped_stand : (problem : WeightedSum) → IsProblem problem → (low word : ℕ) (frame : Frame) (rest : List NodePlace) → low ≤ word → MayDrop problem low frame → Stand problem word (InHand frame ∷ rest) → Stand problem word (InDone frame.node ∷ rest)
-dropped_stand problem h low word frame rest up may stand =
+pub dropped_stand : (problem : WeightedSum) → IsProblem problem → (member : CoreWorker) (outdone : Point → Type 0) (frame : Frame) (rest : List NodePlace) → ((p : Point) → Spared problem member p → outdone p) → MayDrop problem member frame → Stand problem outdone (InHand frame ∷ rest) → Stand problem outdone (InDone frame.node ∷ rest)
+dropped_stand problem h member outdone frame rest up may stand =
     record {
       once = λ node. omega (arith, stand.once node);
       linked = λ node some. elim (stand.linked node (omega (arith, some))) [ inl root ↦ inl root | inr of ↦ inr (record { parent = of.parent; number = of.number; child = of.child; taken = omega (arith, of.taken) }) ];
@@ -289,11 +307,11 @@ dropped_stand problem h low word frame rest up may stand =
     }
   where
     is_node : IsNode problem frame.node
-    is_node = node_at problem word (InHand frame ∷ rest) stand frame.node (omega (arith, self frame.node))
+    is_node = node_at problem outdone (InHand frame ∷ rest) stand frame.node (omega (arith, self frame.node))
 
-    covered : (p : Point) → is_point problem.axes p ≡ true → (key_at problem p ≤ word) ⊎ (weigh (has_at problem p) (InDone frame.node ∷ rest) ≡ 1)
+    covered : (p : Point) → is_point problem.axes p ≡ true → outdone p ⊎ (weigh (has_at problem p) (InDone frame.node ∷ rest) ≡ 1)
     covered p inside =
         elim (stand.covered p inside) [
           | inl less ↦ inl less
-          | inr one ↦ elim (held_done problem h low word p frame is_node up may) [ inl known ↦ inl known | inr none ↦ inr (omega (arith, one, none)) ]
+          | inr one ↦ elim (held_done problem h member p frame is_node may) [ inl spared ↦ inl (up p spared) | inr none ↦ inr (omega (arith, one, none)) ]
         ]

@@ -7,9 +7,9 @@ use Rattle.ivp_func.proofs.Counting.{one_if}
 use Rattle.ivp_problem.specs.declared.node.Node.{Node}
 use Rattle.ivp_problem.specs.Problems.{WeightedSum}
 use Rattle.ivp_problem.proofs.Children.{has}
-use Rattle.ivp_pool.specs.Cores.{Frame}
-use Rattle.ivp_pool.specs.Places.{InDeque, InDone, InHand, node_in, open_in, NodePlace}
-use Rattle.ivp_pool.proofs.SameNodes.{is_same, is_same-self, is_same-true}
+use Rattle.ivp_problem.proofs.SameNodes.{is_same, is_same-self, is_same-true}
+use Rattle.search_core.specs.Cores.{Frame}
+use Rattle.search_core.specs.Places.{InDeque, InDone, InHand, node_in, open_in, NodePlace}
 
 -- what some places weigh together
 abbrev pub weigh : (NodePlace → ℕ) → List NodePlace → ℕ

@@ -1,8 +1,8 @@
-use Rattle.ivp_pool.specs.Cores.{start_of}
-use Rattle.ivp_pool.proofs.Ending.{finished, ran_keeps, ran_stays, start_keeps}
-use Rattle.ivp_pool.proofs.Sounding.{sound_from, sound_keeps}
-use Rattle.ivp_pool.proofs.Stepping.{step_keeps}
-use Rattle.ivp_pool.proofs.law.core_law.Goals as goal
+use Rattle.search_core.specs.Cores.{start_of}
+use Rattle.search_core.proofs.Ending.{finished, ran_keeps, ran_stays, start_keeps}
+use Rattle.search_core.proofs.Sounding.{sound_from, sound_keeps}
+use Rattle.search_core.proofs.Stepping.{step_keeps}
+use Rattle.search_core.proofs.law.core_law.Goals as goal
 
 pub returns-clause-kept : goal.returns-clause-kept
 returns-clause-kept c = λ problem step core core' h sound stepped. sound_from problem core' (step_keeps problem h step core core' stepped (sound_keeps problem core sound))
