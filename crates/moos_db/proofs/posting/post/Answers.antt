@@ -13,6 +13,9 @@ add_entry-requires-clause-below c =
     let kept = c.requires.kept in
     kept-below (kept_after c.args.names.now c.args.log.now.entries) (posts_of c.args.log.now.entries) c.args.variables.now c.args.clients.now.items kept.kept
 
+pub returns-in-Err-clause-same : goal.returns-in-Err-clause-same
+returns-in-Err-clause-same c = c.in-Err.ensures.same
+
 pub returns-in-Err-clause-kept : goal.returns-in-Err-clause-kept
 returns-in-Err-clause-kept c =
     let names = c.args.names.now in
@@ -75,6 +78,9 @@ loop-number-preserved c =
     (let e : number - c.posts-first.result + 1 ≡ number + 1 - c.posts-first.result = omega arith in e)
     (posting-next names (kept_after names history) (posts_of history) (posts_of_entry entry) (number - c.posts-first.result) c.loop-number.variables c.mail.new.self c.loop-number.clients.items c.mail.new.clients.items post
     c.loop-number.invariant (after-counted names history) (after-fresh names history) next posted)
+
+pub returns-clause-ok : goal.returns-clause-ok
+returns-clause-ok c = c.in_default.ensures.ok
 
 pub returns-clause-kept : goal.returns-clause-kept
 returns-clause-kept c =

@@ -1,6 +1,6 @@
 use Rattle.std.proofs.Common.{◌≡◌, ◌∙◌, ◌∷◌, ◌++◌, ◌+◌, ◌<◌, List, [], Some, ap, arith, length, map, slice_get, subst, suc, sym, take}
 use Rattle.std.specs.List.{All}
-use Rattle.std.proofs.lemmas.List.{map-append}
+use Rattle.std.proofs.lemmas.List.{map-append, take_all}
 use Rattle.std.proofs.lemmas.List.Elements.{All-append, All-cons, All-nil, All-weaker}
 use Rattle.std.proofs.lemmas.Option.{slice_get-get_or}
 use Rattle.moos_post.specs.declared.registration.Reg.{Reg}
@@ -51,3 +51,16 @@ loop-reg-preserved c =
           (All-weaker (λ (reg : Reg). HasRoomThrough (length regs) reg.var old.all) fits (λ reg. room-kept (length regs) reg.var old.all new.all c.prepare.ensures.roomier.all) (take k regs) c.loop-reg.invariant.room)
           (All-cons fits reg [] c.in_ok-one.ensures.room (All-nil fits)));
     }
+
+pub returns-clause-each : goal.returns-clause-each
+returns-clause-each c =
+    let regs : List Reg = c.args.regs.now in
+    c.loop-reg.invariant.each ∙ ap (map (prepared_of c.args.client c.args.made (variable_names c.args.variables.now.all))) (take_all c.loop-reg.reg-index regs (omega (arith, c.loop-reg-test.false)))
+
+pub returns-clause-roomier : goal.returns-clause-roomier
+returns-clause-roomier c = c.loop-reg.invariant.roomier
+
+pub returns-clause-room : goal.returns-clause-room
+returns-clause-room c =
+    let regs : List Reg = c.args.regs.now in
+    subst (All (λ (reg : Reg). HasRoomThrough (length regs) reg.var c.loop-reg.variables.all)) (take_all c.loop-reg.reg-index regs (omega (arith, c.loop-reg-test.false))) c.loop-reg.invariant.room
