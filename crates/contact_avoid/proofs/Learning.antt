@@ -7,7 +7,7 @@ use Rattle.std.proofs.lemmas.List.{length-map, map-append}
 use Rattle.contact_avoid.specs.declared.contact.Contact.{Contact}
 use Rattle.contact_avoid.specs.declared.report.Report.{Report}
 use Rattle.contact_avoid.specs.Contacts.{contacts_with, is_report_of, with_report}
-use Rattle.contact_avoid.specs.Kept.{has_name, learnt, outside, renewed, with_new, with_reported}
+use Rattle.contact_avoid.specs.Kept.{is_named_as, learnt, outside, renewed, with_new, with_reported}
 use Rattle.contact_avoid.proofs.Named.{same_name}
 
 -- a contact by its report, where this tells by its name whether it is inside
@@ -30,30 +30,30 @@ renewed_further report other known place = let next : 1 + place ≡ suc place = 
 
 -- a contact stands somewhere where its name is known
 stands : (inside : List ℕ → Bool) (name : List ℕ) (reports : List Report)
-    → nat_lt (position_or_len (has_name name) (map (kept_as inside) reports)) (length (map (kept_as inside) reports)) ≡ list_any (is_report_of name) reports
+    → nat_lt (position_or_len (is_named_as name) (map (kept_as inside) reports)) (length (map (kept_as inside) reports)) ≡ list_any (is_report_of name) reports
 stands inside name [] = refl
 stands inside name (report ∷ more) = at (is_report_of name report) refl (stands inside name more)
   where
     at : (same : Bool) → is_report_of name report ≡ same
-        → nat_lt (position_or_len (has_name name) (map (kept_as inside) more)) (length (map (kept_as inside) more)) ≡ list_any (is_report_of name) more
-        → nat_lt (position_or_len (has_name name) (map (kept_as inside) (report ∷ more))) (length (map (kept_as inside) (report ∷ more))) ≡ list_any (is_report_of name) (report ∷ more)
+        → nat_lt (position_or_len (is_named_as name) (map (kept_as inside) more)) (length (map (kept_as inside) more)) ≡ list_any (is_report_of name) more
+        → nat_lt (position_or_len (is_named_as name) (map (kept_as inside) (report ∷ more))) (length (map (kept_as inside) (report ∷ more))) ≡ list_any (is_report_of name) (report ∷ more)
     at true e further = rw e (less_first (length (map (kept_as inside) more)))
-    at false e further = rw e (less_further (position_or_len (has_name name) (map (kept_as inside) more)) (length (map (kept_as inside) more)) ∙ further)
+    at false e further = rw e (less_further (position_or_len (is_named_as name) (map (kept_as inside) more)) (length (map (kept_as inside) more)) ∙ further)
 
 -- there its report is put
 renewed_there : (inside : List ℕ → Bool) (report : Report) (reports : List Report) → list_any (is_report_of report.name) reports ≡ true
-    → renewed report (map (kept_as inside) reports) (position_or_len (has_name report.name) (map (kept_as inside) reports)) ≡ map (kept_as inside) (with_report report reports)
+    → renewed report (map (kept_as inside) reports) (position_or_len (is_named_as report.name) (map (kept_as inside) reports)) ≡ map (kept_as inside) (with_report report reports)
 renewed_there inside report [] known = absurd cc
 renewed_there inside report (other ∷ more) known = at (is_report_of report.name other) refl (λ behind. renewed_there inside report more behind) known
   where
     at : (same : Bool) → is_report_of report.name other ≡ same
-        → (list_any (is_report_of report.name) more ≡ true → renewed report (map (kept_as inside) more) (position_or_len (has_name report.name) (map (kept_as inside) more)) ≡ map (kept_as inside) (with_report report more))
+        → (list_any (is_report_of report.name) more ≡ true → renewed report (map (kept_as inside) more) (position_or_len (is_named_as report.name) (map (kept_as inside) more)) ≡ map (kept_as inside) (with_report report more))
         → list_any (is_report_of report.name) (other ∷ more) ≡ true
-        → renewed report (map (kept_as inside) (other ∷ more)) (position_or_len (has_name report.name) (map (kept_as inside) (other ∷ more))) ≡ map (kept_as inside) (with_report report (other ∷ more))
+        → renewed report (map (kept_as inside) (other ∷ more)) (position_or_len (is_named_as report.name) (map (kept_as inside) (other ∷ more))) ≡ map (kept_as inside) (with_report report (other ∷ more))
     at true e further known = rw e (ap (λ n. record { report = report; inside = inside n } ∷ map (kept_as inside) more) (same_name other.name report.name e))
     at false e further known = let behind : list_any (is_report_of report.name) more ≡ true = rw e at known in
         rw e
-        (renewed_further report (kept_as inside other) (map (kept_as inside) more) (position_or_len (has_name report.name) (map (kept_as inside) more))
+        (renewed_further report (kept_as inside other) (map (kept_as inside) more) (position_or_len (is_named_as report.name) (map (kept_as inside) more))
         ∙ ap (λ rest. kept_as inside other ∷ rest) (further behind))
 
 -- a report of a new contact stands behind the others

@@ -50,19 +50,19 @@ closest r w =
     else record { over = nat_abs (cross r w) * nat_abs (cross r w); under = length_squared w }
 
 -- a fraction is at most a whole number
-abbrev pub is_at_most : Fraction → ℕ → Bool
-is_at_most q n = nat_le q.over (n * q.under)
+abbrev pub fraction_at_most : Fraction → ℕ → Bool
+fraction_at_most q n = nat_le q.over (n * q.under)
 
 -- it is at least one
-abbrev pub is_at_least : Fraction → ℕ → Bool
-is_at_least q n = nat_le (n * q.under) q.over
+abbrev pub fraction_at_least : Fraction → ℕ → Bool
+fraction_at_least q n = nat_le (n * q.under) q.over
 
 -- the utility of a squared distance: 0 up to the near distance and 100 from the far one on, both in thousandths, and between
 -- them in proportion to the squares, rounded downward
 abbrev pub utility_between : ℕ → ℕ → Fraction → ℕ
 utility_between near far q =
-    if is_at_most q (near * near) then 0
-    else if is_at_least q (far * far) then 100000
+    if fraction_at_most q (near * near) then 0
+    else if fraction_at_least q (far * far) then 100000
     else 100000 * (q.over - near * near * q.under) / ((far * far - near * near) * q.under)
 
 -- a part of the vector is beyond 10,000,000 thousandths

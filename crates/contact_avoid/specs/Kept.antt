@@ -19,8 +19,8 @@ abbrev pub nothing_known : SituationState
 nothing_known = record { x = None; y = None; contacts = [] }
 
 -- the contact has this name
-abbrev pub has_name : List ℕ → Contact → Bool
-has_name name contact = is_report_of name contact.report
+abbrev pub is_named_as : List ℕ → Contact → Bool
+is_named_as name contact = is_report_of name contact.report
 
 -- a contact that was never inside
 abbrev pub outside : Report → Contact
@@ -41,7 +41,7 @@ learnt_in_place report known (Some place) = renewed report known place
 
 -- the contacts once a report was learnt
 abbrev pub learnt : Report → List Contact → List Contact
-learnt report known = learnt_in_place report known (position (has_name report.name) known)
+learnt report known = learnt_in_place report known (position (is_named_as report.name) known)
 
 -- the same where there may be none
 abbrev pub with_reported : Option Report → List Contact → List Contact

@@ -1,6 +1,6 @@
 // The contacts that are known, in the order of their first reports.
 ghost use Rattle.std.specs.Prelude.{◌≡◌, ◌<◌, IfOk, OnOk, OnErr, length, position};
-ghost use Rattle.contact_avoid.specs.Kept.{has_name, learnt, renewed, with_new};
+ghost use Rattle.contact_avoid.specs.Kept.{is_named_as, learnt, renewed, with_new};
 
 use crate::contact::Contact;
 use crate::report::Report;
@@ -26,7 +26,7 @@ pub(crate) fn learn(known: &mut Vec<Contact>, report: Report) -> Result<(), NoMe
 
 // Where the contact of this name stands.
 fn place_of(known: &[Contact], name: &[u8]) -> Option<usize>
-    ensures { result ≡ position (has_name name.now) known.now }
+    ensures { result ≡ position (is_named_as name.now) known.now }
 {
     known
         .iter()

@@ -3,7 +3,7 @@ ghost use Rattle.std.specs.Prelude.{◌≡◌, ℤ, pos, ◌*◌, ◌^◌, ◌�
 ghost use Rattle.std.specs.Int.{int_div_euclid, int_rem_euclid};
 ghost use Rattle.helm_geo.specs.Angles.{cos4, sin4};
 ghost use Rattle.contact_avoid.specs.Approach.{degree_of, is_far, minus, relative_position, relative_velocity, utility_by, approach_utility, velocity};
-ghost use Rattle.contact_avoid.specs.Bounds.{PartsLieWithin, LiesWithin, Lies};
+ghost use Rattle.contact_avoid.specs.Bounds.{PartsLieWithin, LiesWithin, LiesBetween};
 
 use crate::approach::closest;
 use crate::vector::Vector;
@@ -38,9 +38,9 @@ pub fn approach_utility(
     requires own_y { LiesWithin (10 ^ 12) own.y }
     requires x { LiesWithin (10 ^ 9) contact.x }
     requires y { LiesWithin (10 ^ 9) contact.y }
-    requires contact_speed { Lies (pos 0) (pos 100000) contact.speed }
-    requires heading { Lies (pos 0) (pos 360000) contact.heading }
-    requires speed { Lies (pos 0) (pos 100000) speed }
+    requires contact_speed { LiesBetween (pos 0) (pos 100000) contact.speed }
+    requires heading { LiesBetween (pos 0) (pos 360000) contact.heading }
+    requires speed { LiesBetween (pos 0) (pos 100000) speed }
     requires course { LiesWithin (10 ^ 12) course }
     ensures { result ≡ pos (approach_utility near far own contact speed course) }
 {
@@ -72,9 +72,9 @@ fn from_own(contact: i64, own: i64) -> i64
 }
 
 fn relative_velocity(contact: Track, speed: i64, course: i64) -> Vector
-    requires contact_speed { Lies (pos 0) (pos 100000) contact.speed }
-    requires heading { Lies (pos 0) (pos 360000) contact.heading }
-    requires speed { Lies (pos 0) (pos 100000) speed }
+    requires contact_speed { LiesBetween (pos 0) (pos 100000) contact.speed }
+    requires heading { LiesBetween (pos 0) (pos 360000) contact.heading }
+    requires speed { LiesBetween (pos 0) (pos 100000) speed }
     requires course { LiesWithin (10 ^ 12) course }
     ensures value { result ≡ relative_velocity contact speed course }
     ensures within { PartsLieWithin (2 * 10 ^ 9) result }
@@ -105,7 +105,7 @@ fn less(a: i64, b: i64) -> i64
 }
 
 fn velocity(speed: i64, degree: u16) -> Vector
-    requires speed { Lies (pos 0) (pos 100000) speed }
+    requires speed { LiesBetween (pos 0) (pos 100000) speed }
     requires degree { degree < 360 }
     ensures value { result ≡ velocity speed degree }
     ensures within { PartsLieWithin (10 ^ 9) result }
@@ -118,7 +118,7 @@ fn velocity(speed: i64, degree: u16) -> Vector
 
 // The part of a velocity along an axis, by the sine or cosine of its course.
 fn part(speed: i64, sine: i64) -> i64
-    requires speed { Lies (pos 0) (pos 100000) speed }
+    requires speed { LiesBetween (pos 0) (pos 100000) speed }
     requires sine { LiesWithin 10000 sine }
     ensures value { result ≡ speed *ℤ sine }
     ensures within { LiesWithin (10 ^ 9) result }
