@@ -5,7 +5,7 @@ use Rattle.moos_play.specs.declared.playing.Play.{Play}
 use Rattle.moos_play.specs.declared.run.HelmRun.{HelmRun}
 use Rattle.moos_play.specs.Lawful.{known_clients, names_with, steering_with}
 use Rattle.moos_play.specs.Plays.{clients_in, helm_in, IsFurther}
-use Rattle.moos_play.specs.Rounds.{CommunityLock}
+use Rattle.moos_step.specs.Steps.{CommunityLock}
 use Rattle.moos_play.specs.Steered.{GoesOnWith}
 use Rattle.script_reader.specs.declared.script.Script.{Script}
 

@@ -18,7 +18,8 @@ use Rattle.moos_post.specs.Delivery.{is_fetch}
 use Rattle.moos_post.specs.History.{History}
 use Rattle.moos_play.specs.declared.playing.Play.{Play}
 use Rattle.moos_play.specs.declared.steersman.Steersman.{Steersman}
-use Rattle.moos_play.specs.Lawful.{heard_in, heard_of, helm_number, names_with, opening_of, Steering, tick_entries, ticks_of}
+use Rattle.moos_client.specs.Hearing.{heard_in}
+use Rattle.moos_play.specs.Lawful.{heard_of, helm_number, names_with, opening_of, Steering, tick_entries, ticks_of, mailed_in}
 use Rattle.moos_play.specs.Plays.{clients_in, helm_in, history_in, IsBetween, iterations_made, made_by}
 use Rattle.moos_play.specs.Steered.{GoesOnWith, helm_of, opened_by, StandsAt, steering_of, Steers}
 use Rattle.moos_play.proofs.Hearing.{iterations_many}
@@ -84,7 +85,7 @@ IsAhead first fetches entries = (first < fetches) ⊎ ((first ≤ fetches) × Be
 
 module _ (names : List (List ℕ)) (number : ℕ) (named : (client : ℕ) → is_helm names client ≡ (client == number)) where
   -- the helm has fetched as often as it has heard
-  fetched_heard : (past some : History) → length (filter (is_helm_fetch names) some) ≡ length (heard_in names number past some)
+  fetched_heard : (past some : History) → length (filter (is_helm_fetch names) some) ≡ length (heard_in (mailed_in names) number past some)
   fetched_heard past [] = refl
   fetched_heard past (entry ∷ some) = by (is_helm names entry.client) (entry.client == number) (is_fetch entry.call) (named entry.client) (fetched_heard (past ++ entry ∷ []) some)
     where
@@ -95,7 +96,7 @@ module _ (names : List (List ℕ)) (number : ℕ) (named : (client : ℕ) → is
       fetched = filter (is_helm_fetch names) some
 
       heard : List Tick
-      heard = heard_in names number (past ++ entry ∷ []) some
+      heard = heard_in (mailed_in names) number (past ++ entry ∷ []) some
 
       by : (h c f : Bool) → h ≡ c → length fetched ≡ length heard → length (cond (f && h) (entry ∷ fetched) fetched) ≡ length (cond (c && f) (one ∷ heard) heard)
       by true true true e so = ap suc so

@@ -1,5 +1,5 @@
 -- From a lawful history to its report.
-use Rattle.std.proofs.Common.{◌≡◌, nat_lt, List, [], ◌∷◌, length, refl, ap, sym, ◌∙◌, subst, arith, Option, None, Some, ℕ, inl, inr}
+use Rattle.std.proofs.Common.{◌≡◌, nat_lt, List, [], ◌∷◌, length, refl, sym, ◌∙◌, subst, arith, Option, None, Some, ℕ, inl, inr}
 use Rattle.std.specs.Prelude.{IfSome, option_map}
 use Rattle.std.proofs.lemmas.Bool.{lt-ltb}
 use Rattle.moos_post.specs.History.{History}
@@ -12,7 +12,7 @@ use Rattle.moos_play.specs.declared.run.HelmRun.{HelmRun}
 use Rattle.moos_play.specs.Lawful.{IsLawful, heard_of, helm_number, iterations, names_with, Steering, steering_with}
 use Rattle.moos_report.specs.declared.setup.Setup.{Setup}
 use Rattle.moos_report.specs.Report.{report_text, ReportsTell}
-use Rattle.moos_jobs.specs.Jobs.{HelmFiles, IsLawfulWith, IsReport, no_modes, Ready, report_on, setup_of, steering_by}
+use Rattle.moos_jobs.specs.Jobs.{HelmFiles, IsLawfulWith, IsReport, Ready, report_on, setup_of, steering_by}
 use Rattle.moos_jobs.specs.Jobs.Task.{Playing}
 use Rattle.moos_jobs.specs.declared.status.Status.{Status}
 use Rattle.moos_jobs.specs.declared.status.Status.TheVariants.{Done, CheckNo, Usage, LoadFault, WriteFault, Refused, NoMemory}
@@ -41,13 +41,6 @@ reported_as order script helm text history tell valid files lawful printed = rec
   printed = printed;
   listed = λ other is also. told_apart order script helm history other tell valid files lawful is (sym also ∙ printed);
 }
-
--- the report of a lawful history of the script, which no helm runs beside
-pub reported : (order : Order) (script : Script) (setup : Setup) (names : List (List ℕ)) (history : History) → ReportsTell → IsValid script → setup ≡ no_modes → names ≡ script.names
-    → IsLawful order script None names history → IsReport order script None (report_text setup names history [])
-reported order script setup names history tell valid plain same lawful =
-    reported_as order script None (report_text setup names history []) history tell valid tt (subst (λ names. IsLawful order script None names history) same lawful)
-    (ap (λ setup. report_text setup names history []) plain ∙ ap (λ names. report_text no_modes names history []) same)
 
 -- a helm that was made of these files is run as they say
 pub steered_by : (script : Script) (files : HelmFiles) (run : HelmRun) → plan_of run.helm ≡ plan_made files.mission files.file → run.period ≡ files.mission.period → steering_with script run ≡ steering_by script files

@@ -13,16 +13,16 @@ ghost use Rattle.moos_jobs.specs.declared.job.Job.{Job};
 ghost use Rattle.moos_jobs.specs.declared.job.Job.TheVariants.{Play};
 ghost use Rattle.script_reader.specs.Validity.{IsValid};
 
-use crate::running::{load, refused, unloaded, written};
+use crate::running::{load, refused, unloaded};
 use crate::status::{FileKind, Status};
 use crate::telling::play_rounds;
 use bhv_reader::{BhvFile, Block, read_behaviors};
 use helm_core::{Helm, plan_law};
 use mission_reader::{Mission, read_mission};
 use moos_io::{Folder, Gate, Sink};
-use moos_play::{HelmRun, Order, play};
+use moos_play::{HelmRun, Order};
 use moos_post::{Copied, List, Name, Names, NoMemory, Txt};
-use moos_report::{Setup, report, report_law};
+use moos_report::{Setup, report_law};
 use moos_text::{Cause, ReadFault};
 use script_reader::{Script, read_script};
 use std::alloc::Global;
@@ -214,33 +214,7 @@ fn play_alone<R: Threads + Wait + Sync, K: Sink, G: Gate>(
 {
     report_law();
     let setup = no_modes(alloc);
-    if script.names.len() == 0 {
-        return play_nothing(rt, alloc, script, &setup, order, out, gate);
-    }
     play_rounds(rt, alloc, script, None, &setup, order, 1, out, gate)
-}
-
-// Plays a script without clients, which makes no entry, and writes its report.
-fn play_nothing<R: Threads + Wait + Sync, K: Sink, G: Gate>(
-    rt: &R,
-    alloc: Global,
-    script: &Script,
-    setup: &Setup,
-    order: Order,
-    out: &mut K,
-    gate: &G,
-) -> Status
-    requires valid { IsValid script.now }
-    requires setup { setup.now ≡ no_modes }
-    ensures { Ended (Ready (Playing order script.now None)) (sinking (K.taken out.old) (K.taken out.new) (K.faults out.old) (K.faults out.new)) result }
-{
-    match play(rt, alloc, script, None, order, 1, gate) {
-        Ok(ran) => {
-            report_law();
-            written(Status::Done, report(setup, &ran.db, &[], out))
-        }
-        Err(_) => Status::NoMemory,
-    }
 }
 
 // The names of the behaviours, in file order.

@@ -25,7 +25,7 @@ use std::sync::Wait;
 use std::thread::Threads;
 
 /// Plays the script round by round, with this helm or without one, and writes the report of each round before the next one
-/// begins. There is a client or a helm.
+/// begins.
 pub fn play_rounds<R: Threads + Wait + Sync, K: Sink, G: Gate>(
     rt: &R,
     alloc: Global,
@@ -39,7 +39,6 @@ pub fn play_rounds<R: Threads + Wait + Sync, K: Sink, G: Gate>(
 ) -> Status
     requires valid { IsValid script.now }
     requires helm { IfSome helm MayStart }
-    requires some { 0 < length (names_with script.now helm) }
     requires few { (1 ≤ workers) × (workers ≤ 16) }
     ensures { Tells order script.now (option_map (steering_with script.now) helm) setup.now
         (sinking (K.taken out.old) (K.taken out.new) (K.faults out.old) (K.faults out.new)) result }

@@ -12,12 +12,12 @@ use Rattle.moos_client.specs.Calls.{entry_of}
 use Rattle.moos_post.specs.declared.entry.Call.TheVariants.{Register, Post as Posts}
 use Rattle.moos_post.specs.Delivery.{is_fetch}
 use Rattle.moos_post.specs.History.{History}
-use Rattle.moos_play.specs.Lawful.{heard_of, helm_number, names_with, ticks_to, iterations_of, opening, opening_of, Steering, ticks_of}
+use Rattle.moos_play.specs.Lawful.{heard_of, helm_number, names_with, ticks_to, iterations_of, opening, opening_of, Steering, ticks_of, mailed_in}
 use Rattle.moos_play.specs.Plays.{helm_in, history_in, IsBetween}
 use Rattle.moos_play.specs.Steered.{HasOpened, helm_of, IsAtPlay, IsUnopened, IsUnderWay, run_as, StandsAt, steering_of, Steers, told_in}
 use Rattle.moos_play.proofs.Below.{names_more}
 use Rattle.moos_play.proofs.Coming.{start_under}
-use Rattle.moos_play.proofs.Hearing.{heard_deaf}
+use Rattle.moos_client.proofs.Hearing.{heard_deaf}
 use Rattle.script_reader.specs.declared.script.Script.{Script}
 use Rattle.script_reader.specs.Validity.{are_lines}
 
@@ -72,7 +72,7 @@ pub none_told : (play : Play) → IsBetween play → history_in play ≡ opening
 none_told play between begun = by play.steersman between.told between.at_play.under.steered begun
   where
     deaf : (helm : Steering) → heard_of play.lock.base helm.client (opening_of helm) ≡ []
-    deaf helm = heard_deaf play.lock.base helm.client [] (opening_of helm) (all (nat_lt 0 (length helm.plan.opening)))
+    deaf helm = heard_deaf (mailed_in play.lock.base) helm.client [] (opening_of helm) (all (nat_lt 0 (length helm.plan.opening)))
       where
         all : (b : Bool) → list_all (λ entry. not (is_fetch entry.call)) (entry_of helm.client 0 (Register (wants_of helm.plan)) ∷ cond b (entry_of helm.client 0 (Posts helm.plan.opening) ∷ []) []) ≡ true
         all true = refl

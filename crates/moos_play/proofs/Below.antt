@@ -12,9 +12,10 @@ use Rattle.moos_client.specs.Calls.{entries_of}
 use Rattle.moos_post.specs.declared.entry.Entry.{Entry}
 use Rattle.moos_post.specs.History.{History}
 use Rattle.moos_play.specs.declared.steersman.Steersman.{Steersman}
-use Rattle.moos_play.specs.Lawful.{clients_below, entries_below, entries_from, heard_of, helm_number, IsLawful, IsLawfulBeside, KeepsOrder, known_clients, names_with, Steering, tick_entries, ticks}
+use Rattle.moos_lawful.specs.Schedules.{clients_below, entries_below}
+use Rattle.moos_play.specs.Lawful.{entries_from, heard_of, helm_number, IsLawful, IsLawfulBeside, KeepsOrder, known_clients, names_with, Steering, tick_entries, ticks}
 use Rattle.moos_play.specs.Steered.{helm_of}
-use Rattle.moos_play.proofs.Histories.{all_kept, all_own}
+use Rattle.moos_client.proofs.Histories.{all_kept, all_own}
 use Rattle.script_reader.specs.declared.script.Order.{Order}
 use Rattle.script_reader.specs.declared.script.Script.{Script}
 

@@ -13,27 +13,27 @@ use Rattle.moos_client.specs.Calls.{SeatState, entries_of}
 use Rattle.moos_post.specs.declared.entry.Entry.{Entry}
 use Rattle.moos_post.specs.History.{History}
 use Rattle.moos_play.specs.declared.steersman.Steersman.{Steersman}
-use Rattle.moos_play.specs.Lawful.{clients_below, entries_below, heard_in, heard_of, helm_number, known_clients, moment_of, never_falls, opening, opening_of, Steering, tick_entries, ticks_of, ticks_to}
-use Rattle.moos_play.specs.Rounds.{CommunityLock, GoesOn, IsAlone, IsGathered, IsPlayed, IsPlayedBeside, IsWhole, KnowsNothing}
+use Rattle.moos_lawful.specs.Schedules.{clients_below, entries_below}
+use Rattle.moos_client.specs.Hearing.{heard_in}
+use Rattle.moos_play.specs.Lawful.{heard_of, helm_number, known_clients, moment_of, never_falls, opening, opening_of, Steering, tick_entries, ticks_of, ticks_to, mailed_in}
+use Rattle.moos_step.proofs.Growing.{grown}
+use Rattle.moos_step.specs.Steps.{CommunityLock, GoesOn, IsAlone, IsGathered, IsPlayed, IsPlayedBeside, IsWhole, KnowsNothing}
 use Rattle.moos_play.specs.Steered.{HasOpened, helm_of, IsBehind, IsEarly, comes_before, IsDue, IsUnopened, IsTimed, IsUnderWay, KeepsTime, StandsAt, steering_of, Steers, tick_due}
 use Rattle.moos_play.proofs.Below.{below_more, below_raised, beside_below, both_below, known_helm, known_many, known_more}
-use Rattle.moos_play.proofs.Hearing.{heard_append, ticks_stay}
-use Rattle.moos_play.proofs.Histories.{all_same, more_rise, only_own, own_rest, rise_end, same_rise}
+use Rattle.moos_client.proofs.Hearing.{heard_append}
+use Rattle.moos_play.proofs.Hearing.{ticks_stay}
+use Rattle.moos_client.proofs.Histories.{all_same, only_own, own_rest}
+use Rattle.moos_play.proofs.Histories.{more_rise, rise_end, same_rise}
 use Rattle.moos_play.proofs.Moments.{all_below, all_higher, line_moment, lines_moment}
-use Rattle.moos_play.proofs.Rounds.{none_past}
+use Rattle.moos_step.proofs.Steps.{none_past}
 use Rattle.moos_play.proofs.Steering.{steered_on}
-use Rattle.moos_play.proofs.Taking.{at_ok}
+use Rattle.moos_step.proofs.Taking.{at_ok}
 use Rattle.script_reader.specs.declared.script.Order.{Order}
 use Rattle.script_reader.specs.declared.script.Order.TheVariants.{Stamp, Race}
 use Rattle.script_reader.specs.declared.script.Script.{Script}
 use Rattle.script_reader.specs.Validity.{are_lines, keeps_limits}
 use Rattle.script_reader.proofs.Sound.{line_tests}
 use Rattle.turn_lock.specs.Passes.{Begins}
-
--- what a round adds to the history has of each client what the client may make
-pub grown : (may : ℕ → List Entry → Type 0) (before after : SeatState) → IsWhole before → (on : GoesOn may before after) → (n : ℕ) → may n (entries_of n on.later.0)
-grown may before after whole on n =
-    subst (may n) (sym (own_rest before.seen on.later.0 n (on.known n).added (ap (entries_of n) (sym on.later.1) ∙ on.whole n ∙ (on.known n).is ∙ ap (λ front. front ++ (on.known n).added) (sym (whole n))))) (on.known n).allowed
 
 -- all lines are played where no memory was missing
 pub grown_lines : (lines : List Entry) (result : Result (Unit {0}) AllocError) (before after : SeatState) → IsWhole before → (on : GoesOn (IsPlayed lines result) before after) → result ≡ Ok tt
@@ -152,7 +152,7 @@ tick_added names old new history rest before after steering opened opened' count
     now = heard_of names old.number (history ++ rest)
 
     earlier : ticks_of helm now old.ticks ≡ ticks_of helm start old.ticks
-    earlier = ap (λ heard. ticks_of helm heard old.ticks) (heard_append names old.number [] history rest) ∙ ticks_stay helm start (heard_in names old.number history rest) old.ticks (omega (arith, before.many))
+    earlier = ap (λ heard. ticks_of helm heard old.ticks) (heard_append (mailed_in names) old.number [] history rest) ∙ ticks_stay helm start (heard_in (mailed_in names) old.number history rest) old.ticks (omega (arith, before.many))
 
 -- its entries have the second moment of their stamp
 pub tick_moment : (helm : Steering) (number : ℕ) (heard : List Tick) (i : ℕ) → helm.client ≡ number → list_all (λ entry. moment_of number entry == suc (2 * (i * helm.period))) (tick_entries helm heard i) ≡ true

@@ -14,19 +14,21 @@ use Rattle.moos_db.specs.Database.{letters_after}
 use Rattle.moos_post.specs.declared.entry.Call.TheVariants.{Register, Post as Posts, Fetch}
 use Rattle.moos_post.specs.declared.entry.Entry.{Entry}
 use Rattle.moos_post.specs.History.{History}
-use Rattle.moos_play.specs.Lawful.{clients_below, entries_below, heard_of, helm_number, IsLawfulBeside, KeepsOrder, known_clients, moment_of, never_falls, opening, opening_of, Steering, tick_entries, ticks, ticks_of, ticks_to}
+use Rattle.moos_lawful.specs.Schedules.{clients_below, entries_below}
+use Rattle.moos_play.specs.Lawful.{heard_of, helm_number, IsLawfulBeside, KeepsOrder, known_clients, moment_of, never_falls, opening, opening_of, Steering, tick_entries, ticks, ticks_of, ticks_to, mailed_in}
 use Rattle.moos_play.specs.Steered.{IsBehind}
 use Rattle.moos_play.proofs.Below.{below_more, below_raised, both_below, known_helm, known_more, none_below, own_below, tick_below}
 use Rattle.moos_play.proofs.Coming.{early_tick, rise_tick, tick_moment}
 use Rattle.moos_play.proofs.Moments.{line_moment}
-use Rattle.moos_play.proofs.Hearing.{entries_next, heard_fetch, heard_next, heard_on, IsNext, ticks_stay}
-use Rattle.moos_play.proofs.Histories.{own_rest}
+use Rattle.moos_client.proofs.Hearing.{entries_next, heard_fetch, heard_next, heard_on, IsNext}
+use Rattle.moos_play.proofs.Hearing.{ticks_stay}
+use Rattle.moos_client.proofs.Histories.{own_rest}
 use Rattle.script_reader.specs.declared.script.Order.{Order}
 use Rattle.script_reader.specs.declared.script.Order.TheVariants.{Stamp, Race}
 use Rattle.script_reader.specs.declared.script.Script.{Script}
 
 -- the opening is the helm's
-own_opening : (helm : Steering) → entries_of helm.client (opening_of helm) ≡ opening_of helm
+pub own_opening : (helm : Steering) → entries_of helm.client (opening_of helm) ≡ opening_of helm
 own_opening helm = subst (λ b. cond b (registering ∷ entries_of helm.client (more (nat_lt 0 (length helm.plan.opening)))) (entries_of helm.client (more (nat_lt 0 (length helm.plan.opening)))) ≡ registering ∷ more (nat_lt 0 (length helm.plan.opening))) (sym self)
     (ap (λ rest. registering ∷ rest) (by (nat_lt 0 (length helm.plan.opening))))
   where
@@ -119,7 +121,7 @@ pub stands_there : (names : List (List ℕ)) (number stop : ℕ) (helm : Option 
 stands_there names number stop None count history rest so none = tt
 stands_there names number stop (Some helm) count history rest so none =
     let here : entries_of helm.client rest ≡ [] = subst (λ n. entries_of n rest ≡ []) (sym so.client) none in
-    let heard : heard_of names helm.client (history ++ rest) ≡ heard_of names helm.client history = heard_on names helm.client history rest here in
+    let heard : heard_of names helm.client (history ++ rest) ≡ heard_of names helm.client history = heard_on (mailed_in names) helm.client history rest here in
     record {
       client = so.client;
       few = so.few;
@@ -218,10 +220,10 @@ tick_there names number stop helm count history so left = subst (HasComeTo names
     tick = tick_of (count * helm.period) (letters_after names helm.client (history ++ []))
 
     fetched : heard_of names helm.client between ≡ start ++ tick ∷ []
-    fetched = heard_fetch names helm.client history between (count * helm.period) (next_call helm.client history fetching refl)
+    fetched = heard_fetch (mailed_in names) helm.client history between (count * helm.period) (next_call helm.client history fetching refl)
 
     posted : heard_of names helm.client (between ++ posting ∷ []) ≡ heard_of names helm.client between
-    posted = heard_next names helm.client between (between ++ posting ∷ []) posting (next_call helm.client between posting refl) refl
+    posted = heard_next (mailed_in names) helm.client between (between ++ posting ∷ []) posting (next_call helm.client between posting refl) refl
 
     heard : heard_of names helm.client (between ++ posting ∷ []) ≡ start ++ tick ∷ []
     heard = posted ∙ fetched

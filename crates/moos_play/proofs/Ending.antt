@@ -1,40 +1,27 @@
--- The history of the lock once it is closed, and what makes a run over.
-use Rattle.std.proofs.Common.{◌≡◌, ℕ, ◌+◌, ◌≤◌, ◌==◌, ◌++◌, true, cond, List, [], ◌∷◌, drop, length, take, nat_lt, Option, None, Some, Result, Ok, Err, arith, refl, subst, sym, ap, ◌∙◌, append-nil}
-use Rattle.std.specs.Prelude.{IfOk, IfSome, is_none, option_map}
-use Rattle.std.specs.List.{list_all}
-use Rattle.std.proofs.lemmas.Bool.{and_parts, false≢true}
-use Rattle.std.proofs.lemmas.Bool.Decides.{nat_tests}
+-- What makes a run over.
+use Rattle.std.proofs.Common.{◌≡◌, ℕ, ◌+◌, ◌≤◌, ◌==◌, ◌++◌, true, cond, List, [], drop, length, take, nat_lt, Option, None, Some, arith, refl, subst, sym, ap, ◌∙◌}
+use Rattle.std.specs.Prelude.{IfSome, option_map}
 use Rattle.std.proofs.lemmas.List.{length-drop, take-append-drop}
 use Rattle.std.proofs.lemmas.List.Elements.{filter-append}
 use Rattle.helm_core.specs.declared.iteration.Iteration.{Iteration}
 use Rattle.helm_core.specs.Helms.{plan_of}
 use Rattle.moos_client.specs.Calls.{SeatState, entries_of}
-use Rattle.moos_post.specs.declared.entry.Entry.{Entry}
 use Rattle.moos_post.specs.History.{History}
 use Rattle.moos_play.specs.declared.playing.Play.{Play}
 use Rattle.moos_play.specs.declared.run.HelmRun.{HelmRun}
-use Rattle.moos_play.specs.declared.run.Ran.{Ran}
 use Rattle.moos_play.specs.declared.steersman.Steersman.{Steersman}
-use Rattle.moos_play.specs.Lawful.{entries_below, heard_of, helm_number, IsLawful, IsLawfulBeside, iterations, iterations_of, KeepsOrder, known_clients, names_with, opening_of, Steering, steering_with, ticks_of, ticks_to}
+use Rattle.moos_lawful.specs.Schedules.{entries_below}
+use Rattle.moos_play.specs.Lawful.{heard_of, helm_number, IsLawful, IsLawfulBeside, iterations, iterations_of, known_clients, names_with, opening_of, Steering, steering_with, ticks_of, ticks_to}
 use Rattle.moos_play.specs.Plays.{made_by}
-use Rattle.moos_play.specs.Rounds.{CommunityLock, IsWhole}
+use Rattle.moos_step.specs.Steps.{CommunityLock}
 use Rattle.moos_play.specs.Steered.{helm_of, IsAtPlay, IsUnderWay, iterations_in, KeepsTime, left_of, StandsAt, steering_of, ticks_left, told_in}
 use Rattle.moos_play.proofs.Below.{known_many, lawful_alone}
 use Rattle.moos_play.proofs.Coming.{all_end, lines_clients}
 use Rattle.moos_play.proofs.Completing.{IsOnItsWay, lawful_then, MayGoOn, StandsThere, ticks_after}
-use Rattle.moos_play.proofs.Histories.{none_left, own_rest}
 use Rattle.script_reader.specs.declared.script.Order.{Order}
 use Rattle.script_reader.specs.declared.script.Order.TheVariants.{Stamp, Race}
 use Rattle.script_reader.specs.declared.script.Script.{Script}
 use Rattle.script_reader.specs.Validity.{are_lines}
-use Rattle.turn_lock.specs.Passes.{Begins, known_of}
-
--- nothing is in it that the first seat, which knows all, hasn't seen
-pub closed_same : (first : SeatState) (history : History) → Begins history first.seen → ((n : ℕ) → entries_of n history ≡ known_of first n) → IsWhole first → history ≡ first.seen
-closed_same first history begins knows whole = begins.1 ∙ ap (λ rest. first.seen ++ rest) (none_left begins.0 (λ n. rest n)) ∙ append-nil first.seen
-  where
-    rest : (n : ℕ) → entries_of n begins.0 ≡ []
-    rest n = own_rest first.seen begins.0 n [] (ap (entries_of n) (sym begins.1) ∙ knows n ∙ sym (whole n) ∙ sym (append-nil (entries_of n first.seen)))
 
 -- how many ticks the helm has made
 abbrev pub ticks_made : Option Steersman → ℕ
@@ -133,39 +120,3 @@ iterations_end script play helm names history done at none untold helm_is names_
     ∙ ap (λ helm. iterations helm script.stop (heard_of play.lock.base (helm_number script) play.first.seat.seen)) helm_is
     ∙ ap (λ names. iterations helm script.stop (heard_of names (helm_number script) play.first.seat.seen)) (sym names_is)
     ∙ ap (λ history. iterations helm script.stop (heard_of names (helm_number script) history)) (sym history_is)
-
--- without clients there are no lines
-no_lines : (clients : ℕ) (lines : List Entry) → list_all (λ line. nat_lt line.client clients) lines ≡ true → clients ≡ 0 → lines ≡ []
-no_lines clients [] all none = refl
-no_lines clients (line ∷ lines) all none = let here = (and_parts (nat_lt line.client clients) (list_all (λ line. nat_lt line.client clients) lines) all).0 in absurd (grind (arith, nat_tests, here, none))
-
--- nobody's history
-lawful_none : (order : Order) (script : Script) (helm : Option HelmRun) (names : List (List ℕ)) (history : History) → is_none helm ≡ true → length script.names ≡ 0 → are_lines (length script.names) 0 script.stop script.lines ≡ true → history ≡ []
-    → IsLawful order script (option_map (steering_with script) helm) names history
-lawful_none order script (Some run) names history none nobody valid empty = absurd (false≢true none)
-lawful_none order script None names history none nobody valid empty = record {
-  rest = [];
-  opened = empty;
-  steered = refl;
-  own = λ n other. ap (entries_of n) (sym (no_lines (length script.names) script.lines (lines_clients (length script.names) 0 script.stop script.lines valid) nobody));
-  moments = by order;
-}
-  where
-    by : (order : Order) → KeepsOrder order (helm_number script) []
-    by Stamp = refl
-    by Race = tt
-
--- what is left of a run without clients is as lawful, has their names, and no iterations
-pub none_lawful : {E : Type 0} (order : Order) (script : Script) (helm : Option HelmRun) (result : Result Ran E) → is_none helm ≡ true → length script.names ≡ 0 → are_lines (length script.names) 0 script.stop script.lines ≡ true
-    → IfOk result (λ ran. ran.db.history ≡ []) → IfOk result (λ ran. IsLawful order script (option_map (steering_with script) helm) ran.db.names ran.db.history)
-none_lawful order script helm (Ok ran) none nobody valid empty = lawful_none order script helm ran.db.names ran.db.history none nobody valid empty
-none_lawful order script helm (Err _) none nobody valid empty = tt
-
-pub none_named : {E : Type 0} (script : Script) (helm : Option HelmRun) (result : Result Ran E) → is_none helm ≡ true → IfOk result (λ ran. ran.db.names ≡ script.names) → IfOk result (λ ran. ran.db.names ≡ names_with script helm)
-none_named script (Some run) result none named = absurd (false≢true none)
-none_named script None result none named = named
-
-pub none_iterations : {E : Type 0} (script : Script) (helm : Option HelmRun) (result : Result Ran E) → is_none helm ≡ true → IfOk result (λ ran. ran.iterations ≡ [])
-    → IfOk result (λ ran. ran.iterations ≡ iterations (option_map (steering_with script) helm) script.stop (heard_of ran.db.names (helm_number script) ran.db.history))
-none_iterations script (Some run) result none made = absurd (false≢true none)
-none_iterations script None result none made = made

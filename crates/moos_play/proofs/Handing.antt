@@ -13,14 +13,17 @@ use Rattle.moos_post.specs.declared.entry.Entry.{Entry}
 use Rattle.moos_post.specs.History.{History}
 use Rattle.moos_play.specs.declared.playing.Play.{Play}
 use Rattle.moos_play.specs.declared.steersman.Steersman.{Steersman}
-use Rattle.moos_play.specs.Lawful.{entries_below, heard_in, heard_of, helm_number, IsLawfulBeside, iterations, iterations_of, known_clients, Steering, ticks_to}
+use Rattle.moos_lawful.specs.Schedules.{entries_below}
+use Rattle.moos_client.specs.Hearing.{heard_in}
+use Rattle.moos_play.specs.Lawful.{heard_of, helm_number, IsLawfulBeside, iterations, iterations_of, known_clients, Steering, ticks_to, mailed_in}
 use Rattle.moos_play.specs.Plays.{handed, handed_of, HasCompletion, IsBetween, IsCompletable, IsPlayedOut, IsStampOver, iterations_made, left_in, made_by, stamp_next, StaysSeated, untold_in}
-use Rattle.moos_play.specs.Rounds.{CommunityLock}
+use Rattle.moos_step.specs.Steps.{CommunityLock}
 use Rattle.moos_play.specs.Steered.{GoesOnWith, helm_of, IsAtPlay, IsUnderWay, iterations_in, KeepsTime, StandsAt, steering_of, Steers, tick_due, ticks_left, told_in}
 use Rattle.moos_play.proofs.Below.{lawful_alone}
 use Rattle.moos_play.proofs.Completing.{Completion, completion}
 use Rattle.moos_play.proofs.Ending.{lawful_end, left_same, made_over, over_ticks, ticks_made, under_way}
-use Rattle.moos_play.proofs.Hearing.{heard_append, iterations_many, iterations_stay}
+use Rattle.moos_client.proofs.Hearing.{heard_append}
+use Rattle.moos_play.proofs.Hearing.{iterations_many, iterations_stay}
 use Rattle.script_reader.specs.declared.script.Order.{Order}
 use Rattle.script_reader.specs.declared.script.Order.TheVariants.{Stamp, Race}
 use Rattle.script_reader.specs.declared.script.Script.{Script}
@@ -45,8 +48,8 @@ iterations_front plan heard n (suc m) below = by (nat_le n m) refl (iterations_f
 iterations_before : (names : List (List ℕ)) (plan : Plan) (client n m : ℕ) (history rest : History) → n ≤ m → n ≤ length (heard_of names client history)
     → take n (iterations_of plan (heard_of names client (history ++ rest)) m) ≡ iterations_of plan (heard_of names client history) n
 iterations_before names plan client n m history rest below many =
-    iterations_front plan (heard_of names client (history ++ rest)) n m below ∙ ap (λ heard. iterations_of plan heard n) (heard_append names client [] history rest)
-    ∙ iterations_stay plan (heard_of names client history) (heard_in names client history rest) n (omega (arith, many))
+    iterations_front plan (heard_of names client (history ++ rest)) n m below ∙ ap (λ heard. iterations_of plan heard n) (heard_append (mailed_in names) client [] history rest)
+    ∙ iterations_stay plan (heard_of names client history) (heard_in (mailed_in names) client history rest) n (omega (arith, many))
 
 -- the iterations over a history that goes on: those before, and those behind them
 told_on : (names : List (List ℕ)) (s t : Steersman) (history rest : History) → steering_of t ≡ steering_of s → s.told ≡ s.ticks → t.told ≡ s.told → Steers names s history → Steers names t (history ++ rest)
@@ -168,11 +171,11 @@ stays_handed before after stays = record {
 pub goes_on_handed : (before after : Play) → GoesOnWith before after → GoesOnWith before (handed after)
 goes_on_handed before after on = record { script = on.script; lock = on.lock; order = on.order; helm = helm_handed after.steersman ∙ on.helm }
 
-left_handed : (script : Script) (from : ℕ) (steersman : Option Steersman) → length script.lines - from + ticks_left script.stop (option_map handed_of steersman) ≡ length script.lines - from + ticks_left script.stop steersman
+pub left_handed : (script : Script) (from : ℕ) (steersman : Option Steersman) → length script.lines - from + ticks_left script.stop (option_map handed_of steersman) ≡ length script.lines - from + ticks_left script.stop steersman
 left_handed script from None = refl
 left_handed script from (Some s) = refl
 
-next_handed : (order : Order) (stop : ℕ) (line : Option ℕ) (steersman : Option Steersman) → stamp_next order stop (tick_due stop (option_map handed_of steersman)) line ≡ stamp_next order stop (tick_due stop steersman) line
+pub next_handed : (order : Order) (stop : ℕ) (line : Option ℕ) (steersman : Option Steersman) → stamp_next order stop (tick_due stop (option_map handed_of steersman)) line ≡ stamp_next order stop (tick_due stop steersman) line
 next_handed order stop line None = refl
 next_handed order stop line (Some s) = refl
 

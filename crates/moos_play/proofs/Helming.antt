@@ -14,12 +14,13 @@ use Rattle.moos_post.specs.declared.registration.Reg.{Reg}
 use Rattle.moos_post.specs.declared.value.Pair.{Pair}
 use Rattle.moos_post.specs.History.{History}
 use Rattle.moos_play.specs.declared.steersman.Steersman.{Steersman}
-use Rattle.moos_play.specs.Lawful.{heard_of, opening_of}
-use Rattle.moos_play.specs.Rounds.{Anything, Makes}
+use Rattle.moos_play.specs.Lawful.{heard_of, opening_of, mailed_in}
+use Rattle.moos_step.specs.Steps.{Anything, Makes}
 use Rattle.moos_play.specs.Steered.{HasOwn, IsSteered, steering_of, Steers}
-use Rattle.moos_play.proofs.Hearing.{entries_next, heard_next, IsNext}
-use Rattle.moos_play.proofs.Lines.{made_more}
-use Rattle.moos_play.proofs.Steering.{anything, called_made, called_next, called_of, called_own, mail_heard, opened_on, opening_none, opening_some, ticked_on}
+use Rattle.moos_client.proofs.Hearing.{entries_next, heard_next, IsNext}
+use Rattle.moos_step.proofs.Lines.{made_more}
+use Rattle.moos_play.proofs.Steering.{anything, called_next, called_of, called_own, mail_heard, opened_on, opening_none, opening_some, ticked_on}
+use Rattle.moos_step.proofs.Calling.{called_made}
 
 -- a call of the client with a number
 call_next : (client : ℕ) (seat after : SeatState) (stamp : ℕ) (call : Call) → seat.number ≡ client → HasOwn seat → IsCalled seat after stamp call → IsNext client seat.seen after.seen (entry_of client stamp call)
@@ -64,7 +65,7 @@ counted_once s t v first is = subst (λ (v : Steersman). v ≡ record s { calls 
 pub opens_alone : (names : List (List ℕ)) (s : Steersman) (seat after : SeatState) (regs : List Reg) → s.opened ≡ false → s.ticks ≡ 0 → Steers names s seat.seen → seat.number ≡ s.number → HasOwn seat
     → IsCalled seat after 0 (Register regs) → regs ≡ wants_of (plan_of s.helm) → length (plan_of s.helm).opening ≤ 0 → IsSteered names (steering_of s) s.helm true s.ticks s.told s.iterations after.seen
 opens_alone names s seat after regs opened ticks so is own called regs_is none =
-    open_now names s seat.seen after.seen opened ticks so (heard_next names s.number seat.seen after.seen registering next refl)
+    open_now names s seat.seen after.seen opened ticks so (heard_next (mailed_in names) s.number seat.seen after.seen registering next refl)
     (entries_next s.number seat.seen after.seen registering next ∙ ap (λ regs. entries_of s.number seat.seen ++ entry_of s.number 0 (Register regs) ∷ []) regs_is
     ∙ ap (λ entries. entries_of s.number seat.seen ++ entries) (sym (opening_none (steering_of s) none)))
   where
@@ -79,7 +80,7 @@ pub opens_posting : (names : List (List ℕ)) (s : Steersman) (seat between afte
     → IsCalled seat between 0 (Register regs) → regs ≡ wants_of (plan_of s.helm) → IsCalled between after 0 (Posts pairs) → pairs ≡ (plan_of s.helm).opening → 0 < length (plan_of s.helm).opening
     → IsSteered names (steering_of s) s.helm true s.ticks s.told s.iterations after.seen
 opens_posting names s seat between after regs pairs opened ticks so is own called regs_is posted pairs_is some =
-    open_now names s seat.seen after.seen opened ticks so (heard_next names s.number between.seen after.seen posting last refl ∙ heard_next names s.number seat.seen between.seen registering next refl)
+    open_now names s seat.seen after.seen opened ticks so (heard_next (mailed_in names) s.number between.seen after.seen posting last refl ∙ heard_next (mailed_in names) s.number seat.seen between.seen registering next refl)
     (entries_next s.number between.seen after.seen posting last ∙ ap (λ front. front ++ posting ∷ []) (entries_next s.number seat.seen between.seen registering next)
     ∙ append_assoc (entries_of s.number seat.seen) (registering ∷ []) (posting ∷ [])
     ∙ ap (λ regs. entries_of s.number seat.seen ++ entry_of s.number 0 (Register regs) ∷ posting ∷ []) regs_is

@@ -4,7 +4,7 @@ use Rattle.moos_client.specs.Calls.{SeatState}
 use Rattle.moos_post.specs.History.{History}
 use Rattle.moos_play.specs.declared.playing.Play.{Play}
 use Rattle.moos_play.specs.Plays.{IsLentAs, IsSeated, returned}
-use Rattle.moos_play.proofs.Ending.{closed_same}
+use Rattle.moos_step.proofs.Growing.{closed_same}
 use Rattle.turn_lock.specs.Passes.{Begins, HasAll, IsFree, IsOf, KnowsAll}
 
 -- the run with another seat

@@ -1,8 +1,3 @@
-pub mod Lines
-pub mod Mets
-pub mod Rounds
-pub mod Taking
-pub mod Played
 pub mod Handing
 pub mod Hearing
 pub mod Steering
@@ -24,4 +19,6 @@ pub mod Rounding
 pub mod Stamping
 pub mod Remaining
 pub mod Unfinished
+pub mod Moving
+pub mod SchedulesKept
 pub mod Examples

@@ -6,12 +6,12 @@ use Rattle.moos_client.specs.Calls.{SeatState, entries_of}
 use Rattle.moos_post.specs.declared.entry.Entry.{Entry}
 use Rattle.moos_play.specs.Steered.{MaySteer, Steers}
 use Rattle.moos_play.specs.declared.steersman.Steersman.{Steersman}
-use Rattle.moos_play.specs.declared.player.Player.{Player}
-use Rattle.moos_play.specs.Rounds.{Anything, AreBusy, AreParted, CommunityLock, GoesOn, HasEnded, HasMade, HasTaken, IsAlone, IsGathered, IsPlayed, IsPlayedBeside, IsWhole, Makes, met_of, times_met}
-use Rattle.moos_play.proofs.Leading.{player_of}
-use Rattle.moos_play.proofs.Played.{all_make, idle_lines, makes_with, nothing_played, ok_part}
-use Rattle.moos_play.proofs.Rounds.{is_with, parted_more}
-use Rattle.moos_play.proofs.Taking.{at_ok, HaveMade, IsRound, made_times, taken_more}
+use Rattle.moos_step.specs.declared.player.Player.{Player}
+use Rattle.moos_step.specs.Steps.{Anything, AreBusy, AreParted, CommunityLock, GoesOn, HasEnded, HasMade, HasTaken, IsAlone, IsGathered, IsPlayed, IsPlayedBeside, IsWhole, Makes, met_of, times_met}
+use Rattle.moos_step.proofs.Leading.{player_of}
+use Rattle.moos_step.proofs.Played.{all_make, idle_lines, makes_with, nothing_played, ok_part}
+use Rattle.moos_step.proofs.Steps.{is_with, parted_more}
+use Rattle.moos_step.proofs.Taking.{at_ok, HaveMade, made_times, taken_more, IsStep}
 use Rattle.turn_lock.proofs.Mets.{count_gone, count_more, events_front}
 use Rattle.turn_lock.specs.Passes.{Begins, beside, events_in, met_with, without_number}
 use Rattle.std.proofs.lemmas.List.{map-append}
@@ -41,13 +41,13 @@ all_more may (p ∷ ps) (q ∷ qs) before after zip makes = (zip.0, all_more may
 
 -- The clients with lines and then the helm are parted from the first seat, all play, and it takes the clients in and then
 -- the helm.
-pub race_round : (lock : CommunityLock) (lines : List Entry) (helm : ℕ) (result ended others : Result (Unit {0}) AllocError) (before parted apart played taken after seat sailed : SeatState) (befores afters : List Player)
+pub race_step : (lock : CommunityLock) (lines : List Entry) (helm : ℕ) (result ended others : Result (Unit {0}) AllocError) (before parted apart played taken after seat sailed : SeatState) (befores afters : List Player)
     → IsGathered lock before → AreParted lock before parted befores → AreBusy lines helm befores → list_all (λ line. nat_lt line.client helm) lines ≡ true → 0 < helm → helm < length lock.base
     → apart ≡ record parted { met = without_number helm parted.met } → seat ≡ beside parted helm (events_in parted.met helm)
     → Makes (IsPlayed lines ended) apart played → AllZip (HasEnded lines) befores afters → Makes Anything seat sailed → HasTaken played taken afters → after ≡ met_with taken sailed → Begins after.seen taken.seen
     → OnOk others (All (λ player. player.ended ≡ Ok tt) afters) → OnOk result ((ended ≡ Ok tt) × (others ≡ Ok tt))
-    → IsRound lock (IsPlayedBeside helm lines result) before apart played after (befores ++ player_of seat ∷ []) (afters ++ player_of sailed ∷ [])
-race_round lock lines helm result ended others before parted apart played taken after seat sailed befores afters gathered are busy all above below apart_is seat_is makes zip sails taken' after_is later ok both = record {
+    → IsStep lock (IsPlayedBeside helm lines result) before apart played after (befores ++ player_of seat ∷ []) (afters ++ player_of sailed ∷ [])
+race_step lock lines helm result ended others before parted apart played taken after seat sailed befores afters gathered are busy all above below apart_is seat_is makes zip sails taken' after_is later ok both = record {
   gathered = gathered;
   apart = parted_more lock helm before parted apart seat befores (player_of seat) gathered are (busy.fresh helm (omega arith)) above below apart_is seat_is;
   first = makes_beside helm lines result apart played (makes_with lines result ended apart played (ok_part result both (λ b. b.0)) makes);

@@ -7,9 +7,9 @@ use Rattle.std.proofs.lemmas.List.Folds.{list_all-append}
 use native.Mathlib.Decide.{ℕ_discrete}
 use Rattle.moos_client.specs.Calls.{entries_of}
 use Rattle.moos_post.specs.declared.entry.Entry.{Entry}
-use Rattle.moos_play.specs.Lawful.{clients_below}
+use Rattle.moos_lawful.specs.Schedules.{clients_below}
 use Rattle.moos_play.proofs.Below.{own_pass}
-use Rattle.moos_play.proofs.Histories.{all_kept, all_own}
+use Rattle.moos_client.proofs.Histories.{all_kept, all_own, front_pass}
 use Rattle.turn_lock.specs.Passes.{Begins}
 
 -- the first of a client's lines among all
@@ -92,13 +92,6 @@ remains helm (e ∷ es) lines fronts = by (ℕ_discrete e.client helm) (remains 
           same = λ n other. ap (λ own. cond (e.client == n) (e ∷ own) own) (so.same n other) ∙ sym (shape found n);
           pass = λ p all. so.pass p (all_but found p all);
         }
-
--- a test that all lines pass their fronts pass
-pub front_pass : (p : Entry → Bool) (xs ys : List Entry) → Begins xs ys → list_all p xs ≡ true → list_all p ys ≡ true
-front_pass p xs ys begins all = (and_parts (list_all p ys) (list_all p begins.0) (sym (list_all-append p ys begins.0) ∙ ap (list_all p) (sym begins.1) ∙ all)).0
-
-pub fronts_pass : (p : Entry → Bool) (lines added : List Entry) → ((n : ℕ) → Begins (entries_of n lines) (entries_of n added)) → list_all p lines ≡ true → list_all p added ≡ true
-fronts_pass p lines added fronts all = all_own p added (λ n. front_pass p (entries_of n lines) (entries_of n added) (fronts n) (all_kept p (λ entry. entry.client == n) lines all))
 
 -- the clients of some lines play fronts of their own, and one client beside them whatever it does
 pub beside_pass : (number helm : ℕ) (lines added : List Entry) → helm < number → clients_below number lines ≡ true → ((n : ℕ) → n ≢ helm → Begins (entries_of n lines) (entries_of n added)) → clients_below number added ≡ true

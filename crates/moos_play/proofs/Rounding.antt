@@ -7,11 +7,11 @@ use Rattle.std.proofs.lemmas.Bool.{and_parts}
 use Rattle.std.proofs.lemmas.Bool.Decides.{nat_tests}
 use Rattle.std.proofs.lemmas.List.{length-take}
 use Rattle.moos_post.specs.declared.entry.Entry.{Entry}
-use Rattle.moos_play.specs.declared.player.Player.{Player}
+use Rattle.moos_step.specs.declared.player.Player.{Player}
 use Rattle.moos_play.specs.declared.playing.Play.{Play}
 use Rattle.moos_play.specs.declared.steersman.Steersman.{Steersman}
 use Rattle.moos_play.specs.Lawful.{Steering, ticks_to}
-use Rattle.moos_play.specs.Rounds.{GoesOn, IsAlone, IsGathered}
+use Rattle.moos_step.specs.Steps.{GoesOn, IsAlone, IsGathered}
 use Rattle.moos_play.specs.Steered.{IsAtPlay, IsBehind, IsUnderWay, steering_of, Steers, tick_due}
 use Rattle.moos_play.proofs.Coming.{tick_under}
 use Rattle.script_reader.specs.declared.script.Script.{Script}

@@ -15,14 +15,16 @@ use Rattle.moos_post.specs.declared.entry.Entry.{Entry}
 use Rattle.moos_post.specs.History.{History}
 use Rattle.moos_play.specs.declared.playing.Play.{Play}
 use Rattle.moos_play.specs.declared.steersman.Steersman.{Steersman}
-use Rattle.moos_play.specs.Lawful.{clients_below, entries_from, heard_of, helm_number, KeepsStamp, known_clients, Steering, tick_entries, ticks_of}
+use Rattle.moos_lawful.specs.Schedules.{clients_below}
+use Rattle.moos_play.specs.Lawful.{entries_from, heard_of, helm_number, KeepsStamp, known_clients, Steering, tick_entries, ticks_of}
 use Rattle.moos_play.specs.Plays.{AddsAt, earliest, further_in, helm_in, history_in, known_clients_in, next_stamp, stamp_due, stamp_next}
-use Rattle.moos_play.specs.Rounds.{GoesOn, IsAlone, IsPlayed, IsPlayedBeside, IsWhole}
+use Rattle.moos_step.specs.Steps.{GoesOn, IsAlone, IsPlayed, IsPlayedBeside, IsWhole}
 use Rattle.moos_play.specs.Steered.{comes_before, GoesOnWith, helm_of, IsBehind, IsDue, IsStopped, IsUnderWay, opened_by, steering_of, Steers, tick_due}
 use Rattle.moos_play.proofs.Below.{below_raised, both_below, from_more, known_helm, known_more, tick_below}
-use Rattle.moos_play.proofs.Coming.{all_part, grown, lines_clients, tick_alone}
-use Rattle.moos_play.proofs.Histories.{only_own}
-use Rattle.moos_play.proofs.Remaining.{beside_pass, front_pass, fronts_pass}
+use Rattle.moos_play.proofs.Coming.{all_part, lines_clients, tick_alone}
+use Rattle.moos_step.proofs.Growing.{grown}
+use Rattle.moos_client.proofs.Histories.{only_own, front_pass, fronts_pass}
+use Rattle.moos_play.proofs.Remaining.{beside_pass}
 use Rattle.moos_play.proofs.Rounding.{due_is}
 use Rattle.moos_play.proofs.Unfinished.{begun_front, has_begun}
 use Rattle.script_reader.specs.declared.script.Order.{Order}
@@ -82,12 +84,12 @@ lines_known script helm from n result first after valid whole on =
     (all_part (λ line. nat_lt line.client (helm_number script)) script.lines from n (lines_clients (length script.names) 0 script.stop script.lines valid)))
 
 -- the first of the lines that are left is the next one
-next_line : (lines : List Entry) (from : ℕ) (line : Entry) (left : List Entry) → drop from lines ≡ line ∷ left → slice_get lines from ≡ Some line
+pub next_line : (lines : List Entry) (from : ℕ) (line : Entry) (left : List Entry) → drop from lines ≡ line ∷ left → slice_get lines from ≡ Some line
 next_line lines from line left is =
     slice_get-get_or lines from line (omega (arith, ap length is, length-drop from lines))
     ∙ ap Some (ap (λ n. get_or lines n line) (omega arith) ∙ sym (get_or-drop from lines 0 line) ∙ ap (λ left. get_or left 0 line) is)
 
-no_line : (lines : List Entry) (from : ℕ) → drop from lines ≡ [] → slice_get lines from ≡ None
+pub no_line : (lines : List Entry) (from : ℕ) → drop from lines ≡ [] → slice_get lines from ≡ None
 no_line lines from is = slice_get_past lines from (omega (arith, ap length is, length-drop from lines))
 
 -- lines that are due have the stamp of the next round
@@ -110,7 +112,7 @@ due_stamp lines tick stop from to due some = by (drop from lines) refl
         ∙ ap (λ stamp. earliest stop tick (Some stamp)) same ∙ line_next tick due.stamp (due.early some)
 
 -- so has a tick that is
-tick_stamp : (lines : List Entry) (tick stop from : ℕ) → IsBehind (Some tick) (drop from lines) → earliest stop (Some tick) (option_map (λ line. line.stamp) (slice_get lines from)) ≡ tick
+pub tick_stamp : (lines : List Entry) (tick stop from : ℕ) → IsBehind (Some tick) (drop from lines) → earliest stop (Some tick) (option_map (λ line. line.stamp) (slice_get lines from)) ≡ tick
 tick_stamp lines tick stop from behind = by (drop from lines) refl behind
   where
     by : (left : List Entry) → drop from lines ≡ left → IsBehind (Some tick) left → earliest stop (Some tick) (option_map (λ line. line.stamp) (slice_get lines from)) ≡ tick

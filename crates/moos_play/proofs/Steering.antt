@@ -18,24 +18,15 @@ use Rattle.moos_post.specs.declared.entry.Call.TheVariants.{Register, Post as Po
 use Rattle.moos_post.specs.declared.entry.Entry.{Entry}
 use Rattle.moos_post.specs.Delivery.{mail_after}
 use Rattle.moos_post.specs.History.{History, posts_of}
-use Rattle.moos_play.specs.Lawful.{Steering, heard_of, iterations_of, opening_of, ticks_of}
-use Rattle.moos_play.specs.Rounds.{Anything, HasMade, Makes}
+use Rattle.moos_play.specs.Lawful.{Steering, heard_of, iterations_of, opening_of, ticks_of, mailed_in}
+use Rattle.moos_step.specs.Steps.{Anything, HasMade, Makes}
 use Rattle.moos_play.specs.Steered.{HasOwn, IsSteered, opened_by}
-use Rattle.moos_play.proofs.Hearing.{entries_next, heard_fetch, heard_next, heard_on, IsNext, iterations_many, iterations_stay, ticks_stay}
+use Rattle.moos_client.proofs.Hearing.{entries_next, heard_fetch, heard_next, heard_on, IsNext}
+use Rattle.moos_play.proofs.Hearing.{iterations_many, iterations_stay, ticks_stay}
 
 -- a seat makes whatever it makes
 pub anything : {added : List Entry} {before after : SeatState} → HasMade added before after → Makes Anything before after
 anything {added = added} made = record { added = added; made = made; allowed = tt }
-
--- a call as an entry that the seat makes
-pub called_made : (seat after : SeatState) (stamp : ℕ) (call : Call) → IsCalled seat after stamp call → HasMade (entry_of seat.number stamp call ∷ []) seat after
-called_made seat after stamp call called =
-    let entry : Entry = entry_of seat.number stamp call in
-    let seen : after.seen ≡ called.before ++ entry ∷ [] = ap (λ s. s.seen) called.after in
-    record {
-      later = (called.later.0 ++ entry ∷ [], seen ∙ ap (λ front. front ++ entry ∷ []) called.later.1 ∙ append_assoc seat.seen called.later.0 (entry ∷ []));
-      same = called.after ∙ ap (λ seen. record seat { seen = seen; mine = seat.mine ++ entry ∷ [] }) (sym seen);
-    }
 
 -- a fetch is a call
 abbrev pub called_of : (seat after : SeatState) (names : List (List ℕ)) (stamp : ℕ) (mail : List Letter) → IsFetched seat after names stamp mail → IsCalled seat after stamp Fetch
@@ -76,7 +67,7 @@ called_own seat after stamp call called =
 pub steered_on : (names : List (List ℕ)) (helm : Steering) (state : Helm) (opened : Bool) (count told : ℕ) (done : List Iteration) (history rest : History) → IsSteered names helm state opened count told done history
     → entries_of helm.client rest ≡ [] → IsSteered names helm state opened count told done (history ++ rest)
 steered_on names helm state opened count told done history rest so none =
-    let heard : heard_of names helm.client history ≡ heard_of names helm.client (history ++ rest) = sym (heard_on names helm.client history rest none) in
+    let heard : heard_of names helm.client history ≡ heard_of names helm.client (history ++ rest) = sym (heard_on (mailed_in names) helm.client history rest none) in
     record {
       clock = so.clock;
       stands = subst (StandsFor state) heard so.stands;
@@ -147,7 +138,7 @@ ticked_on names helm old new opened count told done before between after mail it
     posting = entry_of helm.client (count * helm.period) (Posts iteration.posts)
 
     heard : now ≡ start ++ tick ∷ []
-    heard = heard_next names helm.client between after posting posted refl ∙ heard_fetch names helm.client before between (count * helm.period) fetched
+    heard = heard_next (mailed_in names) helm.client between after posting posted refl ∙ heard_fetch (mailed_in names) helm.client before between (count * helm.period) fetched
         ∙ ap (λ mail. start ++ tick_of (count * helm.period) mail ∷ []) (sym mail_is)
 
     enough : count ≤ length start

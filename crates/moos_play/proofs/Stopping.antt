@@ -15,13 +15,14 @@ use Rattle.moos_post.specs.declared.entry.Call.TheVariants.{Post as Posts, Fetch
 use Rattle.moos_post.specs.declared.entry.Entry.{Entry}
 use Rattle.moos_post.specs.History.{History}
 use Rattle.moos_play.specs.declared.steersman.Steersman.{Steersman}
-use Rattle.moos_play.specs.Lawful.{heard_of, opening_of, Steering, ticks_of}
-use Rattle.moos_play.specs.Rounds.{HasSeenAll, IsWhole}
+use Rattle.moos_play.specs.Lawful.{heard_of, opening_of, Steering, ticks_of, mailed_in}
+use Rattle.moos_step.specs.Steps.{HasSeenAll, IsWhole}
 use Rattle.moos_play.specs.Steered.{HasOwn, HasStopped, IsSteered, IsStopped, steering_of, Steers}
-use Rattle.moos_play.proofs.Hearing.{entries_next, heard_fetch, heard_on, IsNext, ticks_stay}
+use Rattle.moos_client.proofs.Hearing.{entries_next, heard_fetch, heard_on, IsNext}
+use Rattle.moos_play.proofs.Hearing.{ticks_stay}
 use Rattle.moos_play.proofs.Helming.{fetch_next}
 use Rattle.moos_play.proofs.Steering.{called_of, called_own}
-use Rattle.moos_play.proofs.Taking.{seen_whole}
+use Rattle.moos_step.proofs.Taking.{seen_whole}
 use Rattle.turn_lock.proofs.Fronts.{begins_itself, begins_on}
 use Rattle.turn_lock.specs.Passes.{Begins, known_of}
 
@@ -66,7 +67,7 @@ fetched_stops names helm state count told done old new so next = record {
     tick = tick_of (count * helm.period) (letters_after names helm.client (old ++ next.between))
 
     heard : now ≡ start ++ tick ∷ []
-    heard = heard_fetch names helm.client old new (count * helm.period) next
+    heard = heard_fetch (mailed_in names) helm.client old new (count * helm.period) next
 
     many : length now ≡ suc count
     many = ap length heard ∙ length-append start (tick ∷ []) ∙ omega (arith, so.many)
@@ -127,7 +128,7 @@ stops_on names helm whole most history rest so none = record {
 }
   where
     heard : heard_of names helm.client (history ++ rest) ≡ heard_of names helm.client history
-    heard = heard_on names helm.client history rest none
+    heard = heard_on (mailed_in names) helm.client history rest none
 
 -- a history that has no more of the helm than its seat has made
 stops_whole : (names : List (List ℕ)) (helm : Steering) (whole most : ℕ) (seat after : SeatState) → HasStopped names helm whole most seat → seat.number ≡ helm.client → Begins after.seen seat.seen → known_of after seat.number ≡ seat.mine → IsWhole after

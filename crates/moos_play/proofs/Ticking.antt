@@ -10,11 +10,12 @@ use Rattle.moos_db.specs.declared.mail.Letter.{Letter}
 use Rattle.moos_post.specs.declared.entry.Call.{Call}
 use Rattle.moos_post.specs.declared.entry.Call.TheVariants.{Post as Posts, Fetch}
 use Rattle.moos_play.specs.declared.steersman.Steersman.{Steersman}
-use Rattle.moos_play.specs.Rounds.{Anything, HasMade, Makes}
+use Rattle.moos_step.specs.Steps.{Anything, HasMade, Makes}
 use Rattle.moos_play.specs.Steered.{HasIterated, HasOwn, HasStopped, MayHaveCalled, MayHaveFetched, steering_of, Steers}
 use Rattle.moos_play.proofs.Helming.{ticks_once, two_calls}
-use Rattle.moos_play.proofs.Lines.{made_more}
-use Rattle.moos_play.proofs.Steering.{anything, called_made, called_of, called_own}
+use Rattle.moos_step.proofs.Lines.{made_more}
+use Rattle.moos_play.proofs.Steering.{anything, called_of, called_own}
+use Rattle.moos_step.proofs.Calling.{called_made}
 use Rattle.moos_play.proofs.Stopping.{fetched_own, posted_stops, ready_stops, stops_here, stops_uncalled, tick_fetched}
 
 -- a seat whose call found no memory has made nothing

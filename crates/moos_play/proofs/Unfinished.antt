@@ -13,24 +13,29 @@ use Rattle.helm_core.specs.Ticks.{Tick}
 use Rattle.moos_client.specs.Calls.{entries_of, SeatState}
 use Rattle.moos_post.specs.declared.entry.Entry.{Entry}
 use Rattle.moos_post.specs.History.{History}
-use Rattle.moos_play.specs.declared.player.Player.{Player}
+use Rattle.moos_step.specs.declared.player.Player.{Player}
 use Rattle.moos_play.specs.declared.playing.Play.{Play}
 use Rattle.moos_play.specs.declared.steersman.Steersman.{Steersman}
-use Rattle.moos_play.specs.Lawful.{clients_below, entries_below, heard_in, heard_of, helm_number, known_clients, moment_of, never_falls, opening_of, Steering, tick_entries, ticks_of, ticks_to}
+use Rattle.moos_lawful.specs.Schedules.{clients_below, entries_below}
+use Rattle.moos_client.specs.Hearing.{heard_in}
+use Rattle.moos_play.specs.Lawful.{heard_of, helm_number, known_clients, moment_of, never_falls, opening_of, Steering, tick_entries, ticks_of, ticks_to, mailed_in}
 use Rattle.moos_play.specs.Plays.{IsCompletable}
-use Rattle.moos_play.specs.Rounds.{CommunityLock, GoesOn, IsAlone, IsPlayed, IsPlayedBeside}
+use Rattle.moos_step.specs.Steps.{CommunityLock, GoesOn, IsAlone, IsPlayed, IsPlayedBeside}
 use Rattle.moos_play.specs.Steered.{comes_before, helm_of, IsAtPlay, IsBehind, IsDue, IsStopped, IsUnderWay, StandsAt, steering_of, tick_due}
 use Rattle.moos_play.proofs.Below.{below_more, below_raised, both_below, kept_none, kept_pass, known_helm, known_more, own_pass}
-use Rattle.moos_play.proofs.Coming.{all_part, ends, grown, lines_clients, stands_on}
+use Rattle.moos_play.proofs.Coming.{all_part, ends, lines_clients, stands_on}
+use Rattle.moos_step.proofs.Growing.{grown}
+use Rattle.moos_client.proofs.Histories.{only_own, fronts_pass}
 use Rattle.moos_play.proofs.Moments.{all_below, lines_moment}
 use Rattle.moos_play.proofs.Completing.{completed, Completion, completion, HasComeTo, IsInTime, IsOnItsWay, MayComeFirst, MayGoOn, stands_there, StandsThere, tick_with, ticks_after}
 use Rattle.moos_play.proofs.Ending.{ticks_made, under_way}
 use Rattle.moos_play.proofs.Handing.{completable, has_heard, HasHeard}
-use Rattle.moos_play.proofs.Hearing.{heard_append, heard_deaf, ticks_stay}
-use Rattle.moos_play.proofs.Histories.{only_own, same_rise}
-use Rattle.moos_play.proofs.Remaining.{beside_pass, fronts_pass, Remains, remains}
+use Rattle.moos_client.proofs.Hearing.{heard_append, heard_deaf}
+use Rattle.moos_play.proofs.Hearing.{ticks_stay}
+use Rattle.moos_play.proofs.Histories.{same_rise}
+use Rattle.moos_play.proofs.Remaining.{beside_pass, Remains, remains}
 use Rattle.moos_play.proofs.Rounding.{due_is, due_left}
-use Rattle.moos_play.proofs.Rounds.{none_past}
+use Rattle.moos_step.proofs.Steps.{none_past}
 use Rattle.script_reader.specs.declared.script.Order.{Order}
 use Rattle.script_reader.specs.declared.script.Order.TheVariants.{Stamp, Race}
 use Rattle.script_reader.specs.declared.script.Script.{Script}
@@ -131,7 +136,7 @@ lines_stop order script helm names count stamp lines left added history so front
 -- what a helm that has stopped hears in what is left of its tick
 left_deaf : (names : List (List ℕ)) (helm : Steering) (whole most : ℕ) (history : History) → (so : IsStopped names helm whole most history) → heard_of names helm.client (history ++ so.left) ≡ heard_of names helm.client history
 left_deaf names helm whole most history so =
-    heard_append names helm.client [] history so.left ∙ ap (λ more. heard_of names helm.client history ++ more) (heard_deaf names helm.client history so.left so.deaf) ∙ append-nil (heard_of names helm.client history)
+    heard_append (mailed_in names) helm.client [] history so.left ∙ ap (λ more. heard_of names helm.client history ++ more) (heard_deaf (mailed_in names) helm.client history so.left so.deaf) ∙ append-nil (heard_of names helm.client history)
 
 -- with that it has made as many ticks as it has heard
 left_made : (names : List (List ℕ)) (number stop : ℕ) (helm : Steering) (whole most : ℕ) (history : History) → (so : IsStopped names helm whole most history) → helm.client ≡ number → most ≤ ticks_to stop helm
@@ -207,7 +212,7 @@ pub has_begun : (names : List (List ℕ)) (helm : Steering) (count whole : ℕ) 
 has_begun names helm count whole history later many own alone stopped = record {
   nothing = λ is. append_cancel_left front (later ++ stopped.left) [] (made ∙ ap (λ n. opening_of helm ++ ticks_of helm now n) is ∙ sym (append-nil front));
   begun = λ other.
-      let all : length now ≡ suc count = omega (arith, other, stopped.few, ap length gone_on, length-append start (heard_in names helm.client history later), many) in (
+      let all : length now ≡ suc count = omega (arith, other, stopped.few, ap length gone_on, length-append start (heard_in (mailed_in names) helm.client history later), many) in (
         all,
         append_cancel_left front (later ++ stopped.left) (tick_entries helm now count)
             (made ∙ ap (λ n. opening_of helm ++ ticks_of helm now n) all ∙ sym (append_assoc (opening_of helm) (ticks_of helm now count) (tick_entries helm now count))),
@@ -223,11 +228,11 @@ has_begun names helm count whole history later many own alone stopped = record {
     front : List Entry
     front = opening_of helm ++ ticks_of helm now count
 
-    gone_on : now ≡ start ++ heard_in names helm.client history later
-    gone_on = heard_append names helm.client [] history later
+    gone_on : now ≡ start ++ heard_in (mailed_in names) helm.client history later
+    gone_on = heard_append (mailed_in names) helm.client [] history later
 
     earlier : ticks_of helm now count ≡ ticks_of helm start count
-    earlier = ap (λ heard. ticks_of helm heard count) gone_on ∙ ticks_stay helm start (heard_in names helm.client history later) count (omega (arith, many))
+    earlier = ap (λ heard. ticks_of helm heard count) gone_on ∙ ticks_stay helm start (heard_in (mailed_in names) helm.client history later) count (omega (arith, many))
 
     made : front ++ (later ++ stopped.left) ≡ opening_of helm ++ ticks_of helm now (length now)
     made = ap (λ ticks. (opening_of helm ++ ticks) ++ (later ++ stopped.left)) earlier ∙ ap (λ front. front ++ (later ++ stopped.left)) (sym own)

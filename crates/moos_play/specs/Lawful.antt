@@ -4,30 +4,28 @@ use Rattle.std.specs.Prelude.{◌≡◌, ◌≢◌, ℕ, zero, suc, ◌*◌, ◌
 use Rattle.std.specs.List.{list_all}
 use Rattle.moos_post.specs.declared.entry.Call.TheVariants.{Register, Post as Posts, Fetch}
 use Rattle.moos_post.specs.declared.entry.Entry.{Entry}
-use Rattle.moos_post.specs.Delivery.{is_fetch}
 use Rattle.moos_post.specs.History.{History}
 use Rattle.moos_db.specs.Database.{letters_after}
 use Rattle.moos_client.specs.Calls.{entries_of, entry_of}
+use Rattle.moos_client.specs.Hearing.{heard_in, Mailed}
 use Rattle.helm_core.specs.Helms.{plan_of, StandsFor}
 use Rattle.helm_core.specs.declared.iteration.Iteration.{Iteration}
 use Rattle.helm_core.specs.Iterations.{iteration_at}
 use Rattle.helm_core.specs.Plans.{Plan, wants_of}
 use Rattle.helm_core.specs.Ticks.{Tick, tick_of}
+use Rattle.moos_lawful.specs.Schedules.{clients_below, entries_below}
 use Rattle.moos_play.specs.declared.run.HelmRun.{HelmRun}
 use Rattle.script_reader.specs.declared.script.Order.{Order}
 use Rattle.script_reader.specs.declared.script.Order.TheVariants.{Stamp, Race}
 use Rattle.script_reader.specs.declared.script.Script.{Script}
 
--- what a client hears at each of its fetches in a part of a history that stands behind another part
-abbrev pub heard_in : List (List ℕ) → ℕ → History → History → List Tick
-heard_in names client past [] = []
-heard_in names client past (entry ∷ later) =
-    let heard = heard_in names client (past ++ entry ∷ []) later in
-    if entry.client == client && is_fetch entry.call then tick_of entry.stamp (letters_after names client past) ∷ heard else heard
+-- what a client that fetches hears: the stamp and the mail, as the helm's iterations have them
+abbrev pub mailed_in : List (List ℕ) → Mailed Tick
+mailed_in names client stamp past = tick_of stamp (letters_after names client past)
 
 -- what a client hears at each of its fetches in a history
 abbrev pub heard_of : List (List ℕ) → ℕ → History → List Tick
-heard_of names client history = heard_in names client [] history
+heard_of names client history = heard_in (mailed_in names) client [] history
 
 -- how the helm is run: its number among the clients, what it is made of, and the milliseconds from one tick to the next
 pub record Steering : Type 0 where
@@ -130,17 +128,9 @@ pub record IsLawful (order : Order) (script : Script) (helm : Option Steering) (
 abbrev pub known_clients : {A : Type 0} → Script → Option A → ℕ
 known_clients script helm = length (names_with script helm)
 
--- the entries of the clients below a number
-abbrev pub entries_below : ℕ → History → History
-entries_below number history = filter (λ entry. nat_lt entry.client number) history
-
 -- the entries of the clients from a number on
 abbrev pub entries_from : ℕ → History → History
 entries_from number history = filter (λ entry. nat_le number entry.client) history
-
--- whether all entries are of clients below a number
-abbrev pub clients_below : ℕ → History → Bool
-clients_below number history = list_all (λ entry. nat_lt entry.client number) history
 
 -- A history is lawful beside the entries of further clients, whose numbers follow those of the clients known from the start:
 -- It begins with the helm's opening, and what stands behind that is lawful once the further clients' entries are left out.

@@ -1,4 +1,4 @@
 pub mod Lawful
 pub mod Plays
-pub mod Rounds
+pub mod Schedules
 pub mod Steered

@@ -1,19 +1,15 @@
 -- A script that is played round by round, as its player sees it.
-use Rattle.std.specs.Prelude.{◌≡◌, ◌≢◌, ◌⊎◌, ℕ, ◌≤◌, ◌<◌, nat_lt, if◌then◌else◌, List, [], ◌∷◌, ◌++◌, drop, length, Option, None, Some, IfSome, IsTrue, Result, Ok, Err, option_map, slice_get}
+use Rattle.moos_client.specs.Calls.{entries_of}
+use Rattle.std.specs.Prelude.{◌≡◌, ◌≢◌, ◌⊎◌, ℕ, ◌≤◌, ◌<◌, nat_lt, if◌then◌else◌, List, [], ◌++◌, drop, length, Option, None, Some, IfSome, IsTrue, option_map, slice_get, ◌*◌}
 use Rattle.helm_core.specs.declared.iteration.Iteration.{Iteration}
 use Rattle.helm_core.specs.Helms.{plan_of}
-use Rattle.moos_client.specs.Calls.{IsCalled, SeatState}
-use Rattle.moos_db.specs.declared.mail.Letter.{Letter}
-use Rattle.moos_db.specs.Database.{letters_after}
-use Rattle.moos_post.specs.declared.entry.Call.{Call}
-use Rattle.moos_post.specs.declared.entry.Entry.{Entry}
-use Rattle.moos_post.specs.Delivery.{is_fetch}
 use Rattle.moos_post.specs.History.{History}
 use Rattle.moos_play.specs.declared.playing.Play.{Play}
 use Rattle.moos_play.specs.declared.round_made.Round.{Round}
 use Rattle.moos_play.specs.declared.steersman.Steersman.{Steersman}
-use Rattle.moos_play.specs.Lawful.{clients_below, entries_from, heard_of, helm_number, IsLawful, IsLawfulBeside, iterations, iterations_of, KeepsStamp, known_clients, names_with, Steering}
-use Rattle.moos_play.specs.Rounds.{IsGathered, IsWhole}
+use Rattle.moos_lawful.specs.Schedules.{clients_below}
+use Rattle.moos_play.specs.Lawful.{entries_from, heard_of, helm_number, IsLawful, IsLawfulBeside, iterations, iterations_of, KeepsStamp, known_clients, names_with, Steering, opening_of, ticks_of, ticks_to}
+use Rattle.moos_step.specs.Steps.{IsGathered, IsWhole}
 use Rattle.moos_play.specs.Steered.{helm_of, IsAtPlay, iterations_in, left_of, tick_due}
 use Rattle.script_reader.specs.declared.script.Order.{Order}
 use Rattle.script_reader.specs.declared.script.Order.TheVariants.{Stamp, Race}
@@ -53,20 +49,6 @@ pub record IsFurther (play : Play) (client : ℕ) : Type 0 where
 -- the entries of further clients so far
 abbrev pub further_in : Play → History
 further_in play = entries_from (known_clients_in play) (history_in play)
-
--- the mail of a call that a client makes behind a history: what the delivery rule gives where it fetches, and nothing else
-abbrev pub mail_of_call : List (List ℕ) → History → ℕ → Call → List Letter
-mail_of_call names history client call = if is_fetch call then letters_after names client history else []
-
--- what a call adds to the history: its entry, or nothing where it found no memory
-abbrev pub added_by : {A E : Type 0} → Result A E → Entry → List Entry
-added_by (Ok _) entry = entry ∷ []
-added_by (Err _) entry = []
-
--- a call at a seat, and its mail
-pub record IsAnswered (names : List (List ℕ)) (old new : SeatState) (stamp : ℕ) (call : Call) (given : List Letter) : Type 0 where
-  pub called : IsCalled old new stamp call
-  pub mail : given ≡ mail_of_call names called.before old.number call
 
 -- the helm's iterations so far over what it has heard in a history, none without a helm
 abbrev pub made_by : List (List ℕ) → History → Option Steersman → List Iteration
@@ -149,6 +131,37 @@ pub record IsRound (before after : Play) (round : Round) : Type 0 where
   pub further : further_in after ≡ further_in before
   pub finished : IsStampOver after round.stamp
   pub iterations : iterations_made after ≡ iterations_made before ++ round.iterations
+
+-- no tick was made, and the next one, where one is left up to this stamp, is later
+pub record HasNoTick (helm : Steering) (stop made : ℕ) (round : Round) : Type 0 where
+  pub none : round.iterations ≡ []
+  pub later : made < ticks_to stop helm → round.stamp < made * helm.period
+
+-- the helm's next tick was made, at its stamp
+pub record HasTick (helm : Steering) (made : ℕ) (round : Round) : Type 0 where
+  pub one : length round.iterations ≡ 1
+  pub at : round.stamp ≡ made * helm.period
+
+-- A round in order Stamp: nothing is left or what is next has a later stamp, and the helm, where there is one, has made no
+-- tick or just its next one.
+pub record IsTurn (before after : Play) (round : Round) : Type 0 where
+  pub later : (left_in after ≡ 0) ⊎ (round.stamp < next_stamp after)
+  pub ticked : IfSome (helm_in before) (λ helm. HasNoTick helm (script_played before).stop (length (iterations_made before)) round ⊎ HasTick helm (length (iterations_made before)) round)
+
+-- what an order says of a round besides
+abbrev pub HasTurn : Order → Play → Play → Round → Type 0
+HasTurn Stamp before after round = IsTurn before after round
+HasTurn Race before after round = Unit {0}
+
+-- the helm's entries in a history are its opening and those of so many ticks over what it has heard there, which are as many
+-- mails
+pub record HasTicked (names : List (List ℕ)) (helm : Steering) (count : ℕ) (history : History) : Type 0 where
+  pub own : entries_of helm.client history ≡ opening_of helm ++ ticks_of helm (heard_of names helm.client history) count
+  pub many : length (heard_of names helm.client history) ≡ count
+
+-- so the helm of a run, where there is one, has made as many ticks as there are iterations
+abbrev pub HasSteeredSoFar : Play → Type 0
+HasSteeredSoFar play = IfSome (helm_in play) (λ helm. HasTicked (clients_in play) helm (length (iterations_made play)) (history_in play))
 
 -- A run in which nothing is left: its history is lawful beside the entries of further clients, by itself where there are
 -- none, and its iterations are those of this history.

@@ -13,8 +13,9 @@ use Rattle.helm_core.specs.Helms.{clock_of, IsTicked, plan_of, StandsFor}
 use Rattle.moos_play.specs.declared.playing.Play.{Play}
 use Rattle.moos_play.specs.declared.run.HelmRun.{HelmRun}
 use Rattle.moos_play.specs.declared.steersman.Steersman.{Steersman}
-use Rattle.moos_play.specs.Lawful.{Steering, clients_below, entries_below, heard_of, helm_number, iterations_of, known_clients, moment_of, never_falls, opening, opening_of, ticks_of, ticks_to}
-use Rattle.moos_play.specs.Rounds.{Anything, CommunityLock, IsGathered, IsWhole, Makes}
+use Rattle.moos_play.specs.Lawful.{Steering, heard_of, helm_number, iterations_of, known_clients, moment_of, never_falls, opening, opening_of, ticks_of, ticks_to}
+use Rattle.moos_lawful.specs.Schedules.{clients_below, entries_below}
+use Rattle.moos_step.specs.Steps.{Anything, CommunityLock, IsGathered, IsWhole, Makes}
 use Rattle.script_reader.specs.declared.script.Order.{Order}
 use Rattle.script_reader.specs.declared.script.Order.TheVariants.{Stamp, Race}
 use Rattle.script_reader.specs.declared.script.Script.{Script}
@@ -166,6 +167,27 @@ pub record IsDue (lines : List Entry) (tick : Option ℕ) (from to : ℕ) : Type
   pub one : IsTrue (list_all (λ line. line.stamp == stamp) (take (to - from) (drop from lines)))
   pub early : from < to → comes_before tick stamp ≡ false
   pub next : from ≡ to → IsBehind tick (drop from lines)
+
+-- how many ticks the helm has made, none without one
+abbrev pub ticks_in : Option Steersman → ℕ
+ticks_in None = 0
+ticks_in (Some steersman) = steersman.ticks
+
+-- the milliseconds from one tick to the next, any without a helm
+abbrev pub period_in : Option Steersman → ℕ
+period_in None = 1
+period_in (Some steersman) = steersman.period
+
+-- Steps of a run at this stamp: no line is taken back, and the helm makes one tick at most, its next one, which has this stamp.
+pub record MovesAt (stamp : ℕ) (before after : Play) : Type 0 where
+  pub lines : before.from ≤ after.from
+  pub ticks : (ticks_in after.steersman ≡ ticks_in before.steersman)
+      ⊎ ((ticks_in after.steersman ≡ suc (ticks_in before.steersman)) × (stamp ≡ ticks_in before.steersman * period_in before.steersman))
+
+-- the same in order Stamp
+abbrev pub KeepsMoves : Order → ℕ → Play → Play → Type 0
+KeepsMoves Stamp stamp before after = MovesAt stamp before after
+KeepsMoves Race stamp before after = Unit {0}
 
 -- how many of the helm's ticks up to a stamp are left
 abbrev pub ticks_left : ℕ → Option Steersman → ℕ

@@ -1,7 +1,9 @@
 // A run in the open: from round to round, with the database lent in between.
 ghost use Rattle.std.specs.Prelude.{◌≡◌, ◌<◌, ◌≤◌, length, option_map, slice_get, IfOk, IfNone, IfSome, OnErr, OnOk};
-ghost use Rattle.moos_play.specs.Plays.{AddsAt, earliest, handed, HasCompletion, history_in, IsBetween, IsCompletable, IsStampOver, IsLentAs, IsPlayedOut, IsRound, IsSeated, known_clients_in, left_in, clients_in, next_stamp, returned, StaysSeated, untold_in};
-ghost use Rattle.moos_play.specs.Steered.{GoesOnWith, IsAtPlay, told_in};
+ghost use Rattle.moos_play.specs.Plays.{AddsAt, earliest, handed, HasCompletion, HasSteeredSoFar, HasTurn, history_in, IsBetween, IsCompletable, IsStampOver, IsLentAs, IsPlayedOut, IsRound, IsSeated, known_clients_in, left_in, clients_in, next_stamp, order_played, returned, StaysSeated, untold_in};
+ghost use Rattle.moos_lawful.specs.Schedules.{IsLawfulSoFar};
+ghost use Rattle.moos_play.specs.Schedules.{schedule_in};
+ghost use Rattle.moos_play.specs.Steered.{GoesOnWith, IsAtPlay, KeepsMoves, told_in};
 ghost use Rattle.script_reader.specs.Validity.{IsValid};
 
 use crate::playing::Play;
@@ -37,6 +39,7 @@ impl<'a> Play<'a> {
         ensures front { OnErr result (HasCompletion self.new) }
         ensures stamped { OnErr result (AddsAt self.old.order (next_stamp self.old) (known_clients_in self.old) (history_in self.old) (history_in self.new)) }
         ensures round { IfOk result (λ round. IfSome round (IsRound self.old self.new)) }
+        ensures turn { IfOk result (λ round. IfSome round (HasTurn (order_played self.old) self.old self.new)) }
         ensures more { IfOk result (λ round. IfSome round (λ _. left_in self.new < left_in self.old)) }
         ensures none { IfOk result (λ round. IfNone round ((left_in self.old ≡ 0) × (self.new ≡ self.old))) }
         ensures over { IfOk result (λ round. IfNone round (IsPlayedOut self.new)) }
@@ -78,11 +81,14 @@ impl<'a> Play<'a> {
         self.lock.give_back(&mut self.first.seat, held);
     }
 
-    /// The law of a run between two rounds: with some entries more its history is lawful, and the helm's iterations so far are
-    /// the first of those of that history. It does nothing.
+    /// The law of a run between two rounds: its history is lawful so far; with some entries more it is lawful, and the helm's
+    /// iterations so far are the first of those of that history; and the helm, where there is one, has made as many ticks as there
+    /// are iterations. It does nothing.
     pub fn front_law(&self)
         requires { IsBetween self.now }
-        ensures { HasCompletion self.now }
+        ensures front { HasCompletion self.now }
+        ensures steered { HasSteeredSoFar self.now }
+        ensures so_far { IsLawfulSoFar (schedule_in self.now) (history_in self.now) }
     {}
 
     // Plays on while what is next has this stamp.
@@ -104,6 +110,7 @@ impl<'a> Play<'a> {
         ensures told { OnOk result (told_in self.new.steersman ≡ told_in self.old.steersman) }
         ensures less { OnOk result (left_in self.new ≤ left_in self.old) }
         ensures stamped { AddsAt self.old.order stamp (known_clients_in self.old) (history_in self.old) (history_in self.new) }
+        ensures moves { OnOk result (KeepsMoves self.old.order stamp self.old self.new) }
         ensures all { OnOk result (IsStampOver self.new stamp) }
     {
         let script = self.script;

@@ -6,18 +6,15 @@
 //! by round may have further clients, whose entries stand where they were entered; without these its history is as lawful.
 //! Between two rounds its history is a front of such a one, and so it is after a round that found no memory.
 //!
-//! Reading order: `player`, one client's calls; `round`, the clients of a round beside each other; `steersman`, the helm's
-//! calls; `race`, the helm beside the clients; `seats`, how a run begins; `stamps`, what is next; `playing`, from one step to
+//! Reading order: `steersman`, the helm's calls; `race`, the helm beside the clients; `seats`, how a run begins; `stamps`, what is next; `playing`, from one step to
 //! the next; `round_made`, what a round leaves; `by_round`, a run that is played round by round; `entering`, what further
 //! clients do between rounds; `run`, the whole.
 #![tactic(auto)]
 
 mod by_round;
 mod entering;
-mod player;
 mod playing;
 mod race;
-mod round;
 mod round_made;
 mod run;
 mod seats;

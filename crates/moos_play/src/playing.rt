@@ -2,12 +2,10 @@
 ghost use Rattle.std.specs.Prelude.{◌≡◌, ◌≢◌, ◌<◌, ◌≤◌, ◌++◌, ◌^◌, None, Ok, true, false, [], drop, length, option_map, IfOk, OnErr, OnOk, IfSome};
 ghost use Rattle.moos_play.specs.Lawful.{known_clients, names_with, opening, steering_with, MayStart};
 ghost use Rattle.moos_play.specs.Plays.{AddsAt, helm_in, history_in, IsBetween, IsCompletable, IsSeated, clients_in, order_played, script_played, stamp_due, StaysSeated, untold_in};
-ghost use Rattle.moos_play.specs.Steered.{GoesOnWith, IsAtPlay, IsBehind, IsDue, left_of, tick_due, told_in};
+ghost use Rattle.moos_play.specs.Steered.{GoesOnWith, IsAtPlay, IsBehind, IsDue, left_of, tick_due, told_in, KeepsMoves};
 ghost use Rattle.script_reader.specs.Validity.{IsValid};
 
-use crate::player::Player;
 use crate::race::race;
-use crate::round::play_round;
 use crate::run::{HelmRun, Ran};
 use crate::seats::{open_all, seats_for, steersman_for};
 use crate::stamps::{due_end, tick_due};
@@ -15,6 +13,7 @@ use crate::steersman::{Steersman, lead};
 use moos_client::Lock;
 use moos_io::Gate;
 use moos_post::{List, Names, NoMemory};
+use moos_step::{Player, play_step};
 use script_reader::{Order, Script};
 use std::alloc::Global;
 use std::sync::Wait;
@@ -46,7 +45,6 @@ impl<'a> Play<'a> {
     ) -> Result<Play<'a>, NoMemory>
         requires valid { IsValid script.now }
         requires helm { IfSome helm MayStart }
-        requires some { 0 < length (names_with script.now helm ++ further) }
         requires few { length (names_with script.now helm ++ further) < 2 ^ 32 }
         ensures script { IfOk result (λ play. script_played play ≡ script.now) }
         ensures order { IfOk result (λ play. order_played play ≡ order) }
@@ -94,6 +92,7 @@ impl<'a> Play<'a> {
         ensures seated { StaysSeated self.old self.new }
         ensures front { OnErr result (IsCompletable script.now self.new) }
         ensures stamped { AddsAt self.old.order (stamp_due script.now self.old) (known_clients script.now (helm_in self.old)) (history_in self.old) (history_in self.new) }
+        ensures moves { OnOk result (KeepsMoves self.old.order (stamp_due script.now self.old) self.old self.new) }
         ensures more { result ≡ Ok true → left_of script.now self.new < left_of script.now self.old }
         ensures over { result ≡ Ok false → (left_of script.now self.old ≡ 0) × (self.new ≡ self.old) }
     {
@@ -130,6 +129,7 @@ impl<'a> Play<'a> {
         ensures seated { StaysSeated self.old self.new }
         ensures front { OnErr result (IsCompletable script.now self.new) }
         ensures stamped { AddsAt self.old.order (stamp_due script.now self.old) (known_clients script.now (helm_in self.old)) (history_in self.old) (history_in self.new) }
+        ensures moves { OnOk result (KeepsMoves self.old.order (stamp_due script.now self.old) self.old self.new) }
         ensures more { OnOk result (left_of script.now self.new < left_of script.now self.old) }
     {
         if self.from < to {
@@ -158,11 +158,12 @@ impl<'a> Play<'a> {
         ensures seated { StaysSeated self.old self.new }
         ensures front { OnErr result (IsCompletable script.now self.new) }
         ensures stamped { AddsAt self.old.order (stamp_due script.now self.old) (known_clients script.now (helm_in self.old)) (history_in self.old) (history_in self.new) }
+        ensures moves { OnOk result (KeepsMoves self.old.order (stamp_due script.now self.old) self.old self.new) }
         ensures more { OnOk result (left_of script.now self.new < left_of script.now self.old) }
     {
         let lines = &script.lines.all()[self.from..to];
         let calls = self.calls.as_mut_slice();
-        play_round(rt, alloc, &self.lock, &mut self.first, calls, lines, gate)?;
+        play_step(rt, alloc, &self.lock, &mut self.first, calls, lines, gate)?;
         self.from = to;
         Ok(())
     }
@@ -187,6 +188,7 @@ impl<'a> Play<'a> {
         ensures seated { StaysSeated self.old self.new }
         ensures front { OnErr result (IsCompletable script.now self.new) }
         ensures stamped { AddsAt self.old.order (stamp_due script.now self.old) (known_clients script.now (helm_in self.old)) (history_in self.old) (history_in self.new) }
+        ensures moves { OnOk result (KeepsMoves self.old.order (stamp_due script.now self.old) self.old self.new) }
         ensures more { OnOk result (left_of script.now self.new < left_of script.now self.old) }
     {
         let Some(steersman) = &mut self.steersman else {
@@ -252,7 +254,7 @@ impl<'a> Play<'a> {
         let to = script.lines.len();
         let lines = &script.lines.all()[self.from..to];
         let calls = self.calls.as_mut_slice();
-        play_round(rt, alloc, &self.lock, &mut self.first, calls, lines, gate)?;
+        play_step(rt, alloc, &self.lock, &mut self.first, calls, lines, gate)?;
         self.from = to;
         Ok(())
     }

@@ -3,15 +3,14 @@ ghost use Rattle.std.specs.Prelude.{◌≡◌, ◌≤◌, ◌<◌, ◌+◌, ◌*
 ghost use Rattle.std.specs.List.{All, AllZip, list_all};
 ghost use Rattle.std.specs.Thread.{IsSync};
 ghost use Rattle.moos_client.specs.Calls.{MayCall};
-ghost use Rattle.moos_play.specs.Rounds.{GoesOn, HasEnded, IsApart, IsGathered, IsPlayedBeside, IsWhole};
+ghost use Rattle.moos_step.specs.Steps.{GoesOn, HasEnded, IsApart, IsGathered, IsPlayedBeside, IsWhole};
 ghost use Rattle.moos_play.specs.Steered.{HasSteered, IsStopped, MaySteer, Steers, steering_of};
 
-use crate::player::Player;
-use crate::round::{both, part_busy, play_beside, see_all, take_in};
 use crate::steersman::{Steersman, lead, steer};
 use moos_client::{Lock, Seat};
 use moos_io::Gate;
 use moos_post::{Entry, NoMemory};
+use moos_step::{Player, both, part_busy, play_beside, see_all, take_in};
 use std::alloc::Global;
 use std::sync::Wait;
 use std::thread::{Threads, join_mut};

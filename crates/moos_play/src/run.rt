@@ -1,5 +1,5 @@
 // The whole of a run, round by round.
-ghost use Rattle.std.specs.Prelude.{◌≡◌, ◌≤◌, [], length, option_map, IfOk, IfSome, OnOk};
+ghost use Rattle.std.specs.Prelude.{◌≡◌, ◌≤◌, option_map, IfOk, IfSome, OnOk};
 ghost use Rattle.moos_play.specs.Lawful.{heard_of, helm_number, MayStart, IsLawful, iterations, names_with, steering_with};
 ghost use Rattle.moos_play.specs.Plays.{StaysSeated};
 ghost use Rattle.moos_play.specs.Steered.{GoesOnWith, IsAtPlay, left_of, told_in};
@@ -10,7 +10,7 @@ use crate::steersman::Iterations;
 use helm_core::Helm;
 use moos_db::Db;
 use moos_io::Gate;
-use moos_post::{Copied, List, NoMemory};
+use moos_post::{List, NoMemory};
 use script_reader::{Order, Script};
 use std::alloc::Global;
 use std::sync::Wait;
@@ -62,26 +62,11 @@ pub fn play<R: Threads + Wait + Sync, G: Gate>(
     ensures iterations { let helm = option_map (steering_with script.now) helm in
         IfOk result (λ ran. ran.iterations ≡ iterations helm script.now.stop (heard_of ran.db.names (helm_number script.now) ran.db.history)) }
 {
-    if script.names.len() == 0 && helm.is_none() {
-        return play_none(alloc, script);
-    }
     let mut play = Play::make(rt, alloc, script, helm, List::new(alloc), order, gate)?;
     let played = play_out(rt, alloc, &mut play, script, workers, gate);
     let ran = play.close(alloc);
     played?;
     Ok(ran)
-}
-
-// What a run leaves that has no clients.
-fn play_none(alloc: Global, script: &Script) -> Result<Ran, NoMemory>
-    requires { length script.now.names ≡ 0 }
-    ensures names { IfOk result (λ ran. ran.db.names ≡ script.now.names) }
-    ensures history { IfOk result (λ ran. ran.db.history ≡ []) }
-    ensures iterations { IfOk result (λ ran. ran.iterations ≡ []) }
-{
-    let db = Db::make(alloc, script.names.copy(alloc)?)?;
-    let iterations = List::new(alloc);
-    Ok(Ran { db, iterations })
 }
 
 // Plays all that is left.

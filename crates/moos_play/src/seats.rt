@@ -1,9 +1,8 @@
 // How a run begins: its names, a seat for each client, and the helm with its opening.
-ghost use Rattle.std.specs.Prelude.{◌≡◌, ◌<◌, ◌++◌, ◌^◌, codes, length, option_map, IfOk, OnOk, IfSome};
+ghost use Rattle.std.specs.Prelude.{◌≡◌, ◌<◌, ◌≤◌, ◌++◌, ◌^◌, codes, length, option_map, IfOk, OnOk, IfSome};
 ghost use Rattle.moos_play.specs.Lawful.{names_with, MayStart};
-ghost use Rattle.moos_play.specs.Rounds.{IsGathered, KnowsNothing};
+ghost use Rattle.moos_step.specs.Steps.{IsGathered, KnowsNothing};
 ghost use Rattle.moos_play.specs.Steered.{HasOpened, helm_of, IsUnopened, run_as};
-ghost use Rattle.turn_lock.specs.Passes.{first_pass};
 
 use crate::run::HelmRun;
 use crate::steersman::{Steersman, lead};
@@ -11,6 +10,7 @@ use moos_client::{Lock, Seat};
 use moos_db::Db;
 use moos_io::Gate;
 use moos_post::{Copied, List, Name, NameFault, Names, NoMemory};
+use moos_step::seat_all;
 use script_reader::Script;
 use std::alloc::{AllocError, Global};
 use std::sync::Wait;
@@ -26,7 +26,6 @@ pub(crate) fn seats_for(
     helm: &Option<HelmRun>,
     further: &Names,
 ) -> Result<(Lock, Seat, Vec<u64>), NoMemory>
-    requires some { 0 < length (names_with script.now helm.now ++ further.now) }
     requires few { length (names_with script.now helm.now ++ further.now) < 2 ^ 32 }
     ensures names { IfOk result (λ seats. seats.0.base ≡ names_with script.now helm.now ++ further.now) }
     ensures gathered { IfOk result (λ seats. IsGathered seats.0 seats.1) }
@@ -34,7 +33,7 @@ pub(crate) fn seats_for(
     ensures calls { IfOk result (λ seats. length seats.2.items ≡ clients) }
 {
     let names = names_for(alloc, script, helm, further)?;
-    let passes = names.len() as u32;
+    let passes = passes_for(&names);
     let calls = no_calls(alloc, clients)?;
     let db = Db::make(alloc, names)?;
     let Ok((lock, mut seat)) = TurnLock::make(alloc, db, passes) else {
@@ -42,6 +41,17 @@ pub(crate) fn seats_for(
     };
     seat_all(&lock, &mut seat, passes);
     Ok((lock, seat, calls))
+}
+
+// How many passes there are: one for each client, and one where there is none.
+fn passes_for(names: &Names) -> u32
+    requires { length names.now < 2 ^ 32 }
+    ensures some { 0 < result }
+    ensures all { length names.now ≤ result }
+    ensures one { 0 < length names.now → result ≡ length names.now }
+{
+    let clients = names.len() as u32;
+    if clients == 0 { 1 } else { clients }
 }
 
 // The names of all clients: the script's, then the helm's where there is one, and then the further ones.
@@ -118,19 +128,6 @@ fn no_calls(alloc: Global, clients: u32) -> Result<Vec<u64>, NoMemory>
         calls.push(0)?;
     }
     Ok(calls)
-}
-
-// Splits off the seats of all other clients from that of the first, which takes them in.
-fn seat_all(lock: &Lock, first: &mut Seat, clients: u32)
-    requires clients { (0 < clients) × (clients ≡ length lock.now.base) }
-    requires first { first.old ≡ first_pass lock.now clients }
-    ensures gathered { IsGathered lock.now first.new }
-    ensures nothing { KnowsNothing first.new }
-{
-    for client in 1..clients {
-        let seat = lock.split(first);
-        lock.meet(first, seat);
-    }
 }
 
 /// Has the helm, where there is one, make its opening.

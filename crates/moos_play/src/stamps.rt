@@ -1,6 +1,6 @@
 // Which lines and which tick are next by their stamps.
 ghost use Rattle.std.specs.Prelude.{◌≡◌, ◌<◌, ◌≤◌, length, slice_index_or, IfSome};
-ghost use Rattle.moos_play.specs.Rounds.{EndsRound};
+ghost use Rattle.moos_step.specs.Steps.{EndsStep};
 ghost use Rattle.moos_play.specs.Steered.{comes_before, IsDue, tick_due};
 
 use crate::steersman::Steersman;
@@ -50,7 +50,7 @@ fn comes_before(tick: Option<u64>, stamp: u64) -> bool
 fn stamp_end(lines: &[Entry], from: usize, first: &Entry) -> usize
     requires from { from < length lines.now }
     requires first { first.now ≡ slice_index_or lines.now from first.now }
-    ensures { EndsRound lines.now first.now.stamp from result }
+    ensures { EndsStep lines.now first.now.stamp from result }
 {
     let stamp = first.stamp;
     let mut to = from + 1;

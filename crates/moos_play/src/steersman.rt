@@ -2,15 +2,15 @@
 ghost use Rattle.std.specs.Prelude.{◌≡◌, ◌≤◌, ◌<◌, ◌*◌, ◌+◌, ◌^◌, ◌++◌, ◌∷◌, [], true, false, length, IfOk, OnErr, OnOk};
 ghost use Rattle.helm_core.specs.Helms.{clock_of};
 ghost use Rattle.moos_client.specs.Calls.{IsCalled, MayCall};
-ghost use Rattle.moos_play.specs.Rounds.{Anything, GoesOn, IsAlone, IsGathered, IsWhole, Makes};
+ghost use Rattle.moos_step.specs.Steps.{Anything, GoesOn, IsAlone, IsGathered, IsWhole, Makes};
 ghost use Rattle.moos_post.specs.declared.entry.Call.TheVariants.{Post as Posts};
 ghost use Rattle.moos_play.specs.Steered.{HasIterated, HasOwn, HasStopped, IsStopped, MayHaveCalled, MayHaveFetched, Steers, steering_of};
 
-use crate::round::see_all;
 use helm_core::{Helm, Iteration};
 use moos_client::{Lock, Seat, fetch, post, register};
 use moos_io::Gate;
 use moos_post::{Batch, Copied, List, NoMemory};
+use moos_step::see_all;
 use std::alloc::Global;
 use std::sync::Wait;
 use std::thread::Threads;

@@ -8,8 +8,9 @@ use Rattle.helm_core.specs.Ticks.{Tick}
 use Rattle.moos_client.specs.Calls.{entries_of}
 use Rattle.moos_post.specs.declared.entry.Entry.{Entry}
 use Rattle.moos_post.specs.History.{History}
-use Rattle.moos_play.specs.Lawful.{IsLawful, Steering, heard_in, heard_of, helm_number, moment_of, never_falls, opening, ticks, ticks_of, ticks_to}
-use Rattle.moos_play.proofs.Hearing.{heard_append}
+use Rattle.moos_play.specs.Lawful.{IsLawful, Steering, heard_of, helm_number, moment_of, never_falls, opening, ticks, ticks_of, ticks_to, mailed_in}
+use Rattle.moos_client.specs.Hearing.{heard_in}
+use Rattle.moos_client.proofs.Hearing.{heard_append}
 use Rattle.script_reader.specs.declared.script.Order.TheVariants.{Stamp}
 use Rattle.script_reader.specs.declared.script.Script.{Script}
 use Rattle.mission_maker.specs.Stamps.{rise_within}
@@ -37,7 +38,7 @@ helm_next script None names done next another one two = nothing next one.steered
         behind [] more none = ap head none
         behind (entry ∷ front) more none = absurd cc
 helm_next script (Some helm) names done next another one two =
-    same_next helm heard (heard_in names number past next) (heard_in names number past another) (ticks_to script.stop helm) (entries_of number done) (entries_of number next) (entries_of number another)
+    same_next helm heard (heard_in (mailed_in names) number past next) (heard_in (mailed_in names) number past another) (ticks_to script.stop helm) (entries_of number done) (entries_of number next) (entries_of number another)
     enough (along next one.steered) (along another two.steered)
   where
     number : ℕ
@@ -51,19 +52,19 @@ helm_next script (Some helm) names done next another one two =
 
     along : (next : History) → entries_of (helm_number script) (done ++ next) ≡ ticks_of helm (heard_of names (helm_number script) (opening (Some helm) ++ (done ++ next))) (ticks_to script.stop helm)
         → entries_of (helm_number script) done ++ entries_of (helm_number script) next
-        ≡ ticks_of helm (heard_of names (helm_number script) (opening (Some helm) ++ done) ++ heard_in names (helm_number script) (opening (Some helm) ++ done) next) (ticks_to script.stop helm)
+        ≡ ticks_of helm (heard_of names (helm_number script) (opening (Some helm) ++ done) ++ heard_in (mailed_in names) (helm_number script) (opening (Some helm) ++ done) next) (ticks_to script.stop helm)
     along next is =
         sym (entries_append (helm_number script) done next) ∙ is
         ∙ ap (λ heard. ticks_of helm heard (ticks_to script.stop helm))
-        (ap (heard_of names (helm_number script)) (sym (append_assoc (opening (Some helm)) done next)) ∙ heard_append names (helm_number script) [] (opening (Some helm) ++ done) next)
+        (ap (heard_of names (helm_number script)) (sym (append_assoc (opening (Some helm)) done next)) ∙ heard_append (mailed_in names) (helm_number script) [] (opening (Some helm) ++ done) next)
 
     enough : fetches (entries_of (helm_number script) done) ≤ length (heard_of names (helm_number script) (opening (Some helm) ++ done))
     enough =
         omega (
           arith,
-          ap length (heard_append names (helm_number script) [] (opening (Some helm)) done),
+          ap length (heard_append (mailed_in names) (helm_number script) [] (opening (Some helm)) done),
           heard_at_fetches names (helm_number script) (opening (Some helm)) done,
-          length-append (heard_of names (helm_number script) (opening (Some helm))) (heard_in names (helm_number script) (opening (Some helm)) done),
+          length-append (heard_of names (helm_number script) (opening (Some helm))) (heard_in (mailed_in names) (helm_number script) (opening (Some helm)) done),
         )
 
 -- and that of any client

@@ -12,7 +12,8 @@ use Rattle.moos_post.specs.declared.entry.Call.TheVariants.{Post as Posts, Fetch
 use Rattle.moos_post.specs.declared.entry.Entry.{Entry}
 use Rattle.moos_post.specs.Delivery.{is_fetch}
 use Rattle.moos_post.specs.History.{History}
-use Rattle.moos_play.specs.Lawful.{Steering, heard_in, tick_entries, ticks_of}
+use Rattle.moos_play.specs.Lawful.{Steering, tick_entries, ticks_of, mailed_in}
+use Rattle.moos_client.specs.Hearing.{heard_in}
 use Rattle.run_summary.proofs.Lines.{head}
 
 -- how many entries are fetches
@@ -25,12 +26,12 @@ fetches_append [] more = sym (zero-add (fetches more))
 fetches_append (entry ∷ some) more = omega (arith, fetches_append some more)
 
 -- a client hears at each of its fetches
-pub heard_at_fetches : (names : List (List ℕ)) (client : ℕ) (past entries : History) → length (heard_in names client past entries) ≡ fetches (entries_of client entries)
+pub heard_at_fetches : (names : List (List ℕ)) (client : ℕ) (past entries : History) → length (heard_in (mailed_in names) client past entries) ≡ fetches (entries_of client entries)
 heard_at_fetches names client past [] = refl
 heard_at_fetches names client past (entry ∷ entries) = at (entry.client == client) (is_fetch entry.call) refl (heard_at_fetches names client (past ++ entry ∷ []) entries)
   where
-    at : (b fetch : Bool) → is_fetch entry.call ≡ fetch → length (heard_in names client (past ++ entry ∷ []) entries) ≡ fetches (entries_of client entries)
-        → length (cond (b && fetch) (tick_of entry.stamp (letters_after names client past) ∷ heard_in names client (past ++ entry ∷ []) entries) (heard_in names client (past ++ entry ∷ []) entries))
+    at : (b fetch : Bool) → is_fetch entry.call ≡ fetch → length (heard_in (mailed_in names) client (past ++ entry ∷ []) entries) ≡ fetches (entries_of client entries)
+        → length (cond (b && fetch) (tick_of entry.stamp (letters_after names client past) ∷ heard_in (mailed_in names) client (past ++ entry ∷ []) entries) (heard_in (mailed_in names) client (past ++ entry ∷ []) entries))
         ≡ fetches (cond b (entry ∷ entries_of client entries) (entries_of client entries))
     at true true is same = ap suc same ∙ sym (one-add (fetches (entries_of client entries))) ∙ ap (λ b. cond b 1 0 + fetches (entries_of client entries)) (sym is)
     at true false is same = same ∙ sym (zero-add (fetches (entries_of client entries))) ∙ ap (λ b. cond b 1 0 + fetches (entries_of client entries)) (sym is)

@@ -20,7 +20,7 @@ returns-in-Err g c =
     let after = g.K.Sink.taken c.tell_opening.new.out in
     let none = none_made play c.requires.between c.requires.named c.requires.begun in
     let front = subst (λ made. TookFront before after (front_text c.args.setup.now (clients_in play) (history_in play) made)) (sym none) c.in-Err.ensures.front in
-    (told_front c.args.setup.now play c.parts_law.ensures.fronts c.requires.between c.requires.named c.front_law.ensures before after _ _ front, c.in-Err.ensures.rose)
+    (told_front c.args.setup.now play c.parts_law.ensures.fronts c.requires.between c.requires.named c.front_law.ensures.front before after _ _ front, c.in-Err.ensures.rose)
 
 pub loop-more-init : goal.loop-more-init
 loop-more-init g c =
@@ -33,7 +33,7 @@ loop-more-init g c =
       empty = c.new-buffer.ensures;
       between = subst IsBetween same c.requires.between;
       named = subst IsNamed same c.requires.named;
-      on = subst HasCompletion same c.front_law.ensures;
+      on = subst HasCompletion same c.front_law.ensures.front;
       same = subst (GoesOnWith play) same (record { script = refl; lock = refl; order = refl; helm = refl });
       made = sym (ap length none) ∙ ap (λ (play : Play). length (iterations_made play)) same;
       told = subst (IsToldSoFar c.args.setup.now before after) same

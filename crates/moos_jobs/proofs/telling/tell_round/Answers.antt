@@ -28,7 +28,7 @@ returns-in-Err-clause-stopped g c = λ before faults later on told.
     let made = subst (λ round. IfSome round (IsRound old new)) c.in-Some.is c.in-Ok.ensures.round in
     let front = part_front c.args.setup.now old new c.in-Some.round c.parts_law.ensures.parts c.requires.between c.in-Ok.ensures.between c.requires.named on c.round.ensures.seated made before _ _ c.args.made c.requires.made told c.in-Err.ensures.front in (
       run_as (λ order script helm. ToldFront order script helm c.args.setup.now (sinking before (g.K.Sink.taken c.tell_part.new.out) faults (g.K.Sink.faults c.tell_part.new.out))) on.order on.script on.helm
-          (told_front c.args.setup.now new c.parts_law.ensures.fronts c.in-Ok.ensures.between (named_on old new on c.requires.named) c.front_law.ensures before _ faults _ front),
+          (told_front c.args.setup.now new c.parts_law.ensures.fronts c.in-Ok.ensures.between (named_on old new on c.requires.named) c.front_law.ensures.front before _ faults _ front),
       rose_on faults _ _ later c.in-Err.ensures.rose,
     )
 

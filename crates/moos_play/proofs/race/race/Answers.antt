@@ -3,15 +3,16 @@ use Rattle.std.specs.List.{list_all}
 use Rattle.moos_post.specs.declared.entry.Entry.{Entry}
 use Rattle.moos_play.specs.Lawful.{Steering}
 use Rattle.moos_client.specs.Calls.{entries_of, SeatState}
-use Rattle.moos_play.specs.Rounds.{AreBusy, GoesOn, IsPlayedBeside, times_met}
+use Rattle.moos_step.specs.Steps.{AreBusy, GoesOn, IsPlayedBeside, times_met}
 use Rattle.moos_play.specs.Steered.{HasOwn, IsSteered, IsStopped, steering_of, Steers}
-use Rattle.moos_play.proofs.Leading.{known_met, led_steered}
-use Rattle.moos_play.proofs.Played.{ok_part}
-use Rattle.moos_play.proofs.Racing.{alone_beside, helm_absent, helm_with, may_steer, race_round}
-use Rattle.moos_play.proofs.Lines.{err_any}
-use Rattle.moos_play.proofs.Rounds.{none_past}
+use Rattle.moos_step.proofs.Leading.{known_met}
+use Rattle.moos_play.proofs.Leading.{led_steered}
+use Rattle.moos_step.proofs.Played.{ok_part}
+use Rattle.moos_play.proofs.Racing.{alone_beside, helm_absent, helm_with, may_steer, race_step}
+use Rattle.moos_step.proofs.Lines.{err_any}
+use Rattle.moos_step.proofs.Steps.{none_past}
 use Rattle.moos_play.proofs.Stopping.{beside_stopped, led_stopped, steered_stops}
-use Rattle.moos_play.proofs.Taking.{at_ok, ended_apart, round_gathered, round_goes_on, seen_gathered}
+use Rattle.moos_step.proofs.Taking.{at_ok, ended_apart, step_gathered, step_goes_on, seen_gathered}
 use Rattle.turn_lock.proofs.Fronts.{begins_itself}
 use Rattle.turn_lock.proofs.Mets.{is_taken}
 use Rattle.turn_lock.specs.Passes.{known_of}
@@ -48,8 +49,8 @@ take_in-others-requires-clause-players g c = ended_apart c.args.lock.now c.args.
 
 pub see_all-requires-clause-all : goal.see_all-requires-clause-all
 see_all-requires-clause-all g c =
-    let gathered = round_gathered c.args.lock.now (IsPlayedBeside c.args.steersman.now.number c.args.lines.now (Err (record {}))) c.args.first.now.seat _ _ c.meet.new.pass _ _
-    (race_round c.args.lock.now c.args.lines.now c.args.steersman.now.number (Err (record {})) _ c.take_in-others.result c.args.first.now.seat c.part_busy.new.first c.part-seat.new.pass c.steer_beside-steered.new.first.seat c.take_in-others.new.first c.meet.new.pass c.part-seat.result c.steer_beside-steered.new.seat c.in_ok-players.players.items c.steer_beside-steered.new.players.items
+    let gathered = step_gathered c.args.lock.now (IsPlayedBeside c.args.steersman.now.number c.args.lines.now (Err (record {}))) c.args.first.now.seat _ _ c.meet.new.pass _ _
+    (race_step c.args.lock.now c.args.lines.now c.args.steersman.now.number (Err (record {})) _ c.take_in-others.result c.args.first.now.seat c.part_busy.new.first c.part-seat.new.pass c.steer_beside-steered.new.first.seat c.take_in-others.new.first c.meet.new.pass c.part-seat.result c.steer_beside-steered.new.seat c.in_ok-players.players.items c.steer_beside-steered.new.players.items
     c.requires.gathered c.in_ok-players.ensures.parted (subst (λ n. AreBusy c.args.lines.now n c.in_ok-players.players.items) (sym c.requires.number) c.in_ok-players.ensures.busy) (subst (λ n. list_all (λ (line : Entry). nat_lt line.client n) c.args.lines.now ≡ true) (sym c.requires.number) c.requires.lines)
     (omega (arith, c.if-steersman-eq0.false)) (omega (arith, c.requires.number, c.requires.clients.0)) c.part-seat.ensures.pass c.part-seat.ensures.part c.steer_beside-steered.ensures.first c.steer_beside-steered.ensures.players c.steer_beside-steered.ensures.steered.made
     c.take_in-others.ensures.taken c.meet.ensures.pass c.meet.ensures.seen.0 c.take_in-others.ensures.ended tt) in
@@ -57,15 +58,15 @@ see_all-requires-clause-all g c =
 
 pub returns-clause-gathered : goal.returns-clause-gathered
 returns-clause-gathered g c = seen_gathered c.args.lock.now c.meet.new.pass c.see_all.new.first c.see_all.ensures
-    (round_gathered c.args.lock.now (IsPlayedBeside c.args.steersman.now.number c.args.lines.now (Err (record {}))) c.args.first.now.seat _ _ c.meet.new.pass _ _
-    (race_round c.args.lock.now c.args.lines.now c.args.steersman.now.number (Err (record {})) _ c.take_in-others.result c.args.first.now.seat c.part_busy.new.first c.part-seat.new.pass c.steer_beside-steered.new.first.seat c.take_in-others.new.first c.meet.new.pass c.part-seat.result c.steer_beside-steered.new.seat c.in_ok-players.players.items c.steer_beside-steered.new.players.items
+    (step_gathered c.args.lock.now (IsPlayedBeside c.args.steersman.now.number c.args.lines.now (Err (record {}))) c.args.first.now.seat _ _ c.meet.new.pass _ _
+    (race_step c.args.lock.now c.args.lines.now c.args.steersman.now.number (Err (record {})) _ c.take_in-others.result c.args.first.now.seat c.part_busy.new.first c.part-seat.new.pass c.steer_beside-steered.new.first.seat c.take_in-others.new.first c.meet.new.pass c.part-seat.result c.steer_beside-steered.new.seat c.in_ok-players.players.items c.steer_beside-steered.new.players.items
     c.requires.gathered c.in_ok-players.ensures.parted (subst (λ n. AreBusy c.args.lines.now n c.in_ok-players.players.items) (sym c.requires.number) c.in_ok-players.ensures.busy) (subst (λ n. list_all (λ (line : Entry). nat_lt line.client n) c.args.lines.now ≡ true) (sym c.requires.number) c.requires.lines)
     (omega (arith, c.if-steersman-eq0.false)) (omega (arith, c.requires.number, c.requires.clients.0)) c.part-seat.ensures.pass c.part-seat.ensures.part c.steer_beside-steered.ensures.first c.steer_beside-steered.ensures.players c.steer_beside-steered.ensures.steered.made
     c.take_in-others.ensures.taken c.meet.ensures.pass c.meet.ensures.seen.0 c.take_in-others.ensures.ended tt))
 
 pub returns-clause-goes_on : goal.returns-clause-goes_on
-returns-clause-goes_on g c = round_goes_on c.args.lock.now (IsPlayedBeside c.args.steersman.now.number c.args.lines.now c.both-2.result) c.args.first.now.seat _ _ c.meet.new.pass c.see_all.new.first _ _
-    (race_round c.args.lock.now c.args.lines.now c.args.steersman.now.number c.both-2.result _ c.take_in-others.result c.args.first.now.seat c.part_busy.new.first c.part-seat.new.pass c.steer_beside-steered.new.first.seat c.take_in-others.new.first c.meet.new.pass c.part-seat.result c.steer_beside-steered.new.seat c.in_ok-players.players.items c.steer_beside-steered.new.players.items
+returns-clause-goes_on g c = step_goes_on c.args.lock.now (IsPlayedBeside c.args.steersman.now.number c.args.lines.now c.both-2.result) c.args.first.now.seat _ _ c.meet.new.pass c.see_all.new.first _ _
+    (race_step c.args.lock.now c.args.lines.now c.args.steersman.now.number c.both-2.result _ c.take_in-others.result c.args.first.now.seat c.part_busy.new.first c.part-seat.new.pass c.steer_beside-steered.new.first.seat c.take_in-others.new.first c.meet.new.pass c.part-seat.result c.steer_beside-steered.new.seat c.in_ok-players.players.items c.steer_beside-steered.new.players.items
     c.requires.gathered c.in_ok-players.ensures.parted (subst (λ n. AreBusy c.args.lines.now n c.in_ok-players.players.items) (sym c.requires.number) c.in_ok-players.ensures.busy) (subst (λ n. list_all (λ (line : Entry). nat_lt line.client n) c.args.lines.now ≡ true) (sym c.requires.number) c.requires.lines)
     (omega (arith, c.if-steersman-eq0.false)) (omega (arith, c.requires.number, c.requires.clients.0)) c.part-seat.ensures.pass c.part-seat.ensures.part c.steer_beside-steered.ensures.first c.steer_beside-steered.ensures.players c.steer_beside-steered.ensures.steered.made
     c.take_in-others.ensures.taken c.meet.ensures.pass c.meet.ensures.seen.0 c.take_in-others.ensures.ended (ok_part c.both-2.result c.both-2.ensures (λ b. at_ok c.both.result _ b.1 c.both.ensures)))

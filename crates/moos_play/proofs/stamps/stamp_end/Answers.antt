@@ -1,5 +1,5 @@
 use Rattle.std.proofs.Common.{rules}
-use Rattle.moos_play.proofs.Lines.{stamp_more}
+use Rattle.moos_step.proofs.Lines.{stamp_more}
 use Rattle.moos_play.proofs.stamps.stamp_end.Goals as goal
 
 pub loop-to-preserved : goal.loop-to-preserved

@@ -1,6 +1,6 @@
 -- The lines so far have the stamp of the first.
 use Rattle.std.proofs.Common.{◌-◌, length}
-use Rattle.moos_play.proofs.Lines.{HaveStamp}
+use Rattle.moos_step.proofs.Lines.{HaveStamp}
 use Rattle.moos_play.proofs.stamps.stamp_end.Given as goal
 
 abbrev pub invariant-loop-to : goal.invariant-loop-to

@@ -1,5 +1,5 @@
 use Rattle.std.proofs.Common.{inl, inr}
-use Rattle.moos_play.proofs.Lines.{err_any}
+use Rattle.moos_step.proofs.Lines.{err_any}
 use Rattle.moos_play.proofs.Ticking.{iterated}
 use Rattle.moos_play.proofs.steersman.iterate.Goals as goal
 

@@ -2,10 +2,11 @@ use Rattle.std.proofs.Common.{◌∙◌, ap, length, subst, sym, arith}
 use Rattle.helm_core.specs.Helms.{plan_of}
 use Rattle.helm_core.specs.Plans.{wants_of}
 use Rattle.moos_play.specs.declared.steersman.Steersman.{Steersman}
-use Rattle.moos_play.specs.Rounds.{Anything, Makes}
+use Rattle.moos_step.specs.Steps.{Anything, Makes}
 use Rattle.moos_play.specs.Steered.{HasOwn}
 use Rattle.moos_play.proofs.Helming.{counted_once, counted_twice, opens_alone, opens_posting, recounted, two_calls}
-use Rattle.moos_play.proofs.Steering.{anything, called_made, called_own}
+use Rattle.moos_play.proofs.Steering.{anything, called_own}
+use Rattle.moos_step.proofs.Calling.{called_made}
 use Rattle.moos_play.proofs.steersman.open.Goals as goal
 use Rattle.moos_play.proofs.steersman.open.Goals.{then-len-gt0+in_ok-post, else-len-gt0}
 

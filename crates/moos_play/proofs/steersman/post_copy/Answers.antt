@@ -1,7 +1,7 @@
 use Rattle.std.proofs.Common.{inl, refl, subst}
 use Rattle.moos_client.specs.Calls.{IsCalled}
 use Rattle.moos_post.specs.declared.entry.Call.TheVariants.{Post as Posts}
-use Rattle.moos_play.proofs.Lines.{err_any}
+use Rattle.moos_step.proofs.Lines.{err_any}
 use Rattle.moos_play.proofs.steersman.post_copy.Goals as goal
 use Rattle.turn_lock.proofs.Fronts.{begins_itself}
 

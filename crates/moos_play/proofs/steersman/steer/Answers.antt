@@ -1,7 +1,7 @@
 use Rattle.std.proofs.Common.{◌∙◌, ◌+◌, arith, sym}
 use Rattle.std.proofs.lemmas.Bool.{false≢true}
 use Rattle.moos_play.specs.Steered.{steering_of}
-use Rattle.moos_play.proofs.Lines.{err_any}
+use Rattle.moos_step.proofs.Lines.{err_any}
 use Rattle.moos_play.proofs.Stopping.{stops_within}
 use Rattle.moos_play.proofs.steersman.steer.Goals as goal
 

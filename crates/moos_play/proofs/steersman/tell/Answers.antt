@@ -1,5 +1,5 @@
 use Rattle.std.proofs.Common.{inr}
-use Rattle.moos_play.proofs.Lines.{err_any}
+use Rattle.moos_step.proofs.Lines.{err_any}
 use Rattle.moos_play.proofs.steersman.tell.Goals as goal
 
 pub returns-in_err-add-clause-stopped : goal.returns-in_err-add-clause-stopped

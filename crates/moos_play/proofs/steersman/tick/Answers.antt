@@ -2,7 +2,7 @@ use Rattle.std.proofs.Common.{◌∙◌, ◌*◌, ap, refl, subst, sym}
 use Rattle.moos_play.specs.declared.steersman.Steersman.{Steersman}
 use Rattle.moos_play.specs.Steered.{HasIterated, Steers}
 use Rattle.moos_play.proofs.Helming.{ticks_once, two_calls}
-use Rattle.moos_play.proofs.Lines.{err_any}
+use Rattle.moos_step.proofs.Lines.{err_any}
 use Rattle.moos_play.proofs.Steering.{called_of, called_own}
 use Rattle.moos_play.proofs.Ticking.{calling_makes, fetching_makes, fetching_stops, telling_stops}
 use Rattle.moos_play.proofs.steersman.tick.Goals as goal

@@ -1,4 +1,4 @@
-use Rattle.moos_play.proofs.Ending.{closed_same}
+use Rattle.moos_step.proofs.Growing.{closed_same}
 use Rattle.moos_play.proofs.playing.Play.close.Goals as goal
 
 pub returns-clause-history : goal.returns-clause-history

@@ -1,6 +1,6 @@
 use Rattle.std.proofs.Common.{refl}
 use Rattle.moos_client.specs.Calls.{entry_of}
-use Rattle.moos_play.specs.Plays.{added_by}
+use Rattle.moos_step.specs.Steps.{added_by}
 use Rattle.moos_play.proofs.Calling.{entered_between, entered_made, just_entered, none_entered}
 use Rattle.moos_play.proofs.playing.Play.enter.Goals as goal
 

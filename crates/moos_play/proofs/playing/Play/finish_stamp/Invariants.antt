@@ -1,7 +1,7 @@
 -- The run has gone on from where it stood.
 use Rattle.std.proofs.Common.{◌≡◌, ◌≤◌}
 use Rattle.moos_play.specs.Plays.{AddsAt, known_clients_in, StaysSeated}
-use Rattle.moos_play.specs.Steered.{GoesOnWith, IsAtPlay, left_of, told_in}
+use Rattle.moos_play.specs.Steered.{GoesOnWith, IsAtPlay, KeepsMoves, left_of, told_in}
 use Rattle.moos_play.proofs.playing.Play.finish_stamp.Given as goal
 
 abbrev pub invariant-loop-script : goal.invariant-loop-script
@@ -11,6 +11,7 @@ invariant-loop-script g l = record {
   same : GoesOnWith l.fn.self l.self;
   told : told_in l.self.steersman ≡ told_in l.fn.self.steersman;
   stamped : AddsAt l.fn.self.order l.stamp (known_clients_in l.fn.self) l.fn.self.first.seat.seen l.self.first.seat.seen;
+  moves : KeepsMoves l.fn.self.order l.stamp l.fn.self l.self;
   less : left_of l.script l.self ≤ left_of l.script l.fn.self;
 }
 

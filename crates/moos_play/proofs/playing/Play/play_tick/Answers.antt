@@ -1,3 +1,5 @@
+use Rattle.std.proofs.Common.{Some, refl}
+use Rattle.moos_play.proofs.Moving.{moves_tick}
 use Rattle.moos_play.proofs.Rounding.{tick_at_play}
 use Rattle.moos_play.proofs.Stamping.{tick_adds}
 use Rattle.moos_play.proofs.Unfinished.{tick_unfinished}
@@ -17,3 +19,8 @@ pub returns-clause-stamped : goal.returns-clause-stamped
 returns-clause-stamped g c =
     tick_adds c.args.script.now c.args.self.now c.in-Some.steersman c.lead.new.steersman c.lead.new.first c.lead.result c.requires.at_play.under c.in-Some.is c.requires.some c.requires.behind c.lead.ensures.goes_on c.lead.ensures.same
     c.lead.ensures.steered c.lead.ensures.reached c.lead.ensures.stopped
+
+pub returns-clause-moves : goal.returns-clause-moves
+returns-clause-moves g c =
+    moves_tick c.args.script.now c.args.self.now (record c.args.self.now { first = record c.args.self.now.first { seat = c.lead.new.first }; steersman = Some c.lead.new.steersman }) c.in-Some.steersman c.lead.new.steersman c.lead.result c.in-Some.is refl refl c.requires.some c.requires.behind
+    c.lead.ensures.reached

@@ -2,14 +2,14 @@ use Rattle.std.proofs.Common.{◌≡◌, ◌≤◌, ◌∙◌, Option, Ok, ap, a
 use Rattle.std.specs.Prelude.{IfSome}
 use Rattle.std.specs.List.{list_all}
 use Rattle.moos_post.specs.declared.entry.Entry.{Entry}
-use Rattle.moos_play.specs.Rounds.{GoesOn, IsPlayedBeside}
+use Rattle.moos_step.specs.Steps.{GoesOn, IsPlayedBeside}
 use Rattle.moos_play.specs.declared.steersman.Steersman.{Steersman}
 use Rattle.moos_play.specs.Lawful.{helm_number, known_clients, Steering, ticks_to}
 use Rattle.moos_play.specs.Plays.{AddsAt, stamp_due}
 use Rattle.moos_play.specs.Steered.{helm_of, StandsAt, steering_of}
 use Rattle.moos_play.proofs.Coming.{all_part, lines_clients, race_left}
 use Rattle.moos_play.proofs.Handing.{completable}
-use Rattle.moos_play.proofs.Lines.{err_any}
+use Rattle.moos_step.proofs.Lines.{err_any}
 use Rattle.moos_play.proofs.Rounding.{as_many}
 use Rattle.moos_play.proofs.Stamping.{race_add}
 use Rattle.moos_play.proofs.Unfinished.{race_unfinished}

@@ -1,12 +1,14 @@
-use Rattle.std.proofs.Common.{◌∙◌, ◌++◌, ap, refl, rules, subst, sym}
+use Rattle.std.proofs.Common.{◌∙◌, ◌++◌, ap, refl, rules, subst, sym, ◌≡◌}
 use Rattle.moos_play.specs.declared.playing.Play.{Play}
 use Rattle.moos_play.specs.Lawful.{known_clients}
-use Rattle.moos_play.specs.Plays.{AddsAt, helm_in, history_in, IsBetween, IsCompletable, IsStampOver, handed, iterations_made, known_clients_in, stamp_due, StaysSeated, untold_in}
-use Rattle.moos_play.specs.Steered.{GoesOnWith, left_of}
+use Rattle.moos_play.specs.Plays.{AddsAt, helm_in, history_in, IsBetween, IsCompletable, IsStampOver, handed, iterations_made, known_clients_in, stamp_due, StaysSeated, untold_in, HasTurn, next_stamp}
+use Rattle.moos_play.specs.Steered.{GoesOnWith, left_of, KeepsMoves}
 use Rattle.moos_play.proofs.Handing.{at_ends, finished_handed, goes_on_handed, goes_on_twice, handed_between, over_now, round_iterations, stays_handed, stays_twice}
-use Rattle.moos_play.proofs.Lines.{err_any}
+use Rattle.moos_step.proofs.Lines.{err_any}
 use Rattle.moos_play.proofs.Stamping.{all_stamped, none_further, round_adds}
 use Rattle.script_reader.specs.Validity.{IsValid}
+use Rattle.moos_play.proofs.Moving.{turn_here}
+use Rattle.moos_play.specs.declared.round_made.Round.{Round}
 use Rattle.moos_play.proofs.playing.Play.round.Goals as goal
 
 pub returns-clause-seated : goal.returns-clause-seated
@@ -90,3 +92,24 @@ returns-in_err-finish_stamp-clause-stamped g c =
     err_any _ (subst (λ stamp. AddsAt play.order stamp (known_clients_in play) (history_in play) (history_in after)) c.next_stamp-stamp.ensures
     (round_adds play c.count_entries-from.new.self c.go_on.new.self after after c.next_stamp-stamp.result c.count_entries-from.ensures.same c.next_stamp-stamp.ensures c.in_ok-go_on.ensures.stamped c.in_ok-go_on.ensures.same
     c.in_err-finish_stamp.ensures.stamped refl))
+
+pub returns-clause-turn : goal.returns-clause-turn
+returns-clause-turn g c =
+    let play = c.args.self.now in
+    let before = c.count_entries-from.new.self in
+    let middle = c.go_on.new.self in
+    let after = c.finish_stamp.new.self in
+    let same = c.count_entries-from.ensures.same in
+    let told = c.hand_out-iterations.ensures.told in
+    let stamp = c.next_stamp-stamp.result in
+    let on = goes_on_twice before middle after c.in_ok-go_on.ensures.same c.in_ok-finish_stamp.ensures.same in
+    let made : iterations_made (handed after) ≡ iterations_made before ++ c.hand_out-iterations.result =
+    round_iterations before after (subst IsBetween (sym same) c.requires.between) c.in_ok-finish_stamp.ensures.at_play
+    (stays_twice before middle after c.in_ok-go_on.ensures.seated c.in_ok-finish_stamp.ensures.seated) on (c.in_ok-finish_stamp.ensures.told ∙ c.in_ok-go_on.ensures.told)
+    ∙ ap (λ done. iterations_made before ++ done) (sym c.hand_out-iterations.ensures.untold) in
+    let round : Round = record { stamp = stamp; from = c.count_entries-from.result; iterations = c.hand_out-iterations.result } in
+    let here : HasTurn before.order before (handed after) round =
+    turn_here before middle after round (subst IsBetween (sym same) c.requires.between) c.in_ok-go_on.ensures.same on
+    (subst (λ script. KeepsMoves before.order (stamp_due script before) before middle) (ap (λ (play : Play). play.script.now) (sym same)) c.in_ok-go_on.ensures.moves) c.in_ok-finish_stamp.ensures.moves c.in_ok-finish_stamp.ensures.all
+    (c.next_stamp-stamp.ensures ∙ ap next_stamp (sym same)) made in
+    subst (λ (last : Play). HasTurn play.order play last round) (sym told) (subst (λ (play : Play). HasTurn play.order play (handed after) round) same here)

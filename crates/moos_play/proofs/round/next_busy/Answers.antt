@@ -1,5 +1,0 @@
-use Rattle.moos_play.proofs.Rounds.{busy_first}
-use Rattle.moos_play.proofs.round.next_busy.Goals as goal
-
-pub returns-then-next-from : goal.returns-then-next-from
-returns-then-next-from c = busy_first c.args.lines.now c.loop-line.line-index c.args.from c.args.clients c.loop-line.next c.loop-line.invariant c.if-next-from.true

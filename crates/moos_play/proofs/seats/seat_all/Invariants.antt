@@ -1,6 +1,0 @@
--- The seats so far are split off and taken in.
-use Rattle.moos_play.proofs.Rounds.{AreSeated}
-use Rattle.moos_play.proofs.seats.seat_all.Given as goal
-
-abbrev pub invariant-loop-client : goal.invariant-loop-client
-invariant-loop-client l = AreSeated l.lock l.clients l.client l.first
