@@ -13,7 +13,7 @@ use Rattle.ivp_func.specs.Pieces.{value_at}
 use Rattle.ivp_problem.specs.declared.term.Term.{Term}
 use Rattle.ivp_problem.specs.Problems.{WeightedSum}
 use Rattle.ivp_problem.specs.Sums.{best_of, sum_at, weighted_at}
-use Rattle.ivp_problem.proofs.KeyOrder.{best_most, best_point, index_small, key_back}
+use Rattle.ivp_problem.proofs.KeyOrder.{best_most, best_point}
 use Rattle.bhv_kinds.specs.Utilities.{Utility, worth_at}
 use Rattle.bhv_kinds.specs.Turns.{params_at, step_of}
 use Rattle.bhv_kinds.specs.Worths.{IsWorth, StepsAreWorth}
@@ -104,8 +104,7 @@ by_worth problem worth lawful same =
       claimed = same best (best_point problem);
       first = λ point inside. subst (λ (s : ℕ). (s < worth best) ⊎ ((s ≡ worth best) × (index_of problem.axes best ≤ index_of problem.axes point))) (same point inside)
           (subst (λ (s : ℕ). (sum_at problem point < s) ⊎ ((sum_at problem point ≡ s) × (index_of problem.axes best ≤ index_of problem.axes point))) (same best (best_point problem))
-          (key_back (sum_at problem point) (sum_at problem best) (index_of problem.axes point) (index_of problem.axes best) (index_small problem.axes point lawful inside) (index_small problem.axes best lawful (best_point problem))
-          (best_most problem point inside)));
+          (best_most problem point inside));
     }
 
 decided : StepsAreWorth → (axes : List Axis) (seen : Seen) (ones : List BhvSoFar) (fault : Bool) → is_domain axes ≡ true → Each (MayStep axes) (map block_of ones)

@@ -1,10 +1,12 @@
 // Files of behaviours worked by hand, and their limits.
 ghost use Rattle.std.specs.Prelude.{◌<◌};
 
-use crate::files::{Kind, append, are_refused, behaviors, counted, refusal, stands_at};
+use crate::files::{
+    Kind, append, are_refused, behaviors, counted, refusal, refusal_on_course, stands_at,
+};
 use bhv_file::{BhvFile, Block, Common, Shape, Spec, set_param};
 use moos_post::Copied;
-use moos_text::Cause;
+use moos_text::{Cause, ReadFault};
 use std::alloc::Global;
 use std::process::Abort;
 
@@ -81,6 +83,39 @@ fn most_places(rt: HostRuntime) {
     assert_eq!(rt; refusal(&rt, alloc, Kind::Behaviors, &good), None);
     let bad = path(&rt, alloc, 65);
     are_refused(&rt, alloc, Kind::Behaviors, b"", &[(&bad, 4, Cause::B6)]);
+}
+
+// Blocks behind that of a timer: a name that is given already, no name, no points, and an outer radius that isn't above the inner one.
+const BAD_BLOCKS: &[(&[u8], u32, Cause)] = &[
+    (b"}\nBehavior = BHV_Timer {\nname = t", 5, Cause::B4),
+    (b"}\nBehavior = BHV_Timer {\n}", 5, Cause::B11),
+    (
+        b"}\nBehavior = BHV_Waypoint {\nname = w\nspeed = 1\n}",
+        7,
+        Cause::B11,
+    ),
+    (
+        b"}\nBehavior = BHV_StationKeep {\nname = s\npoint = 0,0\nouter_radius = 4\n}",
+        8,
+        Cause::B6,
+    ),
+];
+
+#[test]
+fn bad_blocks(rt: HostRuntime) {
+    are_refused(&rt, rt.alloc(), Kind::Behaviors, TIMER, BAD_BLOCKS);
+}
+
+// A behaviour that needs an axis which the domain lacks is refused at the end of its block.
+#[test]
+fn missing_axis(rt: HostRuntime) {
+    let text = b"Behavior = BHV_ConstantSpeed {\nname = s\nspeed = 1\n}".as_slice();
+    let wanted = ReadFault::At {
+        line: 4,
+        cause: Cause::B10,
+    };
+    let found = refusal_on_course(&rt, rt.alloc(), text);
+    assert_eq!(rt; found, Some(wanted));
 }
 
 fn depth() -> Spec {

@@ -39,6 +39,15 @@ fn read_for_domain(rt: &impl Abort, alloc: Global, text: &[u8]) -> Result<BhvFil
     read_behaviors(alloc, text, &domain(rt))
 }
 
+/// What is said of a behaviour file over a domain of courses alone.
+pub(crate) fn refusal_on_course(rt: &impl Abort, alloc: Global, text: &[u8]) -> Option<ReadFault> {
+    assert!(rt; text.len() < 4_000_000_000);
+    match Domain::make(&[axis(rt, b"course")]) {
+        Ok(domain) => read_behaviors(alloc, text, &domain).err(),
+        Err(_) => panic!(rt; "a domain"),
+    }
+}
+
 /// A good behaviour file for a domain of course, speed and depth.
 pub(crate) fn behaviors(rt: &impl Abort, alloc: Global, text: &[u8]) -> BhvFile {
     match read_for_domain(rt, alloc, text) {
