@@ -1,5 +1,6 @@
 // What the kinds of files share: how each is refused, and texts that come up to a limit.
 use bhv_reader::{BhvFile, read_behaviors};
+use contact_avoid::Ranges;
 use ivp_domain::{Axis, AxisName, Domain};
 use mission_reader::read_mission;
 use moos_text::{Cause, ReadFault, print_seconds};
@@ -15,6 +16,7 @@ pub(crate) enum Kind {
     Mission,
     Behaviors,
     Vehicle,
+    Contacts,
 }
 
 fn axis(rt: &impl Abort, name: &[u8]) -> Axis {
@@ -69,6 +71,7 @@ pub(crate) fn refusal(
         Kind::Mission => read_mission(alloc, text).err(),
         Kind::Behaviors => read_for_domain(rt, alloc, text).err(),
         Kind::Vehicle => Craft::read(text).err(),
+        Kind::Contacts => Ranges::read(text).err(),
     }
 }
 

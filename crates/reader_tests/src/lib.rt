@@ -3,11 +3,13 @@
 //!
 //! The tests of these crates stand here, since a crate with tests of its own is proved once more with them. One module for
 //! each subject: `outside`, `texts`, `words` and `pairs`, `scripts`, `missions`, `mode_files` and `behavior_files`, `generated`
-//! missions, `vehicles`, and `files`, which has what the kinds of files share.
+//! missions, `vehicles`, `contact_files` with node reports, and `files`, which has what the kinds of files share.
 #![tactic(auto)]
 
 #[cfg(test)]
 mod behavior_files;
+#[cfg(test)]
+mod contact_files;
 #[cfg(test)]
 mod files;
 #[cfg(test)]
