@@ -16,7 +16,7 @@ use crate::showing::Showing;
 use ivp_cert::{Claim, Decision, cut};
 use ivp_domain::{Axis, Domain, Point};
 use ivp_pool::solve;
-use ivp_problem::{Problem, Term, best_law, keys_law, sum_of};
+use ivp_problem::{Problem, Term, keys_law, sum_of};
 use moos_io::Gate;
 use moos_post::{Batch, Name, NoMemory};
 use std::alloc::Global;
@@ -89,7 +89,6 @@ pub fn decide<R: Threads + Wait + Sync, G: Gate>(
     ensures best { IfOk result (λ decision. decision ≡ best_decision problem) }
     ensures point { IfOk result (λ decision. IsTrue (is_point decision.problem.axes decision.claim.point)) }
 {
-    best_law(&problem);
     keys_law(&problem);
     let solved = solve(rt, alloc, &problem, workers, gate)?;
     let cert = cut(alloc, &problem, solved.key)?;

@@ -1,5 +1,5 @@
 -- The definition of a best key where no point passes the test, and where each point of a small problem does.
-use Rattle.std.proofs.Common.{◌≡◌, Bool, false, inl, inr, pos, Option, Some, None, List, [], ◌∷◌, refl, sym, ap, subst, arith}
+use Rattle.std.proofs.Common.{◌≡◌, Bool, true, false, inl, inr, pos, Option, Some, None, List, [], ◌∷◌, refl, sym, ap, subst, arith}
 use Rattle.std.specs.Prelude.{codes}
 use Rattle.ivp_domain.specs.declared.axis.Axis.{Axis}
 use Rattle.ivp_domain.specs.declared.boxes.Point.{Point}
@@ -10,7 +10,7 @@ use Rattle.ivp_problem.specs.declared.key.Key.{Key}
 use Rattle.ivp_problem.specs.Keys.{AtMost, key_of}
 use Rattle.ivp_problem.specs.Problems.{WeightedSum}
 use Rattle.ivp_problem.specs.Sums.{key_at}
-use Rattle.ivp_problem.proofs.KeyOrder.{at_most_self, at_most_then, best_most}
+use Rattle.ivp_problem.proofs.KeyOrder.{at_most_self, at_most_then, at_most_true, best_most, true_at_most}
 use Rattle.ivp_search.specs.Incumbents.{IsBest}
 
 abbrev none_pass : Point → Bool
@@ -43,19 +43,17 @@ last_is_best : IsBest one (is_point axes) None (Some (key_of 6 1))
 last_is_best = record { kept = λ key none. absurd none; above = λ p inside. best_most one p inside; found = inr (point_from 1 0 0 0, refl, refl) }
 
 incumbent_is_best : IsBest one (is_point axes) (Some (key_of 7 0)) (Some (key_of 7 0))
-incumbent_is_best = record { kept = λ key reach. reach; above = λ p inside. at_most_then (key_at one p) (key_of 6 1) (key_of 7 0) (best_most one p inside) (inl (omega arith)); found = inl refl }
+incumbent_is_best = record { kept = λ key reach. reach; above = λ p inside. at_most_then (key_at one p) (key_of 6 1) (key_of 7 0) (best_most one p inside) (at_most_true (key_of 6 1) (key_of 7 0) refl); found = inl refl }
 
 -- not the first point's, which is less, nor a key that no point has; and no greater incumbent is given up
 six_above_five : AtMost (key_of 6 1) (key_of 5 0) → ⊥
-six_above_five (inl less) = omega arith
-six_above_five (inr (same, index)) = omega arith
+six_above_five most = let told : false ≡ true = true_at_most (key_of 6 1) (key_of 5 0) most in absurd (cc)
 
 lesser_key : IsBest one (is_point axes) None (Some (key_of 5 0)) → ⊥
 lesser_key is = six_above_five (is.above (point_from 1 0 0 0) refl)
 
 seven_above_six : AtMost (key_of 7 0) (key_of 6 1) → ⊥
-seven_above_six (inl less) = omega arith
-seven_above_six (inr (same, index)) = omega arith
+seven_above_six most = let told : false ≡ true = true_at_most (key_of 7 0) (key_of 6 1) most in absurd (cc)
 
 key_of_no_point : IsBest one (is_point axes) None (Some (key_of 7 0)) → ⊥
 key_of_no_point is =

@@ -1,8 +1,8 @@
 // One problem of twelve points, whose nodes go to trays that take all, none, or every second of them.
 use crate::made::{key_at, two};
-use best_word::Best;
+use best_word::{Best, key_in};
 use ivp_pool::{Tray, close_one, parts_law, tally_law};
-use ivp_problem::{Key, Node, Problem, key_of};
+use ivp_problem::{Key, Node, Problem, greater_own, key_of};
 use std::alloc::Global;
 use std::process::Abort;
 
@@ -35,16 +35,14 @@ impl<'a> Tray for Pile<'a> {
 }
 
 /// The greatest key of the points whose first place is in none of these nodes, by a look at every point.
-fn greatest_outside(problem: &Problem, nodes: &[Node]) -> Key {
-    let mut most = 0;
+fn greatest_outside(problem: &Problem, nodes: &[Node]) -> Option<Key> {
+    let mut most = None;
     for index in 0..problem.domain().points() {
         let place = index / 4;
         let taken = nodes.iter().any(|node| node.area.low[0] <= place
             && place <= node.area.high[0]);
-        if let Some(key) = key_at(problem, index)
-            && !taken
-        {
-            most = most.max(key);
+        if !taken {
+            most = greater_own(most, key_at(problem, index));
         }
     }
     most
@@ -54,7 +52,7 @@ fn greatest_outside(problem: &Problem, nodes: &[Node]) -> Key {
 #[derive(Drop)]
 struct Outcome {
     closed: u64,
-    known: Key,
+    known: Option<Key>,
     nodes: Vec<Node>,
 }
 
@@ -77,7 +75,8 @@ fn close_root(
     parts_law(problem, &root);
     tally_law();
     let closed = close_one(problem, &best, &mut scout, root, &mut pile);
-    let known = best.known(&mut scout);
+    let word = best.known(&mut scout);
+    let known = if word == 0 { None } else { Some(key_in(word)) };
     Outcome {
         closed,
         known,
@@ -86,7 +85,14 @@ fn close_root(
 }
 
 /// A pile that takes these is left with so many nodes, where so many were closed and this key is known.
-fn leaves(rt: &impl Abort, alloc: Global, takes: [bool; 2], left: usize, closed: u64, known: Key) {
+fn leaves(
+    rt: &impl Abort,
+    alloc: Global,
+    takes: [bool; 2],
+    left: usize,
+    closed: u64,
+    known: Option<Key>,
+) {
     let problem = two(rt, alloc);
     let outcome = close_root(rt, alloc, &problem, takes[0], takes[1]);
     assert_eq!(rt; outcome.nodes.len(), left);
@@ -97,16 +103,16 @@ fn leaves(rt: &impl Abort, alloc: Global, takes: [bool; 2], left: usize, closed:
 
 #[test]
 fn all_come_back(rt: HostRuntime) {
-    leaves(&rt, rt.alloc(), [false, false], 0, 4, key_of(75, 2));
+    leaves(&rt, rt.alloc(), [false, false], 0, 4, Some(key_of(75, 2)));
 }
 
 #[test]
 fn all_are_taken(rt: HostRuntime) {
-    leaves(&rt, rt.alloc(), [true, true], 1, 1, 0);
+    leaves(&rt, rt.alloc(), [true, true], 1, 1, None);
 }
 
 /// The root's child comes back, its first child is taken, and the second comes back.
 #[test]
 fn every_second_is_taken(rt: HostRuntime) {
-    leaves(&rt, rt.alloc(), [false, true], 1, 3, key_of(55, 10));
+    leaves(&rt, rt.alloc(), [false, true], 1, 3, Some(key_of(55, 10)));
 }

@@ -1,7 +1,7 @@
 // Problems and their parts, as several tests make them, where memory is left.
 use ivp_domain::{Axis, AxisName, BoxN, Domain};
 use ivp_func::{Func, Piece, are_pieces_of};
-use ivp_problem::{Key, Problem, Term, key_of, sum_at};
+use ivp_problem::{Key, Problem, Term, greater_own, key_of, sum_at};
 use std::alloc::Global;
 use std::process::Abort;
 
@@ -159,12 +159,10 @@ pub(crate) fn key_at(problem: &Problem, index: u32) -> Option<Key> {
 }
 
 /// The greatest key, by a look at every point.
-pub(crate) fn listed(problem: &Problem) -> Key {
-    let mut most = 0;
+pub(crate) fn listed(problem: &Problem) -> Option<Key> {
+    let mut most = None;
     for index in 0..problem.domain().points() {
-        if let Some(key) = key_at(problem, index) {
-            most = most.max(key);
-        }
+        most = greater_own(most, key_at(problem, index));
     }
     most
 }

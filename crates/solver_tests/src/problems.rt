@@ -6,8 +6,8 @@ use crate::made::{
 };
 use ivp_domain::{BoxN, Domain};
 use ivp_problem::{
-    Node, Problem, ProblemFault, Term, best_law, bound_law, bound_of, children_law, index_of_key,
-    key_of, keys_law, sum_of,
+    Node, Problem, ProblemFault, Term, at_most, best_law, bound_law, bound_of, children_law,
+    greater_own, index_of_key, key_of, keys_law, reaches, sum_of,
 };
 use std::alloc::Global;
 use std::process::Abort;
@@ -150,5 +150,20 @@ fn greatest_sum(rt: HostRuntime) {
     let key = key_of(64_000_000_000, 4_194_303);
     assert_eq!(rt; sum_of(key), 64_000_000_000);
     assert_eq!(rt; index_of_key(key), 4_194_303);
-    assert_eq!(rt; key_of(75, 2), 75 * 16_777_216 + 16_777_213);
+}
+
+/// The greater sum has the greater key, of equal sums the lesser index, and each key is greater than none.
+#[test]
+fn keys_in_order(rt: HostRuntime) {
+    let rising = [key_of(55, 0), key_of(75, 3), key_of(75, 2), key_of(76, 9)];
+    let mut own = None;
+    for key in rising {
+        assert!(rt; !reaches(own, key));
+        own = greater_own(own, Some(key));
+        assert_eq!(rt; own, Some(key));
+        assert!(rt; reaches(own, rising[0]));
+        assert!(rt; at_most(rising[0], key) && at_most(key, rising[3]));
+        assert_eq!(rt; greater_own(Some(rising[3]), own), Some(rising[3]));
+        assert_eq!(rt; greater_own(own, None), own);
+    }
 }

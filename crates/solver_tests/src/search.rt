@@ -27,7 +27,7 @@ fn is_best(rt: &impl Abort, problem: &Problem, sum: u64, index: u32) {
     let key = best(problem);
     assert_eq!(rt; sum_of(key), sum);
     assert_eq!(rt; index_of_key(key), index);
-    assert_eq!(rt; listed(problem), key);
+    assert_eq!(rt; listed(problem), Some(key));
 }
 
 #[test]

@@ -4,7 +4,7 @@ ghost use Rattle.ivp_domain.specs.Domains.{is_point};
 ghost use Rattle.ivp_problem.specs.Sums.{key_at};
 
 use crate::made::{course, piece, problem_of};
-use best_word::Best;
+use best_word::{Best, key_in};
 use ivp_domain::Point;
 use ivp_problem::{Key, Problem, index_of_key, key_of, sum_at, sum_of};
 use std::alloc::Global;
@@ -50,16 +50,11 @@ fn one_word(rt: HostRuntime) {
     let low = point_with_key(&problem, 3).expect(&rt, "a point");
     let high = point_with_key(&problem, 5).expect(&rt, "a point");
     assert!(rt; (sum_of(high.key), index_of_key(high.key)) == (1_200, 5));
-    assert_eq!(rt;
-        best.offer(&mut one, &problem, &high.point, high.key),
-        high.key
-    );
+    let word = best.offer(&mut one, &problem, &high.point, high.key);
+    assert_eq!(rt; key_in(word), high.key);
     // The other scout learns of it by the word alone, and a lesser key changes nothing.
-    assert_eq!(rt; best.known(&mut two), high.key);
-    assert_eq!(rt;
-        best.offer(&mut two, &problem, &low.point, low.key),
-        high.key
-    );
+    assert_eq!(rt; best.known(&mut two), word);
+    assert_eq!(rt; best.offer(&mut two, &problem, &low.point, low.key), word);
     best.join(&mut one, two);
-    assert_eq!(rt; best.known(&mut one), high.key);
+    assert_eq!(rt; best.known(&mut one), word);
 }

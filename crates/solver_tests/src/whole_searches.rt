@@ -150,7 +150,7 @@ fn a_hundred_small_problems(rt: HostRuntime) {
     let mut random = Random { state: 2_026 };
     for _ in 0..100 {
         let problem = random.problem(&rt, alloc);
-        let key = listed(&problem);
+        let key = listed(&problem).expect(&rt, "a point");
         is_best(&rt, alloc, &problem, 1, key);
         is_best(&rt, alloc, &problem, 2, key);
         is_best(&rt, alloc, &problem, 3, key);
