@@ -78,7 +78,7 @@ completes words run CheckNo ran job files task served good =
     inl (ended_with words run job files (Ready task) served good (Good task refl) CheckNo ran.job ran.named ran.ended (Good ran.ended.ended.task ran.ended.ended.good))
 completes words run Usage ran job files task served good = let both : None ≡ Some job = sym ran.unnamed ∙ served.named in absurd cc
 completes words run LoadFault ran job files task served good = absurd (served.loads ran.ended.rose)
-completes words run WriteFault ran job files task served good = absurd (served.puts ran.ended.ended.1)
+completes words run WriteFault ran job files task served good = absurd (served.puts ran.ended.ended.1.rose)
 completes words run (Refused refusal) ran job files task served good =
     let ended = ended_with words run job files (Ready task) served good (Good task refl) (Refused refusal) ran.job ran.named ran.ended
     (Bad refusal.file (At refusal.line refusal.cause) ran.ended.ended.0) in
@@ -107,7 +107,7 @@ refuses words run CheckNo ran job files kind line cause served bad =
     (ended_with words run job files (Unfit kind (At line cause)) served bad (Bad kind (At line cause) refl) CheckNo ran.job ran.named ran.ended (Good ran.ended.ended.task ran.ended.ended.good)))
 refuses words run Usage ran job files kind line cause served bad = let both : None ≡ Some job = sym ran.unnamed ∙ served.named in absurd cc
 refuses words run LoadFault ran job files kind line cause served bad = absurd (served.loads ran.ended.rose)
-refuses words run WriteFault ran job files kind line cause served bad = absurd (served.puts ran.ended.ended.1)
+refuses words run WriteFault ran job files kind line cause served bad = absurd (served.puts ran.ended.ended.1.rose)
 refuses words run (Refused refusal) ran job files kind line cause served bad =
     inl (one_refusal kind line cause refusal
     (ended_with words run job files (Unfit kind (At line cause)) served bad (Bad kind (At line cause) refl) (Refused refusal) ran.job ran.named ran.ended

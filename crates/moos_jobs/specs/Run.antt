@@ -88,7 +88,7 @@ pub record IsServed (words : List (List ℕ)) (run : Surroundings) (job : Job) (
   pub named : job_named words ≡ Some job
   pub loaded : AreLoaded run.told job [] files
   pub loads : Rose run.load_faults_before run.load_faults_after → ⊥
-  pub puts : Rose run.sink.faults_before run.sink.faults_after → ⊥
+  pub puts : Rose run.sink.faults_before.faults run.sink.faults_after.faults → ⊥
 
 -- a job whose files are good, and that nothing fails at, writes all that it may write and end with this status: it is done,
 -- and a check answers whether the decision is accepted; unless no memory was left
