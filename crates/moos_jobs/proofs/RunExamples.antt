@@ -18,7 +18,7 @@ use Rattle.moos_jobs.specs.declared.status.Status.{Status}
 use Rattle.moos_jobs.specs.declared.status.Status.TheVariants.{Done, CheckNo, Usage, LoadFault, WriteFault, Refused, NoMemory}
 use Rattle.moos_jobs.specs.Jobs.Task.{Checking, Playing, Solving}
 use Rattle.moos_jobs.specs.Jobs.{Ready, turn_behind, turn_of, Unfit, Wanted}
-use Rattle.moos_jobs.specs.Run.{Completes, DidFrom, DidJob, HasBytes, IsServed, EndsWith, Refuses, Surroundings, surroundings}
+use Rattle.moos_jobs.specs.Run.{Completes, DidFrom, DidJob, HasBytes, HasFiles, IsServed, EndsWith, Refuses, Surroundings, surroundings}
 use Rattle.moos_jobs.specs.Steps.{Ended, IsToPlay, WroteAll}
 use Rattle.moos_jobs.proofs.Endings.{completes, ended_with, Good, IsOver, output_of, refuses}
 use Rattle.moos_jobs.proofs.Examples.{checks, plays, solves_by_one}
@@ -41,7 +41,7 @@ none_rose (inl rose) = omega arith
 none_rose (inr most) = omega arith
 
 served : (bytes taken : List ℕ) → IsServed solve (solving bytes taken 0) (Solve (codes "p") 1) (bytes ∷ [])
-served bytes taken = record { told = folder (codes "p") bytes; telling = refl; named = solves_by_one; loaded = (refl, tt); loads = none_rose; puts = none_rose }
+served bytes taken = record { has = record { told = folder (codes "p") bytes; telling = refl; named = solves_by_one; loaded = (refl, tt) }; loads = none_rose; puts = none_rose }
 
 -- a folder that tells its files has these bytes under this name, and no others; of one that doesn't tell them, a file may have any bytes
 has_bytes : HasBytes (Some (folder (codes "p") problem_bytes)) (codes "p") problem_bytes × HasBytes None (codes "p") problem_bytes
@@ -67,7 +67,7 @@ solved =
 solving_ended : (taken : List ℕ) (status : Status) (is : DidJob solve (solving problem_bytes taken 0) status) (did : DidFrom (solving problem_bytes taken 0) is.job [] status) → IsOver (turn_of is.job did.files)
     → Ended (Ready (Solving problem)) (sink_of [] taken 0) status
 solving_ended taken status is did over =
-    ended_with solve (solving problem_bytes taken 0) (Solve (codes "p") 1) (problem_bytes ∷ []) (Ready (Solving problem)) (served problem_bytes taken) refl (Good (Solving problem) refl) status is.job is.named did over
+    ended_with solve (solving problem_bytes taken 0) (Solve (codes "p") 1) (problem_bytes ∷ []) (served problem_bytes taken).has (Ready (Solving problem)) refl (Good (Solving problem) refl) status is.job is.named did over
 
 all_written : (taken : List ℕ) → EndsWith solve (solving problem_bytes taken 0) Done → taken ≡ decision_bytes
 all_written taken is =
@@ -234,7 +234,7 @@ abbrev checking : List ℕ → List ℕ → Surroundings
 checking bytes taken = surroundings (Some (folder (codes "d") bytes)) [] 0 0 (sink_of [] taken 0)
 
 asked : (bytes taken : List ℕ) → IsServed check (checking bytes taken) (Check (codes "d")) (bytes ∷ [])
-asked bytes taken = record { told = folder (codes "d") bytes; telling = refl; named = checks; loaded = (refl, tt); loads = none_rose; puts = none_rose }
+asked bytes taken = record { has = record { told = folder (codes "d") bytes; telling = refl; named = checks; loaded = (refl, tt) }; loads = none_rose; puts = none_rose }
 
 checked : EndsWith check (checking decision_bytes (codes "accepted\n")) Done
 checked =
@@ -264,13 +264,13 @@ checked_poor =
 
 accepted_the_poor : EndsWith check (checking poor_bytes (codes "accepted\n")) Done → ⊥
 accepted_the_poor is =
-    let wrote = ended_with check (checking poor_bytes (codes "accepted\n")) (Check (codes "d")) (poor_bytes ∷ []) (Ready (Checking poor)) (asked poor_bytes (codes "accepted\n")) refl
+    let wrote = ended_with check (checking poor_bytes (codes "accepted\n")) (Check (codes "d")) (poor_bytes ∷ []) (asked poor_bytes (codes "accepted\n")).has (Ready (Checking poor)) refl
     (Good (Checking poor) refl) Done is.job is.named is.ended (Good is.ended.ended.task is.ended.ended.good) in
     not_accepted (output_of (Checking poor) Done (sink_of [] (codes "accepted\n") 0) wrote).0
 
 refused_the_best : EndsWith check (checking decision_bytes (codes "not accepted\n")) CheckNo → ⊥
 refused_the_best is =
-    let wrote = ended_with check (checking decision_bytes (codes "not accepted\n")) (Check (codes "d")) (decision_bytes ∷ []) (Ready (Checking decision)) (asked decision_bytes (codes "not accepted\n")) refl
+    let wrote = ended_with check (checking decision_bytes (codes "not accepted\n")) (Check (codes "d")) (decision_bytes ∷ []) (asked decision_bytes (codes "not accepted\n")).has (Ready (Checking decision)) refl
     (Good (Checking decision) refl) CheckNo is.job is.named is.ended (Good is.ended.ended.task is.ended.ended.good) in
     (output_of (Checking decision) CheckNo (sink_of [] (codes "not accepted\n") 0) wrote).0 accepted
 
@@ -329,10 +329,10 @@ front_played =
 
 played_silently : EndsWith play (playing []) Done → ⊥
 played_silently is =
-    let served : IsServed play (playing []) (Play (codes "survey.txt") None Stamp 1) (codes "0 a fetch\n" ∷ [])
-    = record { told = folder (codes "survey.txt") (codes "0 a fetch\n"); telling = refl; named = plays; loaded = (refl, tt); loads = none_rose; puts = none_rose } in
+    let has : HasFiles play (playing []) (Play (codes "survey.txt") None Stamp 1) (codes "0 a fetch\n" ∷ [])
+    = record { told = folder (codes "survey.txt") (codes "0 a fetch\n"); telling = refl; named = plays; loaded = (refl, tt) } in
     let wrote : WroteAll (Ready (Playing Stamp script None)) Done (sink_of [] [] 0)
-    = ended_with play (playing []) (Play (codes "survey.txt") None Stamp 1) (codes "0 a fetch\n" ∷ []) (Ready (Playing Stamp script None)) served refl (Good (Playing Stamp script None) refl)
+    = ended_with play (playing []) (Play (codes "survey.txt") None Stamp 1) (codes "0 a fetch\n" ∷ []) has (Ready (Playing Stamp script None)) refl (Good (Playing Stamp script None) refl)
     Done is.job is.named is.ended (Good is.ended.ended.task is.ended.ended.good) in
     let printed = (output_of (Playing Stamp script None) Done (sink_of [] [] 0) wrote).printed in
     let took : Some [] ≡ Some wrote.text = wrote.took in
