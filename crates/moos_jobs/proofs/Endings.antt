@@ -1,6 +1,10 @@
--- What follows from a run's status where nothing failed: a job whose files are good was done, and another was refused.
-use Rattle.std.proofs.Common.{◌≡◌, ℕ, List, [], ◌∷◌, ◌++◌, inl, inr, refl, ap, sym, subst, ◌∙◌, append_assoc, append-nil}
-use Rattle.std.specs.Prelude.{Option, Some, None}
+-- What follows from a run's status where nothing failed, or nothing could: a job whose files are good was done, and another was
+-- refused.
+use Rattle.std.proofs.Common.{◌≡◌, ℕ, List, [], ◌∷◌, ◌++◌, ◌+◌, ◌≤◌, true, length, take, inl, inr, refl, ap, sym, subst, ◌∙◌, arith, append_assoc, append-nil, length-append, length-take}
+use Rattle.std.proofs.lemmas.Bool.{false≢true}
+use Rattle.std.specs.Prelude.{IfSome, Option, Some, None}
+use Rattle.moos_io.specs.Files.{is_among}
+use Rattle.moos_io.specs.Pieces.{Took}
 use Rattle.moos_text.specs.declared.cause.Cause.{Cause}
 use Rattle.moos_text.specs.declared.cause.ReadFault.{ReadFault}
 use Rattle.moos_text.specs.declared.cause.ReadFault.TheVariants.{At}
@@ -10,7 +14,7 @@ use Rattle.moos_jobs.specs.declared.status.Refusal.{Refusal}
 use Rattle.moos_jobs.specs.declared.status.Status.{Status}
 use Rattle.moos_jobs.specs.declared.status.Status.TheVariants.{Done, CheckNo, Usage, LoadFault, WriteFault, Refused, NoMemory}
 use Rattle.moos_jobs.specs.Jobs.{FileTurn, IsOutput, Ready, Task, Unfit, Wanted, job_named, turn_of}
-use Rattle.moos_jobs.specs.Run.{AreLoaded, Completes, DidFrom, EndsWith, EndsFrom, IsServed, Refuses, Surroundings, WasWanted}
+use Rattle.moos_jobs.specs.Run.{AreLoaded, Completes, Declines, DidFrom, EndsWith, EndsFrom, HasFiles, HasRoomFor, IsDoneBut, IsRefusedBut, Refuses, Succeeds, Surroundings, WasWanted}
 use Rattle.moos_jobs.specs.Steps.{Ended, Sinking, WroteAll}
 
 -- what the job that the words name did from its first file on is what the run did
@@ -52,6 +56,27 @@ one_list files job front (bytes ∷ one) (more ∷ other) loaded is over last =
     (subst (λ all. IsOver (turn_of job all)) (sym (append_assoc front (bytes ∷ []) other)) last_same) in
     ap (λ first. first ∷ one) first ∙ ap (λ rest. more ∷ rest) rest
 
+-- nor is one wanted there
+over_wanted : (turn : FileTurn) (kind : FileKind) (name : List ℕ) → IsOver turn → turn ≡ Wanted kind name → ⊥
+over_wanted turn kind name (Good task is) wanted = let both : Ready task ≡ Wanted kind name = sym is ∙ wanted in cc
+over_wanted turn kind name (Bad other fault is) wanted = let both : Unfit other fault ≡ Wanted kind name = sym is ∙ wanted in cc
+
+-- of a job whose files are all there, each file that is wanted on the way is told
+wanted_told : (files : List ℕ → Option (List ℕ)) (job : Job) (front one other : List (List ℕ)) (kind : FileKind) (name : List ℕ) → AreLoaded (Some files) job front one → AreLoaded (Some files) job front other
+    → IsOver (turn_of job (front ++ one)) → turn_of job (front ++ other) ≡ Wanted kind name → (bytes : List ℕ) × (files name ≡ Some bytes)
+wanted_told files job front [] [] kind name loaded is over wanted = absurd (over_wanted (turn_of job (front ++ [])) kind name over wanted)
+wanted_told files job front [] (bytes ∷ other) kind name loaded is over wanted =
+    absurd (over_first (Some files) (turn_of job front) bytes (subst (λ all. IsOver (turn_of job all)) (append-nil front) over) is.0)
+wanted_told files job front (bytes ∷ one) [] kind name loaded is over wanted =
+    (bytes, subst (λ turn. WasWanted (Some files) turn bytes) (ap (turn_of job) (sym (append-nil front)) ∙ wanted) loaded.0)
+wanted_told files job front (bytes ∷ one) (more ∷ other) kind name loaded is over wanted =
+    let first : bytes ≡ more = one_file files (turn_of job front) bytes more loaded.0 is.0 in
+    let is_same : AreLoaded (Some files) job (front ++ bytes ∷ []) other = subst (λ first. AreLoaded (Some files) job (front ++ first ∷ []) other) (sym first) is.1 in
+    let wanted_same : turn_of job (front ++ bytes ∷ other) ≡ Wanted kind name = subst (λ first. turn_of job (front ++ first ∷ other) ≡ Wanted kind name) (sym first) wanted in
+    wanted_told files job (front ++ bytes ∷ []) one other kind name loaded.1 is_same
+    (subst (λ all. IsOver (turn_of job all)) (sym (append_assoc front (bytes ∷ []) one)) over)
+    (ap (turn_of job) (append_assoc front (bytes ∷ []) other) ∙ wanted_same)
+
 -- what was written is what the task may write
 pub output_of : (task : Task) (status : Status) (sink : Sinking) (wrote : WroteAll (Ready task) status sink) → IsOutput task status wrote.text
 output_of task status sink wrote =
@@ -59,35 +84,9 @@ output_of task status sink wrote =
     let same : wrote.task ≡ task = cc in
     subst (λ (one : Task). IsOutput one status wrote.text) same wrote.output
 
-module _ (words : List (List ℕ)) (run : Surroundings) (job : Job) (files : List (List ℕ)) (turn : FileTurn) (served : IsServed words run job files) (is : turn_of job files ≡ turn)
-    (over : IsOver turn) where
-  -- the job that the words name ended by what its files are told to hold
-  pub ended_with : (status : Status) (other : Job) → job_named words ≡ Some other → (did : DidFrom run other [] status) → IsOver (turn_of other did.files) → Ended turn run.sink status
-  ended_with status other named did done =
-      let both : Some other ≡ Some job = sym named ∙ served.named in
-      let one_job : other ≡ job = cc in
-      let loaded : AreLoaded (Some served.told) job [] did.files = subst (λ told. AreLoaded told job [] did.files) served.telling (subst (λ job. AreLoaded run.told job [] did.files) one_job did.loaded) in
-      let wanted : AreLoaded (Some served.told) job [] files = subst (λ told. AreLoaded told job [] files) served.telling served.loaded in
-      let same : did.files ≡ files = one_list served.told job [] did.files files loaded wanted (subst (λ job. IsOver (turn_of job did.files)) one_job done) (subst IsOver (sym is) over) in
-      subst (λ turn. Ended turn run.sink status) (ap (λ job. turn_of job did.files) one_job ∙ (ap (turn_of job) same ∙ is)) did.ended
-
-pub completes : (words : List (List ℕ)) (run : Surroundings) (status : Status) → EndsWith words run status → Completes words run status
-completes words run Done ran job files task served good =
-    inl (ended_with words run job files (Ready task) served good (Good task refl) Done ran.job ran.named ran.ended (Good ran.ended.ended.task ran.ended.ended.good))
-completes words run CheckNo ran job files task served good =
-    inl (ended_with words run job files (Ready task) served good (Good task refl) CheckNo ran.job ran.named ran.ended (Good ran.ended.ended.task ran.ended.ended.good))
-completes words run Usage ran job files task served good = let both : None ≡ Some job = sym ran.unnamed ∙ served.named in absurd cc
-completes words run LoadFault ran job files task served good = absurd (served.loads ran.ended.rose)
-completes words run WriteFault ran job files task served good = absurd (served.puts ran.ended.ended.1)
-completes words run (Refused refusal) ran job files task served good =
-    let ended = ended_with words run job files (Ready task) served good (Good task refl) (Refused refusal) ran.job ran.named ran.ended
-    (Bad refusal.file (At refusal.line refusal.cause) ran.ended.ended.0) in
-    let other : Ready task ≡ Unfit refusal.file (At refusal.line refusal.cause) = ended.0 in absurd cc
-completes words run NoMemory ran job files task served good = inr refl
-
 -- what was written was read from good files
-none_written : (kind : FileKind) (fault : ReadFault) (status : Status) (sink : Sinking) → WroteAll (Unfit kind fault) status sink → ⊥
-none_written kind fault status sink wrote = let good : Unfit kind fault ≡ Ready wrote.task = wrote.good in cc
+none_written : (kind : FileKind) (fault : ReadFault) (task : Task) → Unfit kind fault ≡ Ready task → ⊥
+none_written kind fault task good = cc
 
 -- two refusals of the same files are one
 one_refusal : (kind : FileKind) (line : ℕ) (cause : Cause) (refusal : Refusal) → Unfit kind (At line cause) ≡ Unfit refusal.file (At refusal.line refusal.cause)
@@ -98,18 +97,86 @@ one_refusal kind line cause refusal same =
     let cause_same : refusal.cause ≡ cause = cc in
     λ i. Refused (record { file = kind_same i; line = line_same i; cause = cause_same i })
 
+module _ (words : List (List ℕ)) (run : Surroundings) (job : Job) (files : List (List ℕ)) (has : HasFiles words run job files) where
+  one_job : (other : Job) → job_named words ≡ Some other → other ≡ job
+  one_job other named = let both : Some other ≡ Some job = sym named ∙ has.named in cc
+
+  -- what the folder tells of the files that some job of these words loaded
+  told_loads : (other : Job) → other ≡ job → (loads : List (List ℕ)) → AreLoaded run.told other [] loads → AreLoaded (Some has.told) job [] loads
+  told_loads other same loads loaded = subst (λ told. AreLoaded told job [] loads) has.telling (subst (λ job. AreLoaded run.told job [] loads) same loaded)
+
+  -- the job that the words name ended by what its files are told to hold
+  pub ended_with : (turn : FileTurn) → turn_of job files ≡ turn → IsOver turn → (status : Status) (other : Job) → job_named words ≡ Some other → (did : DidFrom run other [] status)
+      → IsOver (turn_of other did.files) → Ended turn run.sink status
+  ended_with turn is over status other named did done =
+      let same_job : other ≡ job = one_job other named in
+      let same : did.files ≡ files = one_list has.told job [] did.files files (told_loads other same_job did.files did.loaded) (told_loads job refl files has.loaded)
+      (subst (λ job. IsOver (turn_of job did.files)) same_job done) (subst IsOver (sym is) over) in
+      subst (λ turn. Ended turn run.sink status) (ap (λ job. turn_of job did.files) same_job ∙ (ap (turn_of job) same ∙ is)) did.ended
+
+  -- a folder that is sure of its files has failed at none of them
+  loads_all : ((name bytes : List ℕ) → has.told name ≡ Some bytes → is_among run.sure name ≡ true) → IsOver (turn_of job files) → EndsWith words run LoadFault → ⊥
+  loads_all sure over ran =
+      let same_job : ran.job ≡ job = one_job ran.job ran.named in
+      let found = wanted_told has.told job [] files ran.ended.files ran.ended.kind ran.ended.name (told_loads job refl files has.loaded) (told_loads ran.job same_job ran.ended.files ran.ended.loaded) over
+      (ap (λ job. turn_of job ran.ended.files) (sym same_job) ∙ ran.ended.wanted) in
+      false≢true (sym ran.ended.unsure ∙ sure ran.ended.name found.0 found.1)
+
+  -- with good files the job is done, where no load fails and no put does
+  is_done : (task : Task) (status : Status) → turn_of job files ≡ Ready task → (EndsWith words run LoadFault → ⊥) → (Ended (Ready task) run.sink WriteFault → ⊥) → EndsWith words run status
+      → IsDoneBut task run status
+  is_done task Done good loads puts ran = inl (ended_with (Ready task) good (Good task refl) Done ran.job ran.named ran.ended (Good ran.ended.ended.task ran.ended.ended.good))
+  is_done task CheckNo good loads puts ran = inl (ended_with (Ready task) good (Good task refl) CheckNo ran.job ran.named ran.ended (Good ran.ended.ended.task ran.ended.ended.good))
+  is_done task Usage good loads puts ran = let both : None ≡ Some job = sym ran.unnamed ∙ has.named in absurd cc
+  is_done task LoadFault good loads puts ran = absurd (loads ran)
+  is_done task WriteFault good loads puts ran =
+      absurd (puts (ended_with (Ready task) good (Good task refl) WriteFault ran.job ran.named ran.ended (Good ran.ended.ended.0.task ran.ended.ended.0.good)))
+  is_done task (Refused refusal) good loads puts ran =
+      let ended = ended_with (Ready task) good (Good task refl) (Refused refusal) ran.job ran.named ran.ended (Bad refusal.file (At refusal.line refusal.cause) ran.ended.ended.0) in
+      let other : Ready task ≡ Unfit refusal.file (At refusal.line refusal.cause) = ended.0 in absurd cc
+  is_done task NoMemory good loads puts ran = inr refl
+
+  -- with a bad file it is refused, where no load fails
+  is_refused : (kind : FileKind) (line : ℕ) (cause : Cause) (status : Status) → turn_of job files ≡ Unfit kind (At line cause) → (EndsWith words run LoadFault → ⊥) → EndsWith words run status
+      → IsRefusedBut kind line cause status
+  is_refused kind line cause Done bad loads ran =
+      let wrote = ended_with (Unfit kind (At line cause)) bad (Bad kind (At line cause) refl) Done ran.job ran.named ran.ended (Good ran.ended.ended.task ran.ended.ended.good) in
+      absurd (none_written kind (At line cause) wrote.task wrote.good)
+  is_refused kind line cause CheckNo bad loads ran =
+      let wrote = ended_with (Unfit kind (At line cause)) bad (Bad kind (At line cause) refl) CheckNo ran.job ran.named ran.ended (Good ran.ended.ended.task ran.ended.ended.good) in
+      absurd (none_written kind (At line cause) wrote.task wrote.good)
+  is_refused kind line cause Usage bad loads ran = let both : None ≡ Some job = sym ran.unnamed ∙ has.named in absurd cc
+  is_refused kind line cause LoadFault bad loads ran = absurd (loads ran)
+  is_refused kind line cause WriteFault bad loads ran =
+      let wrote = ended_with (Unfit kind (At line cause)) bad (Bad kind (At line cause) refl) WriteFault ran.job ran.named ran.ended (Good ran.ended.ended.0.task ran.ended.ended.0.good) in
+      absurd (none_written kind (At line cause) wrote.0.task wrote.0.good)
+  is_refused kind line cause (Refused refusal) bad loads ran =
+      inl (one_refusal kind line cause refusal
+      (ended_with (Unfit kind (At line cause)) bad (Bad kind (At line cause) refl) (Refused refusal) ran.job ran.named ran.ended (Bad refusal.file (At refusal.line refusal.cause) ran.ended.ended.0)).0)
+  is_refused kind line cause NoMemory bad loads ran = inr refl
+
+-- a sink with room for whatever the task may write has failed at nothing
+puts_all : (task : Task) (sink : Sinking) → HasRoomFor task sink → Ended (Ready task) sink WriteFault → ⊥
+puts_all task sink has (wrote, fell) =
+    let good : Ready task ≡ Ready wrote.task = wrote.good in
+    let same : wrote.task ≡ task = cc in
+    let output : IsOutput task wrote.status wrote.text = subst (λ one. IsOutput one wrote.status wrote.text) same wrote.output in
+    let n = wrote.took.0 in
+    let took : sink.taken_after ≡ Some (has.taken ++ take n wrote.text) = subst (λ before. Took before sink.taken_after (take n wrote.text)) has.telling wrote.took.2 in
+    let past : sink.faults_before.firm ≤ length (has.taken ++ take n wrote.text) = subst (λ taken. IfSome taken (λ bytes. sink.faults_before.firm ≤ length bytes)) took fell.past in
+    omega (arith, past, has.room wrote.status wrote.text output, wrote.took.1, length-append has.taken (take n wrote.text), length-take {A = ℕ} n wrote.text)
+
+pub completes : (words : List (List ℕ)) (run : Surroundings) (status : Status) → EndsWith words run status → Completes words run status
+completes words run status ran job files task served good =
+    is_done words run job files served.has task status good (λ failed. served.loads failed.ended.rose) (λ ended. served.puts ended.1.rose) ran
+
 pub refuses : (words : List (List ℕ)) (run : Surroundings) (status : Status) → EndsWith words run status → Refuses words run status
-refuses words run Done ran job files kind line cause served bad =
-    absurd (none_written kind (At line cause) Done run.sink
-    (ended_with words run job files (Unfit kind (At line cause)) served bad (Bad kind (At line cause) refl) Done ran.job ran.named ran.ended (Good ran.ended.ended.task ran.ended.ended.good)))
-refuses words run CheckNo ran job files kind line cause served bad =
-    absurd (none_written kind (At line cause) CheckNo run.sink
-    (ended_with words run job files (Unfit kind (At line cause)) served bad (Bad kind (At line cause) refl) CheckNo ran.job ran.named ran.ended (Good ran.ended.ended.task ran.ended.ended.good)))
-refuses words run Usage ran job files kind line cause served bad = let both : None ≡ Some job = sym ran.unnamed ∙ served.named in absurd cc
-refuses words run LoadFault ran job files kind line cause served bad = absurd (served.loads ran.ended.rose)
-refuses words run WriteFault ran job files kind line cause served bad = absurd (served.puts ran.ended.ended.1)
-refuses words run (Refused refusal) ran job files kind line cause served bad =
-    inl (one_refusal kind line cause refusal
-    (ended_with words run job files (Unfit kind (At line cause)) served bad (Bad kind (At line cause) refl) (Refused refusal) ran.job ran.named ran.ended
-    (Bad refusal.file (At refusal.line refusal.cause) ran.ended.ended.0)).0)
-refuses words run NoMemory ran job files kind line cause served bad = inr refl
+refuses words run status ran job files kind line cause served bad = is_refused words run job files served.has kind line cause status bad (λ failed. served.loads failed.ended.rose) ran
+
+pub succeeds : (words : List (List ℕ)) (run : Surroundings) (status : Status) → EndsWith words run status → Succeeds words run status
+succeeds words run status ran job files task held good room =
+    is_done words run job files held.has task status good (loads_all words run job files held.has held.sure (Good task good)) (puts_all task run.sink room) ran
+
+pub declines : (words : List (List ℕ)) (run : Surroundings) (status : Status) → EndsWith words run status → Declines words run status
+declines words run status ran job files kind line cause held bad =
+    is_refused words run job files held.has kind line cause status bad (loads_all words run job files held.has held.sure (Bad kind (At line cause) bad)) ran

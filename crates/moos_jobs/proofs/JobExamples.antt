@@ -30,7 +30,7 @@ use Rattle.moos_jobs.specs.Commands.{bounded, check_command, IsPlain, play_comma
 use Rattle.moos_jobs.specs.Exit.{code_of}
 use Rattle.moos_jobs.specs.Jobs.Task.{Checking, Playing, Solving}
 use Rattle.moos_jobs.specs.Jobs.{HasFewWorkers, IsAccepted, IsOutput, Ready, turn_of, Unfit, Wanted, with_few_ticks}
-use Rattle.moos_jobs.specs.Steps.{Ended, sinking, status_of}
+use Rattle.moos_jobs.specs.Steps.{Ended, Sinking, sinking, status_of}
 use Rattle.moos_jobs.proofs.Communities.{all_entries}
 
 -- one function over two points, of value 5 and 6
@@ -249,45 +249,49 @@ nothing_reported is = let printed = is.printed in cc
 statuses : (status_of DecisionFile (At 3 P1) ≡ Refused (record { file = DecisionFile; line = 3; cause = P1 })) × (status_of DecisionFile Unread ≡ NoMemory)
 statuses = (refl, refl)
 
+-- a sink by what it took before and after, and how often it failed since; it takes nothing for sure
+abbrev pub sink_of : List ℕ → List ℕ → ℕ → Sinking
+sink_of before after faults = sinking (Some before) (Some after) (record { faults = 0; firm = 0 }) (record { faults = faults; firm = 0 })
+
 -- how the problem's job ends: all is written, or a front of it where the sink failed
-all_written : Ended (Ready (Solving problem)) (sinking (Some (codes "x")) (Some (codes "x" ++ decision_bytes)) 0 0) Done
+all_written : Ended (Ready (Solving problem)) (sink_of (codes "x") (codes "x" ++ decision_bytes) 0) Done
 unfolding digits
 all_written = record { task = Solving problem; good = refl; text = decision_bytes; output = refl; took = refl }
 
-front_written : Ended (Ready (Solving problem)) (sinking (Some []) (Some (take 20 decision_bytes)) 0 1) WriteFault
+front_written : Ended (Ready (Solving problem)) (sink_of [] (take 20 decision_bytes) 1) WriteFault
 unfolding digits
-front_written = (record { task = Solving problem; good = refl; status = Done; text = decision_bytes; output = refl; took = (20, omega arith, refl) }, inl (omega arith))
+front_written = (record { task = Solving problem; good = refl; status = Done; text = decision_bytes; output = refl; took = (20, omega arith, refl) }, record { rose = inl (omega arith); past = omega arith })
 
-failed_without_a_fault : Ended (Ready (Solving problem)) (sinking (Some []) (Some decision_bytes) 0 0) WriteFault → ⊥
+failed_without_a_fault : Ended (Ready (Solving problem)) (sink_of [] decision_bytes 0) WriteFault → ⊥
 failed_without_a_fault is =
-    elim is.1 [
+    elim is.1.rose [
       | inl rose ↦ omega arith
       | inr most ↦ omega arith
     ]
 
 -- a good file isn't refused or half done with; a bad one is refused for what is wrong with it, and nothing is written
-ended_usage : Ended (Ready (Solving problem)) (sinking (Some []) (Some []) 0 0) Usage → ⊥
+ended_usage : Ended (Ready (Solving problem)) (sink_of [] [] 0) Usage → ⊥
 ended_usage is = is
 
-good_refused : Ended (Ready (Solving problem)) (sinking (Some []) (Some []) 0 0) (Refused (record { file = ProblemFile; line = 1; cause = P9 })) → ⊥
+good_refused : Ended (Ready (Solving problem)) (sink_of [] [] 0) (Refused (record { file = ProblemFile; line = 1; cause = P9 })) → ⊥
 good_refused is = let read = is.0 in cc
 
-bad_refused : Ended (Unfit ProblemFile (At 1 P9)) (sinking (Some []) (Some []) 0 0) (Refused (record { file = ProblemFile; line = 1; cause = P9 }))
+bad_refused : Ended (Unfit ProblemFile (At 1 P9)) (sink_of [] [] 0) (Refused (record { file = ProblemFile; line = 1; cause = P9 }))
 bad_refused = (refl, record { taken = refl; faults = refl })
 
-other_line : Ended (Unfit ProblemFile (At 1 P9)) (sinking (Some []) (Some []) 0 0) (Refused (record { file = ProblemFile; line = 2; cause = P9 })) → ⊥
+other_line : Ended (Unfit ProblemFile (At 1 P9)) (sink_of [] [] 0) (Refused (record { file = ProblemFile; line = 2; cause = P9 })) → ⊥
 other_line is = let read = is.0 in cc
 
-other_kind : Ended (Unfit ProblemFile (At 1 P9)) (sinking (Some []) (Some []) 0 0) (Refused (record { file = DecisionFile; line = 1; cause = P9 })) → ⊥
+other_kind : Ended (Unfit ProblemFile (At 1 P9)) (sink_of [] [] 0) (Refused (record { file = DecisionFile; line = 1; cause = P9 })) → ⊥
 other_kind is = let kind = is.0 in cc
 
-refused_and_written : Ended (Unfit ProblemFile (At 1 P9)) (sinking (Some []) (Some (codes "no\n")) 0 0) (Refused (record { file = ProblemFile; line = 1; cause = P9 })) → ⊥
+refused_and_written : Ended (Unfit ProblemFile (At 1 P9)) (sink_of [] (codes "no\n") 0) (Refused (record { file = ProblemFile; line = 1; cause = P9 })) → ⊥
 refused_and_written is = let taken : Some (codes "no\n") ≡ Some [] = is.1.taken in cc
 
-done_with_the_bad : Ended (Unfit ProblemFile (At 1 P9)) (sinking (Some []) (Some []) 0 0) Done → ⊥
+done_with_the_bad : Ended (Unfit ProblemFile (At 1 P9)) (sink_of [] [] 0) Done → ⊥
 done_with_the_bad is = let good = is.good in cc
 
-half_done : Ended (Ready (Solving problem)) (sinking (Some []) (Some (take 20 decision_bytes)) 0 0) Done → ⊥
+half_done : Ended (Ready (Solving problem)) (sink_of [] (take 20 decision_bytes) 0) Done → ⊥
 half_done is =
     let good : Ready (Solving problem) ≡ Ready is.task = is.good in
     let task : is.task ≡ Solving problem = cc in

@@ -3,7 +3,7 @@ use Rattle.std.proofs.Common.{◌≡◌, ℕ, ◌≤◌, List, [], ◌∷◌, �
 use Rattle.std.specs.Prelude.{Option, Some, None, Result, Ok, Err, OnOk, OnErr, false}
 use Rattle.moos_io.specs.declared.folder.LoadFault.{LoadFault}
 use Rattle.moos_io.specs.declared.folder.LoadFault.TheVariants.{Failed, NoMemory as NoMemoryToLoad}
-use Rattle.moos_io.specs.Faults.{Rose}
+use Rattle.moos_io.specs.Faults.{Faring, Fell, Rose}
 use Rattle.moos_io.specs.Files.{CameFrom, Loaded, is_among}
 use Rattle.moos_io.specs.Pieces.{Took, TookFront}
 use Rattle.moos_text.specs.Refusals.{IsFirst}
@@ -27,12 +27,12 @@ whole (Some files) name before now none loaded = of (files name) (subst (λ (byt
     of (Some bytes) came = ap (λ (one : List ℕ). Some one) (sym came)
 
 -- faults that rose later rose from the beginning on
-pub rose_on : (before between after : ℕ) → before ≤ between → Rose between after → Rose before after
+rose_on : (before between after : ℕ) → before ≤ between → Rose between after → Rose before after
 rose_on before between after later (inl more) = inl (omega (arith, later, more))
 rose_on before between after later (inr most) = inr most
 
 -- nothing was put when no memory was left
-pub nothing_put : (turn : FileTurn) (taken : Option (List ℕ)) (faults : ℕ) → Ended turn (sinking taken taken faults faults) NoMemory
+pub nothing_put : (turn : FileTurn) (taken : Option (List ℕ)) (faults : Faring) → Ended turn (sinking taken taken faults faults) NoMemory
 nothing_put turn taken faults = inl (record { taken = refl; faults = refl })
 
 -- a job that needs no more files has ended with those that it has
@@ -95,7 +95,7 @@ last_ends told sure before after sink job front kind name loaded bytes turn stat
     (ends_here rest job (front ++ bytes ∷ []) status (subst (λ turn. Ended turn sink status) (sym is) ended))
 
 -- a job whose next file can't be loaded ends with that, and nothing is written
-pub load_ends : (told : Option (List ℕ → Option (List ℕ))) (sure : List (List ℕ)) (before after : ℕ) (taken : Option (List ℕ)) (faults : ℕ) (job : Job) (front : List (List ℕ))
+pub load_ends : (told : Option (List ℕ → Option (List ℕ))) (sure : List (List ℕ)) (before after : ℕ) (taken : Option (List ℕ)) (faults : Faring) (job : Job) (front : List (List ℕ))
     (kind : FileKind) (name loaded : List ℕ) (fault : LoadFault) (status : Status) → turn_of job front ≡ Wanted kind name → loaded ≡ name
     → (fault ≡ Failed → Rose before after) → (fault ≡ Failed → is_among sure loaded ≡ false)
     → (fault ≡ Failed → status ≡ Unloaded) → (fault ≡ NoMemoryToLoad → status ≡ NoMemory)
@@ -115,7 +115,7 @@ load_ends told sure before after taken faults job front kind name loaded NoMemor
     rw (memory refl) (record { files = []; loaded = tt; ended = nothing_put (turn_of job (front ++ [])) taken faults })
 
 -- a job whose last file is refused ends with the first refusal, and nothing is written
-pub refusal_ends : {A : Type 0} (next : A → FileTurn) (kind : FileKind) (read : Result A ReadFault) (fault : ReadFault) (status : Status) (taken : Option (List ℕ)) (faults : ℕ)
+pub refusal_ends : {A : Type 0} (next : A → FileTurn) (kind : FileKind) (read : Result A ReadFault) (fault : ReadFault) (status : Status) (taken : Option (List ℕ)) (faults : Faring)
     → IsFirst fault read → status ≡ status_of kind fault → Ended (turn_behind kind next read) (sinking taken taken faults faults) status
 refusal_ends next kind read (At line cause) status taken faults first is = rw is (ap (turn_behind kind next) first, record { taken = refl; faults = refl })
 refusal_ends next kind read Unread status taken faults first is = rw is (nothing_put (turn_behind kind next read) taken faults)
@@ -123,7 +123,7 @@ refusal_ends next kind read Unread status taken faults first is = rw is (nothing
 -- a job that puts a text which it may write to end with this status, or fails at that
 pub put_ends : {E : Type 0} (turn : FileTurn) (task : Task) (text : List ℕ) (meant status : Status) (sink : Sinking) (put : Result (Unit {0}) E)
     → (WroteAll turn meant sink → Ended turn sink meant) → turn ≡ Ready task → IsOutput task meant text → OnOk put (Took sink.taken_before sink.taken_after text)
-    → OnErr put (TookFront sink.taken_before sink.taken_after text) → OnErr put (Rose sink.faults_before sink.faults_after)
+    → OnErr put (TookFront sink.taken_before sink.taken_after text) → OnErr put (Fell sink.faults_before sink.faults_after sink.taken_after)
     → OnOk put (status ≡ meant) → OnErr put (status ≡ WriteFault) → Ended turn sink status
 put_ends turn task text meant status sink (Ok put) ends good output took front rose all fault =
     rw all (ends (record { task = task; good = good; text = text; output = output; took = took }))

@@ -8,8 +8,9 @@ use Rattle.helm_core.specs.declared.iteration.Iteration.{Iteration}
 use Rattle.helm_core.specs.Helms.{plan_of}
 use Rattle.helm_core.specs.Plans.{wants_of}
 use Rattle.moos_client.specs.Calls.{entry_of}
-use Rattle.moos_io.specs.Faults.{Rose}
+use Rattle.moos_io.specs.Faults.{Faring, FaresOn, Fell}
 use Rattle.moos_io.specs.Pieces.{Took, TookFront}
+use Rattle.moos_io.proofs.Writing.{fell_later}
 use Rattle.moos_post.specs.declared.entry.Call.TheVariants.{Register, Post as Posts}
 use Rattle.moos_post.specs.History.{History}
 use Rattle.moos_play.specs.declared.playing.Play.{Play}
@@ -28,7 +29,6 @@ use Rattle.moos_jobs.specs.declared.status.Status.{Status}
 use Rattle.moos_jobs.specs.declared.status.Status.TheVariants.{Done, WriteFault}
 use Rattle.moos_jobs.specs.Telling.{IsOfLawful, IsToldSoFar, Tells, ToldFront}
 use Rattle.moos_jobs.proofs.Fetching.{IsNamed, fetched, ends_far, part_ends}
-use Rattle.moos_jobs.proofs.Loading.{rose_on}
 use Rattle.script_reader.specs.declared.script.Order.{Order}
 use Rattle.script_reader.specs.declared.script.Script.{Script}
 
@@ -139,14 +139,14 @@ module _ (setup : Setup) (play : Play) (stay : FrontsStay) (between : IsBetween 
       subst (IsOfLawful play.order play.script.now (helm_in play) setup) (stay setup (clients_in play) (history_in play) on.rest (iterations_made play) on.more (ends_far play between named))
       (of_lawful play.order play.script.now (helm_in play) setup (clients_in play) (history_in play ++ on.rest) (iterations_made play ++ on.more) named (on.alone named) (sym on.iterations))
 
-  pub told_so_far : (before after : Option (List ℕ)) (faults later : ℕ) → IsToldSoFar setup before after play → ToldFront play.order play.script.now (helm_in play) setup (sinking before after faults later)
+  pub told_so_far : (before after : Option (List ℕ)) (faults later : Faring) → IsToldSoFar setup before after play → ToldFront play.order play.script.now (helm_in play) setup (sinking before after faults later)
   told_so_far before after faults later told = record {
     text = text;
     lawful = lawful_text;
     took = whole_of_more before after (front_text setup (clients_in play) (history_in play) (iterations_made play)) behind some_behind told;
   }
 
-  pub told_front : (before after : Option (List ℕ)) (faults later : ℕ) → TookFront before after (front_text setup (clients_in play) (history_in play) (iterations_made play))
+  pub told_front : (before after : Option (List ℕ)) (faults later : Faring) → TookFront before after (front_text setup (clients_in play) (history_in play) (iterations_made play))
       → ToldFront play.order play.script.now (helm_in play) setup (sinking before after faults later)
   told_front before after faults later front = record {
     text = text;
@@ -173,8 +173,8 @@ run_as P {order = order} {order' = order'} {script = script} {script' = script'}
     subst (λ helm. P order' script' helm) three (subst (λ script. P order' script helm) two (subst (λ order. P order script helm) one so))
 
 -- a run in which nothing is left, whose end is put
-pub end_told : {E : Type 0} (setup : Setup) (play : Play) (before between after : Option (List ℕ)) (first then last : ℕ) (put : Result (Unit {0}) E) (status : Status) → IsNamed play → IsPlayedOut play → IsToldSoFar setup before between play
-    → OnOk put (Took between after (end_text (history_in play))) → OnErr put (TookFront between after (end_text (history_in play))) → first ≤ then → OnErr put (Rose then last)
+pub end_told : {E : Type 0} (setup : Setup) (play : Play) (before between after : Option (List ℕ)) (first then last : Faring) (put : Result (Unit {0}) E) (status : Status) → IsNamed play → IsPlayedOut play → IsToldSoFar setup before between play
+    → OnOk put (Took between after (end_text (history_in play))) → OnErr put (TookFront between after (end_text (history_in play))) → FaresOn first then → OnErr put (Fell then last after)
     → OnOk put (status ≡ Done) → OnErr put (status ≡ WriteFault) → Tells play.order play.script.now (helm_in play) setup (sinking before after first last) status
 end_told setup play before between after first then last (Ok put) status named over told took front later rose all fault =
     rw all (record {
@@ -189,7 +189,7 @@ end_told setup play before between after first then last (Err failed) status nam
         lawful = over_text setup play named over;
         took = front_behind before between after (front_text setup (clients_in play) (history_in play) (iterations_made play)) (end_text (history_in play)) told front;
       },
-      rose_on first then last later rose,
+      fell_later first then last after later rose,
     )
 
 -- before the first round no iteration is made

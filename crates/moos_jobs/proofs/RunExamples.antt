@@ -18,11 +18,11 @@ use Rattle.moos_jobs.specs.declared.status.Status.{Status}
 use Rattle.moos_jobs.specs.declared.status.Status.TheVariants.{Done, CheckNo, Usage, LoadFault, WriteFault, Refused, NoMemory}
 use Rattle.moos_jobs.specs.Jobs.Task.{Checking, Playing, Solving}
 use Rattle.moos_jobs.specs.Jobs.{Ready, turn_behind, turn_of, Unfit, Wanted}
-use Rattle.moos_jobs.specs.Run.{Completes, DidFrom, DidJob, HasBytes, IsServed, EndsWith, Refuses, Surroundings, surroundings}
-use Rattle.moos_jobs.specs.Steps.{Ended, IsToPlay, sinking, WroteAll}
+use Rattle.moos_jobs.specs.Run.{Completes, DidFrom, DidJob, HasBytes, HasFiles, IsServed, EndsWith, Refuses, Surroundings, surroundings}
+use Rattle.moos_jobs.specs.Steps.{Ended, IsToPlay, WroteAll}
 use Rattle.moos_jobs.proofs.Endings.{completes, ended_with, Good, IsOver, output_of, refuses}
 use Rattle.moos_jobs.proofs.Examples.{checks, plays, solves_by_one}
-use Rattle.moos_jobs.proofs.JobExamples.{accepted, decision, decision_bytes, fetches_lawful, no_other, not_accepted, poor, poor_bytes, printed, problem, problem_bytes, script}
+use Rattle.moos_jobs.proofs.JobExamples.{accepted, decision, decision_bytes, fetches_lawful, no_other, not_accepted, poor, poor_bytes, printed, problem, problem_bytes, script, sink_of}
 
 -- the words of a run that solves a problem, and what surrounds it, by what the file holds, what the sink has taken, and how often it failed; the folder tells its
 -- files and is sure of this one
@@ -34,14 +34,14 @@ solve = codes "solve" ∷ codes "p" ∷ []
 
 abbrev solving : List ℕ → List ℕ → ℕ → Surroundings
 solving bytes taken put_faults =
-    surroundings (Some (folder (codes "p") bytes)) (codes "p" ∷ []) 0 0 (sinking (Some []) (Some taken) 0 put_faults)
+    surroundings (Some (folder (codes "p") bytes)) (codes "p" ∷ []) 0 0 (sink_of [] taken put_faults)
 
 none_rose : Rose 0 0 → ⊥
 none_rose (inl rose) = omega arith
 none_rose (inr most) = omega arith
 
 served : (bytes taken : List ℕ) → IsServed solve (solving bytes taken 0) (Solve (codes "p") 1) (bytes ∷ [])
-served bytes taken = record { told = folder (codes "p") bytes; telling = refl; named = solves_by_one; loaded = (refl, tt); loads = none_rose; puts = none_rose }
+served bytes taken = record { has = record { told = folder (codes "p") bytes; telling = refl; named = solves_by_one; loaded = (refl, tt) }; loads = none_rose; puts = none_rose }
 
 -- a folder that tells its files has these bytes under this name, and no others; of one that doesn't tell them, a file may have any bytes
 has_bytes : HasBytes (Some (folder (codes "p") problem_bytes)) (codes "p") problem_bytes × HasBytes None (codes "p") problem_bytes
@@ -65,14 +65,14 @@ solved =
 
 -- how it ended, by what its file holds
 solving_ended : (taken : List ℕ) (status : Status) (is : DidJob solve (solving problem_bytes taken 0) status) (did : DidFrom (solving problem_bytes taken 0) is.job [] status) → IsOver (turn_of is.job did.files)
-    → Ended (Ready (Solving problem)) (sinking (Some []) (Some taken) 0 0) status
+    → Ended (Ready (Solving problem)) (sink_of [] taken 0) status
 solving_ended taken status is did over =
-    ended_with solve (solving problem_bytes taken 0) (Solve (codes "p") 1) (problem_bytes ∷ []) (Ready (Solving problem)) (served problem_bytes taken) refl (Good (Solving problem) refl) status is.job is.named did over
+    ended_with solve (solving problem_bytes taken 0) (Solve (codes "p") 1) (problem_bytes ∷ []) (served problem_bytes taken).has (Ready (Solving problem)) refl (Good (Solving problem) refl) status is.job is.named did over
 
 all_written : (taken : List ℕ) → EndsWith solve (solving problem_bytes taken 0) Done → taken ≡ decision_bytes
 all_written taken is =
-    let wrote : WroteAll (Ready (Solving problem)) Done (sinking (Some []) (Some taken) 0 0) = solving_ended taken Done is is.ended (Good is.ended.ended.task is.ended.ended.good) in
-    let output : wrote.text ≡ decision_lines [] (best_decision problem) = output_of (Solving problem) Done (sinking (Some []) (Some taken) 0 0) wrote in
+    let wrote : WroteAll (Ready (Solving problem)) Done (sink_of [] taken 0) = solving_ended taken Done is is.ended (Good is.ended.ended.task is.ended.ended.good) in
+    let output : wrote.text ≡ decision_lines [] (best_decision problem) = output_of (Solving problem) Done (sink_of [] taken 0) wrote in
     let took : Some taken ≡ Some wrote.text = wrote.took in
     let same : taken ≡ wrote.text = cc in
     same ∙ output ∙ printed
@@ -89,7 +89,7 @@ nothing_written is = omega (arith, ap length (all_written [] is))
 -- CheckNo is no end of a job that solves a problem
 says_no : EndsWith solve (solving problem_bytes decision_bytes 0) CheckNo → ⊥
 says_no is =
-    output_of (Solving problem) CheckNo (sinking (Some []) (Some decision_bytes) 0 0)
+    output_of (Solving problem) CheckNo (sink_of [] decision_bytes 0)
     (solving_ended decision_bytes CheckNo is is.ended (Good is.ended.ended.task is.ended.ended.good))
 
 -- WriteFault: the sink took a part and not the whole, and its fault was counted
@@ -103,12 +103,12 @@ write_failed =
           record {
             files = problem_bytes ∷ [];
             loaded = (refl, tt);
-            ended = (record { task = Solving problem; good = refl; status = Done; text = decision_bytes; output = refl; took = (20, omega arith, refl) }, inl (omega arith));
+            ended = (record { task = Solving problem; good = refl; status = Done; text = decision_bytes; output = refl; took = (20, omega arith, refl) }, record { rose = inl (omega arith); past = omega arith });
           };
     }
 
 told_no_fault : EndsWith solve (solving problem_bytes (take 20 decision_bytes) 0) WriteFault → ⊥
-told_no_fault is = none_rose is.ended.ended.1
+told_no_fault is = none_rose is.ended.ended.1.rose
 
 -- NoMemory: nothing was written, and no front of a decision
 no_memory : EndsWith solve (solving problem_bytes [] 0) NoMemory
@@ -130,7 +130,7 @@ wrote_without_memory (inr is) = elim is.ended.ended [
 
 -- Usage: the words name no job, nothing was loaded, and nothing was written
 sails : (faults : ℕ) (taken : List ℕ) → Surroundings
-sails faults taken = surroundings None [] 0 faults (sinking (Some []) (Some taken) 0 0)
+sails faults taken = surroundings None [] 0 faults (sink_of [] taken 0)
 
 abbrev sail : List (List ℕ)
 sail = codes "sail" ∷ codes "p" ∷ []
@@ -153,7 +153,7 @@ named_a_job is = let both : None ≡ Some (Solve (codes "p") 1) = sym is.unnamed
 -- LoadFault: the folder failed at a file that it isn't sure of, its fault was counted, and nothing was written
 abbrev loading : List (List ℕ) → ℕ → List ℕ → Surroundings
 loading sure load_faults taken =
-    surroundings (Some (folder (codes "p") problem_bytes)) sure 0 load_faults (sinking (Some []) (Some taken) 0 0)
+    surroundings (Some (folder (codes "p") problem_bytes)) sure 0 load_faults (sink_of [] taken 0)
 
 not_loaded : EndsWith solve (loading [] 1 []) LoadFault
 not_loaded = record {
@@ -207,7 +207,7 @@ line_in status = 0
 refused_the_good : EndsWith solve (solving problem_bytes [] 0) (refusal ProblemFile 1) → ⊥
 refused_the_good is =
     elim (completes solve (solving problem_bytes [] 0) (refusal ProblemFile 1) is (Solve (codes "p") 1) (problem_bytes ∷ []) (Solving problem) (served problem_bytes []) refl) [
-      | inl wrote ↦ output_of (Solving problem) (refusal ProblemFile 1) (sinking (Some []) (Some []) 0 0) wrote
+      | inl wrote ↦ output_of (Solving problem) (refusal ProblemFile 1) (sink_of [] [] 0) wrote
       | inr memory ↦ cc
     ]
 
@@ -231,10 +231,10 @@ abbrev check : List (List ℕ)
 check = codes "check" ∷ codes "d" ∷ []
 
 abbrev checking : List ℕ → List ℕ → Surroundings
-checking bytes taken = surroundings (Some (folder (codes "d") bytes)) [] 0 0 (sinking (Some []) (Some taken) 0 0)
+checking bytes taken = surroundings (Some (folder (codes "d") bytes)) [] 0 0 (sink_of [] taken 0)
 
 asked : (bytes taken : List ℕ) → IsServed check (checking bytes taken) (Check (codes "d")) (bytes ∷ [])
-asked bytes taken = record { told = folder (codes "d") bytes; telling = refl; named = checks; loaded = (refl, tt); loads = none_rose; puts = none_rose }
+asked bytes taken = record { has = record { told = folder (codes "d") bytes; telling = refl; named = checks; loaded = (refl, tt) }; loads = none_rose; puts = none_rose }
 
 checked : EndsWith check (checking decision_bytes (codes "accepted\n")) Done
 checked =
@@ -264,22 +264,22 @@ checked_poor =
 
 accepted_the_poor : EndsWith check (checking poor_bytes (codes "accepted\n")) Done → ⊥
 accepted_the_poor is =
-    let wrote = ended_with check (checking poor_bytes (codes "accepted\n")) (Check (codes "d")) (poor_bytes ∷ []) (Ready (Checking poor)) (asked poor_bytes (codes "accepted\n")) refl
+    let wrote = ended_with check (checking poor_bytes (codes "accepted\n")) (Check (codes "d")) (poor_bytes ∷ []) (asked poor_bytes (codes "accepted\n")).has (Ready (Checking poor)) refl
     (Good (Checking poor) refl) Done is.job is.named is.ended (Good is.ended.ended.task is.ended.ended.good) in
-    not_accepted (output_of (Checking poor) Done (sinking (Some []) (Some (codes "accepted\n")) 0 0) wrote).0
+    not_accepted (output_of (Checking poor) Done (sink_of [] (codes "accepted\n") 0) wrote).0
 
 refused_the_best : EndsWith check (checking decision_bytes (codes "not accepted\n")) CheckNo → ⊥
 refused_the_best is =
-    let wrote = ended_with check (checking decision_bytes (codes "not accepted\n")) (Check (codes "d")) (decision_bytes ∷ []) (Ready (Checking decision)) (asked decision_bytes (codes "not accepted\n")) refl
+    let wrote = ended_with check (checking decision_bytes (codes "not accepted\n")) (Check (codes "d")) (decision_bytes ∷ []) (asked decision_bytes (codes "not accepted\n")).has (Ready (Checking decision)) refl
     (Good (Checking decision) refl) CheckNo is.job is.named is.ended (Good is.ended.ended.task is.ended.ended.good) in
-    (output_of (Checking decision) CheckNo (sinking (Some []) (Some (codes "not accepted\n")) 0 0) wrote).0 accepted
+    (output_of (Checking decision) CheckNo (sink_of [] (codes "not accepted\n") 0) wrote).0 accepted
 
 -- a script was played where a report was written, and not where nothing was
 abbrev play : List (List ℕ)
 play = codes "play" ∷ codes "survey.txt" ∷ []
 
 abbrev playing : List ℕ → Surroundings
-playing taken = surroundings (Some (folder (codes "survey.txt") (codes "0 a fetch\n"))) [] 0 0 (sinking (Some []) (Some taken) 0 0)
+playing taken = surroundings (Some (folder (codes "survey.txt") (codes "0 a fetch\n"))) [] 0 0 (sink_of [] taken 0)
 
 played : EndsWith play (playing (codes "%% moosdb play 1\n%% client 0 a\n%% entry 0 0 a fetch\n%% end 1 0\n")) Done
 unfolding digits
@@ -329,12 +329,12 @@ front_played =
 
 played_silently : EndsWith play (playing []) Done → ⊥
 played_silently is =
-    let served : IsServed play (playing []) (Play (codes "survey.txt") None Stamp 1) (codes "0 a fetch\n" ∷ [])
-    = record { told = folder (codes "survey.txt") (codes "0 a fetch\n"); telling = refl; named = plays; loaded = (refl, tt); loads = none_rose; puts = none_rose } in
-    let wrote : WroteAll (Ready (Playing Stamp script None)) Done (sinking (Some []) (Some []) 0 0)
-    = ended_with play (playing []) (Play (codes "survey.txt") None Stamp 1) (codes "0 a fetch\n" ∷ []) (Ready (Playing Stamp script None)) served refl (Good (Playing Stamp script None) refl)
+    let has : HasFiles play (playing []) (Play (codes "survey.txt") None Stamp 1) (codes "0 a fetch\n" ∷ [])
+    = record { told = folder (codes "survey.txt") (codes "0 a fetch\n"); telling = refl; named = plays; loaded = (refl, tt) } in
+    let wrote : WroteAll (Ready (Playing Stamp script None)) Done (sink_of [] [] 0)
+    = ended_with play (playing []) (Play (codes "survey.txt") None Stamp 1) (codes "0 a fetch\n" ∷ []) has (Ready (Playing Stamp script None)) refl (Good (Playing Stamp script None) refl)
     Done is.job is.named is.ended (Good is.ended.ended.task is.ended.ended.good) in
-    let printed = (output_of (Playing Stamp script None) Done (sinking (Some []) (Some []) 0 0) wrote).printed in
+    let printed = (output_of (Playing Stamp script None) Done (sink_of [] [] 0) wrote).printed in
     let took : Some [] ≡ Some wrote.text = wrote.took in
     cc
 
@@ -345,7 +345,7 @@ completed = (completes solve (solving problem_bytes decision_bytes 0) Done solve
 gave_up : Completes solve (solving problem_bytes [] 0) WriteFault → ⊥
 gave_up does =
     elim (does (Solve (codes "p") 1) (problem_bytes ∷ []) (Solving problem) (served problem_bytes []) refl) [
-      | inl wrote ↦ output_of (Solving problem) WriteFault (sinking (Some []) (Some []) 0 0) wrote
+      | inl wrote ↦ output_of (Solving problem) WriteFault (sink_of [] [] 0) wrote
       | inr memory ↦ cc
     ]
 

@@ -1,5 +1,5 @@
 -- What a run of the program does, by the status that it ends with.
-use Rattle.std.specs.Prelude.{◌≡◌, ℕ, false, ◌⊎◌, List, [], ◌∷◌, ◌++◌, Option, Some, None, IfSome}
+use Rattle.std.specs.Prelude.{◌≡◌, ℕ, ◌+◌, ◌≤◌, true, false, ◌⊎◌, List, [], ◌∷◌, ◌++◌, length, Option, Some, None, IfSome}
 use Rattle.moos_io.specs.Faults.{Rose}
 use Rattle.moos_io.specs.Files.{is_among}
 use Rattle.moos_text.specs.declared.cause.Cause.{Cause}
@@ -8,7 +8,7 @@ use Rattle.moos_jobs.specs.declared.job.Job.{Job}
 use Rattle.moos_jobs.specs.declared.status.FileKind.{FileKind}
 use Rattle.moos_jobs.specs.declared.status.Status.{Status}
 use Rattle.moos_jobs.specs.declared.status.Status.TheVariants.{Usage, LoadFault, Refused, NoMemory}
-use Rattle.moos_jobs.specs.Jobs.{FileTurn, Ready, Task, Unfit, Wanted, job_named, turn_of}
+use Rattle.moos_jobs.specs.Jobs.{FileTurn, IsOutput, Ready, Task, Unfit, Wanted, job_named, turn_of}
 use Rattle.moos_jobs.specs.Steps.{Ended, IsUntouched, Sinking, WroteAll}
 
 -- What surrounds a run besides its words: what the folder tells of its files, the names that it is sure of, and how often it
@@ -81,24 +81,58 @@ EndsWith words run Usage = HasNoJob words run
 EndsWith words run NoMemory = IsUntouched run.sink ⊎ DidJob words run NoMemory
 EndsWith words run status = DidJob words run status
 
--- the words name this job, which loads these files where the folder tells its own, and neither loading nor writing fails
-pub record IsServed (words : List (List ℕ)) (run : Surroundings) (job : Job) (files : List (List ℕ)) : Type 0 where
+-- the words name this job, and a folder that tells its files has these, which are all that the job loads
+pub record HasFiles (words : List (List ℕ)) (run : Surroundings) (job : Job) (files : List (List ℕ)) : Type 0 where
   pub told : List ℕ → Option (List ℕ)
   pub telling : run.told ≡ Some told
   pub named : job_named words ≡ Some job
   pub loaded : AreLoaded run.told job [] files
+
+-- such a job, where neither loading nor writing failed
+pub record IsServed (words : List (List ℕ)) (run : Surroundings) (job : Job) (files : List (List ℕ)) : Type 0 where
+  pub has : HasFiles words run job files
   pub loads : Rose run.load_faults_before run.load_faults_after → ⊥
-  pub puts : Rose run.sink.faults_before run.sink.faults_after → ⊥
+  pub puts : Rose run.sink.faults_before.faults run.sink.faults_after.faults → ⊥
+
+-- such a job, where the folder is sure of each file that it tells
+pub record IsHeld (words : List (List ℕ)) (run : Surroundings) (job : Job) (files : List (List ℕ)) : Type 0 where
+  pub has : HasFiles words run job files
+  pub sure : (name bytes : List ℕ) → has.told name ≡ Some bytes → is_among run.sure name ≡ true
+
+-- the sink tells what it took, and takes for sure, behind that, each text that the task may write
+pub record HasRoomFor (task : Task) (sink : Sinking) : Type 0 where
+  pub taken : List ℕ
+  pub telling : sink.taken_before ≡ Some taken
+  pub room : (status : Status) (text : List ℕ) → IsOutput task status text → length taken + length text ≤ sink.faults_before.firm
+
+-- the run wrote all that the task may write and end with this status, or no memory was left
+abbrev pub IsDoneBut : Task → Surroundings → Status → Type 0
+IsDoneBut task run status = WroteAll (Ready task) status run.sink ⊎ (status ≡ NoMemory)
+
+-- the run was refused for this file, line and cause, or no memory was left
+abbrev pub IsRefusedBut : FileKind → ℕ → Cause → Status → Type 0
+IsRefusedBut kind line cause status = (status ≡ Refused (record { file = kind; line = line; cause = cause })) ⊎ (status ≡ NoMemory)
 
 -- a job whose files are good, and that nothing fails at, writes all that it may write and end with this status: it is done,
 -- and a check answers whether the decision is accepted; unless no memory was left
 abbrev pub Completes : List (List ℕ) → Surroundings → Status → Type 0
 Completes words run status =
-    (job : Job) (files : List (List ℕ)) (task : Task) → IsServed words run job files → turn_of job files ≡ Ready task → WroteAll (Ready task) status run.sink ⊎ (status ≡ NoMemory)
+    (job : Job) (files : List (List ℕ)) (task : Task) → IsServed words run job files → turn_of job files ≡ Ready task → IsDoneBut task run status
 
 -- a job of whose files the last one isn't good, and that nothing fails at, is refused with that file's first refusal, unless no
 -- memory was left
 abbrev pub Refuses : List (List ℕ) → Surroundings → Status → Type 0
 Refuses words run status =
     (job : Job) (files : List (List ℕ)) (kind : FileKind) (line : ℕ) (cause : Cause) → IsServed words run job files → turn_of job files ≡ Unfit kind (At line cause)
-    → (status ≡ Refused (record { file = kind; line = line; cause = cause })) ⊎ (status ≡ NoMemory)
+    → IsRefusedBut kind line cause status
+
+-- the first of both where nothing can fail: the folder is sure of its files, and the sink has room for the output
+abbrev pub Succeeds : List (List ℕ) → Surroundings → Status → Type 0
+Succeeds words run status =
+    (job : Job) (files : List (List ℕ)) (task : Task) → IsHeld words run job files → turn_of job files ≡ Ready task → HasRoomFor task run.sink → IsDoneBut task run status
+
+-- and the second, whatever the sink
+abbrev pub Declines : List (List ℕ) → Surroundings → Status → Type 0
+Declines words run status =
+    (job : Job) (files : List (List ℕ)) (kind : FileKind) (line : ℕ) (cause : Cause) → IsHeld words run job files → turn_of job files ≡ Unfit kind (At line cause)
+    → IsRefusedBut kind line cause status

@@ -1,6 +1,6 @@
 -- How a job ends that needs no more files: what it wrote, and with which status.
 use Rattle.std.specs.Prelude.{◌≡◌, ℕ, ◌⊎◌, List, Option}
-use Rattle.moos_io.specs.Faults.{Rose}
+use Rattle.moos_io.specs.Faults.{Faring, Fell}
 use Rattle.moos_io.specs.Pieces.{Took, TookFront}
 use Rattle.moos_text.specs.declared.cause.ReadFault.{ReadFault}
 use Rattle.moos_text.specs.declared.cause.ReadFault.TheVariants.{At, NoMemory as Unread}
@@ -15,15 +15,15 @@ abbrev pub status_of : FileKind → ReadFault → Status
 status_of kind (At line cause) = Refused (record { file = kind; line = line; cause = cause })
 status_of kind Unread = NoMemory
 
--- what the sink took before and after, and how often it failed
+-- what the sink took before and after, and how it fared
 pub record Sinking : Type 0 where
   pub taken_before : Option (List ℕ)
   pub taken_after : Option (List ℕ)
-  pub faults_before : ℕ
-  pub faults_after : ℕ
+  pub faults_before : Faring
+  pub faults_after : Faring
 
 -- the sink with these parts, in their order
-abbrev pub sinking : Option (List ℕ) → Option (List ℕ) → ℕ → ℕ → Sinking
+abbrev pub sinking : Option (List ℕ) → Option (List ℕ) → Faring → Faring → Sinking
 sinking taken_before taken_after faults_before faults_after =
     record { taken_before = taken_before; taken_after = taken_after; faults_before = faults_before; faults_after = faults_after }
 
@@ -61,6 +61,6 @@ Ended turn sink Done = WroteAll turn Done sink
 Ended turn sink CheckNo = WroteAll turn CheckNo sink
 Ended turn sink Usage = ⊥
 Ended turn sink LoadFault = ⊥
-Ended turn sink WriteFault = WroteFront turn sink × Rose sink.faults_before sink.faults_after
+Ended turn sink WriteFault = WroteFront turn sink × Fell sink.faults_before sink.faults_after sink.taken_after
 Ended turn sink (Refused refusal) = (turn ≡ Unfit refusal.file (At refusal.line refusal.cause)) × IsUntouched sink
 Ended turn sink NoMemory = IsUntouched sink ⊎ ((wrote : WroteFront turn sink) × IsToPlay wrote.task)

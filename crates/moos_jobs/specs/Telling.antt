@@ -1,6 +1,6 @@
 -- What is written of a run as it comes. This serves `telling` alone.
 use Rattle.std.specs.Prelude.{◌≡◌, ℕ, ◌⊎◌, List, Option}
-use Rattle.moos_io.specs.Faults.{Rose}
+use Rattle.moos_io.specs.Faults.{Fell}
 use Rattle.moos_io.specs.Pieces.{Took, TookFront}
 use Rattle.moos_play.specs.declared.playing.Play.{Play}
 use Rattle.moos_play.specs.Lawful.{heard_of, helm_number, IsLawful, iterations, names_with, Steering}
@@ -41,6 +41,6 @@ pub record ToldFront (order : Order) (script : Script) (helm : Option Steering) 
 -- front where no memory was left
 abbrev pub Tells : Order → Script → Option Steering → Setup → Sinking → Status → Type 0
 Tells order script helm setup sink Done = ToldAll order script helm setup sink
-Tells order script helm setup sink WriteFault = ToldFront order script helm setup sink × Rose sink.faults_before sink.faults_after
+Tells order script helm setup sink WriteFault = ToldFront order script helm setup sink × Fell sink.faults_before sink.faults_after sink.taken_after
 Tells order script helm setup sink NoMemory = IsUntouched sink ⊎ ToldFront order script helm setup sink
 Tells order script helm setup sink status = ⊥

@@ -3,7 +3,7 @@ ghost use Rattle.std.specs.Prelude.{◌≡◌, ◌<◌, ◌≤◌, ◌^◌, ℕ,
 ghost use Rattle.moos_io.specs.Faults.{Rose};
 ghost use Rattle.moos_io.specs.Files.{is_among};
 ghost use Rattle.moos_jobs.specs.Jobs.{HasFewWorkers};
-ghost use Rattle.moos_jobs.specs.Run.{Completes, EndsWith, EndsFrom, HasBytes, Refuses, Surroundings, surroundings};
+ghost use Rattle.moos_jobs.specs.Run.{Completes, Declines, EndsWith, EndsFrom, HasBytes, Refuses, Succeeds, Surroundings, surroundings};
 ghost use Rattle.moos_jobs.specs.Steps.{sinking, status_of};
 ghost use Rattle.moos_jobs.specs.declared.job.Job.TheVariants.{Check, Solve};
 
@@ -46,11 +46,14 @@ pub fn run<R: Threads + Wait + Sync, F: Folder, K: Sink, G: Gate>(
     }
 }
 
-/// What holds of runs, whatever they did: where nothing fails, a job whose files are good is done, and another is refused with
-/// the first refusal of the first file that isn't. It does nothing.
+/// What holds of runs, whatever they did. Where nothing fails, a job whose files are good is done, and another is refused with
+/// the first refusal of the first file that isn't. Over a folder that is sure of its files, and a sink with room for all that is
+/// written, nothing fails. It does nothing.
 pub fn run_law()
     ensures completes { (words : List (List ℕ)) (run : Surroundings) (status : Status) → EndsWith words run status → Completes words run status }
     ensures refuses { (words : List (List ℕ)) (run : Surroundings) (status : Status) → EndsWith words run status → Refuses words run status }
+    ensures succeeds { (words : List (List ℕ)) (run : Surroundings) (status : Status) → EndsWith words run status → Succeeds words run status }
+    ensures declines { (words : List (List ℕ)) (run : Surroundings) (status : Status) → EndsWith words run status → Declines words run status }
 {}
 
 // Does the job from its first file on.

@@ -1,6 +1,6 @@
 // A run whose report is written as it comes: how it begins before the first round, and what each round brings before the next.
 ghost use Rattle.std.specs.Prelude.{◌≡◌, ◌+◌, ◌<◌, ◌≤◌, [], drop, length, option_map, take, IfErr, IfNone, IfOk, IfSome, OnErr, OnOk, Option, List, ℕ};
-ghost use Rattle.moos_io.specs.Faults.{Rose};
+ghost use Rattle.moos_io.specs.Faults.{Faring, FaresOn, Fell};
 ghost use Rattle.moos_io.specs.Pieces.{Took, TookFront};
 ghost use Rattle.moos_play.specs.Lawful.{MayStart, names_with, opening, steering_with};
 ghost use Rattle.moos_play.specs.Plays.{clients_in, HasCompletion, helm_in, history_in, IsBetween, IsPlayedOut, IsSeated, iterations_made, left_in, order_played, script_played};
@@ -113,7 +113,7 @@ fn tell_round<R: Threads + Wait + Sync, K: Sink, G: Gate>(
     ensures empty { OnOk result (buffer.new ≡ []) }
     ensures between { OnOk result (IsBetween play.new) }
     ensures same { OnOk result (GoesOnWith play.old play.new) }
-    ensures later { K.faults out.old ≤ K.faults out.new }
+    ensures later { FaresOn (K.faults out.old) (K.faults out.new) }
     ensures made { IfOk result (λ more. IfSome more (λ more. length (iterations_made play.new) ≡ made + more)) }
     ensures less { IfOk result (λ more. IfSome more (λ _. left_in play.new < left_in play.old)) }
     ensures on { IfOk result (λ more. IfSome more (λ _. HasCompletion play.new)) }
@@ -121,7 +121,7 @@ fn tell_round<R: Threads + Wait + Sync, K: Sink, G: Gate>(
     ensures told { IfOk result (λ more. IfSome more (λ _. (before : Option (List ℕ))
         → IsToldSoFar setup.now before (K.taken out.old) play.old → IsToldSoFar setup.now before (K.taken out.new) play.new)) }
     ensures over { IfOk result (λ more. IfNone more (IsPlayedOut play.new × (play.new ≡ play.old) × (K.taken out.new ≡ K.taken out.old))) }
-    ensures stopped { IfErr result (λ status. (before : Option (List ℕ)) (faults : ℕ) → faults ≤ K.faults out.old → HasCompletion play.old
+    ensures stopped { IfErr result (λ status. (before : Option (List ℕ)) (faults : Faring) → FaresOn faults (K.faults out.old) → HasCompletion play.old
         → IsToldSoFar setup.now before (K.taken out.old) play.old
         → Tells (order_played play.old) (script_played play.old) (helm_in play.old) setup.now (sinking before (K.taken out.new) faults (K.faults out.new)) status) }
 {
@@ -150,8 +150,8 @@ fn tell_opening<R: Wait, K: Sink>(
     ensures same { play.new ≡ play.old }
     ensures ok { OnOk result (Took (K.taken out.old) (K.taken out.new) (front_text setup.now (clients_in play.old) (history_in play.old) [])) }
     ensures front { OnErr result (TookFront (K.taken out.old) (K.taken out.new) (front_text setup.now (clients_in play.old) (history_in play.old) [])) }
-    ensures later { K.faults out.old ≤ K.faults out.new }
-    ensures rose { OnErr result (Rose (K.faults out.old) (K.faults out.new)) }
+    ensures later { FaresOn (K.faults out.old) (K.faults out.new) }
+    ensures rose { OnErr result (Fell (K.faults out.old) (K.faults out.new) (K.taken out.new)) }
 {
     let held = play.hold(rt);
     let told = report_front(setup, held.value(), out);
@@ -163,8 +163,8 @@ fn tell_opening<R: Wait, K: Sink>(
 fn report_front<K: Sink>(setup: &Setup, db: &Db, out: &mut K) -> Result<(), Failed>
     ensures ok { OnOk result (Took (K.taken out.old) (K.taken out.new) (front_text setup.now db.now.names db.now.history [])) }
     ensures front { OnErr result (TookFront (K.taken out.old) (K.taken out.new) (front_text setup.now db.now.names db.now.history [])) }
-    ensures later { K.faults out.old ≤ K.faults out.new }
-    ensures rose { OnErr result (Rose (K.faults out.old) (K.faults out.new)) }
+    ensures later { FaresOn (K.faults out.old) (K.faults out.new) }
+    ensures rose { OnErr result (Fell (K.faults out.old) (K.faults out.new) (K.taken out.new)) }
 {
     if let Err(failed) = report_head(setup, db, out) {
         return Err(failed);
@@ -191,8 +191,8 @@ fn tell_part<R: Wait, K: Sink>(
         (entries_text setup.now made round.now.iterations (clients_in play.old) (take round.now.from (history_in play.old)) (drop round.now.from (history_in play.old)))) }
     ensures front { OnErr result (TookFront (K.taken out.old) (K.taken out.new)
         (entries_text setup.now made round.now.iterations (clients_in play.old) (take round.now.from (history_in play.old)) (drop round.now.from (history_in play.old)))) }
-    ensures later { K.faults out.old ≤ K.faults out.new }
-    ensures rose { OnErr result (Rose (K.faults out.old) (K.faults out.new)) }
+    ensures later { FaresOn (K.faults out.old) (K.faults out.new) }
+    ensures rose { OnErr result (Fell (K.faults out.old) (K.faults out.new) (K.taken out.new)) }
 {
     let held = play.hold(rt);
     let iterations = round.iterations.all();
@@ -214,8 +214,8 @@ fn tell_end<R: Wait, K: Sink>(rt: &R, play: &mut Play, out: &mut K) -> Result<()
     requires { IsSeated play.old }
     ensures ok { OnOk result (Took (K.taken out.old) (K.taken out.new) (end_text (history_in play.old))) }
     ensures front { OnErr result (TookFront (K.taken out.old) (K.taken out.new) (end_text (history_in play.old))) }
-    ensures later { K.faults out.old ≤ K.faults out.new }
-    ensures rose { OnErr result (Rose (K.faults out.old) (K.faults out.new)) }
+    ensures later { FaresOn (K.faults out.old) (K.faults out.new) }
+    ensures rose { OnErr result (Fell (K.faults out.old) (K.faults out.new) (K.taken out.new)) }
 {
     let held = play.hold(rt);
     let told = report_end(held.value(), out);

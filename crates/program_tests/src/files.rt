@@ -14,6 +14,13 @@ pub(crate) const FIRST_PROBLEM: &str =
 
 pub(crate) const FIRST_DECISION: &str = "decision 0 700\ncut : 700 0\ndone\n";
 
+pub(crate) const SECOND_PROBLEM: &str = "ivp 1\ndomain a:0:2:3\ndomain b:0:1:2\ndomain d:0:1:2\n\
+    function 2\npiece 0 2 0 1 0 1 0 10 0 0\n\
+    function 3\npiece 0 0 0 1 0 1 20 0 5 0\npiece 1 2 0 1 0 1 0 0 5 0\nend\n";
+
+pub(crate) const SECOND_DECISION: &str =
+    "decision 0 1 0 75\ncut 0 0 : 75 2\ncut 0 1 : 55 10\ndone\n";
+
 // A vehicle is deployed and given to the helm.
 pub(crate) const DEPLOYING_SCRIPT: &str =
     "0 nav post DEPLOY=true # MOOS_MANUAL_OVERRIDE=false\n0.25 until\n";

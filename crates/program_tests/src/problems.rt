@@ -1,5 +1,7 @@
 // Problems that are solved, and decisions that are checked.
-use crate::files::{FIRST_DECISION, FIRST_PROBLEM, decided, levels};
+use crate::files::{
+    FIRST_DECISION, FIRST_PROBLEM, SECOND_DECISION, SECOND_PROBLEM, decided, levels,
+};
 use crate::runs::ends_so;
 use moos_jobs::{FileKind, Refusal, Status};
 use moos_text::Cause;
@@ -7,12 +9,6 @@ use std::alloc::Global;
 use std::process::Abort;
 use std::sync::Wait;
 use std::thread::Threads;
-
-const SECOND_PROBLEM: &str = "ivp 1\ndomain a:0:2:3\ndomain b:0:1:2\ndomain d:0:1:2\n\
-    function 2\npiece 0 2 0 1 0 1 0 10 0 0\n\
-    function 3\npiece 0 0 0 1 0 1 20 0 5 0\npiece 1 2 0 1 0 1 0 0 5 0\nend\n";
-
-const SECOND_DECISION: &str = "decision 0 1 0 75\ncut 0 0 : 75 2\ncut 0 1 : 55 10\ndone\n";
 
 const LEVELS_DECISION: &str = "decision 0 64000000000\ncut : 64000000000 0\ndone\n";
 

@@ -1,10 +1,7 @@
-// Runs that don't end well: files that are refused or absent, and a sink that fails.
-use crate::files::{
-    ALPHA, COURSE_MISSION, DEPLOYING_SCRIPT, FIRST_PROBLEM, FIRST_SCRIPT, MODES, levels,
-};
-use crate::runs::{command_line, ends, ends_so, folder_of, run_beside};
-use moos_io::{MemSink, NoGate};
-use moos_jobs::{FileKind, Refusal, Status, run};
+// Runs that don't end well: files that are refused or absent.
+use crate::files::{ALPHA, COURSE_MISSION, DEPLOYING_SCRIPT, FIRST_PROBLEM, MODES, append, levels};
+use crate::runs::{command_line, ends, ends_so, run_beside};
+use moos_jobs::{FileKind, Refusal, Status};
 use moos_text::Cause;
 use std::alloc::Global;
 use std::process::Abort;
@@ -151,14 +148,60 @@ fn survey_ends<R: Threads + Wait + Sync + Abort>(
     is_told(rt, alloc, files, status);
 }
 
-// Words of the survey's files, what stands in their place, and the refusal; None is the end of the file.
+// What is changed in the survey's files, or where they end before it, and how they are refused then.
 const CHANGES: &[(&str, Option<&str>, FileKind, u32, Cause)] = &[
+    // The mission: cut off in the helm's block, without what it needs, and with what it doesn't allow.
+    ("}\n", None, FileKind::Mission, 11, Cause::M2),
     (
-        "  capture_radius = 2.0\n",
-        None,
+        "  behaviors = alpha.bhv\n",
+        Some(""),
+        FileKind::Mission,
+        11,
+        Cause::M7,
+    ),
+    (
+        "  domain = course:0:359:360\n  domain = speed:0:4:41\n  domain = depth:0:100:101\n",
+        Some(""),
+        FileKind::Mission,
+        9,
+        Cause::M5,
+    ),
+    (
+        "speed:0:4:41",
+        Some("speed:4:4:1"),
+        FileKind::Mission,
+        10,
+        Cause::M3,
+    ),
+    (
+        "depth:0:100:101",
+        Some("depth:0:100:100000"),
+        FileKind::Mission,
+        11,
+        Cause::M4,
+    ),
+    (
+        "AppTick = 4",
+        Some("AppTick = 0"),
+        FileKind::Mission,
+        6,
+        Cause::M6,
+    ),
+    // The script lasts for 60 s, in which such a helm ticks 60,001 times.
+    (
+        "AppTick = 4",
+        Some("AppTick = 1000"),
+        FileKind::Mission,
+        12,
+        Cause::M8,
+    ),
+    // The behaviours: of a mission without a depth, and lines that aren't good.
+    (
+        "  domain = depth:0:100:101\n",
+        Some(""),
         FileKind::Behaviors,
-        30,
-        Cause::B2,
+        43,
+        Cause::B10,
     ),
     (
         "BHV_Waypoint",
@@ -168,18 +211,59 @@ const CHANGES: &[(&str, Option<&str>, FileKind, u32, Cause)] = &[
         Cause::B3,
     ),
     (
-        "speed:0:4:41",
-        Some("speed:4:4:1"),
-        FileKind::Mission,
-        10,
-        Cause::M3,
+        "condition = RETURN = false",
+        Some("condition = (RETURN = false"),
+        FileKind::Behaviors,
+        8,
+        Cause::B5,
+    ),
+    (
+        "speed = 2   // meters per second",
+        Some("speed = fast"),
+        FileKind::Behaviors,
+        14,
+        Cause::B6,
+    ),
+    (
+        "name = waypt_return",
+        Some("name = waypt_survey"),
+        FileKind::Behaviors,
+        24,
+        Cause::B4,
+    ),
+    (
+        "  depth = 10\n",
+        Some(""),
+        FileKind::Behaviors,
+        42,
+        Cause::B11,
     ),
 ];
 
 #[test]
 fn a_changed_survey_is_refused(rt: HostRuntime) {
     for (old, new, file, line, cause) in CHANGES {
-        survey_ends(&rt, rt.alloc(), *old, *new, refused(*file, *line, *cause));
+        let status = refused(*file, *line, *cause);
+        survey_ends(&rt, rt.alloc(), *old, *new, status);
+    }
+}
+
+// The lines of the survey's behaviour file that it may end with: elsewhere a block is open.
+const LAST_LINES: [u32; 8] = [1, 2, 3, 20, 21, 34, 35, 43];
+
+#[test]
+fn a_survey_may_end_between_blocks(rt: HostRuntime) {
+    let mut behaviors = String::new(rt.alloc());
+    for (number, line) in (1..100).zip(ALPHA[2].lines()) {
+        append(&rt, &mut behaviors, &[line, "\n"]);
+        let files = ["0 until\n", ALPHA[1], behaviors.as_str()];
+        if LAST_LINES.contains(&number) {
+            let (status, _) = run_beside(&rt, rt.alloc(), &["play", "s.txt", "m.moos"], files);
+            assert_eq!(rt; status, Status::Done, "{number}");
+        } else {
+            let status = refused(FileKind::Behaviors, number, Cause::B2);
+            is_told(&rt, rt.alloc(), files, status);
+        }
     }
 }
 
@@ -189,33 +273,4 @@ fn an_absent_file_is_a_load_fault(rt: HostRuntime) {
         let words = command_line(&rt, rt.alloc(), &[job, "absent.txt"]);
         assert_eq!(rt; ends(&rt, rt.alloc(), &words), Status::LoadFault);
     }
-}
-
-// A sink of which each put takes 7 bytes, and the second one fails.
-fn failing_sink(rt: &impl Abort, alloc: Global) -> MemSink {
-    let mut out = MemSink::make(alloc, 10_000, 7).expect(rt, "memory");
-    out.fail_at(1).expect(rt, "memory");
-    out
-}
-
-// Into such a sink a run of the job writes this front.
-fn leaves<R: Threads + Wait + Sync + Abort>(
-    rt: &R,
-    alloc: Global,
-    job: &str,
-    text: &str,
-    front: &str,
-) {
-    let words = command_line(rt, alloc, &[job, "f.txt"]);
-    let mut folder = folder_of(rt, alloc, text);
-    let mut out = failing_sink(rt, alloc);
-    let status = run(rt, alloc, &words, &mut folder, &mut out, &NoGate);
-    assert_eq!(rt; status, Status::WriteFault);
-    assert_eq!(rt; out.bytes(), front.as_bytes());
-}
-
-#[test]
-fn a_failed_put_leaves_a_front(rt: HostRuntime) {
-    leaves(&rt, rt.alloc(), "play", FIRST_SCRIPT, "%% moos");
-    leaves(&rt, rt.alloc(), "solve", FIRST_PROBLEM, "ivp 1\nd");
 }

@@ -77,14 +77,8 @@ pub(crate) fn ends<R: Threads + Wait + Sync + Abort>(
     status
 }
 
-// Runs these words beside these files, of which the empty ones aren't there.
-pub(crate) fn run_beside<R: Threads + Wait + Sync + Abort>(
-    rt: &R,
-    alloc: Global,
-    line: &[&str],
-    files: [&str; 3],
-) -> (Status, MemSink) {
-    let words = command_line(rt, alloc, line);
+// A folder with a script, a mission and the behaviour file that it names, of which the empty ones aren't there.
+pub(crate) fn folder_beside(rt: &impl Abort, alloc: Global, files: [&str; 3]) -> MemFolder {
     let mut folder = MemFolder::make(alloc);
     for (name, text) in ["s.txt", "m.moos", "alpha.bhv"].into_iter().zip(files) {
         assert!(rt; text.len() < 10_000);
@@ -93,6 +87,18 @@ pub(crate) fn run_beside<R: Threads + Wait + Sync + Abort>(
             added.expect(rt, "memory");
         }
     }
+    folder
+}
+
+// Runs these words beside such files.
+pub(crate) fn run_beside<R: Threads + Wait + Sync + Abort>(
+    rt: &R,
+    alloc: Global,
+    line: &[&str],
+    files: [&str; 3],
+) -> (Status, MemSink) {
+    let words = command_line(rt, alloc, line);
+    let mut folder = folder_beside(rt, alloc, files);
     let mut out = MemSink::make(alloc, 1_000_000, 10_000).expect(rt, "memory");
     let status = run(rt, alloc, &words, &mut folder, &mut out, &NoGate);
     (status, out)

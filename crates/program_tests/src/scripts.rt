@@ -1,5 +1,6 @@
 // Runs of whole scripts: what each prints, worked by hand.
 ghost use Rattle.std.specs.Prelude.{None};
+ghost use Rattle.moos_io.specs.Answers.{unsure_faring};
 
 use crate::files::{FIRST_REPORT, FIRST_SCRIPT};
 use crate::runs::{command_line, ends_so, folder_of};
@@ -73,7 +74,7 @@ struct Counter<'a> {
 impl<'a> Sink for Counter<'a> {
     ghost taken = { λ counter. None };
 
-    ghost faults = { λ counter. 0 };
+    ghost faults = { λ counter. unsure_faring 0 };
 
     fn put(&mut self, bytes: &[u8]) -> Result<usize, Failed> {
         self.taken.fetch_add(bytes.len(), Ordering::SeqCst);

@@ -133,6 +133,8 @@ const HELM: &[(&[u8], u32, Cause)] = &[
 // The same of whole missions. In the last one the survey's axis of speeds is empty.
 const WHOLE: &[(&[u8], u32, Cause)] = &[
     (b"", 1, Cause::M5),
+    // A file that ends before the brace that its block needs ends in that block.
+    (b"ProcessConfig = pHelmIvP", 1, Cause::M2),
     (b"behaviors = b\ndomain = a:0:1:2\n", 2, Cause::M5),
     (b"x = {\n\n {  \n", 3, Cause::M1),
     (

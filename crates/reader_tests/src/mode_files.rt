@@ -82,6 +82,7 @@ const REFUSED: &[(&[u8], u32, Cause)] = &[
     (b"Behavior =", 1, Cause::B1),
     (b"Behavior = {\n}", 1, Cause::B1),
     (b"set MODE = A", 1, Cause::B2),
+    (b"Behavior = BHV_Timer\n", 1, Cause::B2),
     (b"set MODE = A {\nX = 1\n\n", 3, Cause::B2),
     (b"\nbehavior = BHV_Way\n{", 2, Cause::B3),
     (b"Behavior = BHV Waypoint", 1, Cause::B3),

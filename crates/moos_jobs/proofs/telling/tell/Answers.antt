@@ -2,6 +2,7 @@
 use Rattle.std.proofs.Common.{◌≡◌, ◌+◌, ◌∙◌, ap, arith, length, refl, subst, sym, List, ℕ, Option}
 use Rattle.std.specs.Prelude.{IfNone, IfSome}
 use Rattle.moos_io.specs.Pieces.{Took, TookFront}
+use Rattle.moos_io.proofs.Writing.{fares_further}
 use Rattle.moos_play.specs.declared.playing.Play.{Play}
 use Rattle.moos_play.specs.Plays.{clients_in, HasCompletion, history_in, IsBetween, IsPlayedOut, iterations_made}
 use Rattle.moos_play.specs.Steered.{GoesOnWith}
@@ -62,7 +63,7 @@ loop-more-preserved g c =
       made = sym (subst (λ more. IfSome more (λ more. length (iterations_made new) ≡ c.loop-more.made + more)) is c.in-Ok-Some.ensures.made);
       told = (subst (λ more. IfSome more (λ _. (before : Option (List ℕ)) → IsToldSoFar c.args.setup.now before (g.K.Sink.taken c.loop-more.out) old → IsToldSoFar c.args.setup.now before (g.K.Sink.taken c.tell_round.new.out) new))
           is c.in-Ok-Some.ensures.told) (g.K.Sink.taken c.args.out.now) kept.told;
-      later = omega (arith, kept.later, c.in-Ok-Some.ensures.later);
+      later = fares_further _ _ _ kept.later c.in-Ok-Some.ensures.later;
     }
 
 pub returns-in-Ok-None : goal.returns-in-Ok-None
@@ -78,7 +79,7 @@ returns-in-Ok-None g c =
     let told = subst (IsToldSoFar c.args.setup.now before between) (sym over.1) (subst (λ between. IsToldSoFar c.args.setup.now before between old) (sym over.2) kept.told) in
     run_as (λ order script helm. Tells order script helm c.args.setup.now sink c.written.result) on.order on.script on.helm
     (end_told c.args.setup.now new before between _ _ (g.K.Sink.faults c.tell_round.new.out) _ c.tell_end.result c.written.result (named_on old new c.in-Ok-None.ensures.same kept.named) over.0 told
-    c.tell_end.ensures.ok c.tell_end.ensures.front (omega (arith, kept.later, c.in-Ok-None.ensures.later)) c.tell_end.ensures.rose c.written.ensures.all c.written.ensures.fault)
+    c.tell_end.ensures.ok c.tell_end.ensures.front (fares_further _ _ _ kept.later c.in-Ok-None.ensures.later) c.tell_end.ensures.rose c.written.ensures.all c.written.ensures.fault)
 
 pub returns-in-Err-tell_round : goal.returns-in-Err-tell_round
 returns-in-Err-tell_round g c =

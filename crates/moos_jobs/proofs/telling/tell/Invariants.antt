@@ -1,5 +1,6 @@
 -- What is printed of the run so far was written, and the run goes on from where it began.
-use Rattle.std.proofs.Common.{◌≡◌, ◌≤◌, [], length}
+use Rattle.std.proofs.Common.{◌≡◌, [], length}
+use Rattle.moos_io.specs.Faults.{FaresOn}
 use Rattle.moos_play.specs.Plays.{HasCompletion, IsBetween, iterations_made, left_in}
 use Rattle.moos_play.specs.Steered.{GoesOnWith}
 use Rattle.moos_jobs.specs.Telling.{IsToldSoFar}
@@ -15,7 +16,7 @@ invariant-loop-more g l = record {
   same : GoesOnWith l.fn.play l.play;
   made : l.made ≡ length (iterations_made l.play);
   told : IsToldSoFar l.setup (g.K.Sink.taken l.fn.out) (g.K.Sink.taken l.out) l.play;
-  later : g.K.Sink.faults l.fn.out ≤ g.K.Sink.faults l.out;
+  later : FaresOn (g.K.Sink.faults l.fn.out) (g.K.Sink.faults l.out);
 }
 
 abbrev pub decreases-loop-more : goal.decreases-loop-more

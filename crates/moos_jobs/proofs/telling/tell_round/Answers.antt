@@ -1,11 +1,11 @@
 -- What the round brought was told, or a front of it; or what was told before is a front.
 use Rattle.std.proofs.Common.{◌∙◌, inr, subst, sym}
 use Rattle.std.specs.Prelude.{IfSome}
+use Rattle.moos_io.proofs.Writing.{fell_later}
 use Rattle.moos_play.specs.Plays.{IsRound}
 use Rattle.moos_jobs.specs.Steps.{sinking}
 use Rattle.moos_jobs.specs.Telling.{IsToldSoFar, ToldFront}
 use Rattle.moos_jobs.proofs.Fetching.{named_on}
-use Rattle.moos_jobs.proofs.Loading.{rose_on}
 use Rattle.moos_jobs.proofs.Rounds.{fetched_before, part_front, part_told, run_as, told_front, told_so_far}
 use Rattle.moos_jobs.proofs.telling.tell_round.Goals as goal
 
@@ -29,7 +29,7 @@ returns-in-Err-clause-stopped g c = λ before faults later on told.
     let front = part_front c.args.setup.now old new c.in-Some.round c.parts_law.ensures.parts c.requires.between c.in-Ok.ensures.between c.requires.named on c.round.ensures.seated made before _ _ c.args.made c.requires.made told c.in-Err.ensures.front in (
       run_as (λ order script helm. ToldFront order script helm c.args.setup.now (sinking before (g.K.Sink.taken c.tell_part.new.out) faults (g.K.Sink.faults c.tell_part.new.out))) on.order on.script on.helm
           (told_front c.args.setup.now new c.parts_law.ensures.fronts c.in-Ok.ensures.between (named_on old new on c.requires.named) c.front_law.ensures.front before _ faults _ front),
-      rose_on faults _ _ later c.in-Err.ensures.rose,
+      fell_later faults _ _ _ later c.in-Err.ensures.rose,
     )
 
 pub returns-clause-told : goal.returns-clause-told
