@@ -3,7 +3,7 @@ use Rattle.std.proofs.Common.{◌≡◌, ◌∙◌, ℕ, Ok, Err, OnOk, Result, 
 use Rattle.std.specs.Prelude.{OnErr}
 use Rattle.std.specs.declared.alloc.AllocError.{AllocError}
 use Rattle.moos_play.specs.declared.playing.Play.{Play}
-use Rattle.moos_play.specs.Plays.{HasGoneOn, history_in, IsCutOff, known_clients_in}
+use Rattle.moos_play.specs.Plays.{HasPlayedOn, history_in, IsCutOff, known_clients_in}
 use Rattle.moos_play.specs.Steered.{IsAtPlay, KeepsMoves, told_in}
 use Rattle.moos_play.proofs.Handing.{goes_on_twice, stays_twice}
 use Rattle.moos_play.proofs.Moving.{moves_none, moves_twice, some_period}
@@ -16,11 +16,11 @@ ok_any (Ok x) so = so
 ok_any (Err _) so = tt
 
 -- a step that answers something else
-pub stepped_ok : {A B : Type 0} {x : A} {y : B} (stamp : ℕ) (before after : Play) → HasGoneOn {E = AllocError} stamp before after (Ok x) → HasGoneOn {E = AllocError} stamp before after (Ok y)
+pub stepped_ok : {A B : Type 0} {x : A} {y : B} (stamp : ℕ) (before after : Play) → HasPlayedOn {E = AllocError} stamp before after (Ok x) → HasPlayedOn {E = AllocError} stamp before after (Ok y)
 stepped_ok stamp before after so = record { same = so.same; seated = so.seated; stamped = so.stamped; front = tt; at_play = so.at_play; told = so.told; moves = so.moves }
 
 -- no step
-pub stepped_none : {A : Type 0} {x : A} (stamp : ℕ) (play : Play) → IsAtPlay play.script.now play → HasGoneOn {E = AllocError} stamp play play (Ok x)
+pub stepped_none : {A : Type 0} {x : A} (stamp : ℕ) (play : Play) → IsAtPlay play.script.now play → HasPlayedOn {E = AllocError} stamp play play (Ok x)
 stepped_none stamp play at = record {
   same = record { script = refl; lock = refl; order = refl; helm = refl };
   seated = record { seated = record { gathered = at.under.gathered; whole = at.under.whole }; lock = refl; later = begins_itself play.first.seat.seen };
@@ -32,11 +32,11 @@ stepped_none stamp play at = record {
 }
 
 -- a step whose stamp has another name
-pub stepped_at : {A E : Type 0} {r : Result A E} {stamp other : ℕ} {before after : Play} → stamp ≡ other → HasGoneOn stamp before after r → HasGoneOn other before after r
-stepped_at {r = r} {before = before} {after = after} same so = subst (λ stamp. HasGoneOn stamp before after r) same so
+pub stepped_at : {A E : Type 0} {r : Result A E} {stamp other : ℕ} {before after : Play} → stamp ≡ other → HasPlayedOn stamp before after r → HasPlayedOn other before after r
+stepped_at {r = r} {before = before} {after = after} same so = subst (λ stamp. HasPlayedOn stamp before after r) same so
 
 -- steps at one stamp behind others
-pub stepped_twice : {A B : Type 0} {x : A} (result : Result B AllocError) (stamp : ℕ) (before middle after : Play) → IsAtPlay before.script.now before → HasGoneOn {E = AllocError} stamp before middle (Ok x) → HasGoneOn stamp middle after result → HasGoneOn stamp before after result
+pub stepped_twice : {A B : Type 0} {x : A} (result : Result B AllocError) (stamp : ℕ) (before middle after : Play) → IsAtPlay before.script.now before → HasPlayedOn {E = AllocError} stamp before middle (Ok x) → HasPlayedOn stamp middle after result → HasPlayedOn stamp before after result
 stepped_twice {B = B} result stamp before middle after at one other = record {
   same = goes_on_twice before middle after one.same other.same;
   seated = stays_twice before middle after one.seated other.seated;

@@ -152,7 +152,7 @@ MayPlay Race play to = to ≤ length play.script.now.lines
 
 -- Steps at this stamp. Whatever came of them the run goes on, and what they add has this stamp; where a step found no memory the
 -- history is lawful so far, and else the run may go on with its next step.
-pub record HasGoneOn {A E : Type 0} (stamp : ℕ) (before after : Play) (result : Result A E) : Type 0 where
+pub record HasPlayedOn {A E : Type 0} (stamp : ℕ) (before after : Play) (result : Result A E) : Type 0 where
   pub same : GoesOnWith before after
   pub seated : StaysSeated before after
   pub stamped : AddsAt before.order stamp (known_clients_in before) (history_in before) (history_in after)

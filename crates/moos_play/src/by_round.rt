@@ -1,6 +1,6 @@
 // A run in the open: from round to round, with the database lent in between.
 ghost use Rattle.std.specs.Prelude.{◌≡◌, ◌<◌, ◌≤◌, length, option_map, slice_get, IfOk, IfNone, IfSome, OnErr, OnOk};
-ghost use Rattle.moos_play.specs.Plays.{AddsAt, earliest, handed, HasCompletion, HasGoneOn, MayGoOn, HasSteeredSoFar, HasTurn, history_in, IsBetween, IsStampOver, IsLentAs, IsPlayedOut, IsRound, IsSeated, known_clients_in, left_in, clients_in, next_stamp, order_played, returned, schedule_in, StaysSeated, untold_in, schedule_in};
+ghost use Rattle.moos_play.specs.Plays.{AddsAt, earliest, handed, HasCompletion, HasPlayedOn, MayGoOn, HasSteeredSoFar, HasTurn, history_in, IsBetween, IsStampOver, IsLentAs, IsPlayedOut, IsRound, IsSeated, known_clients_in, left_in, clients_in, next_stamp, order_played, returned, schedule_in, StaysSeated, untold_in, schedule_in};
 ghost use Rattle.moos_lawful.specs.Schedules.{IsLawfulSoFar};
 ghost use Rattle.moos_play.specs.Steered.{GoesOnWith};
 
@@ -99,7 +99,7 @@ impl<'a> Play<'a> {
         gate: &G,
     ) -> Result<(), NoMemory>
         requires { MayGoOn self.old workers }
-        ensures stepped { HasGoneOn stamp self.old self.new result }
+        ensures stepped { HasPlayedOn stamp self.old self.new result }
         ensures less { OnOk result (left_in self.new ≤ left_in self.old) }
         ensures all { OnOk result (IsStampOver self.new stamp) }
     {

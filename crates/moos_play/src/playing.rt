@@ -1,7 +1,7 @@
 // A run from one step to the next: the clients' lines and the helm's ticks, in the order that was asked for.
 ghost use Rattle.std.specs.Prelude.{◌≡◌, ◌≢◌, ◌<◌, ◌++◌, ◌^◌, None, Ok, true, false, [], drop, length, option_map, IfOk, OnOk, IfSome};
 ghost use Rattle.moos_play.specs.Lawful.{names_with, opening, steering_with, MayStart};
-ghost use Rattle.moos_play.specs.Plays.{helm_in, HasGoneOn, history_in, IsBetween, IsSeated, clients_in, left_in, MayPlay, MayGoOn, next_stamp, order_played, script_played, next_tick, untold_in};
+ghost use Rattle.moos_play.specs.Plays.{helm_in, HasPlayedOn, history_in, IsBetween, IsSeated, clients_in, left_in, MayPlay, MayGoOn, next_stamp, order_played, script_played, next_tick, untold_in};
 ghost use Rattle.moos_play.specs.Steered.{IsAtPlay, IsBehind, IsDue};
 ghost use Rattle.script_reader.specs.Validity.{IsValid};
 
@@ -83,7 +83,7 @@ impl<'a> Play<'a> {
         gate: &G,
     ) -> Result<bool, NoMemory>
         requires may { MayGoOn self.old workers }
-        ensures stepped { HasGoneOn (next_stamp self.old) self.old self.new result }
+        ensures stepped { HasPlayedOn (next_stamp self.old) self.old self.new result }
         ensures more { result ≡ Ok true → left_in self.new < left_in self.old }
         ensures over { result ≡ Ok false → (left_in self.old ≡ 0) × (self.new ≡ self.old) }
     {
@@ -112,7 +112,7 @@ impl<'a> Play<'a> {
         requires may { MayGoOn self.old workers }
         requires due { IsDue self.old.script.now.lines (next_tick self.old) self.old.from to }
         requires some { (self.old.from ≡ to) → (next_tick self.old ≢ None) }
-        ensures stepped { HasGoneOn (next_stamp self.old) self.old self.new result }
+        ensures stepped { HasPlayedOn (next_stamp self.old) self.old self.new result }
         ensures more { OnOk result (left_in self.new < left_in self.old) }
     {
         if self.from < to {
@@ -134,7 +134,7 @@ impl<'a> Play<'a> {
         requires at_play { IsAtPlay self.old.script.now self.old }
         requires due { MayPlay self.old.order self.old to }
         requires some { self.old.from < to }
-        ensures stepped { HasGoneOn (next_stamp self.old) self.old self.new result }
+        ensures stepped { HasPlayedOn (next_stamp self.old) self.old self.new result }
         ensures more { OnOk result (left_in self.new < left_in self.old) }
         ensures on { OnOk result (self.new.from ≡ to) }
         ensures helm { self.new.steersman ≡ self.old.steersman }
@@ -157,7 +157,7 @@ impl<'a> Play<'a> {
         requires may { MayGoOn self.old workers }
         requires some { next_tick self.old ≢ None }
         requires behind { IsBehind (next_tick self.old) (drop self.old.from self.old.script.now.lines) }
-        ensures stepped { HasGoneOn (next_stamp self.old) self.old self.new result }
+        ensures stepped { HasPlayedOn (next_stamp self.old) self.old self.new result }
         ensures more { OnOk result (left_in self.new < left_in self.old) }
     {
         let Some(steersman) = &mut self.steersman else {
@@ -181,7 +181,7 @@ impl<'a> Play<'a> {
         requires may { MayGoOn self.old workers }
         requires race { self.old.order ≡ Order.Race }
         requires left { (self.old.steersman ≡ None) → self.old.from < length self.old.script.now.lines }
-        ensures stepped { HasGoneOn (next_stamp self.old) self.old self.new result }
+        ensures stepped { HasPlayedOn (next_stamp self.old) self.old self.new result }
         ensures over { OnOk result (left_in self.new ≡ 0) }
     {
         if self.steersman.is_none() {
@@ -203,7 +203,7 @@ impl<'a> Play<'a> {
         requires may { MayGoOn self.old workers }
         requires race { self.old.order ≡ Order.Race }
         requires some { self.old.steersman ≢ None }
-        ensures stepped { HasGoneOn (next_stamp self.old) self.old self.new result }
+        ensures stepped { HasPlayedOn (next_stamp self.old) self.old self.new result }
         ensures over { OnOk result (left_in self.new ≡ 0) }
     {
         let Some(steersman) = &mut self.steersman else {

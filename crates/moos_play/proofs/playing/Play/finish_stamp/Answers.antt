@@ -2,7 +2,7 @@ use Rattle.std.proofs.Common.{◌≡◌, ◌∙◌, Ok, arith, rules, subst, sym
 use Rattle.std.proofs.lemmas.Bool.Decides.{nat_tests}
 use Rattle.std.specs.declared.alloc.AllocError.{AllocError}
 use Rattle.moos_play.specs.declared.playing.Play.{Play}
-use Rattle.moos_play.specs.Plays.{HasGoneOn, IsCutOff, next_stamp}
+use Rattle.moos_play.specs.Plays.{HasPlayedOn, IsCutOff, next_stamp}
 use Rattle.moos_play.proofs.Stepped.{stepped_at, stepped_none, stepped_ok, stepped_twice}
 use Rattle.moos_step.proofs.Lines.{err_any}
 use Rattle.moos_play.proofs.playing.Play.finish_stamp.Goals as goal
@@ -23,7 +23,7 @@ loop-alloc-preserved g c =
 
 pub returns-then-not-branch-clause-stepped : goal.returns-then-not-branch-clause-stepped
 returns-then-not-branch-clause-stepped g c =
-    subst (λ (play : Play). HasGoneOn {A = Unit {0}} {E = AllocError} c.args.stamp c.args.self.now play (Ok tt)) (sym (c.in_ok-go_on.ensures.over (search rules)).1) c.loop-alloc.invariant.stepped
+    subst (λ (play : Play). HasPlayedOn {A = Unit {0}} {E = AllocError} c.args.stamp c.args.self.now play (Ok tt)) (sym (c.in_ok-go_on.ensures.over (search rules)).1) c.loop-alloc.invariant.stepped
 
 pub returns-in_err-go_on-clause-stepped : goal.returns-in_err-go_on-clause-stepped
 returns-in_err-go_on-clause-stepped g c =

@@ -1,12 +1,12 @@
 -- The run has gone on from where it stood.
 use Rattle.std.proofs.Common.{◌≤◌, Ok}
 use Rattle.std.specs.declared.alloc.AllocError.{AllocError}
-use Rattle.moos_play.specs.Plays.{HasGoneOn, left_in}
+use Rattle.moos_play.specs.Plays.{HasPlayedOn, left_in}
 use Rattle.moos_play.proofs.playing.Play.finish_stamp.Given as goal
 
 abbrev pub invariant-loop-alloc : goal.invariant-loop-alloc
 invariant-loop-alloc g l = record {
-  stepped : HasGoneOn {A = Unit {0}} {E = AllocError} l.stamp l.fn.self l.self (Ok tt);
+  stepped : HasPlayedOn {A = Unit {0}} {E = AllocError} l.stamp l.fn.self l.self (Ok tt);
   less : left_in l.self ≤ left_in l.fn.self;
 }
 

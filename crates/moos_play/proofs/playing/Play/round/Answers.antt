@@ -1,7 +1,7 @@
 use Rattle.std.proofs.Common.{◌≡◌, ◌∙◌, ◌++◌, ℕ, Bool, drop, Result, ap, rules, subst, sym}
 use Rattle.moos_play.specs.declared.playing.Play.{Play}
 use Rattle.moos_play.specs.declared.round_made.Round.{Round}
-use Rattle.moos_play.specs.Plays.{AddsAt, further_in, handed, HasGoneOn, HasTurn, history_in, IsBetween, IsCutOff, IsStampOver, iterations_made, known_clients_in, left_in, next_stamp, StaysSeated}
+use Rattle.moos_play.specs.Plays.{AddsAt, further_in, handed, HasPlayedOn, HasTurn, history_in, IsBetween, IsCutOff, IsStampOver, iterations_made, known_clients_in, left_in, next_stamp, StaysSeated}
 use Rattle.moos_play.specs.Lawful.{KeepsStamp}
 use Rattle.moos_play.specs.Steered.{GoesOnWith, IsAtPlay}
 use Rattle.moos_play.proofs.Finishing.{completed, cut_so_far, over_now, ValidLines}
@@ -14,8 +14,8 @@ use Rattle.script_reader.specs.Validity.{IsValid}
 use Rattle.moos_play.proofs.playing.Play.round.Goals as goal
 
 -- the first step of a round, from where it began
-begun : {E : Type 0} {r : Result Bool E} {play before middle : Play} (stamp : ℕ) → before ≡ play → stamp ≡ next_stamp play → HasGoneOn (next_stamp before) before middle r → HasGoneOn stamp play middle r
-begun {r = r} {play = play} {middle = middle} stamp same is first = subst (λ stamp. HasGoneOn stamp play middle r) (sym is) (subst (λ (before : Play). HasGoneOn (next_stamp before) before middle r) same first)
+begun : {E : Type 0} {r : Result Bool E} {play before middle : Play} (stamp : ℕ) → before ≡ play → stamp ≡ next_stamp play → HasPlayedOn (next_stamp before) before middle r → HasPlayedOn stamp play middle r
+begun {r = r} {play = play} {middle = middle} stamp same is first = subst (λ stamp. HasPlayedOn stamp play middle r) (sym is) (subst (λ (before : Play). HasPlayedOn (next_stamp before) before middle r) same first)
 
 pub returns-clause-seated : goal.returns-clause-seated
 returns-clause-seated g c =
