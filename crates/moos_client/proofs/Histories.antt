@@ -30,10 +30,6 @@ all_kept p q (x ∷ xs) h = let tests = and_parts (p x) (list_all p xs) h in by 
     by true here rest = and_from (p x) (list_all p (filter q xs)) here rest
     by false here rest = rest
 
--- histories with the same entries of each client pass the same tests
-pub all_same : (p : Entry → Bool) (xs ys : History) → ((n : ℕ) → entries_of n xs ≡ entries_of n ys) → list_all p ys ≡ true → list_all p xs ≡ true
-all_same p xs ys same h = all_own p xs (λ n. rw (same n) (all_kept p (λ entry. entry.client == n) ys h))
-
 -- a history without entries of any client is empty
 pub none_left : (xs : History) → ((n : ℕ) → entries_of n xs ≡ []) → xs ≡ []
 none_left [] h = refl

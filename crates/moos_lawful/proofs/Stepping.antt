@@ -23,7 +23,7 @@ use Rattle.script_reader.specs.declared.script.Order.TheVariants.{Stamp, Race}
 -- ---- moments
 
 -- in a race all entries have one moment
-race_rises : (clients others : ℕ) (xs : List Entry) → rises 0 (map (moment_in Race clients others) xs) ≡ true
+pub race_rises : (clients others : ℕ) (xs : List Entry) → rises 0 (map (moment_in Race clients others) xs) ≡ true
 race_rises clients others [] = refl
 race_rises clients others (x ∷ xs) = race_rises clients others xs
 
@@ -36,7 +36,7 @@ race_one clients others [] = refl
 race_one clients others (x ∷ xs) = race_one clients others xs
 
 -- a line has the first moment of its stamp
-line_moment : (clients others : ℕ) (line : Entry) → nat_lt line.client clients ≡ true → moment_in Stamp clients others line ≡ suc others * line.stamp
+pub line_moment : (clients others : ℕ) (line : Entry) → nat_lt line.client clients ≡ true → moment_in Stamp clients others line ≡ suc others * line.stamp
 line_moment clients others line below =
     let less : line.client < clients = grind (arith, nat_tests, below) in
     let first : suc line.client - clients ≡ 0 = omega (arith, less) in

@@ -1,25 +1,124 @@
 -- How a run begins.
-use Rattle.std.proofs.Common.{◌≡◌, ℕ, ◌+◌, ◌*◌, ◌^◌, ◌<◌, ◌≤◌, Bool, true, false, cond, List, [], ◌∷◌, ◌++◌, drop, length, length-append, Option, None, Some, nat_lt, not, refl, sym, ap, ◌∙◌, subst, arith}
+use Rattle.moos_client.proofs.Histories.{only_own}
+use Rattle.moos_step.proofs.Growing.{grown}
+use Rattle.std.specs.declared.alloc.AllocError.{AllocError}
+use Rattle.script_reader.proofs.Sound.{line_tests}
+use Rattle.script_reader.specs.declared.script.Order.TheVariants.{Stamp, Race}
+use Rattle.script_reader.specs.declared.script.Order.{Order}
+use Rattle.moos_step.specs.Steps.{CommunityLock, GoesOn, IsAlone, IsGathered, IsWhole, KnowsNothing}
+use Rattle.moos_play.proofs.Turns.{helm_part, start_is}
+use Rattle.moos_play.specs.Schedules.{answerers, answering, schedule_with, tick_period}
+use Rattle.moos_post.specs.declared.entry.Entry.{Entry}
+use Rattle.moos_lawful.proofs.Stepping.{line_moment, race_rises, turns_rise}
+use Rattle.moos_lawful.proofs.Rising.{lower}
+use Rattle.moos_lawful.proofs.Parts.{either}
+use Rattle.moos_lawful.specs.Schedules.{due_in, rises}
+use Rattle.moos_lawful.specs.Answering.{answers_of, moment_in, openings, turns_from}
+use Rattle.helm_core.specs.Ticks.{Tick}
+use Rattle.std.proofs.Math.Nat.{mul-le-mul}
+use Rattle.std.proofs.lemmas.Bool.Decides.{nat_tests}
+use Rattle.std.proofs.lemmas.Bool.{and_from}
+use Rattle.std.proofs.Common.{◌≡◌, ℕ, ◌+◌, ◌*◌, ◌^◌, ◌<◌, ◌≤◌, Bool, true, false, cond, List, [], ◌∷◌, ◌++◌, drop, length, length-append, Option, None, Some, nat_lt, not, refl, sym, ap, ◌∙◌, subst, arith, suc, ◌/◌, ◌==◌, ◌⊎◌, inl, inr, nat_le, append-nil, ◌-◌, Ok, Err, OnOk, Result}
 use Rattle.std.specs.List.{list_all}
 use Rattle.std.proofs.lemmas.List.{drop_all}
-use Rattle.std.specs.Prelude.{IfSome, option_map, option_to_list}
+use Rattle.std.specs.Prelude.{IfSome, option_map, map}
 use Rattle.moos_play.specs.declared.playing.Play.{Play}
 use Rattle.moos_play.specs.declared.run.HelmRun.{HelmRun}
 use Rattle.moos_play.specs.declared.steersman.Steersman.{Steersman}
 use Rattle.helm_core.specs.Helms.{plan_of}
 use Rattle.helm_core.specs.Plans.{wants_of}
-use Rattle.moos_client.specs.Calls.{entry_of}
+use Rattle.moos_client.specs.Calls.{entry_of, entries_of, SeatState}
 use Rattle.moos_post.specs.declared.entry.Call.TheVariants.{Register, Post as Posts}
 use Rattle.moos_post.specs.Delivery.{is_fetch}
 use Rattle.moos_post.specs.History.{History}
 use Rattle.moos_play.specs.Lawful.{heard_of, helm_number, names_with, ticks_to, iterations_of, opening, opening_of, Steering, ticks_of, mailed_in}
 use Rattle.moos_play.specs.Plays.{helm_in, history_in, IsBetween}
-use Rattle.moos_play.specs.Steered.{HasOpened, helm_of, IsAtPlay, IsUnopened, IsUnderWay, run_as, StandsAt, steering_of, Steers, told_in}
+use Rattle.moos_play.specs.Steered.{HasOpened, helm_of, IsAtPlay, IsUnopened, IsUnderWay, run_as, StandsAt, steering_of, Steers, told_in, left_for, parts, turns_left}
 use Rattle.moos_play.proofs.Below.{names_more}
-use Rattle.moos_play.proofs.Coming.{start_under}
 use Rattle.moos_client.proofs.Hearing.{heard_deaf}
 use Rattle.script_reader.specs.declared.script.Script.{Script}
-use Rattle.script_reader.specs.Validity.{are_lines}
+use Rattle.script_reader.specs.Validity.{are_lines, keeps_limits}
+
+-- a client's lines have later and later moments
+lines_rise : (clients others n last stop : ℕ) (lines : List Entry) → are_lines clients last stop lines ≡ true → rises (suc others * last) (map (moment_in Stamp clients others) (entries_of n lines)) ≡ true
+lines_rise clients others n last stop [] valid = refl
+lines_rise clients others n last stop (line ∷ lines) valid =
+    let tests = line_tests (nat_lt line.client clients) (nat_le last line.stamp) (keeps_limits line.call) (are_lines clients line.stamp stop lines) valid in
+    let here = tests.1 in
+    let less : last ≤ line.stamp = grind (arith, nat_tests) in
+    by (line.client == n) (line_moment clients others line tests.0) (more less) (lines_rise clients others n line.stamp stop lines tests.3)
+  where
+    m : ℕ
+    m = moment_in Stamp clients others line
+
+    more : last ≤ line.stamp → suc others * last ≤ suc others * line.stamp
+    more less = let factor : suc others ≤ suc others = omega arith in mul-le-mul factor less
+
+    by : (b : Bool) → m ≡ suc others * line.stamp → suc others * last ≤ suc others * line.stamp → rises (suc others * line.stamp) (map (moment_in Stamp clients others) (entries_of n lines)) ≡ true
+        → rises (suc others * last) (map (moment_in Stamp clients others) (cond b (line ∷ entries_of n lines) (entries_of n lines))) ≡ true
+    by true is less rest =
+        and_from (nat_le (suc others * last) m) (rises m (map (moment_in Stamp clients others) (entries_of n lines))) (grind (arith, nat_tests, is, less)) (subst (λ m. rises m (map (moment_in Stamp clients others) (entries_of n lines)) ≡ true) (sym is) rest)
+    by false is less rest = lower (suc others * last) (suc others * line.stamp) (map (moment_in Stamp clients others) (entries_of n lines)) less rest
+
+-- before the first step: nothing is played, and all is left
+pub start_under : (order : Order) (script : Script) (lock : CommunityLock) (steersman : Option Steersman) (first : SeatState) → are_lines (length script.names) 0 script.stop script.lines ≡ true → parts script steersman ≤ length lock.base
+    → HasOpened lock (helm_number script) steersman first → IsUnderWay order script lock steersman 0 first
+start_under order script lock steersman first valid seats so = record {
+  gathered = so.gathered;
+  whole = so.whole;
+  within = omega arith;
+  seats = seats;
+  played = record {
+    so_far = record {
+      rest = [];
+      opened = so.opened ∙ start steersman so.steered ∙ sym (append-nil (schedule_with order script (helm_of steersman) lock.base).start);
+      left = left_for script steersman lock.base 0 first.seen;
+      own = λ n below. own steersman n below so.steered so.ticks (either (nat_lt n clients));
+      moments = λ n below. moments order n below (nat_lt n clients);
+      named = refl;
+    };
+    left = λ n below. refl;
+  };
+  steered = so.steered;
+}
+  where
+    clients : ℕ
+    clients = length script.names
+
+    start : (s : Option Steersman) → StandsAt lock.base (helm_number script) s first.seen → opening (helm_of s) ≡ openings clients (answerers (helm_of s))
+    start None stands = refl
+    start (Some t) stands = sym (start_is clients (steering_of t) stands.0)
+
+    own : (s : Option Steersman) (n : ℕ) → n < parts script s → StandsAt lock.base (helm_number script) s first.seen → IfSome s (λ helm. (helm.ticks ≡ 0) × (1 ≤ helm.period)) → (nat_lt n clients ≡ true) ⊎ (nat_lt n clients ≡ false)
+        → due_in (schedule_with order script (helm_of s) lock.base) n [] ≡ left_for script s lock.base 0 first.seen n
+    own s n below stands ticks (inl e) =
+        ap (λ b. cond b (entries_of n script.lines) (answers_of (tick_period (helm_of s)) (suc (script.stop / tick_period (helm_of s))) clients (answerers (helm_of s)) n [])) e
+        ∙ sym (ap (λ b. cond b (entries_of n script.lines) (turns_left script.stop s lock.base first.seen)) e)
+    own None n below stands ticks (inr e) = absurd (grind (arith, nat_tests, e, below))
+    own (Some t) n below stands ticks (inr e) =
+        let same : n ≡ clients = grind (arith, nat_tests, e, below) in
+        ap (λ n. due_in (schedule_with order script (Some (steering_of t)) lock.base) n []) same ∙ helm_part order script (steering_of t) lock.base [] stands.0
+        ∙ (λ i. turns_from (answering (steering_of t)) t.number t.period (sym (deaf (omega (arith, stands.2.many, ticks.0))) i) (sym ticks.0 i) (count (sym ticks.0) i))
+        ∙ sym (ap (λ b. cond b (entries_of n script.lines) (turns_left script.stop (Some t) lock.base first.seen)) e)
+      where
+        count : 0 ≡ t.ticks → ticks_to script.stop (steering_of t) ≡ ticks_to script.stop (steering_of t) - t.ticks
+        count none = omega (arith, none)
+
+        deaf : length (heard_of lock.base t.number first.seen) ≡ 0 → heard_of lock.base t.number first.seen ≡ []
+        deaf none = empty (heard_of lock.base t.number first.seen) none
+          where
+            empty : (xs : List Tick) → length xs ≡ 0 → xs ≡ []
+            empty [] none = refl
+            empty (x ∷ xs) none = absurd cc
+
+    moments : (o : Order) (n : ℕ) → n < parts script steersman → (b : Bool) → rises 0 (map (moment_in o clients (length (answerers (helm_of steersman)))) (cond b (entries_of n script.lines) (turns_left script.stop steersman lock.base first.seen))) ≡ true
+    moments Race n below b = race_rises clients (length (answerers (helm_of steersman))) (cond b (entries_of n script.lines) (turns_left script.stop steersman lock.base first.seen))
+    moments Stamp n below true = subst (λ low. rises low (map (moment_in Stamp clients (length (answerers (helm_of steersman)))) (entries_of n script.lines)) ≡ true) (omega arith) (lines_rise clients (length (answerers (helm_of steersman))) n 0 script.stop script.lines valid)
+    moments Stamp n below false = turns steersman
+      where
+        turns : (s : Option Steersman) → rises 0 (map (moment_in Stamp clients (length (answerers (helm_of s)))) (turns_left script.stop s lock.base first.seen)) ≡ true
+        turns None = refl
+        turns (Some t) = turns_rise (answering (steering_of t)) clients 1 t.number t.period (heard_of lock.base t.number first.seen) t.ticks (ticks_to script.stop (steering_of t) - t.ticks) 0 (omega arith)
 
 -- the helm has a seat
 pub new_within : (script : Script) (helm : Option HelmRun) (further : List (List ℕ)) (n : ℕ) (base : List (List ℕ)) (steersman : Option Steersman) → helm_of steersman ≡ option_map (run_as n) helm → IfSome steersman (IsUnopened n) → n ≡ length script.names
@@ -30,7 +129,7 @@ new_within script (Some run) further n base (Some s) is new number names = (new,
 
 -- each client that is known from the start has a seat
 pub seats_made : (script : Script) (helm : Option HelmRun) (further : List (List ℕ)) (n : ℕ) (base : List (List ℕ)) (steersman : Option Steersman) → helm_of steersman ≡ option_map (run_as n) helm → base ≡ names_with script helm ++ further
-    → length script.names + length (option_to_list steersman) ≤ length base
+    → parts script steersman ≤ length base
 seats_made script None further n base None is names = omega (arith, ap length names, length-append script.names further)
 seats_made script None further n base (Some s) is names = absurd cc
 seats_made script (Some run) further n base None is names = absurd cc
@@ -82,3 +181,22 @@ none_told play between begun = by play.steersman between.told between.at_play.un
     by None told stands begun = refl
     by (Some s) told stands begun =
         told ∙ sym stands.2.many ∙ ap (λ history. length (heard_of play.lock.base s.number history)) begun ∙ ap length (deaf (steering_of s))
+
+-- the opening
+pub opened_first : (lock : CommunityLock) (number : ℕ) (result : Result (Unit {0}) AllocError) (old new : Steersman) (first after : SeatState) → KnowsNothing first → IsUnopened number old → IsGathered lock after → GoesOn (IsAlone old.number) first after
+    → steering_of new ≡ steering_of old → new.told ≡ old.told → OnOk result (Steers lock.base new after.seen) → OnOk result ((new.opened ≡ true) × (new.ticks ≡ 0)) → OnOk result (HasOpened lock number (Some new) after)
+opened_first lock number (Err _) old new first after nothing is gathered on steering told steers reached = tt
+opened_first lock number (Ok _) old new first after nothing is gathered on steering told steers reached = record {
+  gathered = gathered;
+  whole = on.whole;
+  opened = on.later.1 ∙ ap (λ front. front ++ on.later.0) nothing.seen ∙ only_own old.number on.later.0 (λ n other. grown (IsAlone old.number) first after whole on n other)
+      ∙ ap (λ (helm : Steering). entries_of helm.client on.later.0) (sym steering) ∙ ap (entries_of new.number) (sym (on.later.1 ∙ ap (λ front. front ++ on.later.0) nothing.seen))
+      ∙ subst (λ b. entries_of new.number after.seen ≡ cond b (opening_of (steering_of new)) [] ++ ticks_of (steering_of new) (heard_of lock.base new.number after.seen) new.ticks) reached.0 steers.own
+      ∙ ap (λ n. opening_of (steering_of new) ++ ticks_of (steering_of new) (heard_of lock.base new.number after.seen) n) reached.1 ∙ append-nil (opening_of (steering_of new));
+  steered = (ap (λ (helm : Steering). helm.client) steering ∙ is.own, reached.0, steers);
+  ticks = (reached.1, subst (λ (helm : Steering). 1 ≤ helm.period) (sym steering) is.period);
+  told = told ∙ is.told;
+}
+  where
+    whole : IsWhole first
+    whole n = ap (entries_of n) nothing.seen ∙ sym (nothing.known n)

@@ -1,6 +1,6 @@
 -- The entries of the clients known from the start, with those of further clients left out.
 use Rattle.std.proofs.Common.{◌≡◌, ◌≢◌, ℕ, ◌+◌, ◌<◌, ◌≤◌, ◌==◌, ◌&&◌, Bool, true, false, cond, List, [], ◌∷◌, ◌++◌, filter, length, length-append, nat_le, nat_lt, Option, None, Some, refl, sym, ap, ◌∙◌, subst, arith, append-nil, ne_eqb}
-use Rattle.std.specs.Prelude.{codes, option_to_list}
+use Rattle.std.specs.Prelude.{codes}
 use Rattle.std.specs.List.{list_all}
 use Rattle.std.proofs.lemmas.Bool.{and_from, and_parts}
 use Rattle.std.proofs.lemmas.Bool.Decides.{nat_tests}
@@ -11,23 +11,18 @@ use Rattle.helm_core.specs.Ticks.{Tick}
 use Rattle.moos_client.specs.Calls.{entries_of}
 use Rattle.moos_post.specs.declared.entry.Entry.{Entry}
 use Rattle.moos_post.specs.History.{History}
-use Rattle.moos_play.specs.declared.steersman.Steersman.{Steersman}
 use Rattle.moos_lawful.specs.Schedules.{clients_below, entries_below}
 use Rattle.moos_play.specs.Lawful.{entries_from, heard_of, helm_number, IsLawful, IsLawfulBeside, KeepsOrder, known_clients, names_with, Steering, tick_entries, ticks}
-use Rattle.moos_play.specs.Steered.{helm_of}
-use Rattle.moos_client.proofs.Histories.{all_kept, all_own}
+use Rattle.moos_client.proofs.Histories.{all_kept, all_own, front_pass}
 use Rattle.script_reader.specs.declared.script.Order.{Order}
 use Rattle.script_reader.specs.declared.script.Script.{Script}
+use Rattle.turn_lock.specs.Passes.{Begins}
 
 -- with a helm there is a name more
 pub names_more : {A : Type 0} (script : Script) (run : A) → length (names_with script (Some run)) ≡ length script.names + 1
 names_more script run = length-append script.names (codes "pHelmIvP" ∷ [])
 
 -- how many clients are known from the start
-pub known_many : (script : Script) (steersman : Option Steersman) → known_clients script (helm_of steersman) ≡ length script.names + length (option_to_list steersman)
-known_many script None = omega arith
-known_many script (Some s) = names_more script s
-
 pub known_more : {A : Type 0} (script : Script) (helm : Option A) → length script.names ≤ known_clients script helm
 known_more script None = omega arith
 known_more script (Some run) = omega (arith, names_more script run)
@@ -73,13 +68,13 @@ own_pass number n (x ∷ xs) less = by (x.client == n) refl (own_pass number n x
     by true here rest = and_from (nat_lt x.client number) (clients_below number (entries_of n xs)) (grind (arith, nat_tests, here, less)) rest
     by false here rest = rest
 
--- what the helm adds beside lines of clients below a number
-pub beside_below : (number helm : ℕ) (lines new : History) → helm < number → clients_below number lines ≡ true → ((n : ℕ) → n ≢ helm → entries_of n new ≡ entries_of n lines) → clients_below number new ≡ true
-beside_below number helm lines new less clients same = all_own (λ entry. nat_lt entry.client number) new (λ n. by n (ℕ_discrete n helm))
+-- the clients of some lines play fronts of their own, and one client beside them whatever it does
+pub beside_pass : (number helm : ℕ) (lines added : List Entry) → helm < number → clients_below number lines ≡ true → ((n : ℕ) → n ≢ helm → Begins (entries_of n lines) (entries_of n added)) → clients_below number added ≡ true
+beside_pass number helm lines added less clients fronts = all_own (λ entry. nat_lt entry.client number) added (λ n. by n (ℕ_discrete n helm))
   where
-    by : (n : ℕ) → Dec (n ≡ helm) → clients_below number (entries_of n new) ≡ true
-    by n (yes e) = own_pass number n new (omega (arith, e, less))
-    by n (no ne) = subst (λ entries. clients_below number entries ≡ true) (sym (same n ne)) (all_kept (λ entry. nat_lt entry.client number) (λ entry. entry.client == n) lines clients)
+    by : (n : ℕ) → Dec (n ≡ helm) → clients_below number (entries_of n added) ≡ true
+    by n (yes e) = own_pass number n added (omega (arith, e, less))
+    by n (no other) = front_pass (λ entry. nat_lt entry.client number) (entries_of n lines) (entries_of n added) (fronts n other) (all_kept (λ entry. nat_lt entry.client number) (λ entry. entry.client == n) lines clients)
 
 -- the entries of a tick are the helm's
 pub tick_below : (helm : Steering) (number : ℕ) (heard : List Tick) (i : ℕ) → helm.client < number → clients_below number (tick_entries helm heard i) ≡ true
@@ -90,18 +85,6 @@ tick_below helm number heard i less =
 -- two parts of a history
 pub both_below : (number : ℕ) (some more : History) → clients_below number some ≡ true → clients_below number more ≡ true → clients_below number (some ++ more) ≡ true
 both_below number some more a b = list_all-append (λ entry. nat_lt entry.client number) some more ∙ and_from (clients_below number some) (clients_below number more) a b
-
--- entries of known clients stand behind those so far
-pub below_more : (number : ℕ) (some more : History) → clients_below number more ≡ true → entries_below number (some ++ more) ≡ entries_below number some ++ more
-below_more number some more all =
-    filter-append (λ entry. nat_lt entry.client number) some more ∙ ap (λ end. entries_below number some ++ end) (kept_all (λ entry. nat_lt entry.client number) more all)
-
--- and none of theirs are added where further clients' are
-pub below_beside : (number : ℕ) (some more : History) → list_all (λ entry. nat_le number entry.client) more ≡ true → entries_below number (some ++ more) ≡ entries_below number some
-below_beside number some more all =
-    filter-append (λ entry. nat_lt entry.client number) some more
-    ∙ ap (λ end. entries_below number some ++ end) (kept_none (λ entry. nat_lt entry.client number) (λ entry. nat_le number entry.client) more (λ x past. grind (arith, nat_tests, past)) all)
-    ∙ append-nil (entries_below number some)
 
 -- further clients have no more entries where known ones' are added
 pub from_more : (number : ℕ) (some more : History) → clients_below number more ≡ true → entries_from number (some ++ more) ≡ entries_from number some

@@ -1,20 +1,22 @@
 -- A run after a call of a further client.
-use Rattle.std.proofs.Common.{◌≡◌, ℕ, ◌≤◌, ◌<◌, true, cond, [], ◌∷◌, ◌++◌, length, nat_le, nat_lt, Option, None, Some, Ok, Err, OnOk, Result, refl, sym, ap, ◌∙◌, subst, arith, append-nil, append_assoc, ne_eqb}
-use Rattle.std.proofs.lemmas.Bool.{and_from}
-use Rattle.std.proofs.lemmas.Bool.Decides.{nat_tests}
-use Rattle.std.specs.List.{list_all}
+use Rattle.script_reader.specs.declared.script.Script.{Script}
+use Rattle.script_reader.specs.declared.script.Order.{Order}
+use Rattle.moos_play.specs.Schedules.{schedule_with}
+use Rattle.moos_lawful.proofs.Going.{further_on}
+use Rattle.moos_play.proofs.Finishing.{parts_known, plays}
+use Rattle.std.proofs.Common.{◌≡◌, ℕ, ◌≤◌, ◌<◌, true, cond, [], ◌∷◌, ◌++◌, length, nat_lt, Option, None, Some, Ok, Err, OnOk, Result, refl, sym, ap, ◌∙◌, subst, arith, append-nil, ne_eqb, List, drop, Bool, false}
 use Rattle.std.specs.Prelude.{OnErr}
 use Rattle.std.specs.declared.alloc.AllocError.{AllocError}
 use Rattle.helm_core.specs.Helms.{plan_of}
 use Rattle.moos_client.specs.Calls.{entries_of, SeatState}
-use Rattle.moos_play.proofs.Below.{below_beside, both_below, known_helm}
-use Rattle.moos_play.proofs.Coming.{stands_on}
+use Rattle.moos_play.proofs.Below.{known_helm}
+use Rattle.moos_play.proofs.Coming.{stands_on, turns_stay}
 use Rattle.moos_client.proofs.Hearing.{heard_on}
-use Rattle.moos_lawful.specs.Schedules.{clients_below, entries_below}
-use Rattle.moos_play.specs.Lawful.{helm_number, iterations_of, known_clients, opening, mailed_in}
+use Rattle.moos_lawful.specs.Schedules.{IsLawfulSoFar}
+use Rattle.moos_play.specs.Lawful.{helm_number, iterations_of, known_clients, mailed_in}
 use Rattle.moos_step.specs.Steps.{added_by, IsGathered, IsWhole}
-use Rattle.moos_play.specs.Plays.{IsBetween, IsFurther, iterations_made, known_clients_in, made_by}
-use Rattle.moos_play.specs.Steered.{helm_of, IsUnderWay, KeepsTime, StandsAt}
+use Rattle.moos_play.specs.Plays.{IsBetween, IsFurther, iterations_made, made_by}
+use Rattle.moos_play.specs.Steered.{HasPlayed, helm_of, IsUnderWay, parts, StandsAt, turns_left}
 use Rattle.moos_play.specs.declared.playing.Play.{Play}
 use Rattle.moos_play.specs.declared.steersman.Steersman.{Steersman}
 use Rattle.moos_post.specs.History.{History}
@@ -27,15 +29,6 @@ just_entered (Err _) entry before after is = tt
 pub none_entered : {A : Type 0} (result : Result A AllocError) (entry : Entry) (before after : History) → after ≡ before ++ added_by result entry → OnErr result (after ≡ before)
 none_entered (Ok _) entry before after is = tt
 none_entered (Err _) entry before after is = is ∙ append-nil before
-
--- the entry of a further client has a name, and isn't of a known client
-further_past : {A : Type 0} (result : Result A AllocError) (number : ℕ) (entry : Entry) → number ≤ entry.client → list_all (λ entry. nat_le number entry.client) (added_by result entry) ≡ true
-further_past (Ok _) number entry past = and_from (nat_le number entry.client) true (grind (arith, nat_tests, past)) refl
-further_past (Err _) number entry past = refl
-
-further_named : {A : Type 0} (result : Result A AllocError) (number : ℕ) (entry : Entry) → entry.client < number → clients_below number (added_by result entry) ≡ true
-further_named (Ok _) number entry less = and_from (nat_lt entry.client number) true (grind (arith, nat_tests, less)) refl
-further_named (Err _) number entry less = refl
 
 -- it isn't the helm's
 not_helm : {A : Type 0} (result : Result A AllocError) (n : ℕ) (entry : Entry) → n < entry.client → entries_of n (added_by result entry) ≡ []
@@ -56,6 +49,29 @@ helm_made result play entry None history past so = refl
 helm_made result play entry (Some s) history past so =
     ap (λ heard. iterations_of (plan_of s.helm) heard s.ticks) (heard_on (mailed_in play.lock.base) s.number history (added_by result entry) (not_helm result s.number entry (omega (arith, past, so.0, known_helm play.script.now s))))
 
+-- the entry of a further client changes nothing of what is left for the others
+further_played : {A : Type 0} (result : Result A AllocError) (order : Order) (script : Script) (names : List (List ℕ)) (s : Option Steersman) (from : ℕ) (history : History) (entry : Entry) → HasPlayed order script names s from history → parts script s ≤ length names → StandsAt names (helm_number script) s history
+    → parts script s ≤ entry.client → entry.client < length names → HasPlayed order script names s from (history ++ added_by result entry)
+further_played (Err _) order script names s from history entry played room stands past named = subst (HasPlayed order script names s from) (sym (append-nil history)) played
+further_played (Ok _) order script names s from history entry played room stands past named = record {
+  so_far = on.0;
+  left = λ n below. ap (λ (left : ℕ → List Entry). left n) on.1 ∙ played.left n below ∙ by n (nat_lt n (length script.names));
+}
+  where
+    on : (on : IsLawfulSoFar (schedule_with order script (helm_of s) names) (history ++ entry ∷ [])) × (on.left ≡ played.so_far.left)
+    on = further_on (schedule_with order script (helm_of s) names) (plays order script s names room) history played.so_far entry past named
+
+    silent : helm_number script < entry.client → entries_of (helm_number script) (entry ∷ []) ≡ []
+    silent past = ap (λ b. cond b (entry ∷ []) []) (ne_eqb entry.client (helm_number script) (λ e. omega (arith, e, past)))
+
+    turns : (s : Option Steersman) → StandsAt names (helm_number script) s history → parts script s ≤ entry.client → turns_left script.stop s names history ≡ turns_left script.stop s names (history ++ entry ∷ [])
+    turns None stands past = refl
+    turns (Some t) stands past = turns_stay script.stop names (helm_number script) (Some t) history (entry ∷ []) stands (silent (omega (arith, past)))
+
+    by : (n : ℕ) (b : Bool) → cond b (entries_of n (drop from script.lines)) (turns_left script.stop s names history) ≡ cond b (entries_of n (drop from script.lines)) (turns_left script.stop s names (history ++ entry ∷ []))
+    by n true = refl
+    by n false = turns s stands past
+
 -- the run with another seat
 abbrev pub sat_at : Play → SeatState → Play
 sat_at play seat = record play { first = record play.first { seat = seat } }
@@ -71,12 +87,8 @@ entered_between result play entry after between further gathered whole is = reco
       whole = whole;
       within = under.within;
       seats = under.seats;
-      rest = under.rest ++ new;
-      opened = is ∙ ap (λ front. front ++ new) under.opened ∙ append_assoc (opening (helm_of play.steersman)) under.rest new;
-      own = λ n other. ap (entries_of n) same ∙ under.own n other;
+      played = subst (HasPlayed play.order play.script.now play.lock.base play.steersman play.from) (sym is) (further_played result play.order play.script.now play.lock.base play.steersman play.from play.first.seat.seen entry under.played under.seats under.steered (omega (arith, further.past, parts_known play.script.now play.steersman)) further.named);
       steered = subst (StandsAt play.lock.base (helm_number play.script.now) play.steersman) (sym is) (helm_stands result play entry play.steersman play.first.seat.seen further.past under.steered);
-      timed = subst (KeepsTime play.order play.script.now play.steersman play.from) (sym same) under.timed;
-      named = both_below (length play.lock.base) under.rest new under.named (further_named result (length play.lock.base) entry further.named);
     };
     calls = between.at_play.calls;
     period = between.at_play.period;
@@ -86,12 +98,6 @@ entered_between result play entry after between further gathered whole is = reco
   where
     under : IsUnderWay play.order play.script.now play.lock play.steersman play.from play.first.seat
     under = between.at_play.under
-
-    new : History
-    new = added_by result entry
-
-    same : entries_below (known_clients_in play) (under.rest ++ new) ≡ entries_below (known_clients_in play) under.rest
-    same = below_beside (known_clients_in play) under.rest new (further_past result (known_clients_in play) entry further.past)
 
 pub entered_made : {A : Type 0} (result : Result A AllocError) (play : Play) (entry : Entry) (after : SeatState) → IsBetween play → IsFurther play entry.client → after.seen ≡ play.first.seat.seen ++ added_by result entry
     → iterations_made (sat_at play after) ≡ iterations_made play

@@ -1,38 +1,41 @@
--- A run from one round to the next, and to the end.
-use Rattle.std.proofs.Common.{◌≡◌, ◌≢◌, ℕ, suc, ◌+◌, ◌-◌, ◌*◌, ◌/◌, ◌<◌, ◌≤◌, ◌==◌, ◌&&◌, Bool, true, false, cond, List, [], ◌∷◌, ◌++◌, length, take, drop, Option, None, Some, Ok, Err, OnOk, Result, nat_le, nat_lt, refl, sym, ap, ◌∙◌, subst, arith, append-nil, append_assoc, eq-eqb}
-use Rattle.std.specs.Prelude.{option_to_list}
+-- A run from one step to the next, where memory was found and where it wasn't.
+use Rattle.std.proofs.Common.{◌≡◌, ◌≢◌, ℕ, zero, suc, ◌+◌, ◌-◌, ◌*◌, ◌<◌, ◌≤◌, ◌==◌, true, false, cond, List, [], ◌∷◌, ◌++◌, length, length-append, take, drop, Option, None, Some, Ok, Result, nat_le, nat_lt, refl, sym, ap, ◌∙◌, subst, arith, append-nil, append_assoc}
+use Rattle.std.specs.Prelude.{IfSome, map}
 use Rattle.std.specs.List.{list_all}
 use Rattle.std.specs.declared.alloc.AllocError.{AllocError}
-use Rattle.std.proofs.lemmas.Bool.{and_from, and_parts}
 use Rattle.std.proofs.lemmas.Bool.Decides.{nat_tests}
-use Rattle.std.proofs.lemmas.List.{drop-drop, drop-take, take-append-drop, take-take, take_all, take_rest}
-use Rattle.std.proofs.lemmas.List.Elements.{filter-append}
-use Rattle.std.proofs.lemmas.List.Folds.{list_all-append}
+use Rattle.std.proofs.lemmas.List.{drop-drop, drop_all, length-drop, length-take, take-append-drop, take_rest}
+use native.Mathlib.Decide.{ℕ_discrete}
 use Rattle.helm_core.specs.Ticks.{Tick}
-use Rattle.moos_client.specs.Calls.{SeatState, entries_of}
+use Rattle.moos_client.specs.Calls.{SeatState, entries_of, entry_of}
+use Rattle.moos_client.specs.Hearing.{heard_in}
+use Rattle.moos_client.proofs.Hearing.{heard_append, heard_on}
+use Rattle.moos_client.proofs.Histories.{only_own, own_rest}
+use Rattle.moos_lawful.specs.Answering.{moment_in, turns_from}
+use Rattle.moos_lawful.specs.Schedules.{clients_below, due_in, IsLawfulSoFar, rises}
+use Rattle.moos_lawful.proofs.Stepping.{KeepsMoment, left_by, turn_moment, turns_rise}
+use Rattle.moos_step.proofs.Growing.{grown}
+use Rattle.moos_step.proofs.Steps.{none_past}
+use Rattle.moos_step.proofs.Taking.{at_ok}
+use Rattle.moos_step.specs.Steps.{CommunityLock, GoesOn, IsAlone, IsGathered, IsPlayed, IsPlayedBeside, IsWhole}
+use Rattle.moos_post.specs.declared.entry.Call.TheVariants.{Fetch}
 use Rattle.moos_post.specs.declared.entry.Entry.{Entry}
 use Rattle.moos_post.specs.History.{History}
+use Rattle.moos_play.specs.declared.playing.Play.{Play}
 use Rattle.moos_play.specs.declared.steersman.Steersman.{Steersman}
-use Rattle.moos_lawful.specs.Schedules.{clients_below, entries_below}
-use Rattle.moos_client.specs.Hearing.{heard_in}
-use Rattle.moos_play.specs.Lawful.{heard_of, helm_number, known_clients, moment_of, never_falls, opening, opening_of, Steering, tick_entries, ticks_of, ticks_to, mailed_in}
-use Rattle.moos_step.proofs.Growing.{grown}
-use Rattle.moos_step.specs.Steps.{CommunityLock, GoesOn, IsAlone, IsGathered, IsPlayed, IsPlayedBeside, IsWhole, KnowsNothing}
-use Rattle.moos_play.specs.Steered.{HasOpened, helm_of, IsBehind, IsEarly, comes_before, IsDue, IsUnopened, IsTimed, IsUnderWay, KeepsTime, StandsAt, steering_of, Steers, tick_due}
-use Rattle.moos_play.proofs.Below.{below_more, below_raised, beside_below, both_below, known_helm, known_many, known_more}
-use Rattle.moos_client.proofs.Hearing.{heard_append}
+use Rattle.moos_play.specs.Plays.{MayPlay}
+use Rattle.moos_play.specs.Lawful.{heard_of, helm_number, mailed_in, opening_of, Steering, tick_entries, ticks_of, ticks_to}
+use Rattle.moos_play.specs.Schedules.{answerers, answering, schedule_with}
+use Rattle.moos_play.specs.Steered.{HasHeard, HasPlayed, helm_of, IsBehind, IsStopped, IsUnderWay, left_for, opened_by, StandsAt, steering_of, Steers, turns_left}
+use Rattle.moos_play.proofs.Below.{below_raised, beside_pass}
 use Rattle.moos_play.proofs.Hearing.{ticks_stay}
-use Rattle.moos_client.proofs.Histories.{all_same, only_own, own_rest}
-use Rattle.moos_play.proofs.Histories.{more_rise, rise_end, same_rise}
-use Rattle.moos_play.proofs.Moments.{all_below, all_higher, line_moment, lines_moment}
-use Rattle.moos_step.proofs.Steps.{none_past}
 use Rattle.moos_play.proofs.Steering.{steered_on}
-use Rattle.moos_step.proofs.Taking.{at_ok}
+use Rattle.moos_play.proofs.Stepping.{all_end, all_part, drop_late, has_played, helm_step, later_stamps, lines_clients, lines_step, MayCome, own_left}
+use Rattle.moos_play.proofs.Turns.{begun_front, front_none, front_one, has_begun, HasBegun, helm_left, helm_stopped, left_late, start_is, stopped_left}
 use Rattle.script_reader.specs.declared.script.Order.{Order}
 use Rattle.script_reader.specs.declared.script.Order.TheVariants.{Stamp, Race}
 use Rattle.script_reader.specs.declared.script.Script.{Script}
-use Rattle.script_reader.specs.Validity.{are_lines, keeps_limits}
-use Rattle.script_reader.proofs.Sound.{line_tests}
+use Rattle.script_reader.specs.Validity.{are_lines}
 use Rattle.turn_lock.specs.Passes.{Begins}
 
 -- all lines are played where no memory was missing
@@ -50,85 +53,10 @@ stands_on names number None history rest so none = tt
 stands_on names number (Some s) history rest so none =
     (so.0, so.1, steered_on names (steering_of s) s.helm s.opened s.ticks s.told s.iterations history rest so.2 (subst (λ n. entries_of n rest ≡ []) (sym so.0) none))
 
--- some lines are played
-pub lines_under : (order : Order) (script : Script) (lock : CommunityLock) (steersman : Option Steersman) (from to : ℕ) (lines : List Entry) (first after : SeatState) → (under : IsUnderWay order script lock steersman from first)
-    → IsGathered lock after → IsWhole after → (later : Begins after.seen first.seen) → ((n : ℕ) → entries_of n later.0 ≡ entries_of n lines) → to ≤ length script.lines → take to script.lines ≡ take from script.lines ++ lines
-    → clients_below (helm_number script) lines ≡ true → KeepsTime order script steersman to (entries_below (known_clients script (helm_of steersman)) under.rest ++ later.0) → IsUnderWay order script lock steersman to after
-lines_under order script lock steersman from to lines first after under gathered whole later same within cut clients timed = record {
-  gathered = gathered;
-  whole = whole;
-  within = within;
-  seats = under.seats;
-  rest = under.rest ++ later.0;
-  opened = later.1 ∙ ap (λ front. front ++ later.0) under.opened ∙ append_assoc (opening (helm_of steersman)) under.rest later.0;
-  own = λ n other. ap (entries_of n) more ∙ filter-append (λ entry. entry.client == n) (entries_below known under.rest) later.0 ∙ ap (λ front. front ++ entries_of n later.0) (under.own n other)
-      ∙ ap (λ end. entries_of n (take from script.lines) ++ end) (same n) ∙ sym (ap (entries_of n) cut ∙ filter-append (λ entry. entry.client == n) (take from script.lines) lines);
-  steered = subst (StandsAt lock.base (helm_number script) steersman) (sym later.1)
-      (stands_on lock.base (helm_number script) steersman first.seen later.0 under.steered (same (helm_number script) ∙ none_past (length script.names) (helm_number script) lines clients (omega arith)));
-  timed = subst (KeepsTime order script steersman to) (sym more) timed;
-  named = both_below (length lock.base) under.rest later.0 under.named (below_raised (helm_number script) (length lock.base) later.0 (omega (arith, under.seats)) new);
-}
-  where
-    known : ℕ
-    known = known_clients script (helm_of steersman)
-
-    new : clients_below (helm_number script) later.0 ≡ true
-    new = all_same (λ entry. nat_lt entry.client (helm_number script)) later.0 lines same clients
-
-    more : entries_below known (under.rest ++ later.0) ≡ entries_below known under.rest ++ later.0
-    more = below_more known under.rest later.0 (below_raised (helm_number script) known later.0 (known_more script (helm_of steersman)) new)
-
--- the helm makes ticks, and perhaps others their lines
-pub helm_under : (order : Order) (script : Script) (lock : CommunityLock) (old new : Steersman) (from to : ℕ) (lines : List Entry) (first after : SeatState) → (under : IsUnderWay order script lock (Some old) from first)
-    → IsGathered lock after → IsWhole after → (later : Begins after.seen first.seen) → ((n : ℕ) → n ≢ helm_number script → entries_of n later.0 ≡ entries_of n lines) → to ≤ length script.lines → take to script.lines ≡ take from script.lines ++ lines
-    → clients_below (helm_number script) lines ≡ true → steering_of new ≡ steering_of old → new.opened ≡ true → Steers lock.base new after.seen
-    → KeepsTime order script (Some new) to (entries_below (known_clients script (Some new)) under.rest ++ later.0) → IsUnderWay order script lock (Some new) to after
-helm_under order script lock old new from to lines first after under gathered whole later same within cut clients steering opened steers timed = record {
-  gathered = gathered;
-  whole = whole;
-  within = within;
-  seats = under.seats;
-  rest = under.rest ++ later.0;
-  opened = later.1 ∙ ap (λ front. front ++ later.0) under.opened ∙ append_assoc (opening_of (steering_of old)) under.rest later.0 ∙ ap (λ helm. opening_of helm ++ (under.rest ++ later.0)) (sym steering);
-  own = λ n other. ap (entries_of n) more ∙ filter-append (λ entry. entry.client == n) (entries_below known under.rest) later.0 ∙ ap (λ front. front ++ entries_of n later.0) (under.own n other)
-      ∙ ap (λ end. entries_of n (take from script.lines) ++ end) (same n other) ∙ sym (ap (entries_of n) cut ∙ filter-append (λ entry. entry.client == n) (take from script.lines) lines);
-  steered = (ap (λ (helm : Steering). helm.client) steering ∙ under.steered.0, opened, steers);
-  timed = subst (KeepsTime order script (Some new) to) (sym more) timed;
-  named = both_below (length lock.base) under.rest later.0 under.named (below_raised known (length lock.base) later.0 (omega (arith, under.seats, known_many script (Some old))) all);
-}
-  where
-    known : ℕ
-    known = known_clients script (Some new)
-
-    all : clients_below known later.0 ≡ true
-    all = beside_below known (helm_number script) lines later.0 (known_helm script new) (below_raised (helm_number script) known lines (known_more script (Some new)) clients) same
-
-    more : entries_below known (under.rest ++ later.0) ≡ entries_below known under.rest ++ later.0
-    more = below_more known under.rest later.0 all
-
--- the lines of one stamp in order
-pub timed_lines : (script : Script) (steersman : Option Steersman) (from to stamp : ℕ) (lines : List Entry) (rest new : History) → IsTimed script steersman from rest → drop from script.lines ≡ lines ++ drop to script.lines
-    → list_all (λ line. nat_lt line.client (helm_number script)) lines ≡ true → list_all (λ line. line.stamp == stamp) lines ≡ true → ((n : ℕ) → entries_of n new ≡ entries_of n lines)
-    → IsEarly (helm_number script) steersman script.stop new → IsTimed script steersman to (rest ++ new)
-timed_lines script steersman from to stamp lines rest new so cut clients one same early = record {
-  left = subst (λ history. never_falls (moment_of (helm_number script)) 0 history ≡ true) (sym (append_assoc rest new (drop to script.lines)))
-      (same_rise (moment_of (helm_number script)) 0 (2 * stamp) rest lines new (drop to script.lines)
-      (subst (λ left. never_falls (moment_of (helm_number script)) 0 (rest ++ left) ≡ true) cut so.left) (lines_moment (helm_number script) stamp lines clients one) same);
-  early = both steersman so.early early;
-}
-  where
-    both : (s : Option Steersman) → IsEarly (helm_number script) s script.stop rest → IsEarly (helm_number script) s script.stop new → IsEarly (helm_number script) s script.stop (rest ++ new)
-    both None a b = tt
-    both (Some s) a b = λ left. list_all-append (λ entry. nat_le (moment_of (helm_number script) entry) (suc (2 * (s.ticks * s.period)))) rest new
-        ∙ and_from (list_all (λ entry. nat_le (moment_of (helm_number script) entry) (suc (2 * (s.ticks * s.period)))) rest) (list_all (λ entry. nat_le (moment_of (helm_number script) entry) (suc (2 * (s.ticks * s.period)))) new) (a left) (b left)
-
--- a round of lines that isn't behind the next tick is early enough
-pub early_lines : (script : Script) (steersman : Option Steersman) (stamp : ℕ) (lines : List Entry) (new : History) → list_all (λ line. nat_lt line.client (helm_number script)) lines ≡ true → list_all (λ line. line.stamp == stamp) lines ≡ true
-    → ((n : ℕ) → entries_of n new ≡ entries_of n lines) → ((s : Steersman) → steersman ≡ Some s → s.ticks < ticks_to script.stop (steering_of s) → stamp ≤ s.ticks * s.period) → IsEarly (helm_number script) steersman script.stop new
-early_lines script None stamp lines new clients one same before = tt
-early_lines script (Some s) stamp lines new clients one same before = λ left.
-    all_below (moment_of (helm_number script)) (2 * stamp) (suc (2 * (s.ticks * s.period))) new (omega (arith, before s refl left))
-    (all_same (λ entry. moment_of (helm_number script) entry == 2 * stamp) new lines same (lines_moment (helm_number script) stamp lines clients one))
+pub ends : (lines : List Entry) (from to : ℕ) → from ≤ to → drop from lines ≡ take (to - from) (drop from lines) ++ drop to lines
+ends lines from to below =
+    let n : from + (to - from) ≡ to = omega (arith, below) in
+    sym (take-append-drop (to - from) (drop from lines)) ∙ ap (λ end. take (to - from) (drop from lines) ++ end) (drop-drop (to - from) from lines ∙ ap (λ k. drop k lines) n)
 
 -- what the helm adds at one tick
 pub tick_added : (names : List (List ℕ)) (old new : Steersman) (history rest : History) → Steers names old history → Steers names new (history ++ rest) → steering_of new ≡ steering_of old → old.opened ≡ true → new.opened ≡ true → new.ticks ≡ suc old.ticks
@@ -154,161 +82,6 @@ tick_added names old new history rest before after steering opened opened' count
     earlier : ticks_of helm now old.ticks ≡ ticks_of helm start old.ticks
     earlier = ap (λ heard. ticks_of helm heard old.ticks) (heard_append (mailed_in names) old.number [] history rest) ∙ ticks_stay helm start (heard_in (mailed_in names) old.number history rest) old.ticks (omega (arith, before.many))
 
--- its entries have the second moment of their stamp
-pub tick_moment : (helm : Steering) (number : ℕ) (heard : List Tick) (i : ℕ) → helm.client ≡ number → list_all (λ entry. moment_of number entry == suc (2 * (i * helm.period))) (tick_entries helm heard i) ≡ true
-tick_moment helm number heard i is =
-    subst (λ b. ((cond b (suc m) m == suc m) && ((cond b (suc m) m == suc m) && true)) ≡ true) (sym (eq-eqb helm.client number is))
-    (and_from (suc m == suc m) ((suc m == suc m) && true) same (and_from (suc m == suc m) true same refl))
-  where
-    m : ℕ
-    m = 2 * (i * helm.period)
-
-    same : (suc m == suc m) ≡ true
-    same = eq-eqb (suc m) (suc m) refl
-
--- the lines that are left behind a tick rise from its moment
-pub behind_rise : (helm stamp : ℕ) (rest left : History) → list_all (λ line. nat_lt line.client helm) left ≡ true → never_falls (moment_of helm) 0 (rest ++ left) ≡ true → IsBehind (Some stamp) left → never_falls (moment_of helm) (suc (2 * stamp)) left ≡ true
-behind_rise helm stamp rest [] clients rises behind = refl
-behind_rise helm stamp rest (line ∷ lines) clients rises behind =
-    let others = and_parts (nat_lt line.client helm) (list_all (λ line. nat_lt line.client helm) lines) clients in
-    let other : line.client ≢ helm = λ e. grind (arith, nat_tests, others.0, e) in
-    and_from (nat_le (suc (2 * stamp)) (moment_of helm line)) (never_falls (moment_of helm) (moment_of helm line) lines)
-    (subst (λ key. nat_le (suc (2 * stamp)) key ≡ true) (sym (line_moment helm line other)) (grind (arith, nat_tests, behind))) (rise_end (moment_of helm) 0 rest line lines rises)
-
--- a tick's entries between earlier ones and the lines behind it
-pub rise_tick : (helm stamp : ℕ) (rest added left : History) → never_falls (moment_of helm) 0 (rest ++ left) ≡ true → list_all (λ entry. nat_le (moment_of helm entry) (suc (2 * stamp))) rest ≡ true → list_all (λ entry. moment_of helm entry == suc (2 * stamp)) added ≡ true
-    → list_all (λ line. nat_lt line.client helm) left ≡ true → IsBehind (Some stamp) left → never_falls (moment_of helm) 0 (rest ++ (added ++ left)) ≡ true
-rise_tick helm stamp rest added left rises early one clients behind =
-    more_rise (moment_of helm) 0 (suc (2 * stamp)) rest added left rises (grind (arith, nat_tests)) early one (behind_rise helm stamp rest left clients rises behind)
-
--- and none is of a later moment than the tick after it
-pub early_tick : (helm stamp next : ℕ) (rest added : History) → stamp ≤ next → list_all (λ entry. nat_le (moment_of helm entry) (suc (2 * stamp))) rest ≡ true → list_all (λ entry. moment_of helm entry == suc (2 * stamp)) added ≡ true
-    → list_all (λ entry. nat_le (moment_of helm entry) (suc (2 * next))) (rest ++ added) ≡ true
-early_tick helm stamp next rest added later early one =
-    list_all-append (λ entry. nat_le (moment_of helm entry) (suc (2 * next))) rest added
-    ∙ and_from (list_all (λ entry. nat_le (moment_of helm entry) (suc (2 * next))) rest) (list_all (λ entry. nat_le (moment_of helm entry) (suc (2 * next))) added)
-    (all_higher (moment_of helm) (suc (2 * stamp)) (suc (2 * next)) rest (omega (arith, later)) early) (all_below (moment_of helm) (suc (2 * stamp)) (suc (2 * next)) added (omega (arith, later)) one)
-
--- a tick in order
-pub timed_tick : (script : Script) (old new : Steersman) (from : ℕ) (rest added : History) → IsTimed script (Some old) from rest → old.ticks < ticks_to script.stop (steering_of old)
-    → list_all (λ entry. moment_of (helm_number script) entry == suc (2 * (old.ticks * old.period))) added ≡ true → new.ticks * new.period ≡ old.period + old.ticks * old.period
-    → list_all (λ line. nat_lt line.client (helm_number script)) (drop from script.lines) ≡ true → IsBehind (Some (old.ticks * old.period)) (drop from script.lines) → IsTimed script (Some new) from (rest ++ added)
-timed_tick script old new from rest added so left one next clients behind = record {
-  left = subst (λ history. never_falls (moment_of (helm_number script)) 0 history ≡ true) (sym (append_assoc rest added (drop from script.lines)))
-      (rise_tick (helm_number script) (old.ticks * old.period) rest added (drop from script.lines) so.left (so.early left) one clients behind);
-  early = λ _. early_tick (helm_number script) (old.ticks * old.period) (new.ticks * new.period) rest added (omega (arith, next)) (so.early left) one;
-}
-
--- a script's lines are of clients below the helm
-pub lines_clients : (clients last stop : ℕ) (lines : List Entry) → are_lines clients last stop lines ≡ true → list_all (λ line. nat_lt line.client clients) lines ≡ true
-lines_clients clients last stop [] valid = refl
-lines_clients clients last stop (line ∷ lines) valid =
-    let tests = line_tests (nat_lt line.client clients) (nat_le last line.stamp) (keeps_limits line.call) (are_lines clients line.stamp stop lines) valid in
-    and_from (nat_lt line.client clients) (list_all (λ line. nat_lt line.client clients) lines) tests.0 (lines_clients clients line.stamp stop lines tests.3)
-
--- and their moments rise
-pub lines_rise : (clients last stop : ℕ) (lines : List Entry) → are_lines clients last stop lines ≡ true → never_falls (moment_of clients) (2 * last) lines ≡ true
-lines_rise clients last stop [] valid = refl
-lines_rise clients last stop (line ∷ lines) valid =
-    let tests = line_tests (nat_lt line.client clients) (nat_le last line.stamp) (keeps_limits line.call) (are_lines clients line.stamp stop lines) valid in
-    let other : line.client ≢ clients = λ e. grind (arith, nat_tests, tests.0, e) in
-    subst (λ key. (nat_le (2 * last) key && never_falls (moment_of clients) key lines) ≡ true) (sym (line_moment clients line other))
-    (and_from (nat_le (2 * last) (2 * line.stamp)) (never_falls (moment_of clients) (2 * line.stamp) lines) (grind (arith, nat_tests, tests.1)) (lines_rise clients line.stamp stop lines tests.3))
-
--- a test that all lines pass a part of them passes
-pub all_part : (p : Entry → Bool) (lines : List Entry) (from n : ℕ) → list_all p lines ≡ true → list_all p (take n (drop from lines)) ≡ true
-all_part p lines from n all =
-    let behind = (and_parts (list_all p (take from lines)) (list_all p (drop from lines)) (sym (list_all-append p (take from lines) (drop from lines)) ∙ ap (list_all p) (take-append-drop from lines) ∙ all)).1 in
-    (and_parts (list_all p (take n (drop from lines))) (list_all p (drop n (drop from lines))) (sym (list_all-append p (take n (drop from lines)) (drop n (drop from lines))) ∙ ap (list_all p) (take-append-drop n (drop from lines)) ∙ behind)).0
-
-pub all_end : (p : Entry → Bool) (lines : List Entry) (from : ℕ) → list_all p lines ≡ true → list_all p (drop from lines) ≡ true
-all_end p lines from all = (and_parts (list_all p (take from lines)) (list_all p (drop from lines)) (sym (list_all-append p (take from lines) (drop from lines)) ∙ ap (list_all p) (take-append-drop from lines) ∙ all)).1
-
--- the lines up to a place, and from there to another
-pub parts : (lines : List Entry) (from to : ℕ) → from ≤ to → take to lines ≡ take from lines ++ take (to - from) (drop from lines)
-parts lines from to below =
-    let n : from + (to - from) ≡ to = omega (arith, below) in
-    sym (take-append-drop from (take to lines)) ∙ ap (λ front. front ++ drop from (take to lines)) (take-take from to lines below)
-    ∙ ap (λ end. take from lines ++ end) (ap (λ k. drop from (take k lines)) (sym n) ∙ drop-take from (to - from) lines)
-
-pub ends : (lines : List Entry) (from to : ℕ) → from ≤ to → drop from lines ≡ take (to - from) (drop from lines) ++ drop to lines
-ends lines from to below =
-    let n : from + (to - from) ≡ to = omega (arith, below) in
-    sym (take-append-drop (to - from) (drop from lines)) ∙ ap (λ end. take (to - from) (drop from lines) ++ end) (drop-drop (to - from) from lines ∙ ap (λ k. drop k lines) n)
-
--- before the first round
-pub start_under : (order : Order) (script : Script) (lock : CommunityLock) (steersman : Option Steersman) (first : SeatState) → are_lines (length script.names) 0 script.stop script.lines ≡ true → length script.names + length (option_to_list steersman) ≤ length lock.base
-    → HasOpened lock (helm_number script) steersman first → IsUnderWay order script lock steersman 0 first
-start_under order script lock steersman first valid seats so = record {
-  gathered = so.gathered;
-  whole = so.whole;
-  within = omega arith;
-  seats = seats;
-  rest = [];
-  opened = so.opened ∙ sym (append-nil (opening (helm_of steersman)));
-  own = λ n other. refl;
-  steered = so.steered;
-  timed = timed order;
-  named = refl;
-}
-  where
-    early : (s : Option Steersman) → IsEarly (helm_number script) s script.stop []
-    early None = tt
-    early (Some s) = λ left. refl
-
-    timed : (order : Order) → KeepsTime order script steersman 0 []
-    timed Stamp = record { left = lines_rise (length script.names) 0 script.stop script.lines valid; early = early steersman }
-    timed Race = tt
-
--- the lines that are due are played
-pub lines_next : (order : Order) (script : Script) (lock : CommunityLock) (steersman : Option Steersman) (from to : ℕ) (result : Result (Unit {0}) AllocError) (first after : SeatState) → are_lines (length script.names) 0 script.stop script.lines ≡ true
-    → IsUnderWay order script lock steersman from first → IsGathered lock after → GoesOn (IsPlayed (take (to - from) (drop from script.lines)) result) first after → result ≡ Ok tt
-    → IsDue script.lines (tick_due script.stop steersman) from to → from < to → IsUnderWay order script lock steersman to after
-lines_next order script lock steersman from to result first after valid under gathered on ok due some =
-    lines_under order script lock steersman from to lines first after under gathered on.whole on.later same due.within (parts script.lines from to due.more)
-    clients (timed order under.timed)
-  where
-    lines : List Entry
-    lines = take (to - from) (drop from script.lines)
-
-    clients : list_all (λ line. nat_lt line.client (helm_number script)) lines ≡ true
-    clients = all_part (λ line. nat_lt line.client (helm_number script)) script.lines from (to - from) (lines_clients (length script.names) 0 script.stop script.lines valid)
-
-    same : (n : ℕ) → entries_of n on.later.0 ≡ entries_of n lines
-    same = grown_lines lines result first after under.whole on ok
-
-    ahead : (s : Option Steersman) → comes_before (tick_due script.stop s) due.stamp ≡ false → (t : Steersman) → s ≡ Some t → t.ticks < ticks_to script.stop (steering_of t) → due.stamp ≤ t.ticks * t.period
-    ahead s late t is left =
-        let here : nat_le t.ticks (script.stop / t.period) ≡ true = grind (arith, nat_tests, left) in
-        let now : nat_lt (t.ticks * t.period) due.stamp ≡ false = subst (λ b. comes_before (cond b (Some (t.ticks * t.period)) None) due.stamp ≡ false) here (subst (λ s. comes_before (tick_due script.stop s) due.stamp ≡ false) is late) in
-        grind (arith, nat_tests, now)
-
-    before : History
-    before = entries_below (known_clients script (helm_of steersman)) under.rest
-
-    timed : (order : Order) → KeepsTime order script steersman from before → KeepsTime order script steersman to (before ++ on.later.0)
-    timed Stamp so = timed_lines script steersman from to due.stamp lines before on.later.0 so (ends script.lines from to due.more) clients due.one same
-        (early_lines script steersman due.stamp lines on.later.0 clients due.one same (ahead steersman (due.early some)))
-    timed Race so = tt
-
--- all lines are played in a race
-pub lines_all : (script : Script) (lock : CommunityLock) (steersman : Option Steersman) (from : ℕ) (result : Result (Unit {0}) AllocError) (first after : SeatState) → are_lines (length script.names) 0 script.stop script.lines ≡ true
-    → IsUnderWay Race script lock steersman from first → IsGathered lock after → GoesOn (IsPlayed (drop from script.lines) result) first after → result ≡ Ok tt → IsUnderWay Race script lock steersman (length script.lines) after
-lines_all script lock steersman from result first after valid under gathered on ok =
-    lines_under Race script lock steersman from (length script.lines) (drop from script.lines) first after under gathered on.whole on.later (grown_lines (drop from script.lines) result first after under.whole on ok) (omega arith)
-    (take_all (length script.lines) script.lines (omega arith) ∙ sym (take-append-drop from script.lines))
-    (all_end (λ line. nat_lt line.client (helm_number script)) script.lines from (lines_clients (length script.names) 0 script.stop script.lines valid)) tt
-
--- a race with a helm
-pub race_under : (script : Script) (lock : CommunityLock) (old new : Steersman) (from : ℕ) (result : Result (Unit {0}) AllocError) (first after : SeatState) → are_lines (length script.names) 0 script.stop script.lines ≡ true → IsUnderWay Race script lock (Some old) from first → IsGathered lock after
-    → GoesOn (IsPlayedBeside old.number (drop from script.lines) result) first after → result ≡ Ok tt → steering_of new ≡ steering_of old → new.opened ≡ true → Steers lock.base new after.seen
-    → IsUnderWay Race script lock (Some new) (length script.lines) after
-race_under script lock old new from result first after valid under gathered on ok steering opened steers =
-    helm_under Race script lock old new from (length script.lines) (drop from script.lines) first after under gathered on.whole on.later
-    (λ n other. grown_beside old.number (drop from script.lines) result first after under.whole on ok n (λ e. other (e ∙ under.steered.0)))
-    (omega arith) (take_all (length script.lines) script.lines (omega arith) ∙ sym (take-append-drop from script.lines))
-    (all_end (λ line. nat_lt line.client (helm_number script)) script.lines from (lines_clients (length script.names) 0 script.stop script.lines valid)) steering opened steers tt
-
 -- where the helm is alone it adds its tick
 pub tick_alone : (order : Order) (script : Script) (lock : CommunityLock) (old new : Steersman) (from : ℕ) (first after : SeatState) → IsUnderWay order script lock (Some old) from first → (on : GoesOn (IsAlone old.number) first after)
     → steering_of new ≡ steering_of old → new.opened ≡ true → new.ticks ≡ old.ticks + 1 → Steers lock.base new after.seen → on.later.0 ≡ tick_entries (steering_of old) (heard_of lock.base old.number (first.seen ++ on.later.0)) old.ticks
@@ -316,68 +89,295 @@ tick_alone order script lock old new from first after under on steering opened c
     only_own old.number on.later.0 (λ n other. grown (IsAlone old.number) first after under.whole on n other)
     ∙ tick_added lock.base old new first.seen on.later.0 under.steered.2 (subst (Steers lock.base new) on.later.1 steers) steering under.steered.1 opened (count ∙ omega arith)
 
--- a tick where no line is left of its stamp or before
-pub tick_under : (order : Order) (script : Script) (lock : CommunityLock) (old new : Steersman) (from : ℕ) (first after : SeatState) → are_lines (length script.names) 0 script.stop script.lines ≡ true → IsUnderWay order script lock (Some old) from first
-    → IsGathered lock after → GoesOn (IsAlone old.number) first after → steering_of new ≡ steering_of old → new.opened ≡ true → new.ticks ≡ old.ticks + 1 → Steers lock.base new after.seen → old.ticks < ticks_to script.stop (steering_of old)
-    → IsBehind (Some (old.ticks * old.period)) (drop from script.lines) → IsUnderWay order script lock (Some new) from after
-tick_under order script lock old new from first after valid under gathered on steering opened count steers left behind =
-    helm_under order script lock old new from from [] first after under gathered on.whole on.later alone under.within (sym (append-nil (take from script.lines))) refl steering opened steers (timed order under.timed)
+-- what the clients of some lines make of them, and the helm beside them whatever it does
+helm_known : (script : Script) (lines later : List Entry) → clients_below (length script.names) lines ≡ true → ((n : ℕ) → n ≢ helm_number script → Begins (entries_of n lines) (entries_of n later)) → clients_below (length script.names + 1) later ≡ true
+helm_known script lines later below fronts = beside_pass (length script.names + 1) (helm_number script) lines later (omega arith) (below_raised (length script.names) (length script.names + 1) lines (omega arith) below) fronts
+
+-- lines that are left behind a tick
+behind_late : (clients last stop : ℕ) (lines : List Entry) (from stamp : ℕ) → are_lines clients last stop lines ≡ true → IsBehind (Some stamp) (drop from lines) → list_all (λ line. nat_le (suc stamp) line.stamp) (drop from lines) ≡ true
+behind_late clients last stop lines from stamp valid behind = by (drop from lines) refl behind
   where
-    alone : (n : ℕ) → n ≢ helm_number script → entries_of n on.later.0 ≡ []
-    alone n other = grown (IsAlone old.number) first after under.whole on n (λ e. other (e ∙ under.steered.0))
+    by : (left : List Entry) → drop from lines ≡ left → IsBehind (Some stamp) left → list_all (λ line. nat_le (suc stamp) line.stamp) left ≡ true
+    by [] is behind = refl
+    by (line ∷ left) is behind =
+        let less : suc stamp ≤ line.stamp = grind (arith, nat_tests, behind) in
+        later_stamps (suc stamp) line.stamp (line ∷ left) less (drop_late clients last stop lines from line left valid is)
 
-    added : on.later.0 ≡ tick_entries (steering_of old) (heard_of lock.base old.number (first.seen ++ on.later.0)) old.ticks
-    added = tick_alone order script lock old new from first after under on steering opened count steers
+-- no line stands behind the last
+to_last : (lines : List Entry) (from : ℕ) → drop from lines ≡ drop from lines ++ drop (length lines) lines
+to_last lines from = sym (ap (λ end. drop from lines ++ end) (drop_all (length lines) lines (omega arith)) ∙ append-nil (drop from lines))
 
-    next : new.ticks * new.period ≡ old.period + old.ticks * old.period
-    next = ap (λ n. n * new.period) (count ∙ omega arith) ∙ ap (λ (helm : Steering). suc old.ticks * helm.period) steering ∙ omega arith
+-- ---- lines
 
-    earlier : History
-    earlier = entries_below (known_clients script (Some new)) under.rest
+-- the helm's turns that are left stay the same where it makes no entry
+pub turns_stay : (stop : ℕ) (names : List (List ℕ)) (number : ℕ) (s : Option Steersman) (history later : History) → StandsAt names number s history → entries_of number later ≡ [] → turns_left stop s names history ≡ turns_left stop s names (history ++ later)
+turns_stay stop names number None history later stands none = refl
+turns_stay stop names number (Some t) history later stands none =
+    ap (λ heard. turns_from (answering (steering_of t)) t.number t.period heard t.ticks (ticks_to stop (steering_of t) - t.ticks)) (sym (heard_on (mailed_in names) t.number history later (subst (λ n. entries_of n later ≡ []) (sym stands.0) none)))
 
-    timed : (order : Order) → KeepsTime order script (Some old) from earlier → KeepsTime order script (Some new) from (earlier ++ on.later.0)
-    timed Stamp so = timed_tick script old new from earlier on.later.0 so left
-        (ap (list_all (λ entry. moment_of (helm_number script) entry == suc (2 * (old.ticks * old.period)))) added ∙ tick_moment (steering_of old) (helm_number script) (heard_of lock.base old.number (first.seen ++ on.later.0)) old.ticks under.steered.0)
-        next (all_end (λ line. nat_lt line.client (helm_number script)) script.lines from (lines_clients (length script.names) 0 script.stop script.lines valid)) behind
-    timed Race so = tt
+-- the helm, where there is one, has made as many ticks as it may, and no more than it has heard
+abbrev pub HasTicks : Script → Option Steersman → Type 0
+HasTicks script steersman = IfSome steersman (λ helm. (1 ≤ helm.period) × (helm.ticks ≤ ticks_to script.stop (steering_of helm)))
 
--- the opening
-pub opened_first : (lock : CommunityLock) (number : ℕ) (result : Result (Unit {0}) AllocError) (old new : Steersman) (first after : SeatState) → KnowsNothing first → IsUnopened number old → IsGathered lock after → GoesOn (IsAlone old.number) first after
-    → steering_of new ≡ steering_of old → new.told ≡ old.told → OnOk result (Steers lock.base new after.seen) → OnOk result ((new.opened ≡ true) × (new.ticks ≡ 0)) → OnOk result (HasOpened lock number (Some new) after)
-opened_first lock number (Err _) old new first after nothing is gathered on steering told steers reached = tt
-opened_first lock number (Ok _) old new first after nothing is gathered on steering told steers reached = record {
-  gathered = gathered;
-  whole = on.whole;
-  opened = on.later.1 ∙ ap (λ front. front ++ on.later.0) nothing.seen ∙ only_own old.number on.later.0 (λ n other. grown (IsAlone old.number) first after whole on n other)
-      ∙ ap (λ (helm : Steering). entries_of helm.client on.later.0) (sym steering) ∙ ap (entries_of new.number) (sym (on.later.1 ∙ ap (λ front. front ++ on.later.0) nothing.seen))
-      ∙ subst (λ b. entries_of new.number after.seen ≡ cond b (opening_of (steering_of new)) [] ++ ticks_of (steering_of new) (heard_of lock.base new.number after.seen) new.ticks) reached.0 steers.own
-      ∙ ap (λ n. opening_of (steering_of new) ++ ticks_of (steering_of new) (heard_of lock.base new.number after.seen) n) reached.1 ∙ append-nil (opening_of (steering_of new));
-  steered = (ap (λ (helm : Steering). helm.client) steering ∙ is.own, reached.0, steers);
-  ticks = (reached.1, subst (λ (helm : Steering). 1 ≤ helm.period) (sym steering) is.period);
-  told = told ∙ is.told;
+pub has_heard : (names : List (List ℕ)) (number stop : ℕ) (steersman : Option Steersman) (history : History) → StandsAt names number steersman history → IfSome steersman (λ helm. (1 ≤ helm.period) × (helm.ticks ≤ ticks_to stop (steering_of helm)))
+    → HasHeard names number stop steersman history
+has_heard names number stop None history so period = tt
+has_heard names number stop (Some s) history so period = (so.0, omega (arith, so.2.many), period.1)
+
+-- lines that may be played are within the script, and may come next
+pub may_within : (order : Order) (play : Play) (to : ℕ) → MayPlay order play to → to ≤ length play.script.now.lines
+may_within Stamp play to due = due.within
+may_within Race play to within = within
+
+pub may_come : (order : Order) (play : Play) (to : ℕ) → MayPlay order play to → play.from < to → MayCome play.script.now order play.steersman (take (to - play.from) (drop play.from play.script.now.lines))
+may_come Race play to within some = tt
+may_come Stamp play to due some = record {
+  stamp = due.stamp;
+  one = due.one;
+  some = omega (arith, some, due.within, length-take (to - play.from) (drop play.from play.script.now.lines), length-drop play.from play.script.now.lines);
+  early = due.early some;
 }
+
+module _ (order : Order) (script : Script) (lock : CommunityLock) (valid : are_lines (length script.names) 0 script.stop script.lines ≡ true)
   where
-    whole : IsWhole first
-    whole n = ap (entries_of n) nothing.seen ∙ sym (nothing.known n)
+    -- the lines that may come are played
+    pub lines_next : (steersman : Option Steersman) (from to : ℕ) (result : Result (Unit {0}) AllocError) (first after : SeatState) → IsUnderWay order script lock steersman from first → IsGathered lock after
+        → GoesOn (IsPlayed (take (to - from) (drop from script.lines)) result) first after → result ≡ Ok tt → from ≤ to → to ≤ length script.lines → MayCome script order steersman (take (to - from) (drop from script.lines)) → IsUnderWay order script lock steersman to after
+    lines_next steersman from to result first after under gathered on ok more within come = record {
+      gathered = gathered;
+      whole = on.whole;
+      within = within;
+      seats = under.seats;
+      played = subst (HasPlayed order script lock.base steersman to) (sym on.later.1)
+          (has_played script lock.base valid order steersman to (first.seen ++ on.later.0) step.0 (λ n. turns_left script.stop steersman lock.base first.seen) step.1
+          (λ n past left. turns_stay script.stop lock.base (helm_number script) steersman first.seen on.later.0 under.steered none));
+      steered = subst (StandsAt lock.base (helm_number script) steersman) (sym on.later.1) (stands_on lock.base (helm_number script) steersman first.seen on.later.0 under.steered none);
+    }
+      where
+        lines : List Entry
+        lines = take (to - from) (drop from script.lines)
+
+        same : (n : ℕ) → entries_of n on.later.0 ≡ entries_of n lines
+        same = grown_lines lines result first after under.whole on ok
+
+        step : (so : IsLawfulSoFar (schedule_with order script (helm_of steersman) lock.base) (first.seen ++ on.later.0)) × (so.left ≡ left_by (length script.names) (λ n. []) (drop to script.lines) (λ n. turns_left script.stop steersman lock.base first.seen))
+        step = lines_step script lock.base valid order steersman from to lines first.seen on.later.0 under.played (λ n. []) under.seats (ends script.lines from to more) (λ n. sym (same n) ∙ sym (append-nil (entries_of n on.later.0))) come under.steered
+
+        below : clients_below (length script.names) lines ≡ true
+        below = all_part (λ line. nat_lt line.client (length script.names)) script.lines from (to - from) (lines_clients (length script.names) 0 script.stop script.lines valid)
+
+        none : entries_of (helm_number script) on.later.0 ≡ []
+        none = same (helm_number script) ∙ none_past (length script.names) (helm_number script) lines below (omega arith)
+
+    -- or fronts of them
+    pub lines_cut : {E : Type 0} {result : Result (Unit {0}) E} (steersman : Option Steersman) (from to : ℕ) (all : List Entry) (first after : SeatState) → IsUnderWay order script lock steersman from first → HasTicks script steersman → all ≡ script.lines
+        → GoesOn (IsPlayed (take (to - from) (drop from all)) result) first after → from ≤ to → MayCome script order steersman (take (to - from) (drop from script.lines))
+        → IsLawfulSoFar (schedule_with order script (helm_of steersman) lock.base) after.seen × HasHeard lock.base (helm_number script) script.stop steersman after.seen
+    lines_cut {result = result} steersman from to all first after under period same went more come = (
+      subst (IsLawfulSoFar (schedule_with order script (helm_of steersman) lock.base)) (sym on.later.1)
+          (lines_step script lock.base valid order steersman from to lines first.seen on.later.0 under.played (λ n. (fronts n).0) under.seats (ends script.lines from to more) (λ n. (fronts n).1) come under.steered).0,
+      has_heard lock.base (helm_number script) script.stop steersman after.seen
+          (subst (StandsAt lock.base (helm_number script) steersman) (sym on.later.1) (stands_on lock.base (helm_number script) steersman first.seen on.later.0 under.steered none)) period,
+    )
+      where
+        lines : List Entry
+        lines = take (to - from) (drop from script.lines)
+
+        on : GoesOn (IsPlayed lines result) first after
+        on = subst (λ all. GoesOn (IsPlayed (take (to - from) (drop from all)) result) first after) same went
+
+        fronts : (n : ℕ) → Begins (entries_of n lines) (entries_of n on.later.0)
+        fronts n = (grown (IsPlayed lines result) first after under.whole on n).front
+
+        below : clients_below (length script.names) lines ≡ true
+        below = all_part (λ line. nat_lt line.client (length script.names)) script.lines from (to - from) (lines_clients (length script.names) 0 script.stop script.lines valid)
+
+        none : entries_of (helm_number script) on.later.0 ≡ []
+        none = front_none (entries_of (helm_number script) on.later.0) (fronts (helm_number script)).0 (sym (fronts (helm_number script)).1 ∙ none_past (length script.names) (helm_number script) lines below (omega arith))
+
+    -- ---- the helm
+
+    -- what stands behind the helm's opening
+    behind_opening : (old : Steersman) (from : ℕ) (history later : History) (played : HasPlayed order script lock.base (Some old) from history) → old.number ≡ length script.names → history ++ later ≡ opening_of (steering_of old) ++ (played.so_far.rest ++ later)
+    behind_opening old from history later played number =
+        ap (λ front. front ++ later) (played.so_far.opened ∙ ap (λ start. start ++ played.so_far.rest) (start_is (length script.names) (steering_of old) number)) ∙ append_assoc (opening_of (steering_of old)) played.so_far.rest later
+
+    -- the helm makes turns where memory is found, and others their lines
+    pub helm_next : (old new : Steersman) (from to : ℕ) (lines : List Entry) (first after : SeatState) (under : IsUnderWay order script lock (Some old) from first) → IsGathered lock after → IsWhole after → (later : Begins after.seen first.seen) → ((n : ℕ) → n ≢ helm_number script → entries_of n later.0 ≡ entries_of n lines)
+        → drop from script.lines ≡ lines ++ drop to script.lines → to ≤ length script.lines → clients_below (length script.names) lines ≡ true → steering_of new ≡ steering_of old → new.opened ≡ true → Steers lock.base new after.seen → new.ticks ≤ ticks_to script.stop (steering_of new)
+        → KeepsMoment script.lines (length script.names) script.stop old.period (answerers (Some (steering_of old))) (length lock.base) (mailed_in lock.base) order under.played.so_far.rest later.0 (left_by (length script.names) (λ n. []) (drop to script.lines) (λ n. turns_left script.stop (Some new) lock.base (first.seen ++ later.0)))
+        → IsUnderWay order script lock (Some new) to after
+    helm_next old new from to lines first after under gathered whole later same cut within clients steering opened steers few moment = record {
+      gathered = gathered;
+      whole = whole;
+      within = within;
+      seats = under.seats;
+      played = subst (HasPlayed order script lock.base (Some new) to) (sym later.1) (has_played script lock.base valid order (Some new) to now step.0 (λ n. left) step.1 (λ n past under. refl));
+      steered = (ap (λ (helm : Steering). helm.client) steering ∙ under.steered.0, opened, steers);
+    }
+      where
+        now : History
+        now = first.seen ++ later.0
+
+        left : List Entry
+        left = turns_left script.stop (Some new) lock.base now
+
+        number : new.number ≡ length script.names
+        number = ap (λ (helm : Steering). helm.client) steering ∙ under.steered.0
+
+        due : due_in (schedule_with order script (Some (steering_of old)) lock.base) (length script.names) (under.played.so_far.rest ++ later.0) ≡ entries_of (length script.names) (under.played.so_far.rest ++ later.0) ++ left
+        due = subst (λ helm. due_in (schedule_with order script (Some helm) lock.base) (length script.names) (under.played.so_far.rest ++ later.0) ≡ entries_of (length script.names) (under.played.so_far.rest ++ later.0) ++ left) steering
+            (helm_left order script lock.base new (under.played.so_far.rest ++ later.0) now (behind_opening old from first.seen later.0 under.played under.steered.0 ∙ ap (λ helm. opening_of helm ++ (under.played.so_far.rest ++ later.0)) (sym steering)) number opened (subst (Steers lock.base new) later.1 steers) few)
+
+        lines_all : (n : ℕ) → n ≢ helm_number script → ((n : ℕ) → n ≢ helm_number script → entries_of n later.0 ≡ entries_of n lines) → Begins (entries_of n lines) (entries_of n later.0)
+        lines_all n other same = ([], sym (same n other) ∙ sym (append-nil (entries_of n later.0)))
+
+        step : (so : IsLawfulSoFar (schedule_with order script (Some (steering_of new)) lock.base) now) × (so.left ≡ left_by (length script.names) (λ n. []) (drop to script.lines) (λ n. left))
+        step = subst (λ helm. (so : IsLawfulSoFar (schedule_with order script (Some helm) lock.base) now) × (so.left ≡ left_by (length script.names) (λ n. []) (drop to script.lines) (λ n. left))) (sym steering)
+            (helm_step script lock.base valid order (steering_of old) from to lines first.seen later.0 under.played.so_far (λ n. []) left under.seats (λ n less. own_left script lock.base valid order (Some old) from first.seen under.played n less) cut
+            (λ n less. sym (same n (λ is. absurd (omega (arith, is, less)))) ∙ sym (append-nil (entries_of n later.0))) due (helm_known script lines later.0 clients (λ n other. (lines_all n other same))) moment)
+
+    -- and where it isn't
+    pub helm_cut : (old : Steersman) (from to whole most : ℕ) (lines : List Entry) (first after : SeatState) (under : IsUnderWay order script lock (Some old) from first) (later : Begins after.seen first.seen) (rest : ℕ → List Entry) → ((n : ℕ) → n ≢ helm_number script → entries_of n lines ≡ entries_of n later.0 ++ rest n)
+        → drop from script.lines ≡ lines ++ drop to script.lines → clients_below (length script.names) lines ≡ true → (stopped : IsStopped lock.base (steering_of old) whole most (first.seen ++ later.0)) → most ≤ ticks_to script.stop (steering_of old)
+        → ((left : List Entry) → left ≡ stopped_left script lock.base (steering_of old) whole most (first.seen ++ later.0) stopped
+        → KeepsMoment script.lines (length script.names) script.stop old.period (answerers (Some (steering_of old))) (length lock.base) (mailed_in lock.base) order under.played.so_far.rest later.0 (left_by (length script.names) rest (drop to script.lines) (λ n. left)))
+        → IsLawfulSoFar (schedule_with order script (Some (steering_of old)) lock.base) after.seen
+    helm_cut old from to whole most lines first after under later rest fronts cut clients stopped few moment =
+        subst (IsLawfulSoFar (schedule_with order script (Some (steering_of old)) lock.base)) (sym later.1)
+        (helm_step script lock.base valid order (steering_of old) from to lines first.seen later.0 under.played.so_far rest left under.seats (λ n less. own_left script lock.base valid order (Some old) from first.seen under.played n less) cut
+        (λ n less. fronts n (λ is. absurd (omega (arith, is, less))))
+        (helm_stopped order script lock.base (steering_of old) whole most (under.played.so_far.rest ++ later.0) (first.seen ++ later.0) (behind_opening old from first.seen later.0 under.played under.steered.0) under.steered.0 stopped few)
+        (helm_known script lines later.0 clients (λ n other. (rest n, fronts n other))) (moment left refl)).0
+      where
+        left : List Entry
+        left = stopped_left script lock.base (steering_of old) whole most (first.seen ++ later.0) stopped
+
+    -- all of a race
+    pub race_next : (old new : Steersman) (from : ℕ) (result : Result (Unit {0}) AllocError) (first after : SeatState) → order ≡ Race → (under : IsUnderWay order script lock (Some old) from first) → IsGathered lock after → GoesOn (IsPlayedBeside old.number (drop from script.lines) result) first after → result ≡ Ok tt
+        → steering_of new ≡ steering_of old → new.opened ≡ true → Steers lock.base new after.seen → new.ticks ≤ ticks_to script.stop (steering_of new) → IsUnderWay order script lock (Some new) (length script.lines) after
+    race_next old new from result first after race under gathered on ok steering opened steers few =
+        helm_next old new from (length script.lines) (drop from script.lines) first after under gathered on.whole on.later
+        (λ n other. grown_beside old.number (drop from script.lines) result first after under.whole on ok n (λ e. other (e ∙ under.steered.0)))
+        (to_last script.lines from) (omega arith) (all_end (λ line. nat_lt line.client (length script.names)) script.lines from (lines_clients (length script.names) 0 script.stop script.lines valid)) steering opened steers few
+        (race_moment order race)
+      where
+        race_moment : (order : Order) → order ≡ Race → KeepsMoment script.lines (length script.names) script.stop old.period (answerers (Some (steering_of old))) (length lock.base) (mailed_in lock.base) order under.played.so_far.rest on.later.0 (left_by (length script.names) (λ n. []) (drop (length script.lines) script.lines) (λ n. turns_left script.stop (Some new) lock.base (first.seen ++ on.later.0)))
+        race_moment Stamp is = absurd cc
+        race_moment Race is = tt
+
+    -- a tick where no line is left of its stamp or before
+    tick_keeps : (o : Order) (old : Steersman) (from : ℕ) (history later : History) (so : IsLawfulSoFar (schedule_with o script (Some (steering_of old)) lock.base) history) (heard : List Tick) (left : List Entry) → ((n : ℕ) → n < length script.names + 1 → so.left n ≡ left_for script (Some old) lock.base from history n)
+        → old.number ≡ length script.names → old.ticks < ticks_to script.stop (steering_of old) → IsBehind (Some (old.ticks * old.period)) (drop from script.lines) → ((n : ℕ) → n < length script.names → entries_of n later ≡ []) → Begins (tick_entries (steering_of old) heard old.ticks) later
+        → rises (2 * (old.ticks * old.period) + (suc old.number - length script.names)) (map (moment_in Stamp (length script.names) 1) left) ≡ true
+        → KeepsMoment script.lines (length script.names) script.stop old.period (answerers (Some (steering_of old))) (length lock.base) (mailed_in lock.base) o so.rest later (left_by (length script.names) (λ n. []) (drop from script.lines) (λ n. left))
+    tick_keeps Race old from history later so heard left is number more behind alone begins late = tt
+    tick_keeps Stamp old from history later so heard left is number more behind alone begins late =
+        turn_moment script.lines (length script.names) script.stop old.period (answerers (Some (steering_of old))) (length lock.base) (mailed_in lock.base) (old.ticks * old.period) (length script.names) (entry_of old.number (old.ticks * old.period) Fetch) due.0 (drop from script.lines) history later so (λ n. []) (λ n. left) (omega arith) (omega arith)
+        (is (length script.names) (omega arith) ∙ ap (λ b. cond b (entries_of (length script.names) (drop from script.lines)) (turns_left script.stop (Some old) lock.base history)) past ∙ due.1)
+        (ap (λ n. 2 * (old.ticks * old.period) + (suc n - length script.names)) number)
+        (λ n less. is n (omega (arith, less)) ∙ ap (λ b. cond b (entries_of n (drop from script.lines)) (turns_left script.stop (Some old) lock.base history)) (below n less))
+        (λ n less. sym (append-nil (entries_of n later) ∙ alone n less))
+        (all_end (λ line. nat_lt line.client (length script.names)) script.lines from (lines_clients (length script.names) 0 script.stop script.lines valid))
+        (behind_late (length script.names) 0 script.stop script.lines from (old.ticks * old.period) valid behind)
+        (subst (λ n. list_all (λ k. k == 2 * (old.ticks * old.period) + (suc n - length script.names)) (map (moment_in Stamp (length script.names) 1) later) ≡ true) number (front_one (length script.names) (steering_of old) heard old.ticks later begins))
+        (λ n past under. subst (λ n. rises (2 * (old.ticks * old.period) + (suc n - length script.names)) (map (moment_in Stamp (length script.names) 1) left) ≡ true) number late)
+      where
+        past : nat_lt (length script.names) (length script.names) ≡ false
+        past = grind (arith, nat_tests)
+
+        below : (n : ℕ) → n < length script.names → nat_lt n (length script.names) ≡ true
+        below n less = grind (arith, nat_tests, less)
+
+        first_turn : (heard : List Tick) (count : ℕ) → 0 < count → (due : List Entry) × (turns_from (answering (steering_of old)) old.number old.period heard old.ticks count ≡ entry_of old.number (old.ticks * old.period) Fetch ∷ due)
+        first_turn heard zero some = absurd (omega (arith, some))
+        first_turn heard (suc count) some = (_, refl)
+
+        due : (due : List Entry) × (turns_left script.stop (Some old) lock.base history ≡ entry_of old.number (old.ticks * old.period) Fetch ∷ due)
+        due = first_turn (heard_of lock.base old.number history) (ticks_to script.stop (steering_of old) - old.ticks) (omega (arith, more))
+
+    pub tick_next : (old new : Steersman) (from : ℕ) (first after : SeatState) → (under : IsUnderWay order script lock (Some old) from first) → IsGathered lock after → GoesOn (IsAlone old.number) first after → steering_of new ≡ steering_of old → new.opened ≡ true → new.ticks ≡ old.ticks + 1
+        → Steers lock.base new after.seen → old.ticks < ticks_to script.stop (steering_of old) → IsBehind (Some (old.ticks * old.period)) (drop from script.lines) → IsUnderWay order script lock (Some new) from after
+    tick_next old new from first after under gathered on steering opened count steers more behind =
+        helm_next old new from from [] first after under gathered on.whole on.later alone refl under.within refl steering opened steers (omega (arith, count, more, ap (λ helm. ticks_to script.stop helm) steering))
+        (tick_keeps order old from first.seen on.later.0 under.played.so_far (heard_of lock.base old.number (first.seen ++ on.later.0)) (turns_left script.stop (Some new) lock.base (first.seen ++ on.later.0)) under.played.left under.steered.0 more behind
+        (λ n less. alone n (λ is. absurd (omega (arith, is, less)))) ([], sym (append-nil on.later.0 ∙ tick_alone order script lock old new from first after under on steering opened count steers))
+        (turns_rise (answering (steering_of new)) (length script.names) 1 new.number new.period (heard_of lock.base new.number (first.seen ++ on.later.0)) new.ticks (ticks_to script.stop (steering_of new) - new.ticks) (2 * (old.ticks * old.period) + (suc old.number - length script.names)) low))
+      where
+        alone : (n : ℕ) → n ≢ helm_number script → entries_of n on.later.0 ≡ []
+        alone n other = grown (IsAlone old.number) first after under.whole on n (λ e. other (e ∙ under.steered.0))
+
+        next : new.ticks * new.period ≡ old.period + old.ticks * old.period
+        next = ap (λ n. n * new.period) (count ∙ omega arith) ∙ ap (λ (helm : Steering). suc old.ticks * helm.period) steering ∙ omega arith
+
+        low : 2 * (old.ticks * old.period) + (suc old.number - length script.names) ≤ 2 * (new.ticks * new.period) + (suc new.number - length script.names)
+        low = let same : new.number ≡ old.number = ap (λ (helm : Steering). helm.client) steering in omega (arith, next, same)
+
+    -- a tick that was cut off
+    pub tick_cut : (old new : Steersman) (from : ℕ) (first after : SeatState) → (under : IsUnderWay order script lock (Some old) from first) → GoesOn (IsAlone old.number) first after → IsStopped lock.base (steering_of old) new.ticks (old.ticks + 1) after.seen → old.ticks < ticks_to script.stop (steering_of old)
+        → IsBehind (Some (old.ticks * old.period)) (drop from script.lines) → IsLawfulSoFar (schedule_with order script (Some (steering_of old)) lock.base) after.seen
+    tick_cut old new from first after under on stops more behind =
+        helm_cut old from from new.ticks (old.ticks + 1) [] first after under on.later (λ n. []) (λ n other. sym (append-nil (entries_of n on.later.0) ∙ alone n other)) refl refl stopped (omega (arith, more))
+        (λ left is. tick_keeps order old from first.seen on.later.0 under.played.so_far (heard_of lock.base old.number (first.seen ++ on.later.0)) left under.played.left under.steered.0 more behind (λ n less. alone n (λ is. absurd (omega (arith, is, less))))
+        (begun_front lock.base (steering_of old) old.ticks first.seen on.later.0 stopped.left begun)
+        (subst (λ left. rises (2 * (old.ticks * old.period) + (suc old.number - length script.names)) (map (moment_in Stamp (length script.names) 1) left) ≡ true) (sym is)
+        (left_late (length script.names) lock.base (steering_of old) old.ticks new.ticks (ticks_to script.stop (steering_of old) - length (heard_of lock.base old.number (first.seen ++ on.later.0))) first.seen on.later.0 stopped begun
+        (omega (arith, under.steered.2.many, ap length (heard_append (mailed_in lock.base) old.number [] first.seen on.later.0), length-append (heard_of lock.base old.number first.seen) (heard_in (mailed_in lock.base) old.number first.seen on.later.0))))))
+      where
+        alone : (n : ℕ) → n ≢ helm_number script → entries_of n on.later.0 ≡ []
+        alone n other = grown (IsAlone old.number) first after under.whole on n (λ e. other (e ∙ under.steered.0))
+
+        stopped : IsStopped lock.base (steering_of old) new.ticks (old.ticks + 1) (first.seen ++ on.later.0)
+        stopped = subst (IsStopped lock.base (steering_of old) new.ticks (old.ticks + 1)) on.later.1 stops
+
+        begun : HasBegun lock.base (steering_of old) old.ticks first.seen on.later.0 stopped.left
+        begun = has_begun lock.base (steering_of old) old.ticks new.ticks first.seen on.later.0 under.steered.2.many
+            (subst (λ b. entries_of old.number first.seen ≡ opened_by b (steering_of old) ++ ticks_of (steering_of old) (heard_of lock.base old.number first.seen) old.ticks) under.steered.1 under.steered.2.own)
+            (only_own old.number on.later.0 (λ n other. grown (IsAlone old.number) first after under.whole on n other)) stopped
+
+    -- a race that was cut off
+    pub race_cut : {E : Type 0} {result : Result (Unit {0}) E} (old : Steersman) (from to whole most : ℕ) (all : List Entry) (first after : SeatState) → order ≡ Race → (under : IsUnderWay order script lock (Some old) from first) → all ≡ script.lines → from ≤ to → GoesOn (IsPlayedBeside old.number (take (to - from) (drop from all)) result) first after
+        → IsStopped lock.base (steering_of old) whole most after.seen → most ≤ ticks_to script.stop (steering_of old) → IsLawfulSoFar (schedule_with order script (Some (steering_of old)) lock.base) after.seen
+    race_cut {result = result} old from to whole most all first after race under same more went stopped few =
+        helm_cut old from to whole most lines first after under on.later (λ n. (rest n)) (λ n other. front n other) (ends script.lines from to more)
+        (all_part (λ line. nat_lt line.client (length script.names)) script.lines from (to - from) (lines_clients (length script.names) 0 script.stop script.lines valid)) (subst (IsStopped lock.base (steering_of old) whole most) on.later.1 stopped) few (λ left is. race_moment order race left)
+      where
+        lines : List Entry
+        lines = take (to - from) (drop from script.lines)
+
+        on : GoesOn (IsPlayedBeside old.number lines result) first after
+        on = subst (λ all. GoesOn (IsPlayedBeside old.number (take (to - from) (drop from all)) result) first after) same went
+
+        begins : (n : ℕ) → n ≢ helm_number script → Begins (entries_of n lines) (entries_of n on.later.0)
+        begins n other = (grown (IsPlayedBeside old.number lines result) first after under.whole on n (λ e. other (e ∙ under.steered.0))).front
+
+        rest_by : (n : ℕ) → Dec (n ≡ helm_number script) → List Entry
+        rest_by n (yes is) = []
+        rest_by n (no other) = (begins n other).0
+
+        rest : ℕ → List Entry
+        rest n = rest_by n (ℕ_discrete n (helm_number script))
+
+        front : (n : ℕ) → n ≢ helm_number script → entries_of n lines ≡ entries_of n on.later.0 ++ rest n
+        front n other = by (ℕ_discrete n (helm_number script))
+          where
+            by : (d : Dec (n ≡ helm_number script)) → entries_of n lines ≡ entries_of n on.later.0 ++ rest_by n d
+            by (yes is) = absurd (other is)
+            by (no other) = (begins n other).1
+
+        race_moment : (order : Order) → order ≡ Race → (left : List Entry) → KeepsMoment script.lines (length script.names) script.stop old.period (answerers (Some (steering_of old))) (length lock.base) (mailed_in lock.base) order under.played.so_far.rest on.later.0 (left_by (length script.names) rest (drop to script.lines) (λ n. left))
+        race_moment Stamp is left = absurd cc
+        race_moment Race is left = tt
 
 -- the lines from a place to the last
-pub to_end : (lines : List Entry) (from to : ℕ) → to ≡ length lines → take (to - from) (drop from lines) ≡ drop from lines
+to_end : (lines : List Entry) (from to : ℕ) → to ≡ length lines → take (to - from) (drop from lines) ≡ drop from lines
 to_end lines from to all = ap (λ to. take (to - from) (drop from lines)) all ∙ take_rest lines from
 
--- the same, with the order and the last place under other names
-pub lines_left : (order : Order) (script : Script) (lock : CommunityLock) (steersman : Option Steersman) (from to : ℕ) (result : Result (Unit {0}) AllocError) (first after : SeatState) → order ≡ Race → to ≡ length script.lines → are_lines (length script.names) 0 script.stop script.lines ≡ true
-    → IsUnderWay order script lock steersman from first → IsGathered lock after → GoesOn (IsPlayed (take (to - from) (drop from script.lines)) result) first after → result ≡ Ok tt → IsUnderWay order script lock steersman to after
-lines_left order script lock steersman from to result first after race all valid under gathered on ok =
-    subst (λ to. IsUnderWay order script lock steersman to after) (sym all)
-    (subst (λ order. IsUnderWay order script lock steersman (length script.lines) after) (sym race)
-    (lines_all script lock steersman from result first after valid (subst (λ order. IsUnderWay order script lock steersman from first) race under) gathered
-    (subst (λ lines. GoesOn (IsPlayed lines result) first after) (to_end script.lines from to all) on) ok))
-
-pub race_left : (order : Order) (script : Script) (lock : CommunityLock) (steersman : Option Steersman) (old new : Steersman) (from to : ℕ) (result : Result (Unit {0}) AllocError) (first after : SeatState) → order ≡ Race → to ≡ length script.lines → steersman ≡ Some old
-    → are_lines (length script.names) 0 script.stop script.lines ≡ true → IsUnderWay order script lock steersman from first → IsGathered lock after → GoesOn (IsPlayedBeside old.number (take (to - from) (drop from script.lines)) result) first after → result ≡ Ok tt → steering_of new ≡ steering_of old → new.opened ≡ true → Steers lock.base new after.seen
-    → IsUnderWay order script lock (Some new) to after
-race_left order script lock steersman old new from to result first after race all is valid under gathered on ok steering opened steers =
+-- all of a race, with the last place and the helm under other names
+pub race_over : (order : Order) (script : Script) (lock : CommunityLock) (valid : are_lines (length script.names) 0 script.stop script.lines ≡ true) (steersman : Option Steersman) (old new : Steersman) (from to : ℕ) (result : Result (Unit {0}) AllocError) (first after : SeatState) → order ≡ Race → to ≡ length script.lines
+    → steersman ≡ Some old → IsUnderWay order script lock steersman from first → IsGathered lock after → GoesOn (IsPlayedBeside old.number (take (to - from) (drop from script.lines)) result) first after → result ≡ Ok tt → steering_of new ≡ steering_of old → new.opened ≡ true → Steers lock.base new after.seen
+    → new.ticks ≤ ticks_to script.stop (steering_of new) → IsUnderWay order script lock (Some new) to after
+race_over order script lock valid steersman old new from to result first after race all is under gathered on ok steering opened steers few =
     subst (λ to. IsUnderWay order script lock (Some new) to after) (sym all)
-    (subst (λ order. IsUnderWay order script lock (Some new) (length script.lines) after) (sym race)
-    (race_under script lock old new from result first after valid (subst (λ order. IsUnderWay order script lock (Some old) from first) race (subst (λ s. IsUnderWay order script lock s from first) is under)) gathered
-    (subst (λ lines. GoesOn (IsPlayedBeside old.number lines result) first after) (to_end script.lines from to all) on) ok steering opened steers))
+    (race_next order script lock valid old new from result first after race (subst (λ s. IsUnderWay order script lock s from first) is under) gathered
+    (subst (λ lines. GoesOn (IsPlayedBeside old.number lines result) first after) (to_end script.lines from to all) on) ok steering opened steers few)

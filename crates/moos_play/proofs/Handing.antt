@@ -13,19 +13,14 @@ use Rattle.moos_post.specs.declared.entry.Entry.{Entry}
 use Rattle.moos_post.specs.History.{History}
 use Rattle.moos_play.specs.declared.playing.Play.{Play}
 use Rattle.moos_play.specs.declared.steersman.Steersman.{Steersman}
-use Rattle.moos_lawful.specs.Schedules.{entries_below}
 use Rattle.moos_client.specs.Hearing.{heard_in}
-use Rattle.moos_play.specs.Lawful.{heard_of, helm_number, IsLawfulBeside, iterations, iterations_of, known_clients, Steering, ticks_to, mailed_in}
-use Rattle.moos_play.specs.Plays.{handed, handed_of, HasCompletion, IsBetween, IsCompletable, IsPlayedOut, IsStampOver, iterations_made, left_in, made_by, stamp_next, StaysSeated, untold_in}
+use Rattle.moos_play.specs.Lawful.{heard_of, helm_number, iterations, iterations_of, Steering, ticks_to, mailed_in}
+use Rattle.moos_play.specs.Plays.{handed, handed_of, IsBetween, IsStampOver, iterations_made, made_by, stamp_next, StaysSeated, untold_in}
 use Rattle.moos_step.specs.Steps.{CommunityLock}
-use Rattle.moos_play.specs.Steered.{GoesOnWith, helm_of, IsAtPlay, IsUnderWay, iterations_in, KeepsTime, StandsAt, steering_of, Steers, tick_due, ticks_left, told_in}
-use Rattle.moos_play.proofs.Below.{lawful_alone}
-use Rattle.moos_play.proofs.Completing.{Completion, completion}
-use Rattle.moos_play.proofs.Ending.{lawful_end, left_same, made_over, over_ticks, ticks_made, under_way}
+use Rattle.moos_play.specs.Steered.{GoesOnWith, HasHeard, helm_of, IsAtPlay, IsUnderWay, iterations_in, StandsAt, steering_of, Steers, tick_due, ticks_left, told_in}
 use Rattle.moos_client.proofs.Hearing.{heard_append}
 use Rattle.moos_play.proofs.Hearing.{iterations_many, iterations_stay}
 use Rattle.script_reader.specs.declared.script.Order.{Order}
-use Rattle.script_reader.specs.declared.script.Order.TheVariants.{Stamp, Race}
 use Rattle.script_reader.specs.declared.script.Script.{Script}
 use Rattle.script_reader.specs.Validity.{IsValid}
 
@@ -92,20 +87,9 @@ handed_under order script lock (Some s) from first under = record {
   whole = under.whole;
   within = under.within;
   seats = under.seats;
-  rest = under.rest;
-  opened = under.opened;
-  own = under.own;
+  played = record { so_far = under.played.so_far; left = under.played.left };
   steered = (under.steered.0, under.steered.1, handed_steers lock.base s first.seen under.steered.2);
-  timed = by order under.timed;
-  named = under.named;
 }
-  where
-    known : History
-    known = entries_below (known_clients script (Some s)) under.rest
-
-    by : (order : Order) → KeepsTime order script (Some s) from known → KeepsTime order script (Some (handed_of s)) from known
-    by Stamp timed = record { left = timed.left; early = timed.early }
-    by Race timed = tt
 
 -- so does the run
 pub handed_at_play : (script : Script) (play : Play) → IsAtPlay script play → IsAtPlay script (handed play)
@@ -139,10 +123,6 @@ helm_handed (Some s) = refl
 made_handed : (names : List (List ℕ)) (history : History) (steersman : Option Steersman) → made_by names history (option_map handed_of steersman) ≡ made_by names history steersman
 made_handed names history None = refl
 made_handed names history (Some s) = refl
-
--- what holds of two runs under other names
-pub at_ends : (R : Play → Play → Type 0) (before start after last : Play) → before ≡ start → last ≡ after → R before after → R start last
-at_ends R before start after last same is so = subst (λ (play : Play). R play last) same (subst (R before) (sym is) so)
 
 -- a run that goes on twice
 pub stays_twice : (before middle after : Play) → StaysSeated before middle → StaysSeated middle after → StaysSeated before after
@@ -199,31 +179,8 @@ round_iterations before after between at stays on told =
     (subst (λ (script : Script). StandsAt before.lock.base (helm_number script) after.steersman after.first.seat.seen) on.script
     (subst (λ (lock : CommunityLock). StandsAt lock.base (helm_number after.script.now) after.steersman after.first.seat.seen) on.lock at.under.steered))
 
--- the end of a run that is played round by round
-pub over_now : (play last : Play) → IsBetween play → left_in play ≡ 0 → last ≡ play → IsPlayedOut last
-over_now play last between none is = subst IsPlayedOut (sym is) (record {
-  lawful = lawful;
-  alone = λ named. lawful_alone play.order play.script.now (helm_of play.steersman) play.lock.base play.first.seat.seen named lawful;
-  iterations =
-      made_over play.lock.base (helm_number play.script.now) play.script.now.stop play.first.seat.seen play.steersman between.at_play.under.steered
-      (over_ticks play.script.now play play.steersman between.at_play.period (omega (arith, none)));
-})
-  where
-    lawful : IsLawfulBeside play.order play.script.now (helm_of play.steersman) play.lock.base play.first.seat.seen
-    lawful = lawful_end play.order play.script.now play (helm_of play.steersman) play.lock.base play.first.seat.seen between.valid.lines between.at_play none refl refl refl refl
-
--- a helm, where there is one, has made no more ticks than it has heard, nor than there are up to a stamp
-abbrev pub HasHeard : List (List ℕ) → ℕ → ℕ → Option Steersman → History → Type 0
-HasHeard names number stop None history = Unit {0}
-HasHeard names number stop (Some s) history = (s.number ≡ number) × (s.ticks ≤ length (heard_of names s.number history)) × (s.ticks ≤ ticks_to stop (steering_of s))
-
-pub has_heard : (names : List (List ℕ)) (number stop : ℕ) (steersman : Option Steersman) (history : History) → StandsAt names number steersman history → IfSome steersman (λ helm. (1 ≤ helm.period) × (helm.ticks ≤ ticks_to stop (steering_of helm)))
-    → HasHeard names number stop steersman history
-has_heard names number stop None history so period = tt
-has_heard names number stop (Some s) history so period = (so.0, omega (arith, so.2.many), period.1)
-
 -- the iterations of a history that goes on begin with those so far
-iterations_more : (names : List (List ℕ)) (number stop : ℕ) (steersman : Option Steersman) (history rest : History) → HasHeard names number stop steersman history
+pub iterations_more : (names : List (List ℕ)) (number stop : ℕ) (steersman : Option Steersman) (history rest : History) → HasHeard names number stop steersman history
     → (more : List Iteration) × (iterations (helm_of steersman) stop (heard_of names number (history ++ rest)) ≡ made_by names history steersman ++ more)
 iterations_more names number stop None history rest heard = ([], refl)
 iterations_more names number stop (Some s) history rest heard =
@@ -232,25 +189,3 @@ iterations_more names number stop (Some s) history rest heard =
       ap (λ n. iterations_of (plan_of s.helm) (heard_of names n (history ++ rest)) (ticks_to stop (steering_of s))) (sym heard.0) ∙ sym (take-append-drop s.ticks all)
           ∙ ap (λ front. front ++ drop s.ticks all) (iterations_before names (plan_of s.helm) s.number s.ticks (ticks_to stop (steering_of s)) history rest heard.2 heard.1),
     )
-
--- a run whose history may become lawful
-pub completable : (script : Script) (play : Play) → Completion play.order script (helm_of play.steersman) play.lock.base play.first.seat.seen → HasHeard play.lock.base (helm_number script) script.stop play.steersman play.first.seat.seen → IsCompletable script play
-completable script play whole heard =
-    let made = iterations_more play.lock.base (helm_number script) script.stop play.steersman play.first.seat.seen whole.rest heard in
-    record {
-      rest = whole.rest;
-      known = whole.known;
-      lawful = whole.lawful;
-      alone = λ named. lawful_alone play.order script (helm_of play.steersman) play.lock.base (play.first.seat.seen ++ whole.rest) named whole.lawful;
-      more = made.0;
-      iterations = made.1;
-    }
-
--- the history between two rounds is the front of a lawful one
-pub has_completion : (play : Play) → IsBetween play → HasCompletion play
-has_completion play between =
-    let script = play.script.now in
-    completable script play
-    (completion (left_in play) play.order script (helm_of play.steersman) play.lock.base (ticks_made play.steersman) (drop play.from script.lines) play.first.seat.seen
-    (under_way play.order script play.lock play.steersman play.from play.first.seat between.valid.lines between.at_play.under between.at_play.period) (left_same script play))
-    (has_heard play.lock.base (helm_number script) script.stop play.steersman play.first.seat.seen between.at_play.under.steered between.at_play.period)

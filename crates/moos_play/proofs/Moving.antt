@@ -6,15 +6,14 @@ use Rattle.std.proofs.lemmas.Bool.Decides.{nat_tests}
 use Rattle.std.proofs.Math.Nat.{mul-le-mul}
 use Rattle.helm_core.specs.declared.iteration.Iteration.{Iteration}
 use Rattle.helm_core.specs.Helms.{plan_of}
-use Rattle.moos_client.specs.Calls.{entries_of}
 use Rattle.moos_post.specs.declared.entry.Entry.{Entry}
 use Rattle.moos_post.specs.History.{History}
 use Rattle.moos_play.specs.declared.playing.Play.{Play}
 use Rattle.moos_play.specs.declared.round_made.Round.{Round}
 use Rattle.moos_play.specs.declared.steersman.Steersman.{Steersman}
-use Rattle.moos_play.specs.Lawful.{heard_of, helm_number, opening_of, Steering, ticks_of, ticks_to}
-use Rattle.moos_play.specs.Plays.{earliest, HasNoTick, HasSteeredSoFar, HasTick, HasTicked, HasTurn, handed, IsBetween, IsStampOver, iterations_made, left_in, made_by, next_stamp, stamp_due, stamp_next}
-use Rattle.moos_play.specs.Steered.{GoesOnWith, helm_of, IsBehind, KeepsMoves, left_of, MovesAt, period_in, steering_of, StandsAt, tick_due, ticks_in, ticks_left}
+use Rattle.moos_play.specs.Lawful.{heard_of, Steering, ticks_to}
+use Rattle.moos_play.specs.Plays.{earliest, HasNoTick, HasTick, HasTurn, handed, IsBetween, IsStampOver, iterations_made, left_in, made_by, next_stamp, stamp_due, stamp_next}
+use Rattle.moos_play.specs.Steered.{GoesOnWith, helm_of, IsBehind, KeepsMoves, left_of, MovesAt, period_in, steering_of, tick_due, ticks_in, ticks_left}
 use Rattle.moos_play.proofs.Handing.{left_handed, next_handed}
 use Rattle.moos_play.proofs.Hearing.{iterations_many}
 use Rattle.moos_play.proofs.Rounding.{due_is}
@@ -204,6 +203,11 @@ pub moves_lines : (order : Order) (stamp : ℕ) (before after : Play) → before
 moves_lines Stamp stamp before after less same = record { lines = less; ticks = inl (ap ticks_in same) }
 moves_lines Race stamp before after less same = tt
 
+-- any in a race
+pub moves_race : (order : Order) (stamp : ℕ) (before after : Play) → order ≡ Race → KeepsMoves order stamp before after
+moves_race Stamp stamp before after race = absurd cc
+moves_race Race stamp before after race = tt
+
 -- a tick that is due
 pub moves_tick : (script : Script) (play after : Play) (old new : Steersman) (result : Result (Unit {0}) AllocError) → play.steersman ≡ Some old → after.steersman ≡ Some new → after.from ≡ play.from → tick_due script.stop play.steersman ≢ None → IsBehind (tick_due script.stop play.steersman) (drop play.from script.lines)
     → OnOk result ((new.opened ≡ true) × (new.ticks ≡ old.ticks + 1)) → OnOk result (KeepsMoves play.order (stamp_due script play) play after)
@@ -259,7 +263,7 @@ moves_twice Stamp stamp before middle after on period one other = record { lines
 -- ---- the turn of a round
 
 -- there is an iteration a tick
-made_many : (names : List (List ℕ)) (history : History) (s : Option Steersman) → length (made_by names history s) ≡ ticks_in s
+pub made_many : (names : List (List ℕ)) (history : History) (s : Option Steersman) → length (made_by names history s) ≡ ticks_in s
 made_many names history None = refl
 made_many names history (Some s) = iterations_many (plan_of s.helm) (heard_of names s.number history) s.ticks
 
@@ -346,9 +350,9 @@ ticks_handed None = refl
 ticks_handed (Some s) = refl
 
 -- the turn of a round
-pub turn_here : (before middle after : Play) (round : Round) → IsBetween before → GoesOnWith before middle → GoesOnWith before after → KeepsMoves before.order (stamp_due before.script.now before) before middle → KeepsMoves middle.order round.stamp middle after → IsStampOver after round.stamp
+pub turn_here : (before after : Play) (round : Round) → IsBetween before → GoesOnWith before after → KeepsMoves before.order round.stamp before after → IsStampOver after round.stamp
     → round.stamp ≡ next_stamp before → iterations_made (handed after) ≡ iterations_made before ++ round.iterations → HasTurn before.order before (handed after) round
-turn_here before middle after round between first on one other over stamp made = by before.order refl
+turn_here before after round between on kept over stamp made = by before.order refl
   where
     by : (order : Order) → before.order ≡ order → HasTurn order before (handed after) round
     by Race order = tt
@@ -361,10 +365,7 @@ turn_here before middle after round between first on one other over stamp made =
         script = before.script.now
 
         moves : MovesAt round.stamp before after
-        moves =
-            moves_twice Stamp round.stamp before middle after first (some_period script.stop before.steersman between.at_play.period)
-            (subst (λ stamp. MovesAt stamp before middle) (sym stamp) (subst (λ order. KeepsMoves order (stamp_due script before) before middle) order one))
-            (subst (λ order. KeepsMoves order round.stamp middle after) (first.order ∙ order) other)
+        moves = subst (λ order. KeepsMoves order round.stamp before after) order kept
 
         due_same : stamp_due script after ≡ next_stamp after
         due_same = ap (λ script. stamp_due script after) (sym on.script)
@@ -394,19 +395,3 @@ turn_here before middle after round between first on one other over stamp made =
             let both = length-append (iterations_made before) round.iterations in
             let start = made_many before.lock.base before.first.seat.seen before.steersman in
             omega (arith, all, both, start)
-
--- ---- the helm so far
-
--- between two rounds the helm has made as many ticks as there are iterations, and heard as many mails
-pub has_steered : (play : Play) → IsBetween play → HasSteeredSoFar play
-has_steered play between = at play.steersman between.at_play.under.steered
-  where
-    at : (s : Option Steersman) → StandsAt play.lock.base (helm_number play.script.now) s play.first.seat.seen
-        → IfSome (helm_of s) (λ helm. HasTicked play.lock.base helm (length (made_by play.lock.base play.first.seat.seen s)) play.first.seat.seen)
-    at None stands = tt
-    at (Some s) stands =
-        let many = made_many play.lock.base play.first.seat.seen (Some s) in
-        subst (λ n. HasTicked play.lock.base (steering_of s) n play.first.seat.seen) (sym many) (record {
-          own = subst (λ b. entries_of s.number play.first.seat.seen ≡ cond b (opening_of (steering_of s)) [] ++ ticks_of (steering_of s) (heard_of play.lock.base s.number play.first.seat.seen) s.ticks) stands.1 stands.2.own;
-          many = stands.2.many;
-        })

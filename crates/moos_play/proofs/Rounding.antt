@@ -1,6 +1,12 @@
 -- A run after one of its rounds.
-use Rattle.std.proofs.Common.{◌≡◌, ◌≢◌, ℕ, suc, ◌+◌, ◌*◌, ◌/◌, ◌<◌, ◌≤◌, Bool, true, false, cond, List, [], ◌∷◌, ◌++◌, length, length-append, take, drop, Option, None, Some, Ok, Err, OnOk, Result, nat_le, nat_lt, refl, sym, ap, subst, arith}
-use Rattle.std.specs.Prelude.{IfSome}
+use Rattle.moos_client.specs.Calls.{SeatState}
+use Rattle.moos_post.specs.History.{History}
+use Rattle.script_reader.specs.declared.script.Order.TheVariants.{Race}
+use Rattle.moos_lawful.specs.Schedules.{IsLawfulSoFar}
+use Rattle.moos_play.specs.Schedules.{schedule_with}
+use Rattle.moos_play.specs.Plays.{IsCutOff}
+use Rattle.std.proofs.Common.{◌≡◌, ◌≢◌, ℕ, suc, ◌+◌, ◌*◌, ◌/◌, ◌<◌, ◌≤◌, Bool, true, false, cond, List, [], ◌∷◌, ◌++◌, length, length-append, take, drop, Option, None, Some, Ok, Err, OnOk, Result, nat_le, nat_lt, refl, sym, ap, subst, arith, ◌∙◌, ◌-◌}
+use Rattle.std.specs.Prelude.{IfSome, OnErr}
 use Rattle.std.specs.List.{list_all}
 use Rattle.std.specs.declared.alloc.AllocError.{AllocError}
 use Rattle.std.proofs.lemmas.Bool.{and_parts}
@@ -10,10 +16,10 @@ use Rattle.moos_post.specs.declared.entry.Entry.{Entry}
 use Rattle.moos_step.specs.declared.player.Player.{Player}
 use Rattle.moos_play.specs.declared.playing.Play.{Play}
 use Rattle.moos_play.specs.declared.steersman.Steersman.{Steersman}
-use Rattle.moos_play.specs.Lawful.{Steering, ticks_to}
-use Rattle.moos_step.specs.Steps.{GoesOn, IsAlone, IsGathered}
-use Rattle.moos_play.specs.Steered.{IsAtPlay, IsBehind, IsUnderWay, steering_of, Steers, tick_due}
-use Rattle.moos_play.proofs.Coming.{tick_under}
+use Rattle.moos_play.specs.Lawful.{Steering, ticks_to, heard_of, helm_number}
+use Rattle.moos_step.specs.Steps.{GoesOn, IsAlone, IsGathered, IsPlayedBeside}
+use Rattle.moos_play.specs.Steered.{IsAtPlay, IsBehind, IsUnderWay, steering_of, Steers, tick_due, IsStopped, HasHeard, parts}
+use Rattle.moos_play.proofs.Coming.{race_cut, tick_cut, tick_next}
 use Rattle.script_reader.specs.declared.script.Script.{Script}
 use Rattle.script_reader.specs.Validity.{are_lines}
 
@@ -46,7 +52,7 @@ tick_at_play script play first old new (Ok _) valid at is due behind gathered on
     let left = due_left script.stop old some in
     let period = subst (λ s. IfSome s (λ helm. (1 ≤ helm.period) × (helm.ticks ≤ ticks_to script.stop (steering_of helm)))) is at.period in
     record {
-      under = tick_under play.order script play.lock old new play.from play.first.seat first.seat valid (subst (λ s. IsUnderWay play.order script play.lock s play.from play.first.seat) is at.under) gathered on steering reached.0 reached.1 steers left
+      under = tick_next play.order script play.lock valid old new play.from play.first.seat first.seat (subst (λ s. IsUnderWay play.order script play.lock s play.from play.first.seat) is at.under) gathered on steering reached.0 reached.1 steers left
           (subst (λ tick. IsBehind tick (drop play.from script.lines)) (due_is script.stop old some) (subst (λ s. IsBehind (tick_due script.stop s) (drop play.from script.lines)) is behind));
       calls = at.calls;
       period = (
@@ -54,6 +60,51 @@ tick_at_play script play first old new (Ok _) valid at is due behind gathered on
         omega (arith, reached.1, left, ap (λ (helm : Steering). ticks_to script.stop helm) steering),
       );
     }
+
+-- what a helm that has stopped has heard
+stopped_heard : (names : List (List ℕ)) (number stop most : ℕ) (old new : Steersman) (history : History) → steering_of new ≡ steering_of old → old.number ≡ number → IsStopped names (steering_of old) new.ticks most history → most ≤ ticks_to stop (steering_of old)
+    → HasHeard names number stop (Some new) history
+stopped_heard names number stop most old new history steering is stopped few = (
+  ap (λ (helm : Steering). helm.client) steering ∙ is,
+  subst (λ (helm : Steering). new.ticks ≤ length (heard_of names helm.client history)) (sym steering) stopped.made,
+  omega (arith, stopped.made, stopped.few, few, ap (λ (helm : Steering). ticks_to stop helm) steering),
+)
+
+-- the run after a tick that was cut off
+pub tick_stops : (script : Script) (play : Play) (first : Player) (old new : Steersman) (result : Result (Unit {0}) AllocError) → are_lines (length script.names) 0 script.stop script.lines ≡ true → IsAtPlay script play → play.steersman ≡ Some old
+    → tick_due script.stop play.steersman ≢ None → IsBehind (tick_due script.stop play.steersman) (drop play.from script.lines) → GoesOn (IsAlone old.number) play.first.seat first.seat → steering_of new ≡ steering_of old
+    → (old.opened ≡ true → OnErr result (IsStopped play.lock.base (steering_of old) new.ticks (old.ticks + 1) first.seat.seen)) → OnErr result (IsCutOff script (record play { first = first; steersman = Some new }))
+tick_stops script play first old new (Ok _) valid at is due behind on steering stops = tt
+tick_stops script play first old new (Err _) valid at is due behind on steering stops =
+    let under = subst (λ s. IsUnderWay play.order script play.lock s play.from play.first.seat) is at.under in
+    let some = subst (λ (s : Option Steersman). tick_due script.stop s ≢ None) is due in
+    let left = due_left script.stop old some in
+    let stopped = stops under.steered.1 in
+    record {
+      so_far = subst (λ helm. IsLawfulSoFar (schedule_with play.order script (Some helm) play.lock.base) first.seat.seen) (sym steering)
+          (tick_cut play.order script play.lock valid old new play.from play.first.seat first.seat under on stopped left
+          (subst (λ tick. IsBehind tick (drop play.from script.lines)) (due_is script.stop old some) (subst (λ s. IsBehind (tick_due script.stop s) (drop play.from script.lines)) is behind)));
+      room = under.seats;
+      heard = stopped_heard play.lock.base (helm_number script) script.stop (old.ticks + 1) old new first.seat.seen steering under.steered.0 stopped (omega (arith, left));
+    }
+
+-- and after a race
+pub race_stops : {E : Type 0} {result : Result (Unit {0}) E} (script : Script) (play : Play) (after : SeatState) (old new : Steersman) (to most : ℕ) (all : List Entry) → play.order ≡ Race → are_lines (length script.names) 0 script.stop script.lines ≡ true → IsAtPlay script play
+    → play.steersman ≡ Some old → all ≡ script.lines → play.from ≤ to → GoesOn (IsPlayedBeside old.number (take (to - play.from) (drop play.from all)) result) play.first.seat after → steering_of new ≡ steering_of old
+    → (old.opened ≡ true → IsStopped play.lock.base (steering_of old) new.ticks most after.seen) → most ≤ ticks_to script.stop (steering_of old)
+    → IsLawfulSoFar (schedule_with play.order script (Some (steering_of new)) play.lock.base) after.seen × (parts script (Some new) ≤ length play.lock.base) × HasHeard play.lock.base (helm_number script) script.stop (Some new) after.seen
+race_stops script play after old new to most all race valid at is same more went steering stops few = (
+  subst (λ helm. IsLawfulSoFar (schedule_with play.order script (Some helm) play.lock.base) after.seen) (sym steering)
+      (race_cut play.order script play.lock valid old play.from to new.ticks most all play.first.seat after race under same more went stopped few),
+  under.seats,
+  stopped_heard play.lock.base (helm_number script) script.stop most old new after.seen steering under.steered.0 stopped few,
+)
+  where
+    under : IsUnderWay play.order script play.lock (Some old) play.from play.first.seat
+    under = subst (λ s. IsUnderWay play.order script play.lock s play.from play.first.seat) is at.under
+
+    stopped : IsStopped play.lock.base (steering_of old) new.ticks most after.seen
+    stopped = stops under.steered.1
 
 -- as many counts of calls as before
 pub as_many : (n : ℕ) (before after : List ℕ) → length after ≡ length before → n ≡ length before → length (take n (after ++ drop (length after) before)) ≡ n

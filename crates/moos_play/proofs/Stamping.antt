@@ -17,16 +17,16 @@ use Rattle.moos_play.specs.declared.playing.Play.{Play}
 use Rattle.moos_play.specs.declared.steersman.Steersman.{Steersman}
 use Rattle.moos_lawful.specs.Schedules.{clients_below}
 use Rattle.moos_play.specs.Lawful.{entries_from, heard_of, helm_number, KeepsStamp, known_clients, Steering, tick_entries, ticks_of}
-use Rattle.moos_play.specs.Plays.{AddsAt, earliest, further_in, helm_in, history_in, known_clients_in, next_stamp, stamp_due, stamp_next}
+use Rattle.moos_play.specs.Plays.{AddsAt, earliest, further_in, helm_in, history_in, known_clients_in, next_stamp, stamp_due, stamp_next, MayPlay, next_tick}
 use Rattle.moos_step.specs.Steps.{GoesOn, IsAlone, IsPlayed, IsPlayedBeside, IsWhole}
 use Rattle.moos_play.specs.Steered.{comes_before, GoesOnWith, helm_of, IsBehind, IsDue, IsStopped, IsUnderWay, opened_by, steering_of, Steers, tick_due}
-use Rattle.moos_play.proofs.Below.{below_raised, both_below, from_more, known_helm, known_more, tick_below}
-use Rattle.moos_play.proofs.Coming.{all_part, lines_clients, tick_alone}
+use Rattle.moos_play.proofs.Below.{below_raised, both_below, from_more, known_helm, known_more, tick_below, beside_pass}
+use Rattle.moos_play.proofs.Stepping.{all_part, lines_clients}
+use Rattle.moos_play.proofs.Coming.{tick_alone}
 use Rattle.moos_step.proofs.Growing.{grown}
 use Rattle.moos_client.proofs.Histories.{only_own, front_pass, fronts_pass}
-use Rattle.moos_play.proofs.Remaining.{beside_pass}
 use Rattle.moos_play.proofs.Rounding.{due_is}
-use Rattle.moos_play.proofs.Unfinished.{begun_front, has_begun}
+use Rattle.moos_play.proofs.Turns.{begun_front, has_begun}
 use Rattle.script_reader.specs.declared.script.Order.{Order}
 use Rattle.script_reader.specs.declared.script.Order.TheVariants.{Stamp, Race}
 use Rattle.script_reader.specs.declared.script.Script.{Script}
@@ -62,18 +62,6 @@ all_stamped order stamp number from before after all adds =
 pub none_further : (before after : Play) (stamp : ℕ) → GoesOnWith before after → AddsAt before.order stamp (known_clients_in before) (history_in before) (history_in after) → further_in after ≡ further_in before
 none_further before after stamp on adds =
     (λ i. entries_from (known_clients (on.script i) (on.helm i)) (history_in after)) ∙ ap (entries_from (known_clients_in before)) adds.later.1 ∙ from_more (known_clients_in before) (history_in before) adds.later.0 adds.known
-
--- the entries of a round: those of its first step, and those of the others
-pub round_adds : (play before middle after last : Play) (stamp : ℕ) → before ≡ play → stamp ≡ next_stamp play → AddsAt before.order (stamp_due play.script.now before) (known_clients play.script.now (helm_in before)) (history_in before) (history_in middle)
-    → GoesOnWith before middle → AddsAt middle.order stamp (known_clients_in middle) (history_in middle) (history_in after) → history_in last ≡ history_in after → AddsAt play.order stamp (known_clients_in play) (history_in play) (history_in last)
-round_adds play before middle after last stamp same stamp_is first on others last_is =
-    subst (AddsAt play.order stamp (known_clients_in play) (history_in play)) (sym last_is)
-    (adds_twice play.order stamp (known_clients_in play) (history_in play) (history_in middle) (history_in after)
-    (subst (λ stamp. AddsAt play.order stamp (known_clients_in play) (history_in play) (history_in middle)) (sym stamp_is)
-    (subst (λ (before : Play). AddsAt before.order (stamp_due play.script.now before) (known_clients play.script.now (helm_in before)) (history_in before) (history_in middle)) same first))
-    (subst (λ (play : Play). AddsAt play.order stamp (known_clients_in play) (history_in middle) (history_in after)) same
-    (subst (λ order. AddsAt order stamp (known_clients_in before) (history_in middle) (history_in after)) on.order
-    (subst (λ number. AddsAt middle.order stamp number (history_in middle) (history_in after)) (λ i. known_clients (on.script i) (on.helm i)) others))))
 
 -- lines are entries of the script's clients
 lines_known : {E : Type 0} (script : Script) (helm : Option Steering) (from n : ℕ) (result : Result (Unit {0}) E) (first after : SeatState) → are_lines (length script.names) 0 script.stop script.lines ≡ true → IsWhole first
@@ -119,36 +107,32 @@ tick_stamp lines tick stop from behind = by (drop from lines) refl behind
     by [] is behind = ap (λ next. earliest stop (Some tick) (option_map (λ (line : Entry). line.stamp) next)) (no_line lines from is)
     by (line ∷ left) is behind = ap (λ next. earliest stop (Some tick) (option_map (λ (line : Entry). line.stamp) next)) (next_line lines from line left is) ∙ ap (λ b. cond b tick line.stamp) behind
 
--- lines that are due are played
-pub lines_add : {E : Type 0} {result : Result (Unit {0}) E} (order : Order) (script : Script) (helm : Option Steering) (tick : Option ℕ) (from to : ℕ) (all : List Entry) (first after : SeatState) → are_lines (length script.names) 0 script.stop script.lines ≡ true → IsWhole first
-    → all ≡ script.lines → GoesOn (IsPlayed (take (to - from) (drop from all)) result) first after → IsDue script.lines tick from to → from < to
-    → AddsAt order (stamp_next order script.stop tick (option_map (λ line. line.stamp) (slice_get script.lines from))) (known_clients script helm) first.seen after.seen
-lines_add {result = result} order script helm tick from to all first after valid whole same went due some = record { later = on.later; stamped = stamped order; known = lines_known script helm from (to - from) result first after valid whole on }
+-- lines that may be played are played
+pub lines_add : {E : Type 0} {result : Result (Unit {0}) E} (play : Play) (to : ℕ) (all : List Entry) (after : SeatState) → are_lines (length play.script.now.names) 0 play.script.now.stop play.script.now.lines ≡ true → IsWhole play.first.seat → all ≡ play.script.now.lines
+    → GoesOn (IsPlayed (take (to - play.from) (drop play.from all)) result) play.first.seat after → MayPlay play.order play to → play.from < to → AddsAt play.order (next_stamp play) (known_clients_in play) play.first.seat.seen after.seen
+lines_add {result = result} play to all after valid whole same went may some =
+    record { later = on.later; stamped = stamped play.order may; known = lines_known script (helm_of play.steersman) play.from (to - play.from) result play.first.seat after valid whole on }
   where
+    script : Script
+    script = play.script.now
+
     lines : List Entry
-    lines = take (to - from) (drop from script.lines)
+    lines = take (to - play.from) (drop play.from script.lines)
 
-    on : GoesOn (IsPlayed lines result) first after
-    on = subst (λ all. GoesOn (IsPlayed (take (to - from) (drop from all)) result) first after) same went
+    on : GoesOn (IsPlayed lines result) play.first.seat after
+    on = subst (λ all. GoesOn (IsPlayed (take (to - play.from) (drop play.from all)) result) play.first.seat after) same went
 
-    stamped : (order : Order) → KeepsStamp order (stamp_next order script.stop tick (option_map (λ line. line.stamp) (slice_get script.lines from))) on.later.0
-    stamped Race = tt
-    stamped Stamp =
-        subst (λ stamp. list_all (λ (entry : Entry). entry.stamp == stamp) on.later.0 ≡ true) (sym (due_stamp script.lines tick script.stop from to due some))
-        (fronts_pass (λ entry. entry.stamp == due.stamp) lines on.later.0 (λ n. (grown (IsPlayed lines result) first after whole on n).front) due.one)
+    stamped : (order : Order) → MayPlay order play to → KeepsStamp order (stamp_next order script.stop (next_tick play) (option_map (λ line. line.stamp) (slice_get script.lines play.from))) on.later.0
+    stamped Race may = tt
+    stamped Stamp due =
+        subst (λ stamp. list_all (λ (entry : Entry). entry.stamp == stamp) on.later.0 ≡ true) (sym (due_stamp script.lines (next_tick play) script.stop play.from to due some))
+        (fronts_pass (λ entry. entry.stamp == due.stamp) lines on.later.0 (λ n. (grown (IsPlayed lines result) play.first.seat after whole on n).front) due.one)
 
 -- in a race the entries may have any stamp
 any_stamp : (order : Order) (stamp : ℕ) (entries : History) → order ≡ Race → KeepsStamp order stamp entries
 any_stamp order stamp entries race = subst (λ order. KeepsStamp order stamp entries) (sym race) tt
 
--- in a race the lines that are left are played
-pub left_add : {E : Type 0} {result : Result (Unit {0}) E} (order : Order) (script : Script) (helm : Option Steering) (stamp from to : ℕ) (all : List Entry) (first after : SeatState) → order ≡ Race → are_lines (length script.names) 0 script.stop script.lines ≡ true → IsWhole first
-    → all ≡ script.lines → GoesOn (IsPlayed (take (to - from) (drop from all)) result) first after → AddsAt order stamp (known_clients script helm) first.seen after.seen
-left_add {result = result} order script helm stamp from to all first after race valid whole same went =
-    let on = subst (λ all. GoesOn (IsPlayed (take (to - from) (drop from all)) result) first after) same went in
-    record { later = on.later; stamped = any_stamp order stamp on.later.0 race; known = lines_known script helm from (to - from) result first after valid whole on }
-
--- and the helm may make ticks beside them
+-- in a race the lines that are left are played, and the helm may make ticks beside them
 pub race_add : {E : Type 0} {result : Result (Unit {0}) E} (order : Order) (script : Script) (s : Steersman) (stamp from to : ℕ) (all : List Entry) (first after : SeatState) → order ≡ Race → are_lines (length script.names) 0 script.stop script.lines ≡ true → IsWhole first
     → s.number ≡ helm_number script → all ≡ script.lines → GoesOn (IsPlayedBeside s.number (take (to - from) (drop from all)) result) first after → AddsAt order stamp (known_clients script (Some s)) first.seen after.seen
 race_add {result = result} order script s stamp from to all first after race valid whole number same went =
@@ -220,11 +204,10 @@ tick_adds script play old new after result under is due behind on steering steer
         (has_begun play.lock.base helm old.ticks new.ticks play.first.seat.seen on.later.0 here.steered.2.many
         (subst (λ b. entries_of old.number play.first.seat.seen ≡ opened_by b helm ++ ticks_of helm (heard_of play.lock.base old.number play.first.seat.seen) old.ticks) here.steered.1 here.steered.2.own) alone stopped)
 
--- one part more of a round
-pub adds_on : (play before after : Play) (stamp : ℕ) → GoesOnWith play before → stamp_due play.script.now before ≡ stamp → AddsAt play.order stamp (known_clients_in play) (history_in play) (history_in before)
-    → AddsAt before.order (stamp_due play.script.now before) (known_clients play.script.now (helm_in before)) (history_in before) (history_in after) → AddsAt play.order stamp (known_clients_in play) (history_in play) (history_in after)
-adds_on play before after stamp same due one other =
+-- steps at one stamp behind others
+pub adds_on : (play before after : Play) (stamp : ℕ) → GoesOnWith play before → AddsAt play.order stamp (known_clients_in play) (history_in play) (history_in before)
+    → AddsAt before.order stamp (known_clients_in before) (history_in before) (history_in after) → AddsAt play.order stamp (known_clients_in play) (history_in play) (history_in after)
+adds_on play before after stamp same one other =
     adds_twice play.order stamp (known_clients_in play) (history_in play) (history_in before) (history_in after) one
-    (subst (λ number. AddsAt play.order stamp number (history_in before) (history_in after)) (ap (λ helm. known_clients play.script.now helm) same.helm)
-    (subst (λ order. AddsAt order stamp (known_clients play.script.now (helm_in before)) (history_in before) (history_in after)) same.order
-    (subst (λ stamp. AddsAt before.order stamp (known_clients play.script.now (helm_in before)) (history_in before) (history_in after)) due other)))
+    (subst (λ number. AddsAt play.order stamp number (history_in before) (history_in after)) (λ i. known_clients (same.script i) (same.helm i))
+    (subst (λ order. AddsAt order stamp (known_clients_in before) (history_in before) (history_in after)) same.order other))

@@ -1,4 +1,4 @@
 pub mod Lawful
-pub mod Plays
 pub mod Schedules
 pub mod Steered
+pub mod Plays

@@ -1,16 +1,18 @@
 -- A script that is played round by round, as its player sees it.
 use Rattle.moos_client.specs.Calls.{entries_of}
-use Rattle.std.specs.Prelude.{◌≡◌, ◌≢◌, ◌⊎◌, ℕ, ◌≤◌, ◌<◌, nat_lt, if◌then◌else◌, List, [], ◌++◌, drop, length, Option, None, Some, IfSome, IsTrue, option_map, slice_get, ◌*◌}
+use Rattle.std.specs.Prelude.{◌≡◌, ◌≢◌, ◌⊎◌, ℕ, ◌≤◌, ◌<◌, nat_lt, if◌then◌else◌, List, [], ◌++◌, drop, length, Option, None, Some, IfSome, IsTrue, OnErr, OnOk, option_map, Result, slice_get, ◌*◌}
 use Rattle.helm_core.specs.declared.iteration.Iteration.{Iteration}
 use Rattle.helm_core.specs.Helms.{plan_of}
 use Rattle.moos_post.specs.History.{History}
 use Rattle.moos_play.specs.declared.playing.Play.{Play}
 use Rattle.moos_play.specs.declared.round_made.Round.{Round}
 use Rattle.moos_play.specs.declared.steersman.Steersman.{Steersman}
-use Rattle.moos_lawful.specs.Schedules.{clients_below}
+use Rattle.helm_core.specs.Ticks.{Tick}
+use Rattle.moos_lawful.specs.Schedules.{clients_below, IsLawfulSoFar, Schedule}
+use Rattle.moos_play.specs.Schedules.{schedule_with}
 use Rattle.moos_play.specs.Lawful.{entries_from, heard_of, helm_number, IsLawful, IsLawfulBeside, iterations, iterations_of, KeepsStamp, known_clients, names_with, Steering, opening_of, ticks_of, ticks_to}
 use Rattle.moos_step.specs.Steps.{IsGathered, IsWhole}
-use Rattle.moos_play.specs.Steered.{helm_of, IsAtPlay, iterations_in, left_of, tick_due}
+use Rattle.moos_play.specs.Steered.{GoesOnWith, HasHeard, helm_of, IsAtPlay, IsDue, iterations_in, KeepsMoves, left_of, parts, tick_due, told_in}
 use Rattle.script_reader.specs.declared.script.Order.{Order}
 use Rattle.script_reader.specs.declared.script.Order.TheVariants.{Stamp, Race}
 use Rattle.script_reader.specs.declared.script.Script.{Script}
@@ -122,6 +124,43 @@ pub record AddsAt (order : Order) (stamp number : ℕ) (before after : History) 
   pub stamped : KeepsStamp order stamp later.0
   pub known : IsTrue (clients_below number later.0)
 
+-- the schedule of a run
+abbrev pub schedule_in : Play → Schedule Tick
+schedule_in play = schedule_with (order_played play) (script_played play) (helm_in play) (clients_in play)
+
+-- A run that found no memory: its history is lawful so far, each client that has a part has a name, and the helm, where there is
+-- one, has heard at least as many mails as it has made ticks.
+pub record IsCutOff (script : Script) (play : Play) : Type 0 where
+  pub so_far : IsLawfulSoFar (schedule_with play.order script (helm_in play) (clients_in play)) (history_in play)
+  pub room : parts script play.steersman ≤ length (clients_in play)
+  pub heard : HasHeard (clients_in play) (helm_number script) script.stop play.steersman (history_in play)
+
+-- the next step may be played, with 1 to 16 workers for what the helm solves
+pub record MayGoOn (play : Play) (workers : ℕ) : Type 0 where
+  pub valid : IsValid play.script.now
+  pub at_play : IsAtPlay play.script.now play
+  pub few : (1 ≤ workers) × (workers ≤ 16)
+
+-- the stamp of the helm's next tick, where one is left
+abbrev pub next_tick : Play → Option ℕ
+next_tick play = tick_due play.script.now.stop play.steersman
+
+-- the lines before a place may be played: in order Stamp those that are due, and in a race any
+abbrev pub MayPlay : Order → Play → ℕ → Type 0
+MayPlay Stamp play to = IsDue play.script.now.lines (next_tick play) play.from to
+MayPlay Race play to = to ≤ length play.script.now.lines
+
+-- Steps at this stamp. Whatever came of them the run goes on, and what they add has this stamp; where a step found no memory the
+-- history is lawful so far, and else the run may go on with its next step.
+pub record HasPlayedOn {A E : Type 0} (stamp : ℕ) (before after : Play) (result : Result A E) : Type 0 where
+  pub same : GoesOnWith before after
+  pub seated : StaysSeated before after
+  pub stamped : AddsAt before.order stamp (known_clients_in before) (history_in before) (history_in after)
+  pub front : OnErr result (IsCutOff before.script.now after)
+  pub at_play : OnOk result (IsAtPlay before.script.now after)
+  pub told : OnOk result (told_in after.steersman ≡ told_in before.steersman)
+  pub moves : OnOk result (KeepsMoves before.order stamp before after)
+
 -- A round: where its entries begin, its stamp, which they have in order Stamp and nothing of which is left, and the helm's
 -- iterations in it, which follow those before. None of the entries is a further client's.
 pub record IsRound (before after : Play) (round : Round) : Type 0 where
@@ -170,20 +209,16 @@ pub record IsPlayedOut (play : Play) : Type 0 where
   pub alone : clients_in play ≡ names_with play.script.now (helm_in play) → IsLawful play.order play.script.now (helm_in play) (clients_in play) (history_in play)
   pub iterations : iterations_made play ≡ iterations (helm_in play) play.script.now.stop (heard_of (clients_in play) (helm_number play.script.now) (history_in play))
 
--- A run of this script that may yet be completed: with some entries more, none of them a further client's, its history is
--- lawful beside the entries of further clients, by itself where there are none, and the iterations of that history are those
--- so far and some more.
-pub record IsCompletable (script : Script) (play : Play) : Type 0 where
+-- A run that may yet be completed: with some entries more, none of them a further client's, its history is lawful beside the
+-- entries of further clients, by itself where there are none, and the iterations of that history are those so far and some
+-- more.
+pub record HasCompletion (play : Play) : Type 0 where
   pub rest : History
-  pub known : IsTrue (clients_below (known_clients script (helm_in play)) rest)
-  pub lawful : IsLawfulBeside play.order script (helm_in play) (clients_in play) (history_in play ++ rest)
-  pub alone : clients_in play ≡ names_with script (helm_in play) → IsLawful play.order script (helm_in play) (clients_in play) (history_in play ++ rest)
+  pub known : IsTrue (clients_below (known_clients_in play) rest)
+  pub lawful : IsLawfulBeside play.order play.script.now (helm_in play) (clients_in play) (history_in play ++ rest)
+  pub alone : clients_in play ≡ names_with play.script.now (helm_in play) → IsLawful play.order play.script.now (helm_in play) (clients_in play) (history_in play ++ rest)
   pub more : List Iteration
-  pub iterations : iterations (helm_in play) script.stop (heard_of (clients_in play) (helm_number script) (history_in play ++ rest)) ≡ iterations_made play ++ more
-
--- a run that stands at a moment of a lawful history
-abbrev pub HasCompletion : Play → Type 0
-HasCompletion play = IsCompletable play.script.now play
+  pub iterations : iterations (helm_in play) play.script.now.stop (heard_of (clients_in play) (helm_number play.script.now) (history_in play ++ rest)) ≡ iterations_made play ++ more
 
 -- the run once the database is put back as it was
 abbrev pub returned : Play → Play

@@ -6,9 +6,7 @@ use Rattle.helm_core.specs.Plans.{wants_of}
 use Rattle.helm_core.specs.Ticks.{Tick}
 use Rattle.moos_lawful.specs.Answering.{Answerer, schedule_of}
 use Rattle.moos_lawful.specs.Schedules.{Schedule}
-use Rattle.moos_play.specs.declared.playing.Play.{Play}
 use Rattle.moos_play.specs.Lawful.{mailed_in, Steering}
-use Rattle.moos_play.specs.Plays.{clients_in, helm_in, order_played, script_played}
 use Rattle.script_reader.specs.declared.script.Order.{Order}
 use Rattle.script_reader.specs.declared.script.Script.{Script}
 
@@ -32,7 +30,3 @@ tick_period (Some helm) = helm.period
 -- the schedule of a script in an order with a helm, where there is one, under these names of the clients
 abbrev pub schedule_with : Order → Script → Option Steering → List (List ℕ) → Schedule Tick
 schedule_with order script helm names = schedule_of order script.lines (length script.names) script.stop (tick_period helm) (answerers helm) (length names) (mailed_in names)
-
--- the schedule of a run
-abbrev pub schedule_in : Play → Schedule Tick
-schedule_in play = schedule_with (order_played play) (script_played play) (helm_in play) (clients_in play)

@@ -1,5 +1,5 @@
 -- The helm at its seat, and where a run stands between two rounds.
-use Rattle.std.specs.Prelude.{◌≡◌, ◌≢◌, ◌⊎◌, ℕ, ◌+◌, ◌-◌, ◌*◌, ◌/◌, ◌^◌, ◌==◌, ◌≤◌, ◌<◌, Bool, true, false, not, nat_le, nat_lt, suc, if◌then◌else◌, List, [], ◌∷◌, ◌++◌, length, drop, take, Option, None, Some, option_map, option_to_list, IfSome, IsTrue, OnErr, OnOk, Result}
+use Rattle.std.specs.Prelude.{◌≡◌, ◌⊎◌, ℕ, ◌+◌, ◌-◌, ◌*◌, ◌/◌, ◌^◌, ◌==◌, ◌≤◌, ◌<◌, Bool, true, false, not, nat_le, nat_lt, suc, if◌then◌else◌, List, [], ◌∷◌, ◌++◌, length, drop, take, Option, None, Some, option_map, IfSome, IsTrue, OnErr, OnOk, Result}
 use Rattle.std.specs.List.{list_all}
 use Rattle.moos_post.specs.Delivery.{is_fetch}
 use Rattle.moos_post.specs.History.{History}
@@ -10,11 +10,13 @@ use Rattle.moos_client.specs.Calls.{IsCalled, IsFetched, IsUncalled, MayCall, Se
 use Rattle.helm_core.specs.declared.helm.Helm.{Helm}
 use Rattle.helm_core.specs.declared.iteration.Iteration.{Iteration}
 use Rattle.helm_core.specs.Helms.{clock_of, IsTicked, plan_of, StandsFor}
+use Rattle.moos_lawful.specs.Answering.{turns_from}
+use Rattle.moos_lawful.specs.Schedules.{IsLawfulSoFar}
+use Rattle.moos_play.specs.Schedules.{answerers, answering, schedule_with}
 use Rattle.moos_play.specs.declared.playing.Play.{Play}
 use Rattle.moos_play.specs.declared.run.HelmRun.{HelmRun}
 use Rattle.moos_play.specs.declared.steersman.Steersman.{Steersman}
-use Rattle.moos_play.specs.Lawful.{Steering, heard_of, helm_number, iterations_of, known_clients, moment_of, never_falls, opening, opening_of, ticks_of, ticks_to}
-use Rattle.moos_lawful.specs.Schedules.{clients_below, entries_below}
+use Rattle.moos_play.specs.Lawful.{Steering, heard_of, helm_number, iterations_of, opening, opening_of, ticks_of, ticks_to}
 use Rattle.moos_step.specs.Steps.{Anything, CommunityLock, IsGathered, IsWhole, Makes}
 use Rattle.script_reader.specs.declared.script.Order.{Order}
 use Rattle.script_reader.specs.declared.script.Order.TheVariants.{Stamp, Race}
@@ -111,36 +113,41 @@ StandsAt names number None history = Unit {0}
 StandsAt names number (Some steersman) history =
     (steersman.number ≡ number) × (steersman.opened ≡ true) × Steers names steersman history
 
--- no entry stands behind the moment of the helm's next tick, where there is one up to this stamp
-abbrev pub IsEarly : ℕ → Option Steersman → ℕ → History → Type 0
-IsEarly number None stop rest = Unit {0}
-IsEarly number (Some steersman) stop rest =
-    steersman.ticks < ticks_to stop (steering_of steersman)
-    → IsTrue (list_all (λ entry. nat_le (moment_of number entry) (suc (2 * (steersman.ticks * steersman.period)))) rest)
+-- the turns that are left for the helm, where there is one, over what it has heard
+abbrev pub turns_left : ℕ → Option Steersman → List (List ℕ) → History → List Entry
+turns_left stop None names history = []
+turns_left stop (Some steersman) names history =
+    turns_from (answering (steering_of steersman)) steersman.number steersman.period (heard_of names steersman.number history) steersman.ticks (ticks_to stop (steering_of steersman) - steersman.ticks)
 
--- the entries keep the order of their moments, with the lines behind them that are left
-pub record IsTimed (script : Script) (steersman : Option Steersman) (from : ℕ) (rest : History) : Type 0 where
-  pub left : IsTrue (never_falls (moment_of (helm_number script)) 0 (rest ++ drop from script.lines))
-  pub early : IsEarly (helm_number script) steersman script.stop rest
+-- what is left for a client once so many lines are played
+abbrev pub left_for : Script → Option Steersman → List (List ℕ) → ℕ → History → ℕ → List Entry
+left_for script steersman names from history n =
+    if nat_lt n (length script.names) then entries_of n (drop from script.lines) else turns_left script.stop steersman names history
 
--- what an order asks of the entries between two rounds
-abbrev pub KeepsTime : Order → Script → Option Steersman → ℕ → History → Type 0
-KeepsTime Stamp script steersman from rest = IsTimed script steersman from rest
-KeepsTime Race script steersman from rest = Unit {0}
+-- how many clients have a part: those of the script, and the helm where there is one
+abbrev pub parts : Script → Option Steersman → ℕ
+parts script steersman = length script.names + length (answerers (helm_of steersman))
 
--- A run between two rounds, in which so many lines are played: the first seat has taken in all others, and has seen a
--- history that is lawful as far as it goes, beside the entries of further clients.
+-- A history that is lawful so far, in which just so many lines are played and the helm has made all its ticks so far.
+pub record HasPlayed (order : Order) (script : Script) (names : List (List ℕ)) (steersman : Option Steersman) (from : ℕ) (history : History) : Type 0 where
+  pub so_far : IsLawfulSoFar (schedule_with order script (helm_of steersman) names) history
+  pub left : (n : ℕ) → n < parts script steersman → so_far.left n ≡ left_for script steersman names from history n
+
+-- A run between two steps, in which so many lines are played: the first seat has taken in all others, and has seen a history
+-- that is lawful so far.
 pub record IsUnderWay (order : Order) (script : Script) (lock : CommunityLock) (steersman : Option Steersman) (from : ℕ) (first : SeatState) : Type 0 where
   pub gathered : IsGathered lock first
   pub whole : IsWhole first
   pub within : from ≤ length script.lines
-  pub seats : length script.names + length (option_to_list steersman) ≤ length lock.base
-  pub rest : History
-  pub opened : first.seen ≡ opening (helm_of steersman) ++ rest
-  pub own : (n : ℕ) → n ≢ helm_number script → entries_of n (entries_below (known_clients script (helm_of steersman)) rest) ≡ entries_of n (take from script.lines)
+  pub seats : parts script steersman ≤ length lock.base
+  pub played : HasPlayed order script lock.base steersman from first.seen
   pub steered : StandsAt lock.base (helm_number script) steersman first.seen
-  pub timed : KeepsTime order script steersman from (entries_below (known_clients script (helm_of steersman)) rest)
-  pub named : IsTrue (clients_below (length lock.base) rest)
+
+-- the helm, where there is one, has heard at least as many mails as it has made ticks, which are no more than there are
+abbrev pub HasHeard : List (List ℕ) → ℕ → ℕ → Option Steersman → History → Type 0
+HasHeard names number stop None history = Unit {0}
+HasHeard names number stop (Some steersman) history =
+    (steersman.number ≡ number) × (steersman.ticks ≤ length (heard_of names steersman.number history)) × (steersman.ticks ≤ ticks_to stop (steering_of steersman))
 
 -- the stamp of the helm's next tick, where one is left up to this stamp
 abbrev pub tick_due : ℕ → Option Steersman → Option ℕ

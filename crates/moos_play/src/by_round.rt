@@ -1,10 +1,8 @@
 // A run in the open: from round to round, with the database lent in between.
 ghost use Rattle.std.specs.Prelude.{◌≡◌, ◌<◌, ◌≤◌, length, option_map, slice_get, IfOk, IfNone, IfSome, OnErr, OnOk};
-ghost use Rattle.moos_play.specs.Plays.{AddsAt, earliest, handed, HasCompletion, HasSteeredSoFar, HasTurn, history_in, IsBetween, IsCompletable, IsStampOver, IsLentAs, IsPlayedOut, IsRound, IsSeated, known_clients_in, left_in, clients_in, next_stamp, order_played, returned, StaysSeated, untold_in};
+ghost use Rattle.moos_play.specs.Plays.{AddsAt, earliest, handed, HasCompletion, HasPlayedOn, MayGoOn, HasSteeredSoFar, HasTurn, history_in, IsBetween, IsStampOver, IsLentAs, IsPlayedOut, IsRound, IsSeated, known_clients_in, left_in, clients_in, next_stamp, order_played, returned, schedule_in, StaysSeated, untold_in, schedule_in};
 ghost use Rattle.moos_lawful.specs.Schedules.{IsLawfulSoFar};
-ghost use Rattle.moos_play.specs.Schedules.{schedule_in};
-ghost use Rattle.moos_play.specs.Steered.{GoesOnWith, IsAtPlay, KeepsMoves, told_in};
-ghost use Rattle.script_reader.specs.Validity.{IsValid};
+ghost use Rattle.moos_play.specs.Steered.{GoesOnWith};
 
 use crate::playing::Play;
 use crate::round_made::Round;
@@ -22,8 +20,8 @@ use turn_lock::Held;
 
 impl<'a> Play<'a> {
     /// Plays the next round: in order Stamp the lines and the tick of the next stamp, and in order Race everything. None
-    /// where nothing is left. After want of memory the run stands at a moment of a lawful history still, perhaps within a round,
-    /// and only `hold`, `put_back` and `end` may be called. There are 1 to 16 workers for what the helm solves.
+    /// where nothing is left. After want of memory the history is lawful so far still, perhaps within a round, and only `hold`,
+    /// `put_back` and `end` may be called. There are 1 to 16 workers for what the helm solves.
     pub fn round<R: Threads + Wait + Sync, G: Gate>(
         &mut self,
         rt: &R,
@@ -37,6 +35,7 @@ impl<'a> Play<'a> {
         ensures same { GoesOnWith self.old self.new }
         ensures between { OnOk result (IsBetween self.new) }
         ensures front { OnErr result (HasCompletion self.new) }
+        ensures so_far { OnErr result (IsLawfulSoFar (schedule_in self.new) (history_in self.new)) }
         ensures stamped { OnErr result (AddsAt self.old.order (next_stamp self.old) (known_clients_in self.old) (history_in self.old) (history_in self.new)) }
         ensures round { IfOk result (λ round. IfSome round (IsRound self.old self.new)) }
         ensures turn { IfOk result (λ round. IfSome round (HasTurn (order_played self.old) self.old self.new)) }
@@ -44,10 +43,9 @@ impl<'a> Play<'a> {
         ensures none { IfOk result (λ round. IfNone round ((left_in self.old ≡ 0) × (self.new ≡ self.old))) }
         ensures over { IfOk result (λ round. IfNone round (IsPlayedOut self.new)) }
     {
-        let script = self.script;
         let stamp = self.next_stamp();
         let from = self.count_entries(rt);
-        if !self.go_on(rt, alloc, script, workers, gate)? {
+        if !self.go_on(rt, alloc, workers, gate)? {
             return Ok(None);
         }
         self.finish_stamp(rt, alloc, stamp, workers, gate)?;
@@ -100,22 +98,13 @@ impl<'a> Play<'a> {
         workers: u32,
         gate: &G,
     ) -> Result<(), NoMemory>
-        requires valid { IsValid self.old.script.now }
-        requires at_play { IsAtPlay self.old.script.now self.old }
-        requires workers { (1 ≤ workers) × (workers ≤ 16) }
-        ensures seated { StaysSeated self.old self.new }
-        ensures same { GoesOnWith self.old self.new }
-        ensures front { OnErr result (IsCompletable self.old.script.now self.new) }
-        ensures at_play { OnOk result (IsAtPlay self.new.script.now self.new) }
-        ensures told { OnOk result (told_in self.new.steersman ≡ told_in self.old.steersman) }
+        requires { MayGoOn self.old workers }
+        ensures stepped { HasPlayedOn stamp self.old self.new result }
         ensures less { OnOk result (left_in self.new ≤ left_in self.old) }
-        ensures stamped { AddsAt self.old.order stamp (known_clients_in self.old) (history_in self.old) (history_in self.new) }
-        ensures moves { OnOk result (KeepsMoves self.old.order stamp self.old self.new) }
         ensures all { OnOk result (IsStampOver self.new stamp) }
     {
-        let script = self.script;
         while self.next_stamp() == stamp {
-            if !self.go_on(rt, alloc, script, workers, gate)? {
+            if !self.go_on(rt, alloc, workers, gate)? {
                 return Ok(());
             }
         }

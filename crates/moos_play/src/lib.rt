@@ -4,7 +4,7 @@
 //! and the helm, whatever the threads did. Each client's entries are its lines, the helm's are its opening and its ticks
 //! over what it heard in this history, nobody else has one, and in order Stamp no stamp goes back. A run that is played round
 //! by round may have further clients, whose entries stand where they were entered; without these its history is as lawful.
-//! Between two rounds its history is a front of such a one, and so it is after a round that found no memory.
+//! Between two rounds its history is lawful so far, and so it is after a round that found no memory.
 //!
 //! Reading order: `steersman`, the helm's calls; `race`, the helm beside the clients; `seats`, how a run begins; `stamps`, what is next; `playing`, from one step to
 //! the next; `round_made`, what a round leaves; `by_round`, a run that is played round by round; `entering`, what further

@@ -1,8 +1,8 @@
 // A run from one step to the next: the clients' lines and the helm's ticks, in the order that was asked for.
-ghost use Rattle.std.specs.Prelude.{◌≡◌, ◌≢◌, ◌<◌, ◌≤◌, ◌++◌, ◌^◌, None, Ok, true, false, [], drop, length, option_map, IfOk, OnErr, OnOk, IfSome};
-ghost use Rattle.moos_play.specs.Lawful.{known_clients, names_with, opening, steering_with, MayStart};
-ghost use Rattle.moos_play.specs.Plays.{AddsAt, helm_in, history_in, IsBetween, IsCompletable, IsSeated, clients_in, order_played, script_played, stamp_due, StaysSeated, untold_in};
-ghost use Rattle.moos_play.specs.Steered.{GoesOnWith, IsAtPlay, IsBehind, IsDue, left_of, tick_due, told_in, KeepsMoves};
+ghost use Rattle.std.specs.Prelude.{◌≡◌, ◌≢◌, ◌<◌, ◌++◌, ◌^◌, None, Ok, true, false, [], drop, length, option_map, IfOk, OnOk, IfSome};
+ghost use Rattle.moos_play.specs.Lawful.{names_with, opening, steering_with, MayStart};
+ghost use Rattle.moos_play.specs.Plays.{helm_in, HasPlayedOn, history_in, IsBetween, IsSeated, clients_in, left_in, MayPlay, MayGoOn, next_stamp, order_played, script_played, next_tick, untold_in};
+ghost use Rattle.moos_play.specs.Steered.{IsAtPlay, IsBehind, IsDue};
 ghost use Rattle.script_reader.specs.Validity.{IsValid};
 
 use crate::race::race;
@@ -79,31 +79,23 @@ impl<'a> Play<'a> {
         &mut self,
         rt: &R,
         alloc: Global,
-        script: &Script,
         workers: u32,
         gate: &G,
     ) -> Result<bool, NoMemory>
-        requires valid { IsValid script.now }
-        requires at_play { IsAtPlay script.now self.old }
-        requires workers { (1 ≤ workers) × (workers ≤ 16) }
-        ensures at_play { OnOk result (IsAtPlay script.now self.new) }
-        ensures same { GoesOnWith self.old self.new }
-        ensures told { OnOk result (told_in self.new.steersman ≡ told_in self.old.steersman) }
-        ensures seated { StaysSeated self.old self.new }
-        ensures front { OnErr result (IsCompletable script.now self.new) }
-        ensures stamped { AddsAt self.old.order (stamp_due script.now self.old) (known_clients script.now (helm_in self.old)) (history_in self.old) (history_in self.new) }
-        ensures moves { OnOk result (KeepsMoves self.old.order (stamp_due script.now self.old) self.old self.new) }
-        ensures more { result ≡ Ok true → left_of script.now self.new < left_of script.now self.old }
-        ensures over { result ≡ Ok false → (left_of script.now self.old ≡ 0) × (self.new ≡ self.old) }
+        requires may { MayGoOn self.old workers }
+        ensures stepped { HasPlayedOn (next_stamp self.old) self.old self.new result }
+        ensures more { result ≡ Ok true → left_in self.new < left_in self.old }
+        ensures over { result ≡ Ok false → (left_in self.old ≡ 0) × (self.new ≡ self.old) }
     {
-        let tick = tick_due(&self.steersman, script.stop);
-        let to = due_end(script.lines.all(), self.from, tick);
+        let tick = tick_due(&self.steersman, self.script.stop);
+        let lines = self.script.lines.all();
+        let to = due_end(lines, self.from, tick);
         if self.from == to && tick.is_none() {
             return Ok(false);
         }
         match self.order {
-            Order::Race => self.race_all(rt, alloc, script, workers, gate)?,
-            Order::Stamp => self.play_next(rt, alloc, script, to, workers, gate)?,
+            Order::Race => self.play_all(rt, alloc, workers, gate)?,
+            Order::Stamp => self.play_next(rt, alloc, to, workers, gate)?,
         }
         Ok(true)
     }
@@ -113,29 +105,20 @@ impl<'a> Play<'a> {
         &mut self,
         rt: &R,
         alloc: Global,
-        script: &Script,
         to: usize,
         workers: u32,
         gate: &G,
     ) -> Result<(), NoMemory>
-        requires valid { IsValid script.now }
-        requires at_play { IsAtPlay script.now self.old }
-        requires workers { (1 ≤ workers) × (workers ≤ 16) }
-        requires due { IsDue script.now.lines (tick_due script.now.stop self.old.steersman) self.old.from to }
-        requires some { (self.old.from ≡ to) → (tick_due script.now.stop self.old.steersman ≢ None) }
-        ensures at_play { OnOk result (IsAtPlay script.now self.new) }
-        ensures same { GoesOnWith self.old self.new }
-        ensures told { OnOk result (told_in self.new.steersman ≡ told_in self.old.steersman) }
-        ensures seated { StaysSeated self.old self.new }
-        ensures front { OnErr result (IsCompletable script.now self.new) }
-        ensures stamped { AddsAt self.old.order (stamp_due script.now self.old) (known_clients script.now (helm_in self.old)) (history_in self.old) (history_in self.new) }
-        ensures moves { OnOk result (KeepsMoves self.old.order (stamp_due script.now self.old) self.old self.new) }
-        ensures more { OnOk result (left_of script.now self.new < left_of script.now self.old) }
+        requires may { MayGoOn self.old workers }
+        requires due { IsDue self.old.script.now.lines (next_tick self.old) self.old.from to }
+        requires some { (self.old.from ≡ to) → (next_tick self.old ≢ None) }
+        ensures stepped { HasPlayedOn (next_stamp self.old) self.old self.new result }
+        ensures more { OnOk result (left_in self.new < left_in self.old) }
     {
         if self.from < to {
-            self.play_lines(rt, alloc, script, to, gate)
+            self.play_lines(rt, alloc, to, gate)
         } else {
-            self.play_tick(rt, alloc, script, workers, gate)
+            self.play_tick(rt, alloc, workers, gate)
         }
     }
 
@@ -144,24 +127,19 @@ impl<'a> Play<'a> {
         &mut self,
         rt: &R,
         alloc: Global,
-        script: &Script,
         to: usize,
         gate: &G,
     ) -> Result<(), NoMemory>
-        requires valid { IsValid script.now }
-        requires at_play { IsAtPlay script.now self.old }
-        requires due { IsDue script.now.lines (tick_due script.now.stop self.old.steersman) self.old.from to }
+        requires valid { IsValid self.old.script.now }
+        requires at_play { IsAtPlay self.old.script.now self.old }
+        requires due { MayPlay self.old.order self.old to }
         requires some { self.old.from < to }
-        ensures at_play { OnOk result (IsAtPlay script.now self.new) }
-        ensures same { GoesOnWith self.old self.new }
-        ensures told { OnOk result (told_in self.new.steersman ≡ told_in self.old.steersman) }
-        ensures seated { StaysSeated self.old self.new }
-        ensures front { OnErr result (IsCompletable script.now self.new) }
-        ensures stamped { AddsAt self.old.order (stamp_due script.now self.old) (known_clients script.now (helm_in self.old)) (history_in self.old) (history_in self.new) }
-        ensures moves { OnOk result (KeepsMoves self.old.order (stamp_due script.now self.old) self.old self.new) }
-        ensures more { OnOk result (left_of script.now self.new < left_of script.now self.old) }
+        ensures stepped { HasPlayedOn (next_stamp self.old) self.old self.new result }
+        ensures more { OnOk result (left_in self.new < left_in self.old) }
+        ensures on { OnOk result (self.new.from ≡ to) }
+        ensures helm { self.new.steersman ≡ self.old.steersman }
     {
-        let lines = &script.lines.all()[self.from..to];
+        let lines = &self.script.lines.all()[self.from..to];
         let calls = self.calls.as_mut_slice();
         play_step(rt, alloc, &self.lock, &mut self.first, calls, lines, gate)?;
         self.from = to;
@@ -173,23 +151,14 @@ impl<'a> Play<'a> {
         &mut self,
         rt: &R,
         alloc: Global,
-        script: &Script,
         workers: u32,
         gate: &G,
     ) -> Result<(), NoMemory>
-        requires valid { IsValid script.now }
-        requires at_play { IsAtPlay script.now self.old }
-        requires workers { (1 ≤ workers) × (workers ≤ 16) }
-        requires some { tick_due script.now.stop self.old.steersman ≢ None }
-        requires behind { IsBehind (tick_due script.now.stop self.old.steersman) (drop self.old.from script.now.lines) }
-        ensures at_play { OnOk result (IsAtPlay script.now self.new) }
-        ensures same { GoesOnWith self.old self.new }
-        ensures told { OnOk result (told_in self.new.steersman ≡ told_in self.old.steersman) }
-        ensures seated { StaysSeated self.old self.new }
-        ensures front { OnErr result (IsCompletable script.now self.new) }
-        ensures stamped { AddsAt self.old.order (stamp_due script.now self.old) (known_clients script.now (helm_in self.old)) (history_in self.old) (history_in self.new) }
-        ensures moves { OnOk result (KeepsMoves self.old.order (stamp_due script.now self.old) self.old self.new) }
-        ensures more { OnOk result (left_of script.now self.new < left_of script.now self.old) }
+        requires may { MayGoOn self.old workers }
+        requires some { next_tick self.old ≢ None }
+        requires behind { IsBehind (next_tick self.old) (drop self.old.from self.old.script.now.lines) }
+        ensures stepped { HasPlayedOn (next_stamp self.old) self.old self.new result }
+        ensures more { OnOk result (left_in self.new < left_in self.old) }
     {
         let Some(steersman) = &mut self.steersman else {
             unreachable!()
@@ -201,92 +170,48 @@ impl<'a> Play<'a> {
         )
     }
 
-    // Has all clients play their lines and the helm make its ticks, all beside each other.
-    fn race_all<R: Threads + Wait + Sync, G: Gate>(
+    // Has all clients play the lines that are left and the helm, where there is one, make its ticks, all beside each other.
+    fn play_all<R: Threads + Wait + Sync, G: Gate>(
         &mut self,
         rt: &R,
         alloc: Global,
-        script: &Script,
         workers: u32,
         gate: &G,
     ) -> Result<(), NoMemory>
-        requires valid { IsValid script.now }
-        requires at_play { IsAtPlay script.now self.old }
-        requires workers { (1 ≤ workers) × (workers ≤ 16) }
+        requires may { MayGoOn self.old workers }
         requires race { self.old.order ≡ Order.Race }
-        requires left { (self.old.steersman ≡ None) → self.old.from < length script.now.lines }
-        ensures at_play { OnOk result (IsAtPlay script.now self.new) }
-        ensures same { GoesOnWith self.old self.new }
-        ensures told { OnOk result (told_in self.new.steersman ≡ told_in self.old.steersman) }
-        ensures seated { StaysSeated self.old self.new }
-        ensures front { OnErr result (IsCompletable script.now self.new) }
-        ensures stamped { AddsAt self.old.order (stamp_due script.now self.old) (known_clients script.now (helm_in self.old)) (history_in self.old) (history_in self.new) }
-        ensures over { OnOk result (left_of script.now self.new ≡ 0) }
+        requires left { (self.old.steersman ≡ None) → self.old.from < length self.old.script.now.lines }
+        ensures stepped { HasPlayedOn (next_stamp self.old) self.old self.new result }
+        ensures over { OnOk result (left_in self.new ≡ 0) }
     {
         if self.steersman.is_none() {
-            self.play_left(rt, alloc, script, gate)
+            let to = self.script.lines.len();
+            self.play_lines(rt, alloc, to, gate)
         } else {
-            self.race_left(rt, alloc, script, workers, gate)
+            self.race_left(rt, alloc, workers, gate)
         }
     }
 
-    // Has all clients play the lines that are left, where there is no helm.
-    fn play_left<R: Threads + Wait + Sync, G: Gate>(
-        &mut self,
-        rt: &R,
-        alloc: Global,
-        script: &Script,
-        gate: &G,
-    ) -> Result<(), NoMemory>
-        requires valid { IsValid script.now }
-        requires at_play { IsAtPlay script.now self.old }
-        requires race { self.old.order ≡ Order.Race }
-        requires none { self.old.steersman ≡ None }
-        requires left { self.old.from < length script.now.lines }
-        ensures at_play { OnOk result (IsAtPlay script.now self.new) }
-        ensures same { GoesOnWith self.old self.new }
-        ensures told { OnOk result (told_in self.new.steersman ≡ told_in self.old.steersman) }
-        ensures seated { StaysSeated self.old self.new }
-        ensures front { OnErr result (IsCompletable script.now self.new) }
-        ensures stamped { AddsAt self.old.order (stamp_due script.now self.old) (known_clients script.now (helm_in self.old)) (history_in self.old) (history_in self.new) }
-        ensures over { OnOk result (left_of script.now self.new ≡ 0) }
-    {
-        let to = script.lines.len();
-        let lines = &script.lines.all()[self.from..to];
-        let calls = self.calls.as_mut_slice();
-        play_step(rt, alloc, &self.lock, &mut self.first, calls, lines, gate)?;
-        self.from = to;
-        Ok(())
-    }
-
-    // Has all clients play the lines that are left and the helm make its ticks.
+    // Has all clients play the lines that are left beside the helm, which makes its ticks.
     fn race_left<R: Threads + Wait + Sync, G: Gate>(
         &mut self,
         rt: &R,
         alloc: Global,
-        script: &Script,
         workers: u32,
         gate: &G,
     ) -> Result<(), NoMemory>
-        requires valid { IsValid script.now }
-        requires at_play { IsAtPlay script.now self.old }
-        requires workers { (1 ≤ workers) × (workers ≤ 16) }
+        requires may { MayGoOn self.old workers }
         requires race { self.old.order ≡ Order.Race }
         requires some { self.old.steersman ≢ None }
-        ensures at_play { OnOk result (IsAtPlay script.now self.new) }
-        ensures same { GoesOnWith self.old self.new }
-        ensures told { OnOk result (told_in self.new.steersman ≡ told_in self.old.steersman) }
-        ensures seated { StaysSeated self.old self.new }
-        ensures front { OnErr result (IsCompletable script.now self.new) }
-        ensures stamped { AddsAt self.old.order (stamp_due script.now self.old) (known_clients script.now (helm_in self.old)) (history_in self.old) (history_in self.new) }
-        ensures over { OnOk result (left_of script.now self.new ≡ 0) }
+        ensures stepped { HasPlayedOn (next_stamp self.old) self.old self.new result }
+        ensures over { OnOk result (left_in self.new ≡ 0) }
     {
         let Some(steersman) = &mut self.steersman else {
             unreachable!()
         };
-        let ticks = script.stop / steersman.period + 1;
-        let to = script.lines.len();
-        let lines = &script.lines.all()[self.from..to];
+        let ticks = self.script.stop / steersman.period + 1;
+        let to = self.script.lines.len();
+        let lines = &self.script.lines.all()[self.from..to];
         let calls = self.calls.as_mut_slice();
         let first = &mut self.first;
         race(

@@ -1,8 +1,8 @@
 // The whole of a run, round by round.
 ghost use Rattle.std.specs.Prelude.{◌≡◌, ◌≤◌, option_map, IfOk, IfSome, OnOk};
 ghost use Rattle.moos_play.specs.Lawful.{heard_of, helm_number, MayStart, IsLawful, iterations, names_with, steering_with};
-ghost use Rattle.moos_play.specs.Plays.{StaysSeated};
-ghost use Rattle.moos_play.specs.Steered.{GoesOnWith, IsAtPlay, left_of, told_in};
+ghost use Rattle.moos_play.specs.Plays.{left_in, MayGoOn, StaysSeated};
+ghost use Rattle.moos_play.specs.Steered.{GoesOnWith, IsAtPlay, told_in};
 ghost use Rattle.script_reader.specs.Validity.{IsValid};
 
 use crate::playing::Play;
@@ -63,7 +63,7 @@ pub fn play<R: Threads + Wait + Sync, G: Gate>(
         IfOk result (λ ran. ran.iterations ≡ iterations helm script.now.stop (heard_of ran.db.names (helm_number script.now) ran.db.history)) }
 {
     let mut play = Play::make(rt, alloc, script, helm, List::new(alloc), order, gate)?;
-    let played = play_out(rt, alloc, &mut play, script, workers, gate);
+    let played = play_out(rt, alloc, &mut play, workers, gate);
     let ran = play.close(alloc);
     played?;
     Ok(ran)
@@ -74,19 +74,16 @@ fn play_out<R: Threads + Wait + Sync, G: Gate>(
     rt: &R,
     alloc: Global,
     play: &mut Play,
-    script: &Script,
     workers: u32,
     gate: &G,
 ) -> Result<(), NoMemory>
-    requires valid { IsValid script.now }
-    requires at_play { IsAtPlay script.now play.old }
-    requires workers { (1 ≤ workers) × (workers ≤ 16) }
-    ensures at_play { OnOk result (IsAtPlay script.now play.new) }
+    requires { MayGoOn play.old workers }
+    ensures seated { StaysSeated play.old play.new }
+    ensures at_play { OnOk result (IsAtPlay play.old.script.now play.new) }
     ensures same { OnOk result (GoesOnWith play.old play.new) }
     ensures told { OnOk result (told_in play.new.steersman ≡ told_in play.old.steersman) }
-    ensures seated { StaysSeated play.old play.new }
-    ensures over { OnOk result (left_of script.now play.new ≡ 0) }
+    ensures over { OnOk result (left_in play.new ≡ 0) }
 {
-    while play.go_on(rt, alloc, script, workers, gate)? {}
+    while play.go_on(rt, alloc, workers, gate)? {}
     Ok(())
 }

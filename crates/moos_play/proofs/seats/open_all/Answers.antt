@@ -1,8 +1,7 @@
 use Rattle.std.proofs.Common.{◌<◌, length, subst}
 use Rattle.std.specs.Prelude.{IfSome}
 use Rattle.moos_play.specs.Steered.{IsUnopened}
-use Rattle.moos_play.proofs.Beginning.{new_steers}
-use Rattle.moos_play.proofs.Coming.{opened_first}
+use Rattle.moos_play.proofs.Beginning.{new_steers, opened_first}
 use Rattle.moos_play.proofs.seats.open_all.Goals as goal
 
 pub lead-requires-clause-steered : goal.lead-requires-clause-steered

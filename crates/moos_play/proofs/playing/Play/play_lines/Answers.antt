@@ -1,60 +1,68 @@
 use Rattle.std.proofs.Common.{◌≡◌, ◌∙◌, ◌-◌, Ok, ap, arith, drop, length, nat_lt, refl, subst, sym, take, true, rules}
 use Rattle.std.specs.List.{list_all}
 use Rattle.moos_post.specs.declared.entry.Entry.{Entry}
-use Rattle.moos_play.specs.Plays.{helm_in, stamp_due}
+use Rattle.moos_play.specs.Plays.{IsCutOff, next_stamp}
 use Rattle.moos_step.specs.Steps.{GoesOn, IsPlayed}
-use Rattle.moos_play.proofs.Coming.{all_part, lines_clients, lines_next}
-use Rattle.moos_play.specs.Steered.{tick_due}
-use Rattle.moos_play.proofs.Handing.{completable}
 use Rattle.moos_step.proofs.Lines.{err_any}
+use Rattle.moos_play.proofs.Coming.{lines_cut, lines_next, may_come, may_within}
+use Rattle.moos_play.proofs.Moving.{moves_lines}
 use Rattle.moos_play.proofs.Rounding.{as_many, some_client}
 use Rattle.moos_play.proofs.Stamping.{lines_add}
-use Rattle.moos_play.proofs.Unfinished.{due_come, lines_unfinished}
-use Rattle.moos_play.proofs.Moving.{moves_lines}
+use Rattle.moos_play.proofs.Stepping.{all_part, lines_clients}
 use Rattle.moos_play.proofs.playing.Play.play_lines.Goals as goal
 
 pub play_step-requires-clause-clients : goal.play_step-requires-clause-clients
 play_step-requires-clause-clients g c κs lives =
+    let play = c.args.self.now in
+    let script = play.script.now in
     let long = ap length c.as_mut_slice-calls.ensures.value ∙ c.requires.at_play.calls in
-    let script = c.args.script.now in
-    let some = some_client (length script.names) script.lines c.args.self.now.from (lines_clients (length script.names) 0 script.stop script.lines c.requires.valid.lines) (omega (arith, c.requires.some, c.requires.due.within)) in
+    let some = some_client (length script.names) script.lines play.from (lines_clients (length script.names) 0 script.stop script.lines c.requires.valid.lines) (omega (arith, c.requires.some, may_within play.order play c.args.to c.requires.due)) in
     (omega (arith, long, some), omega (arith, long, c.requires.at_play.under.seats), omega (arith, long, c.requires.valid.few_clients))
 
 pub play_step-requires-clause-lines : goal.play_step-requires-clause-lines
 play_step-requires-clause-lines g c κs lives =
-    let script = c.args.script.now in
-    subst (λ n. list_all (λ (line : Entry). nat_lt line.client n) (take (c.args.to - c.args.self.now.from) (drop c.args.self.now.from c.all.result.now)) ≡ true) (sym (ap length c.as_mut_slice-calls.ensures.value ∙ c.requires.at_play.calls))
-    (subst (λ lines. list_all (λ (line : Entry). nat_lt line.client (length script.names)) (take (c.args.to - c.args.self.now.from) (drop c.args.self.now.from lines)) ≡ true) (sym c.all.ensures)
-    (all_part (λ (line : Entry). nat_lt line.client (length script.names)) script.lines c.args.self.now.from (c.args.to - c.args.self.now.from) (lines_clients (length script.names) 0 script.stop script.lines c.requires.valid.lines)))
-
-pub returns-clause-at_play : goal.returns-clause-at_play
-returns-clause-at_play g c = record {
-  under = lines_next c.args.self.now.order c.args.script.now c.args.self.now.lock c.args.self.now.steersman c.args.self.now.from c.args.to (Ok c.in_ok-play_step.field-0) c.args.self.now.first.seat c.play_step.new.first.seat c.requires.valid.lines c.requires.at_play.under
-      c.in_ok-play_step.ensures.gathered
-      (subst (λ lines. GoesOn (IsPlayed (take (c.args.to - c.args.self.now.from) (drop c.args.self.now.from lines)) (Ok c.in_ok-play_step.field-0)) c.args.self.now.first.seat c.play_step.new.first.seat) c.all.ensures c.in_ok-play_step.ensures.goes_on)
-      refl c.requires.due c.requires.some;
-  calls = as_many c.args.self.now.calls.len c.args.self.now.calls.items c.play_step.new.calls (c.play_step.auto.calls ∙ ap length c.as_mut_slice-calls.ensures.value) (search rules) ∙ (search rules);
-  period = c.requires.at_play.period;
-}
-
-pub returns-in_err-play_step-clause-front : goal.returns-in_err-play_step-clause-front
-returns-in_err-play_step-clause-front g c =
     let play = c.args.self.now in
-    let script = c.args.script.now in
-    let left =
-    lines_unfinished play.order script play.lock play.steersman play.from c.args.to c.requires.due.stamp c.all.result.now play.first.seat c.play_step.new.first.seat c.requires.valid.lines c.requires.at_play.under c.requires.at_play.period c.all.ensures
-    c.in_err-play_step.ensures.goes_on c.requires.due.more (due_come play.order script play.steersman play.from c.args.to c.requires.due c.requires.some) in
-    err_any _ (completable script _ left.0 left.1)
+    let script = play.script.now in
+    subst (λ n. list_all (λ (line : Entry). nat_lt line.client n) (take (c.args.to - play.from) (drop play.from c.all.result.now)) ≡ true) (sym (ap length c.as_mut_slice-calls.ensures.value ∙ c.requires.at_play.calls))
+    (subst (λ lines. list_all (λ (line : Entry). nat_lt line.client (length script.names)) (take (c.args.to - play.from) (drop play.from lines)) ≡ true) (sym c.all.ensures)
+    (all_part (λ (line : Entry). nat_lt line.client (length script.names)) script.lines play.from (c.args.to - play.from) (lines_clients (length script.names) 0 script.stop script.lines c.requires.valid.lines)))
 
-pub returns-clause-stamped : goal.returns-clause-stamped
-returns-clause-stamped g c =
-    lines_add c.args.self.now.order c.args.script.now (helm_in c.args.self.now) (tick_due c.args.script.now.stop c.args.self.now.steersman) c.args.self.now.from c.args.to c.all.result.now c.args.self.now.first.seat c.play_step.new.first.seat c.requires.valid.lines c.requires.at_play.under.whole
-    c.all.ensures c.in_ok-play_step.ensures.goes_on c.requires.due c.requires.some
+pub returns-clause-stepped : goal.returns-clause-stepped
+returns-clause-stepped g c =
+    let play = c.args.self.now in
+    let script = play.script.now in
+    let made = c.in_ok-play_step.ensures in
+    let after = c.play_step.new.first.seat in
+    record {
+      same = record { script = refl; lock = refl; order = refl; helm = refl };
+      seated = record { seated = record { gathered = made.gathered; whole = made.goes_on.whole }; lock = refl; later = made.goes_on.later };
+      stamped = lines_add play c.args.to c.all.result.now after c.requires.valid.lines c.requires.at_play.under.whole c.all.ensures made.goes_on c.requires.due c.requires.some;
+      front = tt;
+      at_play = record {
+        under = lines_next play.order script play.lock c.requires.valid.lines play.steersman play.from c.args.to (Ok c.in_ok-play_step.field-0) play.first.seat after c.requires.at_play.under made.gathered
+            (subst (λ lines. GoesOn (IsPlayed (take (c.args.to - play.from) (drop play.from lines)) (Ok c.in_ok-play_step.field-0)) play.first.seat after) c.all.ensures made.goes_on) refl (omega (arith, c.requires.some))
+            (may_within play.order play c.args.to c.requires.due) (may_come play.order play c.args.to c.requires.due c.requires.some);
+        calls = as_many play.calls.len play.calls.items c.play_step.new.calls (c.play_step.auto.calls ∙ ap length c.as_mut_slice-calls.ensures.value) (search rules) ∙ (search rules);
+        period = c.requires.at_play.period;
+      };
+      told = refl;
+      moves = moves_lines play.order (next_stamp play) play _ (omega (arith, c.requires.some)) refl;
+    }
 
-pub returns-in_err-play_step-clause-stamped : goal.returns-in_err-play_step-clause-stamped
-returns-in_err-play_step-clause-stamped g c =
-    lines_add c.args.self.now.order c.args.script.now (helm_in c.args.self.now) (tick_due c.args.script.now.stop c.args.self.now.steersman) c.args.self.now.from c.args.to c.all.result.now c.args.self.now.first.seat c.play_step.new.first.seat c.requires.valid.lines c.requires.at_play.under.whole
-    c.all.ensures c.in_err-play_step.ensures.goes_on c.requires.due c.requires.some
-
-pub returns-clause-moves : goal.returns-clause-moves
-returns-clause-moves g c = moves_lines c.args.self.now.order (stamp_due c.args.script.now c.args.self.now) c.args.self.now _ c.requires.due.more refl
+pub returns-in_err-play_step-clause-stepped : goal.returns-in_err-play_step-clause-stepped
+returns-in_err-play_step-clause-stepped g c =
+    let play = c.args.self.now in
+    let made = c.in_err-play_step.ensures in
+    let after = c.play_step.new.first.seat in
+    let cut =
+    lines_cut play.order play.script.now play.lock c.requires.valid.lines play.steersman play.from c.args.to c.all.result.now play.first.seat after c.requires.at_play.under c.requires.at_play.period c.all.ensures made.goes_on (omega (arith, c.requires.some))
+    (may_come play.order play c.args.to c.requires.due c.requires.some) in
+    record {
+      same = record { script = refl; lock = refl; order = refl; helm = refl };
+      seated = record { seated = record { gathered = made.gathered; whole = made.goes_on.whole }; lock = refl; later = made.goes_on.later };
+      stamped = lines_add play c.args.to c.all.result.now after c.requires.valid.lines c.requires.at_play.under.whole c.all.ensures made.goes_on c.requires.due c.requires.some;
+      front = err_any _ {P = IsCutOff play.script.now _} (record { so_far = cut.0; room = c.requires.at_play.under.seats; heard = cut.1 });
+      at_play = search rules;
+      told = search rules;
+      moves = search rules;
+    }

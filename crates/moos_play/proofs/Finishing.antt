@@ -1,0 +1,307 @@
+-- A run that is over, and one that was cut off: what is lawful by the schedule is lawful beside the entries of further clients.
+use Rattle.moos_play.proofs.Moving.{made_many}
+use Rattle.std.proofs.Common.{◌≡◌, ◌≢◌, ℕ, zero, suc, ◌+◌, ◌-◌, ◌*◌, ◌/◌, ◌<◌, ◌≤◌, ◌==◌, ◌⊎◌, inl, inr, Bool, true, false, cond, List, [], ◌∷◌, ◌++◌, length, drop, Option, None, Some, nat_le, nat_lt, refl, sym, ap, ◌∙◌, subst, arith, append-nil, eq-eqb, ne_eqb}
+use Rattle.std.specs.Prelude.{map, option_map, IfSome}
+use Rattle.std.specs.List.{list_all}
+use Rattle.std.proofs.lemmas.Bool.{and_from, and_parts}
+use Rattle.std.proofs.lemmas.Bool.Decides.{nat_tests}
+use Rattle.std.proofs.lemmas.List.{drop_all}
+use Rattle.helm_core.specs.Ticks.{Tick}
+use Rattle.moos_client.specs.Calls.{entries_of}
+use Rattle.moos_client.specs.Hearing.{fetches, heard_in}
+use Rattle.moos_client.proofs.Hearing.{heard_many}
+use Rattle.moos_lawful.specs.Answering.{answers_of, moment_in, openings, turns_from}
+use Rattle.moos_lawful.specs.Schedules.{clients_below, entries_below, IsLawfulFor, IsLawfulSoFar, IsPlayable, rises}
+use Rattle.moos_lawful.proofs.Going.{completion, lawful_then}
+use Rattle.moos_lawful.proofs.Parts.{either}
+use Rattle.moos_lawful.proofs.Playable.{is_playable}
+use Rattle.moos_lawful.proofs.Rising.{true_le}
+use Rattle.moos_post.specs.declared.entry.Entry.{Entry}
+use Rattle.moos_post.specs.History.{History}
+use Rattle.moos_play.specs.declared.playing.Play.{Play}
+use Rattle.moos_play.specs.declared.steersman.Steersman.{Steersman}
+use Rattle.moos_play.specs.Lawful.{heard_of, helm_number, IsLawful, IsLawfulBeside, KeepsOrder, known_clients, mailed_in, moment_of, names_with, never_falls, opening_of, Steering, steering_with, ticks_of, ticks_to}
+use Rattle.moos_play.specs.declared.run.HelmRun.{HelmRun}
+use Rattle.moos_play.specs.Plays.{HasCompletion, IsBetween, IsCutOff, history_in, IsPlayedOut, left_in, schedule_in, HasSteeredSoFar, HasTicked, made_by}
+use Rattle.moos_play.specs.Schedules.{answerers, answering, schedule_with, tick_period}
+use Rattle.moos_play.specs.Steered.{HasHeard, helm_of, IsAtPlay, left_of, parts, steering_of, ticks_left, turns_left, StandsAt}
+use Rattle.moos_play.proofs.Below.{kept_pass, lawful_alone, names_more, none_below, own_below}
+use Rattle.moos_play.proofs.Coming.{has_heard}
+use Rattle.moos_play.proofs.Ending.{made_over, over_ticks}
+use Rattle.moos_play.proofs.Handing.{iterations_more}
+use Rattle.moos_play.proofs.Stepping.{lines_clients}
+use Rattle.moos_play.proofs.Turns.{heard_rest, start_is, turns_are}
+use Rattle.script_reader.specs.declared.script.Order.{Order}
+use Rattle.script_reader.specs.declared.script.Order.TheVariants.{Stamp, Race}
+use Rattle.script_reader.specs.declared.script.Script.{Script}
+use Rattle.script_reader.specs.Validity.{are_lines}
+
+-- a fetch a turn
+fetches_turns : (helm : Steering) (heard : List Tick) (i count : ℕ) → fetches (turns_from (answering helm) helm.client helm.period heard i count) ≡ count
+fetches_turns helm heard i zero = refl
+fetches_turns helm heard i (suc count) = ap suc (fetches_turns helm heard (suc i) count)
+
+-- moments that rise by one measure don't fall by another that keeps its order
+last_falls : (p : Entry → Bool) (old new : Entry → ℕ) → ((x y : Entry) → p x ≡ true → p y ≡ true → new x ≤ new y → old x ≤ old y) → (x : Entry) → p x ≡ true → (xs : List Entry) → list_all p xs ≡ true → rises (new x) (map new xs) ≡ true → never_falls old (old x) xs ≡ true
+last_falls p old new keeps x px [] all h = refl
+last_falls p old new keeps x px (y ∷ xs) all h =
+    let tests = and_parts (p y) (list_all p xs) all in
+    let parts = and_parts (nat_le (new x) (new y)) (rises (new y) (map new xs)) h in
+    let so : old x ≤ old y = keeps x y px tests.0 (true_le (new x) (new y) parts.0) in
+    and_from (nat_le (old x) (old y)) (never_falls old (old y) xs) (grind (arith, nat_tests, so)) (last_falls p old new keeps y tests.0 xs tests.1 parts.1)
+
+falls_by : (p : Entry → Bool) (old new : Entry → ℕ) → ((x y : Entry) → p x ≡ true → p y ≡ true → new x ≤ new y → old x ≤ old y) → (xs : List Entry) → list_all p xs ≡ true → rises 0 (map new xs) ≡ true → never_falls old 0 xs ≡ true
+falls_by p old new keeps [] all h = refl
+falls_by p old new keeps (x ∷ xs) all h =
+    let tests = and_parts (p x) (list_all p xs) all in
+    let parts = and_parts (nat_le 0 (new x)) (rises (new x) (map new xs)) h in
+    and_from (nat_le 0 (old x)) (never_falls old (old x) xs) (grind (arith, nat_tests)) (last_falls p old new keeps x tests.0 xs tests.1 parts.1)
+
+-- nobody from a number on is below it
+past_below : (known n : ℕ) (xs : History) → known ≤ n → entries_of n (entries_below known xs) ≡ []
+past_below known n [] past = refl
+past_below known n (x ∷ xs) past = by (nat_lt x.client known) refl (past_below known n xs past)
+  where
+    by : (b : Bool) → nat_lt x.client known ≡ b → entries_of n (entries_below known xs) ≡ [] → entries_of n (cond b (x ∷ entries_below known xs) (entries_below known xs)) ≡ []
+    by true e rest =
+        let below : x.client < known = grind (arith, nat_tests, e) in
+        ap (λ b. cond b (x ∷ entries_of n (entries_below known xs)) (entries_of n (entries_below known xs))) (ne_eqb x.client n (λ is. absurd (omega (arith, is, below, past)))) ∙ rest
+    by false e rest = rest
+
+past_lines : (clients n : ℕ) (lines : List Entry) → list_all (λ line. nat_lt line.client clients) lines ≡ true → clients ≤ n → entries_of n lines ≡ []
+past_lines clients n [] all past = refl
+past_lines clients n (line ∷ lines) all past =
+    let tests = and_parts (nat_lt line.client clients) (list_all (λ line. nat_lt line.client clients) lines) all in
+    let here = tests.0 in
+    let below : line.client < clients = grind (arith, nat_tests) in
+    ap (λ b. cond b (line ∷ entries_of n lines) (entries_of n lines)) (ne_eqb line.client n (λ is. absurd (omega (arith, is, below, past)))) ∙ past_lines clients n lines tests.1 past
+
+-- the moment of a client that is known: as before
+pub moment_new : (clients : ℕ) (entry : Entry) → nat_lt entry.client (clients + 1) ≡ true → moment_in Stamp clients 1 entry ≡ moment_of clients entry
+moment_new clients entry below = by (entry.client == clients) refl
+  where
+    by : (b : Bool) → (entry.client == clients) ≡ b → suc 1 * entry.stamp + (suc entry.client - clients) ≡ cond b (suc (2 * entry.stamp)) (2 * entry.stamp)
+    by true e = let same : entry.client ≡ clients = grind (arith, nat_tests, e) in omega (arith, same)
+    by false e = let less : entry.client < clients = grind (arith, nat_tests, e, below) in omega (arith, less)
+
+-- with a helm
+lawful_helm : (order : Order) (script : Script) (helm : Steering) (names : List (List ℕ)) (history : History) → helm.client ≡ helm_number script → list_all (λ line. nat_lt line.client (helm_number script)) script.lines ≡ true
+    → IsLawfulFor (schedule_with order script (Some helm) names) history → IsLawfulBeside order script (Some helm) names history
+lawful_helm order script helm names history number lines so = record {
+  rest = so.rest;
+  opened = so.opened ∙ ap (λ start. start ++ so.rest) start;
+  steered = own_below known clients so.rest (omega (arith, known_is)) ∙ subst (λ n. entries_of n so.rest ≡ ticks_of helm (heard_of names n history) (ticks_to script.stop helm)) number steered;
+  own = λ n other. own n other (either (nat_lt n clients));
+  moments = moments order so.moments;
+  named = so.named;
+}
+  where
+    clients : ℕ
+    clients = helm_number script
+
+    known : ℕ
+    known = known_clients script (Some helm)
+
+    known_is : known ≡ clients + 1
+    known_is = names_more script helm
+
+    start : openings clients (answering helm ∷ []) ≡ opening_of helm
+    start = start_is clients helm number
+
+    ticks : ℕ
+    ticks = suc (script.stop / helm.period)
+
+    -- what the helm hears
+    hears : List Tick
+    hears = heard_in (mailed_in names) helm.client (openings clients (answering helm ∷ [])) so.rest
+
+    heard : hears ≡ heard_of names helm.client history
+    heard = (λ i. heard_in (mailed_in names) helm.client (start i) so.rest) ∙ heard_rest names helm so.rest ∙ ap (heard_of names helm.client) (sym (so.opened ∙ ap (λ start. start ++ so.rest) start))
+
+    due_helm : (n : ℕ) → n ≡ clients → entries_of n so.rest ≡ turns_from (answering helm) n helm.period (heard_in (mailed_in names) n (openings clients (answering helm ∷ [])) so.rest) 0 ticks
+    due_helm n is =
+        let below : n < clients + 1 = omega (arith, is) in
+        let past : nat_lt n clients ≡ false = grind (arith, nat_tests, is) in
+        so.own n below
+        ∙ ap (λ b. cond b (entries_of n script.lines) (answers_of helm.period ticks clients (answering helm ∷ []) n (heard_in (mailed_in names) n (openings clients (answering helm ∷ [])) so.rest))) past
+        ∙ ap (λ b. cond b (turns_from (answering helm) n helm.period (heard_in (mailed_in names) n (openings clients (answering helm ∷ [])) so.rest) 0 ticks) []) (eq-eqb clients n (sym is))
+
+    turns : entries_of helm.client so.rest ≡ turns_from (answering helm) helm.client helm.period hears 0 ticks
+    turns = due_helm helm.client number
+
+    many : length hears ≡ ticks
+    many = heard_many (mailed_in names) helm.client (openings clients (answering helm ∷ [])) so.rest ∙ ap fetches turns ∙ fetches_turns helm hears 0 ticks
+
+    no_more : ticks ≡ ticks + 0
+    no_more = omega arith
+
+    steered : entries_of helm.client so.rest ≡ ticks_of helm (heard_of names helm.client history) ticks
+    steered =
+        turns ∙ ap (turns_from (answering helm) helm.client helm.period hears 0) no_more ∙ turns_are helm hears ticks 0 (omega (arith, many)) ∙ append-nil (ticks_of helm hears ticks)
+        ∙ ap (λ heard. ticks_of helm heard ticks) heard
+
+    own : (n : ℕ) → n ≢ clients → (nat_lt n clients ≡ true) ⊎ (nat_lt n clients ≡ false) → entries_of n (entries_below known so.rest) ≡ entries_of n script.lines
+    own n other (inl e) =
+        let less : n < clients = grind (arith, nat_tests, e) in
+        own_below known n so.rest (omega (arith, less, known_is)) ∙ so.own n (omega (arith, less))
+        ∙ ap (λ b. cond b (entries_of n script.lines) (answers_of helm.period ticks clients (answering helm ∷ []) n (heard_in (mailed_in names) n (openings clients (answering helm ∷ [])) so.rest))) e
+    own n other (inr e) =
+        let past : clients ≤ n = grind (arith, nat_tests, e) in
+        past_below known n so.rest (above past) ∙ sym (past_lines clients n script.lines lines past)
+      where
+        above : clients ≤ n → known ≤ n
+        above past = omega (arith, past, known_is, other)
+
+    below_all : list_all (λ entry. nat_lt entry.client (clients + 1)) (entries_below known so.rest) ≡ true
+    below_all = subst (λ k. list_all (λ entry. nat_lt entry.client k) (entries_below known so.rest) ≡ true) known_is (kept_pass (λ entry. nat_lt entry.client known) so.rest)
+
+    moments : (order : Order) → rises 0 (map (moment_in order clients 1) (entries_below (clients + 1) so.rest ++ [])) ≡ true → KeepsOrder order clients (entries_below known so.rest)
+    moments Race h = tt
+    moments Stamp h =
+        falls_by (λ entry. nat_lt entry.client (clients + 1)) (moment_of clients) (moment_in Stamp clients 1)
+        (λ x y px py less. subst (λ m. m ≤ moment_of clients y) (moment_new clients x px) (subst (λ m. moment_in Stamp clients 1 x ≤ m) (moment_new clients y py) less)) (entries_below known so.rest) below_all
+        (subst (λ k. rises 0 (map (moment_in Stamp clients 1) (entries_below k so.rest)) ≡ true) (sym known_is) (subst (λ all. rises 0 (map (moment_in Stamp clients 1) all) ≡ true) (append-nil (entries_below (clients + 1) so.rest)) h))
+
+-- and without one
+lawful_lines : (order : Order) (script : Script) (names : List (List ℕ)) (history : History) → clients_below (helm_number script) script.lines ≡ true → IsLawfulFor (schedule_with order script None names) history → IsLawfulBeside order script None names history
+lawful_lines order script names history lines so = record {
+  rest = so.rest;
+  opened = so.opened;
+  steered = none_below clients so.rest;
+  own = λ n other. own n other (either (nat_lt n clients));
+  moments = moments order so.moments;
+  named = so.named;
+}
+  where
+    clients : ℕ
+    clients = helm_number script
+
+    no_more : clients + 0 ≡ clients
+    no_more = omega arith
+
+    own : (n : ℕ) → n ≢ clients → (nat_lt n clients ≡ true) ⊎ (nat_lt n clients ≡ false) → entries_of n (entries_below clients so.rest) ≡ entries_of n script.lines
+    own n other (inl e) =
+        let less : n < clients = grind (arith, nat_tests, e) in
+        own_below clients n so.rest less ∙ so.own n (omega (arith, less)) ∙ ap (λ b. cond b (entries_of n script.lines) []) e
+    own n other (inr e) =
+        let past : clients ≤ n = grind (arith, nat_tests, e) in
+        past_below clients n so.rest past ∙ sym (past_lines clients n script.lines lines past)
+
+    keeps : (x y : Entry) → nat_lt x.client clients ≡ true → nat_lt y.client clients ≡ true → moment_in Stamp clients 0 x ≤ moment_in Stamp clients 0 y → moment_of clients x ≤ moment_of clients y
+    keeps x y px py less = omega (arith, line_stamp x px, line_stamp y py, less, first_moment x px, first_moment y py)
+      where
+        line_stamp : (e : Entry) → nat_lt e.client clients ≡ true → moment_of clients e ≡ 2 * e.stamp
+        line_stamp e below = ap (λ b. cond b (suc (2 * e.stamp)) (2 * e.stamp)) (ne_eqb e.client clients (λ is. absurd (grind (arith, nat_tests, below, is))))
+
+        first_moment : (e : Entry) → nat_lt e.client clients ≡ true → suc 0 * e.stamp + (suc e.client - clients) ≡ e.stamp
+        first_moment e below = let less : e.client < clients = grind (arith, nat_tests, below) in omega (arith, less)
+
+    moments : (order : Order) → rises 0 (map (moment_in order clients 0) (entries_below (clients + 0) so.rest ++ [])) ≡ true → KeepsOrder order clients (entries_below clients so.rest)
+    moments Race h = tt
+    moments Stamp h =
+        falls_by (λ entry. nat_lt entry.client clients) (moment_of clients) (moment_in Stamp clients 0) keeps (entries_below clients so.rest) (kept_pass (λ entry. nat_lt entry.client clients) so.rest)
+        (subst (λ k. rises 0 (map (moment_in Stamp clients 0) (entries_below k so.rest)) ≡ true) no_more (subst (λ all. rises 0 (map (moment_in Stamp clients 0) all) ≡ true) (append-nil (entries_below (clients + 0) so.rest)) h))
+
+-- A HISTORY THAT IS LAWFUL FOR THE SCHEDULE of a script and its helm is lawful beside the entries of further clients.
+lawful_beside : (order : Order) (script : Script) (s : Option Steersman) (names : List (List ℕ)) (history past : History) → are_lines (length script.names) 0 script.stop script.lines ≡ true → HasHeard names (helm_number script) script.stop s past
+    → IsLawfulFor (schedule_with order script (helm_of s) names) history → IsLawfulBeside order script (helm_of s) names history
+lawful_beside order script None names history past valid heard so = lawful_lines order script names history (lines_clients (length script.names) 0 script.stop script.lines valid) so
+lawful_beside order script (Some s) names history past valid heard so = lawful_helm order script (steering_of s) names history heard.0 (lines_clients (length script.names) 0 script.stop script.lines valid) so
+
+-- the schedule is playable
+pub plays : (order : Order) (script : Script) (s : Option Steersman) (names : List (List ℕ)) → parts script s ≤ length names → IsPlayable (schedule_with order script (helm_of s) names)
+plays order script s names room = is_playable order script.lines (length script.names) script.stop (tick_period (helm_of s)) (answerers (helm_of s)) (length names) (mailed_in names) room
+
+-- as many clients have a part as are known
+pub parts_known : (script : Script) (s : Option Steersman) → parts script s ≡ known_clients script (helm_of s)
+parts_known script None = omega arith
+parts_known script (Some s) = sym (names_more script (steering_of s))
+
+-- the lines of a script are good
+abbrev pub ValidLines : Script → Type 0
+ValidLines script = are_lines (length script.names) 0 script.stop script.lines ≡ true
+
+-- the history of a run that was cut off is lawful so far
+pub cut_so_far : (play : Play) → IsCutOff play.script.now play → IsLawfulSoFar (schedule_in play) (history_in play)
+cut_so_far play cut = cut.so_far
+
+-- a run that was cut off can be completed
+pub completed : (play : Play) → are_lines (length play.script.now.names) 0 play.script.now.stop play.script.now.lines ≡ true → IsCutOff play.script.now play → HasCompletion play
+completed play valid cut =
+    let whole = completion (schedule_with play.order play.script.now (helm_of play.steersman) play.lock.base) (plays play.order play.script.now play.steersman play.lock.base cut.room) play.first.seat.seen cut.so_far in
+    let made = iterations_more play.lock.base (helm_number play.script.now) play.script.now.stop play.steersman play.first.seat.seen whole.rest cut.heard in
+    let lawful = lawful_beside play.order play.script.now play.steersman play.lock.base (play.first.seat.seen ++ whole.rest) play.first.seat.seen valid cut.heard whole.lawful in
+    record {
+      rest = whole.rest;
+      known = subst (λ number. clients_below number whole.rest ≡ true) (parts_known play.script.now play.steersman) whole.known_alone;
+      lawful = lawful;
+      alone = λ named. lawful_alone play.order play.script.now (helm_of play.steersman) play.lock.base (play.first.seat.seen ++ whole.rest) named lawful;
+      more = made.0;
+      iterations = made.1;
+    }
+
+-- so can one between two rounds
+pub has_completion : (play : Play) → IsBetween play → HasCompletion play
+has_completion play between = completed play between.valid.lines (record {
+  so_far = between.at_play.under.played.so_far;
+  room = between.at_play.under.seats;
+  heard = has_heard play.lock.base (helm_number play.script.now) play.script.now.stop play.steersman play.first.seat.seen between.at_play.under.steered between.at_play.period;
+})
+
+-- a run in which nothing is left
+pub lawful_end : (script : Script) (play : Play) → are_lines (length script.names) 0 script.stop script.lines ≡ true → IsAtPlay script play → left_of script play ≡ 0 → IsLawfulBeside play.order script (helm_of play.steersman) play.lock.base play.first.seat.seen
+lawful_end script play valid at none =
+    lawful_beside play.order script play.steersman play.lock.base play.first.seat.seen play.first.seat.seen valid (has_heard play.lock.base (helm_number script) script.stop play.steersman play.first.seat.seen at.under.steered at.period)
+    (lawful_then (schedule_with play.order script (helm_of play.steersman) play.lock.base) (plays play.order script play.steersman play.lock.base at.under.seats) play.first.seat.seen at.under.played.so_far (λ n below. at.under.played.left n below ∙ by n (nat_lt n (length script.names))))
+  where
+    no_lines : drop play.from script.lines ≡ []
+    no_lines = drop_all play.from script.lines (omega (arith, none))
+
+    no_turns : (s : Option Steersman) → ticks_left script.stop s ≡ 0 → turns_left script.stop s play.lock.base play.first.seat.seen ≡ []
+    no_turns None none = refl
+    no_turns (Some s) none = ap (turns_from (answering (steering_of s)) s.number s.period (heard_of play.lock.base s.number play.first.seat.seen) s.ticks) none
+
+    by : (n : ℕ) (b : Bool) → cond b (entries_of n (drop play.from script.lines)) (turns_left script.stop play.steersman play.lock.base play.first.seat.seen) ≡ []
+    by n true = ap (entries_of n) no_lines
+    by n false = no_turns play.steersman (omega (arith, none))
+
+-- a run without further clients, in which nothing is left
+pub lawful_whole : (order : Order) (script : Script) (play : Play) (helm : Option HelmRun) (names : List (List ℕ)) (history : History) → are_lines (length script.names) 0 script.stop script.lines ≡ true → IsAtPlay script play → left_of script play ≡ 0 → play.order ≡ order
+    → helm_of play.steersman ≡ option_map (steering_with script) helm → names ≡ play.lock.base → history ≡ play.first.seat.seen → names ≡ names_with script helm → IsLawful order script (option_map (steering_with script) helm) names history
+lawful_whole order script play helm names history valid at none order_is helm_is names_is history_is named =
+    lawful_alone order script (option_map (steering_with script) helm) names history (named ∙ same helm)
+    (subst (λ order. IsLawfulBeside order script (option_map (steering_with script) helm) names history) order_is
+    (subst (λ helm. IsLawfulBeside play.order script helm names history) helm_is
+    (subst (λ names. IsLawfulBeside play.order script (helm_of play.steersman) names history) (sym names_is)
+    (subst (IsLawfulBeside play.order script (helm_of play.steersman) play.lock.base) (sym history_is) (lawful_end script play valid at none)))))
+  where
+    same : (helm : Option HelmRun) → names_with script helm ≡ names_with script (option_map (steering_with script) helm)
+    same None = refl
+    same (Some run) = refl
+
+-- the end of a run that is played round by round
+pub over_now : (play last : Play) → IsBetween play → left_in play ≡ 0 → last ≡ play → IsPlayedOut last
+over_now play last between none is = subst IsPlayedOut (sym is) (record {
+  lawful = lawful;
+  alone = λ named. lawful_alone play.order play.script.now (helm_of play.steersman) play.lock.base play.first.seat.seen named lawful;
+  iterations =
+      made_over play.lock.base (helm_number play.script.now) play.script.now.stop play.first.seat.seen play.steersman between.at_play.under.steered
+      (over_ticks play.script.now play play.steersman between.at_play.period (omega (arith, none)));
+})
+  where
+    lawful : IsLawfulBeside play.order play.script.now (helm_of play.steersman) play.lock.base play.first.seat.seen
+    lawful = lawful_end play.script.now play between.valid.lines between.at_play none
+
+-- between two rounds the helm has made as many ticks as there are iterations, and heard as many mails
+pub has_steered : (play : Play) → IsBetween play → HasSteeredSoFar play
+has_steered play between = at play.steersman between.at_play.under.steered
+  where
+    at : (s : Option Steersman) → StandsAt play.lock.base (helm_number play.script.now) s play.first.seat.seen
+        → IfSome (helm_of s) (λ helm. HasTicked play.lock.base helm (length (made_by play.lock.base play.first.seat.seen s)) play.first.seat.seen)
+    at None stands = tt
+    at (Some s) stands =
+        let many = made_many play.lock.base play.first.seat.seen (Some s) in
+        subst (λ n. HasTicked play.lock.base (steering_of s) n play.first.seat.seen) (sym many) (record {
+          own = subst (λ b. entries_of s.number play.first.seat.seen ≡ cond b (opening_of (steering_of s)) [] ++ ticks_of (steering_of s) (heard_of play.lock.base s.number play.first.seat.seen) s.ticks) stands.1 stands.2.own;
+          many = stands.2.many;
+        })
