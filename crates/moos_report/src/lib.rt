@@ -8,7 +8,7 @@
 //! Reading order: `specs/Report` and `specs/IterationLines` say what each line is; here are the entries and their parts, in
 //! `iterations` what follows an entry of the helm, in `behaviors` what an iteration tells of its behaviours, in `lines` the
 //! lines; `parts` has the report at once, and piece by piece while its history grows. `law` says that a report tells its
-//! history, and that what is written so far is how the report of each longer history begins.
+//! history, also with a text behind it, and that what is written so far is how the report of each longer history begins.
 #![tactic(auto)]
 
 ghost use Rattle.std.specs.Prelude.{◌≡◌, ◌≤◌, ◌++◌, [], ◌∷◌, Some, length, take, drop, flat_map, codes, decimal, slice_get};
@@ -27,7 +27,7 @@ mod parts;
 mod setup;
 
 use self::iterations::{fetches_after, put_outcome};
-pub use self::law::{parts_law, report_law};
+pub use self::law::{parts_law, report_law, reports_law};
 use self::lines::{put, put_client, put_mail, put_post, put_reg, put_unused};
 pub use self::parts::{report, report_end, report_head, report_part, report_part_through};
 pub use self::setup::Setup;
