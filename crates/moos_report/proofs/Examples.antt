@@ -21,9 +21,9 @@ use Rattle.bhv_file.specs.declared.file.Unused.{Unused}
 use Rattle.helm_core.specs.declared.iteration.Iteration.{Iteration}
 use Rattle.moos_report.specs.declared.setup.Setup.{Setup}
 use Rattle.moos_report.specs.Community.{HaveOwnNames, IsCommunity, is_one_line, StandOnLines}
-use Rattle.moos_report.specs.IterationLines.{error_text, iteration_text, outcome_text, states_text}
-use Rattle.moos_report.specs.Parts.{EndsWithin}
-use Rattle.moos_report.specs.Report.{report_text, unused_text}
+use Rattle.moos_report.specs.IterationLines.{error_text, fetches_first, iteration_text, outcome_text, states_text}
+use Rattle.moos_report.specs.Parts.{BeginsWith, EndsWithin}
+use Rattle.moos_report.specs.Report.{entries_text, report_text, unused_text}
 
 -- modes are declared, or not
 abbrev with_modes : Setup
@@ -100,6 +100,26 @@ cut_in_tick = ((no, (no, (no, tt))), ((λ post some. (omega arith, omega arith))
 
 told_too_early : EndsWithin vehicle (take 3 ticks) 1 2 (drop 3 ticks) → ⊥
 told_too_early ends = omega (arith, (ends.0 refl (omega arith)).0)
+
+-- the part behind that cut, whose first entry ends the iteration that was begun before
+tick_ended : entries_text no_modes 0 (in_mode 0 false [] ∷ []) vehicle (take 3 ticks) (take 1 (drop 3 ticks))
+    ≡ codes "%% entry 3 0 pHelmIvP post 2 4\n0 IVPHELM_STATE pHelmIvP \"DRIVE\"\n0 MODE pHelmIvP \"ACTIVE\"\n0 DESIRED_SPEED pHelmIvP 0\n0 IVPHELM_ALLSTOP pHelmIvP \"NothingToDo\"\n%% iteration 0 0 DRIVE\n%% none\n"
+unfolding digits
+tick_ended = refl
+
+-- where the helm fetches first in a part, as often as it has fetched before is the number of the iteration that comes first
+numbered : BeginsWith vehicle (take 4 ticks) 1 1 (drop 4 ticks)
+numbered some fetches = refl
+
+numbered_anew : BeginsWith vehicle (take 4 ticks) 0 1 (drop 4 ticks) → ⊥
+numbered_anew begins = omega (arith, begins (omega arith) refl)
+
+-- where it posts first, or no iteration is given, any number will do
+posts_first : fetches_first vehicle (drop 3 ticks) ≡ false
+posts_first = refl
+
+none_given : (first : ℕ) → BeginsWith vehicle (take 4 ticks) first 0 (take 1 (drop 4 ticks))
+none_given first some = absurd (omega (arith, some))
 
 -- what follows an entry: what the helm posts before its first fetch is part of no iteration, and each fetch begins the next
 abbrev helm_posts_now : Entry

@@ -15,7 +15,7 @@ use Rattle.helm_core.specs.declared.iteration.Iteration.{Iteration}
 use Rattle.moos_report.specs.declared.setup.Setup.{Setup}
 use Rattle.moos_report.specs.Community.{HaveClients, HaveOwnNames, StandOnLines}
 use Rattle.moos_report.specs.IterationLines.{outcome_text}
-use Rattle.moos_report.specs.Report.{call_text, client_text, clients_text, end_text, entries_text, entry_text, ReportsTell, unused_text}
+use Rattle.moos_report.specs.Report.{call_text, client_text, clients_text, end_text, entries_text, entry_text, head_text, report_text, ReportsTellTheirEnd, ReportsTell, reported_text, TwoReportsTell, unused_text}
 use Rattle.moos_report.proofs.Cuts.{cut_at, Lacks}
 use Rattle.moos_report.proofs.NextEntries.{Differs, IsNext, outcome_differs, outcome_skipped, unused_differs, unused_skipped}
 use Rattle.moos_report.proofs.PassedLines.{next_entry}
@@ -78,8 +78,8 @@ entries_next setup iterations names past (entry ∷ later) end ends = record { l
 
 entries_cut : (setup setup' : Setup) (iterations iterations' : List Iteration) (names : List (List ℕ)) (past one other : History) (end end' : List ℕ) → All Named names → HaveOwnNames names
     → All IsEntry one → All IsEntry other → HaveClients (length names) one → HaveClients (length names) other → StandOnLines setup iterations → StandOnLines setup' iterations' → Ends end → Ends end'
-    → entries_text setup 0 iterations names past one ++ end ≡ entries_text setup' 0 iterations' names past other ++ end' → one ≡ other
-entries_cut setup setup' iterations iterations' names past [] [] end end' named own h k within within' lines lines' f g e = refl
+    → entries_text setup 0 iterations names past one ++ end ≡ entries_text setup' 0 iterations' names past other ++ end' → (one ≡ other) × (end ≡ end')
+entries_cut setup setup' iterations iterations' names past [] [] end end' named own h k within within' lines lines' f g e = (refl, e)
 entries_cut setup setup' iterations iterations' names past [] (y ∷ other) end end' named own h k within within' lines lines' f g e = absurd (omega (arith, ap (λ l. get_or l 5 0) (sym f.1 ∙ e)))
 entries_cut setup setup' iterations iterations' names past (x ∷ one) [] end end' named own h k within within' lines lines' f g e = absurd (omega (arith, ap (λ l. get_or l 5 0) (e ∙ g.1)))
 entries_cut setup setup' iterations iterations' names past (x ∷ one) (y ∷ other) end end' named own h k within within' lines lines' f g e =
@@ -99,7 +99,7 @@ entries_cut setup setup' iterations iterations' names past (x ∷ one) (y ∷ ot
     let rest = entries_cut setup setup' iterations iterations' names (past ++ x ∷ []) one other end end' named own (All-tail IsEntry x one h) (All-tail IsEntry y other k)
     (All-tail (λ entry. entry.client < length names) x one within) (All-tail (λ entry. entry.client < length names) y other within') lines lines' f g
     (behind ∙ (λ i. entries_text setup' 0 iterations' names (past ++ sym first.0 i ∷ []) other ++ end')) in
-    λ i. first.0 i ∷ rest i
+    (λ i. first.0 i ∷ rest.0 i, rest.1)
   where
     parted : (entry outcome left end : List ℕ) → (entry ++ (outcome ++ left)) ++ end ≡ entry ++ (outcome ++ (left ++ end))
     parted entry outcome left end = append_assoc entry (outcome ++ left) end ∙ ap (λ behind. entry ++ behind) (append_assoc outcome left end)
@@ -121,29 +121,55 @@ clients_cut number (x ∷ one) (y ∷ other) after later h k f g e =
     let rest = clients_cut (suc number) one other after later (All-tail Named x one h) (All-tail Named y other k) f g first.1 in
     (λ i. first.0 i ∷ rest.0 i, rest.1)
 
-end_is : (history : History) → Ends (end_text history)
-end_is history = (_, refl)
-
 -- the lines at the head of a report, one behind the other
 head_open : (clients unused after : List ℕ) → (codes "%% moosdb play 1\n" ++ (clients ++ unused)) ++ after ≡ codes "%% moosdb play 1\n" ++ (clients ++ (unused ++ after))
 head_open clients unused after = append_assoc (codes "%% moosdb play 1\n") (clients ++ unused) after ∙ ap (λ text. codes "%% moosdb play 1\n" ++ text) (append_assoc clients unused after)
 
--- clients and histories of which one report is printed
+-- a report with a text behind it
+report_open : (head entries end rest : List ℕ) → (head ++ (entries ++ end)) ++ rest ≡ head ++ (entries ++ (end ++ rest))
+report_open head entries end rest = append_assoc head (entries ++ end) rest ∙ ap (λ text. head ++ text) (append_assoc entries end rest)
+
+-- clients and histories of which one report is printed, and what stands behind it
+pub reports_end : ReportsTellTheirEnd
+reports_end setup setup' names others history other iterations iterations' rest rest' h k lines lines' e =
+    let end = end_text history ++ rest in
+    let end' = end_text other ++ rest' in
+    let entries = entries_text setup 0 iterations names [] history ++ end in
+    let entries' : List (List ℕ) → List ℕ = λ names. entries_text setup' 0 iterations' names [] other ++ end' in
+    let unused = flat_map unused_text setup.unused in
+    let unused' = flat_map unused_text setup'.unused in
+    let next = entries_next setup iterations names [] history end (ends_with history rest) in
+    let next' = entries_next setup' iterations' others [] other end' (ends_with other rest') in
+    let clients = clients_cut 0 others names (unused' ++ entries' others) (unused ++ entries) k.named h.named
+    (unused_differs setup'.unused (entries' others) next') (unused_differs setup.unused entries next)
+    (append_cancel_left (codes "%% moosdb play 1\n") _ _
+    (sym (opened setup' others other iterations' rest') ∙ e ∙ opened setup names history iterations rest)) in
+    let behind : entries' others ≡ entries =
+    sym next'.found ∙ sym (unused_skipped setup' iterations' lines' (entries' others)) ∙ ap (next_entry true) clients.1
+    ∙ unused_skipped setup iterations lines entries ∙ next.found in
+    let told = entries_cut setup' setup iterations' iterations names [] other history end' end h.named h.own k.entries h.entries
+    (subst (λ ns. HaveClients (length ns) other) clients.0 k.clients) h.clients lines' lines (ends_with other rest') (ends_with history rest) (ap entries' (sym clients.0) ∙ behind) in
+    (clients.0, told.0, append_cancel_left (end_text history) rest' rest (ap (λ history. end_text history ++ rest') (sym told.0) ∙ told.1))
+  where
+    ends_with : (history : History) (rest : List ℕ) → Ends (end_text history ++ rest)
+    ends_with history rest = (_, refl)
+
+    opened : (setup : Setup) (names : List (List ℕ)) (history : History) (iterations : List Iteration) (rest : List ℕ)
+        → report_text setup names history iterations ++ rest
+        ≡ codes "%% moosdb play 1\n" ++ (clients_text 0 names ++ (flat_map unused_text setup.unused ++ (entries_text setup 0 iterations names [] history ++ (end_text history ++ rest))))
+    opened setup names history iterations rest =
+        report_open (head_text setup names) (entries_text setup 0 iterations names [] history) (end_text history) rest
+        ∙ head_open (clients_text 0 names) (flat_map unused_text setup.unused) (entries_text setup 0 iterations names [] history ++ (end_text history ++ rest))
+
+-- nothing stands behind a report that is the whole text
 pub report_same : ReportsTell
 report_same setup setup' names others history other iterations iterations' h k lines lines' e =
-    let entries : List (List ℕ) → List ℕ = λ names. entries_text setup' 0 iterations' names [] other ++ end_text other in
-    let entries' = entries_text setup 0 iterations names [] history ++ end_text history in
-    let unused = flat_map unused_text setup'.unused in
-    let unused' = flat_map unused_text setup.unused in
-    let next = entries_next setup' iterations' others [] other (end_text other) (end_is other) in
-    let next' = entries_next setup iterations names [] history (end_text history) (end_is history) in
-    let clients = clients_cut 0 others names (unused ++ entries others) (unused' ++ entries') k.named h.named
-    (unused_differs setup'.unused (entries others) next) (unused_differs setup.unused entries' next')
-    (append_cancel_left (codes "%% moosdb play 1\n") _ _ (sym (head_open (clients_text 0 others) unused (entries others)) ∙ e ∙ head_open (clients_text 0 names) unused' entries')) in
-    let behind : entries others ≡ entries' =
-    sym next.found ∙ sym (unused_skipped setup' iterations' lines' (entries others)) ∙ ap (next_entry true) clients.1
-    ∙ unused_skipped setup iterations lines entries' ∙ next'.found in (
-      clients.0,
-      entries_cut setup' setup iterations' iterations names [] other history (end_text other) (end_text history) h.named h.own k.entries h.entries
-          (subst (λ ns. HaveClients (length ns) other) clients.0 k.clients) h.clients lines' lines (end_is other) (end_is history) (ap entries (sym clients.0) ∙ behind),
-    )
+    let told = reports_end setup setup' names others history other iterations iterations' [] [] h k lines lines' (ap (λ text. text ++ []) e) in (told.0, told.1)
+
+-- two reports in a row
+pub both_same : TwoReportsTell
+both_same one two other another e =
+    let first = reports_end one.setup other.setup one.names other.names one.history other.history one.iterations other.iterations (reported_text two) (reported_text another)
+    one.community other.community one.lines other.lines e in
+    let second = report_same two.setup another.setup two.names another.names two.history another.history two.iterations another.iterations
+    two.community another.community two.lines another.lines first.2 in (first.0, first.1, second.0, second.1)

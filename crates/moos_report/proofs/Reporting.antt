@@ -1,12 +1,12 @@
 -- Lemmas on the parts of a report.
-use Rattle.std.proofs.Common.{◌≡◌, ℕ, zero, suc, ◌+◌, ◌-◌, ◌<◌, ◌≤◌, cond, Some, None, List, [], ◌∷◌, ◌++◌, map, flat_map, length, take, drop, get_or, refl, ap, sym, ◌∙◌, arith, add-one, codes, decimal, length-take, length-take-le, append-nil, Option}
+use Rattle.std.proofs.Common.{◌≡◌, ℕ, zero, suc, Bool, true, false, ◌+◌, ◌-◌, ◌<◌, ◌≤◌, ◌&&◌, ◌||◌, not, cond, Some, None, List, [], ◌∷◌, ◌++◌, map, flat_map, length, take, drop, get_or, refl, ap, sym, ◌∙◌, arith, add-one, codes, decimal, length-take, length-take-le, append-nil, Option}
 use Rattle.std.specs.Prelude.{slice_get, option_map, if◌then◌else◌}
 use Rattle.std.specs.List.{concat, filter}
 use Rattle.std.proofs.Math.Seq.{drop-cons, take-suc}
 use Rattle.std.proofs.lemmas.List.{append_assoc, drop_all}
 use Rattle.std.proofs.lemmas.List.Folds.{concat-append}
 use Rattle.std.proofs.lemmas.List.Filters.{length-filter_more}
-use Rattle.std.proofs.lemmas.List.Sums.{count_by-le-length, length-filter}
+use Rattle.std.proofs.lemmas.List.Sums.{length-filter}
 use Rattle.std.proofs.lemmas.Option.{get_or_from_slice_get, slice_get_past, slice_get_within}
 use Rattle.moos_io.specs.Faults.{Faring, FaresOn, Fell}
 use Rattle.moos_io.specs.Pieces.{Took, TookFront}
@@ -24,7 +24,7 @@ use Rattle.bhv_life.specs.declared.outcome.BhvState.{BhvState}
 use Rattle.helm_core.specs.declared.iteration.Iteration.{Iteration}
 use Rattle.moos_text.specs.Numbers.{unsigned_text}
 use Rattle.moos_report.specs.declared.setup.Setup.{Setup}
-use Rattle.moos_report.specs.IterationLines.{behavior_text, current_text, helm_fetches, is_helm_fetch, iteration_from, listed_text, outcome_text, states_text}
+use Rattle.moos_report.specs.IterationLines.{behavior_text, current_text, fetches_first, helm_fetches, is_helm_fetch, is_helm_post, iteration_from, listed_text, outcome_text, states_text}
 use Rattle.moos_report.specs.Report.{client_text, clients_text, entry_text, entries_text, said_text, post_text, letter_text, letters_text, call_text}
 
 -- the first elements stand in the front where they stand in the list
@@ -59,6 +59,11 @@ fetches_more names history k {entry = entry} at =
     ∙ ap (λ it. length (filter (is_helm_fetch names) (take k history)) + cond (is_helm_fetch names it) 1 0) (get_or_from_slice_get history k entry entry at)
     ∙ ap (λ fetches. fetches + (if is_helm_fetch names entry then 1 else 0)) (length-filter (is_helm_fetch names) (take k history))
 
+-- with one entry it fetches once at most
+pub once_at_most : (fetches : Bool) → (if fetches then 1 else 0) ≤ 1
+once_at_most true = omega arith
+once_at_most false = omega arith
+
 -- an iteration before the first of a list, and one from there on
 iteration_before : (first number : ℕ) (iterations : List Iteration) → number < first → iteration_from first iterations number ≡ None
 iteration_before zero number iterations before = absurd (omega (arith, before))
@@ -76,16 +81,51 @@ pub current_none : (setup : Setup) (first : ℕ) (iterations : List Iteration) (
 current_none setup first iterations zero before = refl
 current_none setup first iterations (suc number) before = rw (iteration_before first number iterations (omega (arith, before))) refl
 
+-- where no iteration is given, none follows
+none_from : (first number : ℕ) → iteration_from first [] number ≡ None
+none_from zero number = refl
+none_from (suc first) zero = refl
+none_from (suc first) (suc number) = none_from first number
+
+current_empty : (setup : Setup) (first fetches : ℕ) → current_text setup first [] fetches ≡ []
+current_empty setup first zero = refl
+current_empty setup first (suc number) = ap (listed_text setup number) (none_from first number)
+
+-- what follows an entry, where the helm's fetches are counted if any iteration is given
+pub outcome_counted : (setup : Setup) (first : ℕ) (iterations : List Iteration) (names : List (List ℕ)) (past : History) (entry : Entry) (fetches : ℕ)
+    → (0 < length iterations → fetches ≡ helm_fetches names past)
+    → (if is_helm_post names entry then current_text setup first iterations fetches else []) ≡ outcome_text setup first iterations names past entry
+outcome_counted setup first [] names past entry fetches counted = λ i. if is_helm_post names entry then same i else []
+  where
+    same : current_text setup first [] fetches ≡ current_text setup first [] (helm_fetches names past)
+    same = current_empty setup first fetches ∙ sym (current_empty setup first (helm_fetches names past))
+outcome_counted setup first (iteration ∷ iterations) names past entry fetches counted =
+    ap (λ fetches. if is_helm_post names entry then current_text setup first (iteration ∷ iterations) fetches else []) (counted (omega arith))
+
+-- whether the helm fetches first is told by its first call from there on
+module _ (names : List (List ℕ)) (history : History) (k from : ℕ) {entry : Entry} (at : slice_get history k ≡ Some entry) (same : fetches_first names (drop k history) ≡ fetches_first names (drop from history)) where
+  first_due : fetches_first names (drop from history) ≡ (is_helm_fetch names entry || (not (is_helm_post names entry) && fetches_first names (drop (k + 1) history)))
+  first_due =
+      let within = slice_get_within history k entry at in
+      let due : fetches_first names (drop k history) ≡ (is_helm_fetch names entry || (not (is_helm_post names entry) && fetches_first names (drop (k + 1) history))) =
+      rw (drop-cons history k entry within, get_or_from_slice_get history k entry entry at, add-one) refl in
+      sym same ∙ due
+
+  pub first_fetch : is_helm_fetch names entry ≡ true → true ≡ fetches_first names (drop from history)
+  first_fetch fetches = sym (first_due ∙ ap (λ b. b || (not (is_helm_post names entry) && fetches_first names (drop (k + 1) history))) fetches)
+
+  pub first_post : is_helm_fetch names entry ≡ false → is_helm_post names entry ≡ true → false ≡ fetches_first names (drop from history)
+  first_post other posts = sym (first_due ∙ (λ i. other i || (not (posts i) && fetches_first names (drop (k + 1) history))))
+
+  pub first_later : is_helm_fetch names entry ≡ false → is_helm_post names entry ≡ false → fetches_first names (drop (k + 1) history) ≡ fetches_first names (drop from history)
+  first_later other silent = sym (first_due ∙ (λ i. other i || (not (silent i) && fetches_first names (drop (k + 1) history))))
+
 -- the iteration behind a fetch
 pub current_is : (setup : Setup) (first : ℕ) (iterations : List Iteration) (fetches : ℕ) → first < fetches
     → current_text setup first iterations fetches ≡ listed_text setup (fetches - 1) (slice_get iterations (fetches - 1 - first))
 current_is setup first iterations zero some = absurd (omega (arith, some))
 current_is setup first iterations (suc number) some =
     let e : suc number - 1 ≡ number = omega arith in rw (e, iteration_behind first number iterations (omega (arith, some))) refl
-
--- it fetches in some of the entries at most
-pub fetches_few : (names : List (List ℕ)) (history : History) (k : ℕ) → helm_fetches names (take k history) ≤ k
-fetches_few names history k = omega (arith, count_by-le-length (is_helm_fetch names) (take k history), length-take k history)
 
 -- the lines of a batch
 pub batch_is : (names : List (List ℕ)) (stamp client : ℕ) (batch : List Pair)

@@ -1,5 +1,5 @@
 -- What is printed of the helm's iterations, each behind the Post entry that it ended in.
-use Rattle.std.specs.Prelude.{ℕ, zero, suc, Bool, true, false, ◌&&◌, bytes_eq, List, [], ◌∷◌, ◌++◌, flat_map, codes, decimal, if◌then◌else◌, Option, Some, None, slice_get}
+use Rattle.std.specs.Prelude.{ℕ, zero, suc, Bool, true, false, ◌&&◌, ◌||◌, not, bytes_eq, List, [], ◌∷◌, ◌++◌, flat_map, codes, decimal, if◌then◌else◌, Option, Some, None, slice_get}
 use Rattle.std.specs.List.{concat, count_by}
 use Rattle.moos_post.specs.declared.entry.Call.{Call}
 use Rattle.moos_post.specs.declared.entry.Call.TheVariants.{Register, Unregister, Post as Posts, Fetch}
@@ -40,6 +40,11 @@ is_helm_post names entry = is_posting entry.call && is_helm names entry.client
 -- how often the helm has fetched
 abbrev pub helm_fetches : List (List ℕ) → History → ℕ
 helm_fetches names past = count_by (is_helm_fetch names) past
+
+-- the helm fetches here, and hasn't posted before
+abbrev pub fetches_first : List (List ℕ) → History → Bool
+fetches_first names [] = false
+fetches_first names (entry ∷ later) = is_helm_fetch names entry || (not (is_helm_post names entry) && fetches_first names later)
 
 -- whether the vehicle is the helm's to drive
 abbrev pub drive_text : Bool → List ℕ

@@ -3,7 +3,7 @@ use Rattle.std.specs.Prelude.{◌≡◌, ℕ, ◌+◌, ◌<◌, ◌≤◌, IsTru
 use Rattle.moos_post.specs.History.{History}
 use Rattle.helm_core.specs.declared.iteration.Iteration.{Iteration}
 use Rattle.moos_report.specs.declared.setup.Setup.{Setup}
-use Rattle.moos_report.specs.IterationLines.{helm_fetches, is_helm_post}
+use Rattle.moos_report.specs.IterationLines.{fetches_first, helm_fetches, is_helm_post}
 use Rattle.moos_report.specs.Report.{end_text, entries_text, head_text, report_text}
 
 -- what is printed of a history and its iterations so far: how the report begins, and the entries
@@ -16,6 +16,12 @@ EndsWithin names past first limit [] = Unit {0}
 EndsWithin names past first limit (entry ∷ later) =
     (IsTrue (is_helm_post names entry) → 0 < helm_fetches names past → (first < helm_fetches names past) × (helm_fetches names past ≤ limit))
     × EndsWithin names (past ++ entry ∷ []) first limit later
+
+-- The first of so many iterations, which end in this part, has the number `first`: if the helm fetches here before it posts, so
+-- often it has fetched before. If it posts first, that ends the iteration whose fetch stands before, or is the opening: what
+-- stands before tells which, and nothing is asked of `first`. Nor is it if no iteration is given.
+abbrev pub BeginsWith : List (List ℕ) → History → ℕ → ℕ → History → Type 0
+BeginsWith names past first many part = 0 < many → IsTrue (fetches_first names part) → helm_fetches names past ≡ first
 
 -- Wherever a history is cut, what is printed up to there and the part behind are what is printed of both, where each has the
 -- iterations whose Post entries stand in it.

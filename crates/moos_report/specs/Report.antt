@@ -107,3 +107,30 @@ ReportsTell =
     (setup setup' : Setup) (names others : List (List ℕ)) (history other : History) (iterations iterations' : List Iteration)
     → IsCommunity names history → IsCommunity others other → StandOnLines setup iterations → StandOnLines setup' iterations'
     → report_text setup' others other iterations' ≡ report_text setup names history iterations → (others ≡ names) × (other ≡ history)
+
+-- A report tells where it ends: if two texts that begin with a report each are the same, the reports tell the same clients and
+-- the same history, and what stands behind them is the same, whatever it is.
+abbrev pub ReportsTellTheirEnd : Type 0
+ReportsTellTheirEnd =
+    (setup setup' : Setup) (names others : List (List ℕ)) (history other : History) (iterations iterations' : List Iteration) (rest rest' : List ℕ)
+    → IsCommunity names history → IsCommunity others other → StandOnLines setup iterations → StandOnLines setup' iterations'
+    → report_text setup' others other iterations' ++ rest' ≡ report_text setup names history iterations ++ rest → (others ≡ names) × (other ≡ history) × (rest' ≡ rest)
+
+-- a community with what its report is printed of
+pub record Reported : Type 0 where
+  pub setup : Setup
+  pub names : List (List ℕ)
+  pub history : History
+  pub iterations : List Iteration
+  pub community : IsCommunity names history
+  pub lines : StandOnLines setup iterations
+
+-- its report
+abbrev pub reported_text : Reported → List ℕ
+reported_text one = report_text one.setup one.names one.history one.iterations
+
+-- Two reports in a row tell the clients and the history of each.
+abbrev pub TwoReportsTell : Type 0
+TwoReportsTell =
+    (one two other another : Reported) → reported_text other ++ reported_text another ≡ reported_text one ++ reported_text two
+    → (other.names ≡ one.names) × (other.history ≡ one.history) × (another.names ≡ two.names) × (another.history ≡ two.history)

@@ -1,7 +1,8 @@
 // The helm's iterations, each behind the Post entry that it ended in.
-ghost use Rattle.std.specs.Prelude.{◌≡◌, ◌+◌, ◌<◌, ◌^◌, [], if◌then◌else◌};
+ghost use Rattle.std.specs.Prelude.{◌≡◌, ◌+◌, ◌<◌, ◌≤◌, ◌^◌, [], drop, if◌then◌else◌, take};
 ghost use Rattle.moos_io.specs.Writing.{Wrote, way};
-ghost use Rattle.moos_report.specs.IterationLines.{current_text, decided_text, drive_text, is_helm, is_helm_fetch, is_helm_post, iteration_text, mode_line, shown_mode, state_line};
+ghost use Rattle.moos_report.specs.IterationLines.{current_text, decided_text, drive_text, fetches_first, helm_fetches, is_helm, is_helm_fetch, is_helm_post, iteration_text, mode_line, shown_mode, state_line};
+ghost use Rattle.moos_report.specs.Parts.{BeginsWith};
 
 use super::behaviors::{put_errors, put_states, put_updates};
 use super::lines::put;
@@ -34,16 +35,65 @@ pub(super) fn put_outcome<K: Sink>(
     put_current(setup, first, iterations, fetches, buffer, out)
 }
 
+// How often the helm has fetched before entry `from`, where so many iterations are given. Only where a part begins within a tick,
+// or with the opening, is what stands before it walked.
+pub(super) fn fetches_before(db: &Db, from: u64, first: u64, many: usize) -> u64
+    requires { BeginsWith db.now.names (take from db.now.history) first many (drop from db.now.history) }
+    ensures few { result ≤ from }
+    ensures counted { 0 < many → result ≡ helm_fetches db.now.names (take from db.now.history) }
+{
+    if many == 0 {
+        return 0;
+    }
+    if fetches_first(db, from) {
+        return first;
+    }
+    helm_fetches(db, from)
+}
+
+// Whether the helm fetches from entry `from` on, and hasn't posted before.
+fn fetches_first(db: &Db, from: u64) -> bool
+    ensures { result ≡ fetches_first db.now.names (drop from db.now.history) }
+{
+    for k in from..db.entries() {
+        let entry = db.entry(k);
+        if is_helm_fetch(db, entry) {
+            return true;
+        }
+        if is_helm_post(db, entry) {
+            return false;
+        }
+    }
+    false
+}
+
+// How often the helm has fetched before entry `from`.
+fn helm_fetches(db: &Db, from: u64) -> u64
+    ensures { result ≡ helm_fetches db.now.names (take from db.now.history) }
+{
+    let mut fetches = 0;
+    for k in 0..from.min(db.entries()) {
+        fetches = fetches_after(db, db.entry(k), fetches);
+    }
+    fetches
+}
+
 // How often the helm has fetched once this entry is there too.
 pub(super) fn fetches_after(db: &Db, entry: &Entry, fetches: u64) -> u64
     requires { fetches + 1 < 2 ^ 64 }
     ensures { result ≡ fetches + (if is_helm_fetch db.now.names entry.now then 1 else 0) }
 {
-    if matches!(&entry.call, Call::Fetch) && is_helm(db, entry.client) {
+    if is_helm_fetch(db, entry) {
         fetches + 1
     } else {
         fetches
     }
+}
+
+fn is_helm_fetch(db: &Db, entry: &Entry) -> bool
+    ensures { result ≡ is_helm_fetch db.now.names entry.now }
+{
+    matches!(&entry.call, Call::Fetch) && is_helm(db, entry.client)
 }
 
 fn is_helm_post(db: &Db, entry: &Entry) -> bool

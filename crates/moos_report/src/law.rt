@@ -1,10 +1,18 @@
 ghost use Rattle.moos_report.specs.Parts.{FrontsStay, PartsAddUp};
-ghost use Rattle.moos_report.specs.Report.{ReportsTell};
+ghost use Rattle.moos_report.specs.Report.{ReportsTellTheirEnd, ReportsTell, TwoReportsTell};
 
 /// What holds of reports: communities of which one report is printed have the same clients and the same history, whatever
 /// the iterations that are printed with them. It does nothing.
 pub fn report_law()
     ensures { ReportsTell }
+{}
+
+/// What holds of reports with a text behind them: if two such texts are the same, the reports tell the same clients and the same
+/// history, and what stands behind them is the same, whatever it is. So two reports in a row tell two histories. It does
+/// nothing.
+pub fn reports_law()
+    ensures end { ReportsTellTheirEnd }
+    ensures two { TwoReportsTell }
 {}
 
 /// What holds of a report that is written while its history grows: what is written up to a place and the part behind it are

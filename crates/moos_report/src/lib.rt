@@ -8,7 +8,7 @@
 //! Reading order: `specs/Report` and `specs/IterationLines` say what each line is; here are the entries and their parts, in
 //! `iterations` what follows an entry of the helm, in `behaviors` what an iteration tells of its behaviours, in `lines` the
 //! lines; `parts` has the report at once, and piece by piece while its history grows. `law` says that a report tells its
-//! history, and that what is written so far is how the report of each longer history begins.
+//! history, also with a text behind it, and that what is written so far is how the report of each longer history begins.
 #![tactic(auto)]
 
 ghost use Rattle.std.specs.Prelude.{◌≡◌, ◌≤◌, ◌++◌, [], ◌∷◌, Some, length, take, drop, flat_map, codes, decimal, slice_get};
@@ -16,7 +16,7 @@ ghost use Rattle.std.specs.List.{concat};
 ghost use Rattle.moos_io.specs.Writing.{Wrote, way};
 ghost use Rattle.moos_post.specs.History.{name_of, posts_of, posts_of_entry};
 ghost use Rattle.moos_text.specs.Numbers.{unsigned_text};
-ghost use Rattle.moos_report.specs.IterationLines.{helm_fetches};
+ghost use Rattle.moos_report.specs.Parts.{BeginsWith};
 ghost use Rattle.moos_report.specs.Report.{said_text, clients_text, entries_text, entry_text, call_text, reg_text, letter_text, letters_text, unused_text};
 
 mod behaviors;
@@ -26,8 +26,8 @@ mod lines;
 mod parts;
 mod setup;
 
-use self::iterations::{fetches_after, put_outcome};
-pub use self::law::{parts_law, report_law};
+use self::iterations::{fetches_after, fetches_before, put_outcome};
+pub use self::law::{parts_law, report_law, reports_law};
 use self::lines::{put, put_client, put_mail, put_post, put_reg, put_unused};
 pub use self::parts::{report, report_end, report_head, report_part, report_part_through};
 pub use self::setup::Setup;
@@ -66,7 +66,7 @@ fn put_unused_list<K: Sink>(
     Ok(())
 }
 
-// The entries from number `from` on, before which the helm has fetched `first` times.
+// The entries from number `from` on, and behind them the iterations that they end, the first of which has the number `first`.
 fn put_entries<K: Sink>(
     setup: &Setup,
     db: &Db,
@@ -76,13 +76,13 @@ fn put_entries<K: Sink>(
     buffer: &mut Buffer,
     out: &mut K,
 ) -> Result<(), Failed>
-    requires { helm_fetches db.now.names (take from db.now.history) ≡ first }
+    requires { BeginsWith db.now.names (take from db.now.history) first (length iterations.now) (drop from db.now.history) }
     ensures { Wrote (way (K.taken out.old) buffer.old (K.faults out.old)) (way (K.taken out.new) buffer.new (K.faults out.new))
         result (entries_text setup.now first iterations.now db.now.names (take from db.now.history) (drop from db.now.history)) }
 {
     let _ = db.posts();
     let mut posts = posts_before(db, from);
-    let mut fetches = first;
+    let mut fetches = fetches_before(db, from, first, iterations.len());
     for k in from..db.entries() {
         let entry = db.entry(k);
         if let Err(failed) = put_entry(db, k, entry, posts, buffer, out) {

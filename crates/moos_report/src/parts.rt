@@ -1,9 +1,9 @@
 // A report at once, and part by part.
-ghost use Rattle.std.specs.Prelude.{◌≡◌, [], OnOk, OnErr, take, drop};
+ghost use Rattle.std.specs.Prelude.{◌≡◌, [], OnOk, OnErr, drop, length, take};
 ghost use Rattle.moos_io.specs.Faults.{FaresOn, Fell};
 ghost use Rattle.moos_io.specs.Pieces.{Took, TookFront};
 ghost use Rattle.moos_io.specs.Writing.{Wrote, way};
-ghost use Rattle.moos_report.specs.IterationLines.{helm_fetches};
+ghost use Rattle.moos_report.specs.Parts.{BeginsWith};
 ghost use Rattle.moos_report.specs.Report.{end_text, entries_text, head_text, report_text};
 
 use super::lines::{put, put_end};
@@ -68,8 +68,9 @@ fn put_head<K: Sink>(setup: &Setup, db: &Db, buffer: &mut Buffer, out: &mut K) -
     put_unused_list(setup.unused.all(), buffer, out)
 }
 
-/// Writes the entries from number `from` on, and behind what the helm posts its iterations, the first of which has the number
-/// `first`: so often the helm has fetched before. Where the sink fails, it took a front of that, not the whole.
+/// Writes the entries from number `from` on, whatever entry that is, and behind what the helm posts its iterations, the first of
+/// which has the number `first`. Where the sink fails, it took a front of that, not the whole. What stands before entry `from`
+/// is walked once where iterations are given and the helm posts in the part before it fetches there.
 pub fn report_part<K: Sink>(
     setup: &Setup,
     db: &Db,
@@ -78,7 +79,7 @@ pub fn report_part<K: Sink>(
     iterations: &[Iteration],
     out: &mut K,
 ) -> Result<(), Failed>
-    requires { helm_fetches db.now.names (take from db.now.history) ≡ first }
+    requires { BeginsWith db.now.names (take from db.now.history) first (length iterations.now) (drop from db.now.history) }
     ensures ok { OnOk result (Took (K.taken out.old) (K.taken out.new)
         (entries_text setup.now first iterations.now db.now.names (take from db.now.history) (drop from db.now.history))) }
     ensures front { OnErr result (TookFront (K.taken out.old) (K.taken out.new)
@@ -100,7 +101,7 @@ pub fn report_part_through<K: Sink>(
     buffer: &mut Buffer,
     out: &mut K,
 ) -> Result<(), Failed>
-    requires first { helm_fetches db.now.names (take from db.now.history) ≡ first }
+    requires first { BeginsWith db.now.names (take from db.now.history) first (length iterations.now) (drop from db.now.history) }
     requires empty { buffer.old ≡ [] }
     ensures ok { OnOk result (Took (K.taken out.old) (K.taken out.new)
         (entries_text setup.now first iterations.now db.now.names (take from db.now.history) (drop from db.now.history))) }

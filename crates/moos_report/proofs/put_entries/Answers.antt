@@ -1,7 +1,8 @@
-use Rattle.std.proofs.Common.{◌+◌, refl, sym, arith, take, drop}
+use Rattle.std.proofs.Common.{◌+◌, refl, arith, take, drop}
 use Rattle.moos_db.proofs.Growth.{posts-more, posts-take}
+use Rattle.moos_report.specs.IterationLines.{is_helm_fetch}
 use Rattle.moos_report.specs.Report.{entries_text}
-use Rattle.moos_report.proofs.Reporting.{entries_due, fetches_few, fetches_more}
+use Rattle.moos_report.proofs.Reporting.{entries_due, fetches_more, once_at_most, outcome_counted}
 use Rattle.moos_io.proofs.Passages.{leads_start, leads_on, leads_failed}
 use Rattle.moos_report.proofs.put_entries.Goals as goal
 
@@ -10,7 +11,8 @@ loop-k-init g c =
     let history = c.args.db.now.history in (
       leads_start _ (entries_text c.args.setup.now c.args.first c.args.iterations.now c.args.db.now.names (take c.args.from history) (drop c.args.from history)),
       c.posts_before-posts.ensures,
-      sym c.requires,
+      c.fetches_before-fetches.ensures.few,
+      c.fetches_before-fetches.ensures.counted,
     )
 
 pub returns-in-Err : goal.returns-in-Err
@@ -20,8 +22,10 @@ returns-in-Err g c =
 
 pub returns-in-Err-put_outcome : goal.returns-in-Err-put_outcome
 returns-in-Err-put_outcome g c =
-    let due = entries_due c.args.setup.now c.args.first c.args.iterations.now c.args.db.now.names c.args.db.now.history c.loop-k.k c.entry-entry.ensures in
-    let outcome = rw c.loop-k.invariant.2 at c.in-Err-put_outcome.ensures.front in
+    let history = c.args.db.now.history in
+    let due = entries_due c.args.setup.now c.args.first c.args.iterations.now c.args.db.now.names history c.loop-k.k c.entry-entry.ensures in
+    let counted = outcome_counted c.args.setup.now c.args.first c.args.iterations.now c.args.db.now.names (take c.loop-k.k history) c.entry-entry.result.now c.loop-k.fetches c.loop-k.invariant.3 in
+    let outcome = rw counted at c.in-Err-put_outcome.ensures.front in
     record { ok = tt; front = leads_failed _ (leads_on c.loop-k.invariant.0 due c.in_default.ensures.ok) refl outcome }
 
 pub overflow_add-posts : goal.overflow_add-posts
@@ -32,18 +36,20 @@ overflow_add-posts g c =
     omega (arith, more, within, c.loop-k.invariant.1, c.posts_in-posts.ensures, c.posts.ensures, c.posts.type_inv)
 
 pub fetches_after-fetches-requires : goal.fetches_after-fetches-requires
-fetches_after-fetches-requires g c =
-    omega (arith, c.loop-k.invariant.2, fetches_few c.args.db.now.names c.args.db.now.history c.loop-k.k, c.loop-k-test.true, c.entries-k-end.type_inv)
+fetches_after-fetches-requires g c = omega (arith, c.loop-k.invariant.2, c.loop-k-test.true, c.entries-k-end.type_inv)
 
 pub loop-k-preserved : goal.loop-k-preserved
 loop-k-preserved g c =
     let history = c.args.db.now.history in
     let names = c.args.db.now.names in
+    let entry = c.entry-entry.result.now in
     let due = entries_due c.args.setup.now c.args.first c.args.iterations.now names history c.loop-k.k c.entry-entry.ensures in
-    let outcome = rw c.loop-k.invariant.2 at c.in_default-put_outcome.ensures.ok in
+    let counted = outcome_counted c.args.setup.now c.args.first c.args.iterations.now names (take c.loop-k.k history) entry c.loop-k.fetches c.loop-k.invariant.3 in
+    let outcome = rw counted at c.in_default-put_outcome.ensures.ok in
     let posts = posts-more history c.loop-k.k c.entry-entry.ensures in
     let fetches = fetches_more names history c.loop-k.k c.entry-entry.ensures in (
       leads_on (leads_on c.loop-k.invariant.0 due c.in_default.ensures.ok) refl outcome,
       omega (arith, posts, c.loop-k.invariant.1, c.posts_in-posts.ensures),
-      omega (arith, fetches, c.loop-k.invariant.2, c.fetches_after-fetches.ensures),
+      omega (arith, c.loop-k.invariant.2, once_at_most (is_helm_fetch names entry), c.fetches_after-fetches.ensures),
+      (λ some. omega (arith, fetches, c.loop-k.invariant.3 some, c.fetches_after-fetches.ensures)),
     )

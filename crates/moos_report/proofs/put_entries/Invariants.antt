@@ -1,4 +1,4 @@
-use Rattle.std.proofs.Common.{◌≡◌, length, take, drop}
+use Rattle.std.proofs.Common.{◌≡◌, ◌<◌, ◌≤◌, length, take, drop}
 use Rattle.moos_post.specs.History.{posts_of}
 use Rattle.moos_report.specs.IterationLines.{helm_fetches}
 use Rattle.moos_report.specs.Report.{entries_text}
@@ -13,4 +13,5 @@ invariant-loop-k g l =
     (entries_text l.setup l.first l.iterations l.db.names (take l.k l.db.history) (drop l.k l.db.history))
     (entries_text l.setup l.first l.iterations l.db.names (take l.from l.db.history) (drop l.from l.db.history))
     × (l.posts ≡ length (posts_of (take l.k l.db.history)))
-    × (l.fetches ≡ helm_fetches l.db.names (take l.k l.db.history))
+    × (l.fetches ≤ l.k)
+    × (0 < length l.iterations → l.fetches ≡ helm_fetches l.db.names (take l.k l.db.history))
