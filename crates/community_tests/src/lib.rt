@@ -2,10 +2,13 @@
 //! by hand.
 //!
 //! The tests of these crates stand here, since a crate with tests of its own is proved once more with them. One module for
-//! each subject: `posts`, `registrations`, `mailboxes`, `turns` of the lock, `database` and `database_parts`, `clients`, and of
-//! the helm `conditions`, `geometry`, `modes` and `lives`, and `contacts`. What they make of words is `made` in one place.
+//! each subject: `posts`, `registrations`, `mailboxes`, `turns` of the lock, `database` and `database_parts`, `clients`,
+//! `bridges` between two communities, of the helm `conditions`, `geometry`, `modes` and `lives`, and `contacts`. What they make of
+//! words is `made` in one place.
 #![tactic(auto)]
 
+#[cfg(test)]
+mod bridges;
 #[cfg(test)]
 mod clients;
 #[cfg(test)]

@@ -3,6 +3,7 @@ use bhv_reader::{BhvFile, read_behaviors};
 use contact_avoid::Ranges;
 use ivp_domain::{Axis, AxisName, Domain};
 use mission_reader::read_mission;
+use moos_share::read_bridge;
 use moos_text::{Cause, ReadFault, print_seconds};
 use script_reader::read_script;
 use sim_vehicle::Craft;
@@ -17,6 +18,7 @@ pub(crate) enum Kind {
     Behaviors,
     Vehicle,
     Contacts,
+    Bridge,
 }
 
 fn axis(rt: &impl Abort, name: &[u8]) -> Axis {
@@ -72,6 +74,7 @@ pub(crate) fn refusal(
         Kind::Behaviors => read_for_domain(rt, alloc, text).err(),
         Kind::Vehicle => Craft::read(text).err(),
         Kind::Contacts => Ranges::read(text).err(),
+        Kind::Bridge => read_bridge(alloc, text).err(),
     }
 }
 

@@ -2,12 +2,14 @@
 //! give what was worked by hand.
 //!
 //! The tests of these crates stand here, since a crate with tests of its own is proved once more with them. One module for
-//! each subject: `outside`, `texts`, `words` and `pairs`, `scripts`, `missions`, `mode_files` and `behavior_files`, `generated`
-//! missions, `vehicles`, `contact_files` with node reports, and `files`, which has what the kinds of files share.
+//! each subject: `outside`, `texts`, `words` and `pairs`, `scripts`, `bridges`, `missions`, `mode_files` and `behavior_files`,
+//! `generated` missions, `vehicles`, `contact_files` with node reports, and `files`, which has what the kinds of files share.
 #![tactic(auto)]
 
 #[cfg(test)]
 mod behavior_files;
+#[cfg(test)]
+mod bridges;
 #[cfg(test)]
 mod contact_files;
 #[cfg(test)]
