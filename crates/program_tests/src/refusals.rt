@@ -1,5 +1,5 @@
 // Runs that don't end well: files that are refused or absent.
-use crate::files::{ALPHA, COURSE_MISSION, DEPLOYING_SCRIPT, FIRST_PROBLEM, MODES, append, levels};
+use crate::files::{ALPHA, COURSE_MISSION, DEPLOYING_SCRIPT, FIRST_PROBLEM, MODES, levels};
 use crate::runs::{command_line, ends, ends_so, run_beside};
 use moos_jobs::{FileKind, Refusal, Status};
 use moos_text::Cause;
@@ -245,25 +245,6 @@ fn a_changed_survey_is_refused(rt: HostRuntime) {
     for (old, new, file, line, cause) in CHANGES {
         let status = refused(*file, *line, *cause);
         survey_ends(&rt, rt.alloc(), *old, *new, status);
-    }
-}
-
-// The lines of the survey's behaviour file that it may end with: elsewhere a block is open.
-const LAST_LINES: [u32; 8] = [1, 2, 3, 20, 21, 34, 35, 43];
-
-#[test]
-fn a_survey_may_end_between_blocks(rt: HostRuntime) {
-    let mut behaviors = String::new(rt.alloc());
-    for (number, line) in (1..100).zip(ALPHA[2].lines()) {
-        append(&rt, &mut behaviors, &[line, "\n"]);
-        let files = ["0 until\n", ALPHA[1], behaviors.as_str()];
-        if LAST_LINES.contains(&number) {
-            let (status, _) = run_beside(&rt, rt.alloc(), &["play", "s.txt", "m.moos"], files);
-            assert_eq!(rt; status, Status::Done, "{number}");
-        } else {
-            let status = refused(FileKind::Behaviors, number, Cause::B2);
-            is_told(&rt, rt.alloc(), files, status);
-        }
     }
 }
 
