@@ -66,6 +66,25 @@ fn push_places(places: &mut Vec<Place>, entry: usize, posts: usize)
     }
 }
 
+// Takes the memory for one entry, what it gives, and the places of so many posts.
+fn make_room(
+    entries: &mut Vec<Entry>,
+    letters: &mut Vec<Numbers>,
+    places: &mut Vec<Place>,
+    posts: usize,
+) -> Result<(), NoMemory>
+    ensures entries { entries.new.items ≡ entries.old.items }
+    ensures letters { letters.new.items ≡ letters.old.items }
+    ensures places { places.new.items ≡ places.old.items }
+    ensures entry { OnOk result (vec_len entries.new < vec_capacity entries.new) }
+    ensures letter { OnOk result (vec_len letters.new < vec_capacity letters.new) }
+    ensures room { OnOk result (vec_len places.new + posts ≤ vec_capacity places.new) }
+{
+    entries.reserve(1)?;
+    letters.reserve(1)?;
+    places.reserve(posts)
+}
+
 impl Log {
     // The empty history.
     pub fn new(alloc: Global) -> Log
@@ -157,9 +176,12 @@ impl Log {
         ensures mailed { mailbox.new.mailed ≡ mailbox.old.mailed }
     {
         let (number, posts) = (self.entries.len(), posts_in(&entry.call));
-        self.entries.reserve(1)?;
-        self.letters.reserve(1)?;
-        self.places.reserve(posts)?;
+        make_room(
+            &mut self.entries,
+            &mut self.letters,
+            &mut self.places,
+            posts,
+        )?;
         push_places(&mut self.places, number, posts);
         self.entries.push_reserved(entry);
         self.letters.push_reserved(mailbox.take_all(alloc));
