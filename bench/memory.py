@@ -142,7 +142,7 @@ def main():
             trials.every(name, it, "HOSTILE_NTH", given.jobs)
             trials.every(name, it, "HOSTILE_FROM", given.jobs)
             if "16" in name or "beside" in name:
-                trials.every(name, it, "HOSTILE_NTH", given.jobs, {"HOSTILE_HOLD": 20})
+                trials.every(f"{name}, threads held", it, "HOSTILE_NTH", given.jobs, {"HOSTILE_HOLD": 20})
     sys.exit(trials.bad > 0)
 
 
