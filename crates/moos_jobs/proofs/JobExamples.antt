@@ -5,7 +5,6 @@ use Rattle.std.specs.Fmt.{digits}
 use Rattle.std.specs.List.{All}
 use Rattle.std.proofs.lemmas.Bool.{cases_eq}
 use Rattle.std.proofs.lemmas.List.Elements.{All-cons, All-filter, All-head, All-nil, All-tail}
-use Rattle.clap.specs.Simple.{new_app, new_shape, with_rule, with_subcommand}
 use Rattle.ivp_cert.specs.declared.claim.Decision.{Decision}
 use Rattle.ivp_cert.specs.Texts.{decision_lines}
 use Rattle.ivp_cert.proofs.Accepting.{walked_accepts}
@@ -21,18 +20,15 @@ use Rattle.moos_client.specs.Calls.{entries_of}
 use Rattle.moos_play.specs.Lawful.{IsLawful}
 use Rattle.script_reader.specs.declared.script.Order.TheVariants.{Stamp, Race}
 use Rattle.script_reader.specs.declared.script.Script.{Script}
-use Rattle.moos_text.specs.declared.cause.Cause.TheVariants.{B1, M1, M8, P1, P9}
-use Rattle.moos_text.specs.declared.cause.ReadFault.TheVariants.{At, NoMemory as Unread}
+use Rattle.moos_text.specs.declared.cause.Cause.TheVariants.{B1, M1, M8, P9}
+use Rattle.moos_text.specs.declared.cause.ReadFault.TheVariants.{At}
 use Rattle.command_line.specs.declared.job.Job.TheVariants.{Play, Solve, Check}
 use Rattle.command_line.specs.declared.status.FileKind.TheVariants.{Script as ScriptFile, Mission as MissionFile, Behaviors as BehaviorsFile, Problem as ProblemFile, Decision as DecisionFile}
-use Rattle.command_line.specs.declared.status.Status.TheVariants.{Done, CheckNo, Usage, LoadFault, WriteFault, Refused, NoMemory}
-use Rattle.command_line.specs.Commands.{bounded, check_command, IsPlain, play_command, race_rule, solve_command, workers_rule}
-use Rattle.command_line.specs.Exit.{code_of}
+use Rattle.command_line.specs.declared.status.Status.TheVariants.{Done, CheckNo, Usage, WriteFault, Refused}
 use Rattle.moos_jobs.specs.Jobs.Task.{Checking, Playing, Solving}
 use Rattle.command_line.specs.Turns.{Ready, Unfit, Wanted}
-use Rattle.command_line.specs.Jobs.{HasFewWorkers}
 use Rattle.moos_jobs.specs.Jobs.{IsAccepted, IsOutput, outcomes, turn_of, with_few_ticks}
-use Rattle.command_line.specs.Endings.{Ended, Sinking, sinking, status_of}
+use Rattle.command_line.specs.Endings.{Ended, Sinking, sinking}
 use Rattle.moos_jobs.proofs.Communities.{all_entries}
 
 -- one function over two points, of value 5 and 6

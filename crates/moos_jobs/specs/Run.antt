@@ -7,7 +7,7 @@ use Rattle.moos_text.specs.declared.cause.ReadFault.TheVariants.{At}
 use Rattle.command_line.specs.declared.job.Job.{Job}
 use Rattle.command_line.specs.declared.status.FileKind.{FileKind}
 use Rattle.command_line.specs.declared.status.Status.{Status}
-use Rattle.command_line.specs.declared.status.Status.TheVariants.{Usage, LoadFault, Refused, NoMemory}
+use Rattle.command_line.specs.declared.status.Status.TheVariants.{Usage, Refused, NoMemory}
 use Rattle.command_line.specs.Endings.{EndsFrom, IsUntouched, Sinking, Surroundings, WroteAll}
 use Rattle.command_line.specs.Jobs.{job_named}
 use Rattle.command_line.specs.Turns.{AreLoaded, Ready, Unfit}
