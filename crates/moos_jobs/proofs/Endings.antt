@@ -1,6 +1,6 @@
 -- What follows from a run's status where nothing failed, or nothing could: a job whose files are good was done, and another was
 -- refused.
-use Rattle.std.proofs.Common.{◌≡◌, ℕ, List, [], ◌∷◌, ◌++◌, ◌+◌, ◌≤◌, true, length, take, inl, inr, refl, ap, sym, subst, ◌∙◌, arith, append_assoc, append-nil, length-append, length-take}
+use Rattle.std.proofs.Common.{◌≡◌, ℕ, List, [], ◌∷◌, ◌++◌, ◌≤◌, true, length, take, inl, inr, refl, ap, sym, subst, ◌∙◌, arith, append_assoc, append-nil, length-append, length-take}
 use Rattle.std.proofs.lemmas.Bool.{false≢true}
 use Rattle.std.specs.Prelude.{IfSome, Option, Some, None}
 use Rattle.moos_io.specs.Files.{is_among}
@@ -91,9 +91,9 @@ none_written : (kind : FileKind) (fault : ReadFault) (task : Task) → Unfit kin
 none_written kind fault task good = cc
 
 -- two refusals of the same files are one
-one_refusal : (kind : FileKind) (line : ℕ) (cause : Cause) (refusal : Refusal) → Unfit kind (At line cause) ≡ Unfit refusal.file (At refusal.line refusal.cause)
+one_refusal : (turn : FileTurn Task) (kind : FileKind) (line : ℕ) (cause : Cause) (refusal : Refusal) → turn ≡ Unfit kind (At line cause) → turn ≡ Unfit refusal.file (At refusal.line refusal.cause)
     → Refused refusal ≡ Refused (record { file = kind; line = line; cause = cause })
-one_refusal kind line cause refusal same =
+one_refusal turn kind line cause refusal bad same =
     let kind_same : refusal.file ≡ kind = cc in
     let line_same : refusal.line ≡ line = cc in
     let cause_same : refusal.cause ≡ cause = cc in
@@ -153,7 +153,7 @@ module _ (words : List (List ℕ)) (run : Surroundings) (job : Job) (files : Lis
       let wrote = ended_with (Unfit kind (At line cause)) bad (Bad kind (At line cause) refl) WriteFault ran.job ran.named ran.ended (Good ran.ended.ended.0.task ran.ended.ended.0.good) in
       absurd (none_written kind (At line cause) wrote.0.task wrote.0.good)
   is_refused kind line cause (Refused refusal) bad loads ran =
-      inl (one_refusal kind line cause refusal
+      inl (one_refusal (Unfit kind (At line cause)) kind line cause refusal refl
       (ended_with (Unfit kind (At line cause)) bad (Bad kind (At line cause) refl) (Refused refusal) ran.job ran.named ran.ended (Bad refusal.file (At refusal.line refusal.cause) ran.ended.ended.0)).0)
   is_refused kind line cause NoMemory bad loads ran = inr refl
 

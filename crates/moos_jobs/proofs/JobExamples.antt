@@ -20,7 +20,7 @@ use Rattle.moos_client.specs.Calls.{entries_of}
 use Rattle.moos_play.specs.Lawful.{IsLawful}
 use Rattle.script_reader.specs.declared.script.Order.TheVariants.{Stamp, Race}
 use Rattle.script_reader.specs.declared.script.Script.{Script}
-use Rattle.moos_text.specs.declared.cause.Cause.TheVariants.{B1, M1, M8, P9}
+use Rattle.moos_text.specs.declared.cause.Cause.TheVariants.{B1, M1, M8, P9, S7}
 use Rattle.moos_text.specs.declared.cause.ReadFault.TheVariants.{At}
 use Rattle.command_line.specs.declared.job.Job.TheVariants.{Play, Solve, Check}
 use Rattle.command_line.specs.declared.status.FileKind.TheVariants.{Script as ScriptFile, Mission as MissionFile, Behaviors as BehaviorsFile, Problem as ProblemFile, Decision as DecisionFile}
