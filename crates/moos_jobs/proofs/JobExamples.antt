@@ -214,7 +214,7 @@ fetches_lawful = record { rest = fetches; opened = refl; steered = refl; own = �
 
 reported : IsOutput (Playing Stamp script None) Done (codes "%% moosdb play 1\n%% client 0 a\n%% entry 0 0 a fetch\n%% end 1 0\n")
 unfolding digits
-reported = record { history = fetches; lawful = fetches_lawful; printed = refl; listed = λ other is text. no_other other is }
+reported = record { history = fetches; lawful = fetches_lawful; printed = refl; listed = λ other is text. no_other other is; worth = tt }
 
 nothing_reported : IsOutput (Playing Stamp script None) Done [] → ⊥
 nothing_reported is = let printed = is.printed in cc

@@ -8,6 +8,7 @@ use Rattle.helm_core.specs.Helms.{plan_of}
 use Rattle.helm_core.specs.Posts.{are_declared_modes}
 use Rattle.helm_core.specs.Plans.{plan_made}
 use Rattle.helm_core.specs.Ticks.{Tick}
+use Rattle.helm_core.specs.Worths.{DecidesByWorth}
 use Rattle.moos_play.specs.declared.run.HelmRun.{HelmRun}
 use Rattle.moos_play.specs.Lawful.{IsLawful, heard_of, helm_number, iterations, names_with, Steering, steering_with}
 use Rattle.moos_report.specs.declared.setup.Setup.{Setup}
@@ -34,6 +35,11 @@ told_apart order script helm history other tell valid files lawful is same =
     (tell setup setup names names history other _ _ (lawful_community order script helm history valid files lawful) (lawful_community order script helm other valid files is)
     (stand_on_lines script helm (heard history) files) (stand_on_lines script helm (heard other) files) same).1
 
+-- what a helm of good files decides is decided by worth
+worth_of : (helm : Option HelmFiles) → IfSome helm AreGoodFiles → IfSome helm (λ files. DecidesByWorth (plan_made files.mission files.file))
+worth_of None good = tt
+worth_of (Some files) good = good.worth
+
 reported_as : (order : Order) (script : Script) (helm : Option HelmFiles) (text : List ℕ) (history : History) → ReportsTell → IsValid script → IfSome helm AreGoodFiles
     → IsLawfulWith order script helm history → text ≡ report_on script helm history → IsReport order script helm text
 reported_as order script helm text history tell valid files lawful printed = record {
@@ -41,6 +47,7 @@ reported_as order script helm text history tell valid files lawful printed = rec
   lawful = lawful;
   printed = printed;
   listed = λ other is also. told_apart order script helm history other tell valid files lawful is (sym also ∙ printed);
+  worth = worth_of helm files;
 }
 
 -- a helm that was made of these files is run as they say

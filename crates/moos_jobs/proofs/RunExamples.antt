@@ -297,7 +297,7 @@ played =
                   task = Playing Stamp script None;
                   good = refl;
                   text = codes "%% moosdb play 1\n%% client 0 a\n%% entry 0 0 a fetch\n%% end 1 0\n";
-                  output = record { history = script.lines; lawful = fetches_lawful; printed = refl; listed = λ other is text. no_other other is };
+                  output = record { history = script.lines; lawful = fetches_lawful; printed = refl; listed = λ other is text. no_other other is; worth = tt };
                   took = refl;
                 };
           };
@@ -320,7 +320,7 @@ front_played =
                 good = refl;
                 status = Done;
                 text = codes "%% moosdb play 1\n%% client 0 a\n%% entry 0 0 a fetch\n%% end 1 0\n";
-                output = record { history = script.lines; lawful = fetches_lawful; printed = refl; listed = λ other is text. no_other other is };
+                output = record { history = script.lines; lawful = fetches_lawful; printed = refl; listed = λ other is text. no_other other is; worth = tt };
                 took = (31, omega arith, refl);
               },
               tt,

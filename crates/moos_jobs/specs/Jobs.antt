@@ -1,11 +1,12 @@
 -- Which files a job reads, what is to be done with them, and what it may write.
-use Rattle.std.specs.Prelude.{◌≡◌, ℕ, ◌+◌, ◌/◌, nat_le, false, if◌then◌else◌, List, [], ◌∷◌, codes, Option, Some, None, map, option_map, Result, Ok, Err}
+use Rattle.std.specs.Prelude.{◌≡◌, ℕ, ◌+◌, ◌/◌, nat_le, false, if◌then◌else◌, List, [], ◌∷◌, codes, Option, Some, None, map, option_map, IfSome, Result, Ok, Err}
 use Rattle.bhv_file.specs.declared.file.BhvFile.{BhvFile}
 use Rattle.bhv_file.specs.declared.file.Block.{Block}
 use Rattle.bhv_reader.specs.Behaviors.{behaviors_of}
 use Rattle.helm_core.specs.Decisions.{best_decision}
 use Rattle.helm_core.specs.Plans.{plan_made}
 use Rattle.helm_core.specs.Posts.{are_declared_modes}
+use Rattle.helm_core.specs.Worths.{DecidesByWorth}
 use Rattle.ivp_cert.specs.declared.claim.Decision.{Decision}
 use Rattle.ivp_cert.specs.Certificates.{Accepts}
 use Rattle.ivp_cert.specs.Decisions.{decision_of}
@@ -114,12 +115,14 @@ report_on script helm history = report_text (setup_of helm) (names_with script h
 abbrev pub IsLawfulWith : Order → Script → Option HelmFiles → History → Type 0
 IsLawfulWith order script helm history = IsLawful order script (option_map (steering_by script) helm) (names_with script helm) history
 
--- The text is the report of a lawful history, which is the one that the text lists: no other lawful history has it.
+-- The text is the report of a lawful history, which is the one that the text lists: no other lawful history has it. What a helm
+-- decides in it is decided by worth: the first point at which the sum over its behaviours of weight times utility is greatest.
 pub record IsReport (order : Order) (script : Script) (helm : Option HelmFiles) (text : List ℕ) : Type 0 where
   pub history : History
   pub lawful : IsLawfulWith order script helm history
   pub printed : text ≡ report_on script helm history
   pub listed : (other : History) → IsLawfulWith order script helm other → text ≡ report_on script helm other → other ≡ history
+  pub worth : IfSome helm (λ files. DecidesByWorth (plan_made files.mission files.file))
 
 -- The text is the summary of the one history that the mission of this number leaves: counts and sums over it and the helm's
 -- iterations in it.

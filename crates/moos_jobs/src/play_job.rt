@@ -15,7 +15,7 @@ ghost use Rattle.script_reader.specs.Validity.{IsValid};
 use crate::telling::play_rounds;
 use bhv_reader::{BhvFile, Block, read_behaviors};
 use command_line::{FileKind, Status, load, refused, unloaded};
-use helm_core::{Helm, plan_law};
+use helm_core::{Helm, plan_law, worth_law};
 use mission_reader::{Mission, read_mission};
 use moos_io::{Folder, Gate, Sink};
 use moos_play::{HelmRun, Order};
@@ -184,6 +184,7 @@ fn play_helm<R: Threads + Wait + Sync, K: Sink, G: Gate>(
         period: mission.period,
     };
     plan_law();
+    worth_law();
     report_law();
     play_rounds(
         rt,
