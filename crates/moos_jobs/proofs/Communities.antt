@@ -30,6 +30,7 @@ use Rattle.helm_core.specs.Iterations.{iteration_at}
 use Rattle.helm_core.specs.Plans.{Plan, plan_made, wants_of}
 use Rattle.helm_core.specs.Ticks.{Tick}
 use Rattle.helm_core.specs.WellFormed.{IsWellFormedPlan}
+use Rattle.helm_core.specs.Worths.{DecidesByWorth}
 use Rattle.moos_play.specs.Lawful.{Steering, heard_of, helm_number, iterations, iterations_of, names_with, opening, opening_of, tick_entries, ticks, ticks_of, ticks_to}
 use Rattle.moos_report.specs.Community.{HaveOwnNames, IsCommunity, is_one_line, StandOnLines}
 use Rattle.moos_jobs.specs.Jobs.{HelmFiles, IsLawfulWith, setup_of, steering_by}
@@ -121,10 +122,11 @@ all_entries P (entry ∷ later) each = All-cons P entry later first (all_entries
     rest client true all = All-tail P entry (entries_of client later) all
     rest client false all = all
 
--- the behaviour file of a helm is valid, and its plan well formed
+-- the behaviour file of a helm is valid, its plan well formed, and what it decides is decided by worth
 pub record AreGoodFiles (files : HelmFiles) : Type 0 where
   pub file : IsValidFile files.file
   pub formed : IsWellFormedPlan (plan_made files.mission files.file)
+  pub worth : DecidesByWorth (plan_made files.mission files.file)
 
 -- the helm's entries are calls at stamps of 64 bits
 made_by : (client stamp : ℕ) (call : Call) → stamp < 2 ^ 64 → IsCall call → IsBy (suc client) (entry_of client stamp call)

@@ -1,6 +1,6 @@
 -- What follows from a run's status where nothing failed, or nothing could: a job whose files are good was done, and another was
 -- refused.
-use Rattle.std.proofs.Common.{◌≡◌, ℕ, List, [], ◌∷◌, ◌++◌, ◌+◌, ◌≤◌, true, length, take, inl, inr, refl, ap, sym, subst, ◌∙◌, arith, append_assoc, append-nil, length-append, length-take}
+use Rattle.std.proofs.Common.{◌≡◌, ℕ, List, [], ◌∷◌, ◌++◌, ◌≤◌, true, length, take, inl, inr, refl, ap, sym, subst, ◌∙◌, arith, append_assoc, append-nil, length-append, length-take}
 use Rattle.std.proofs.lemmas.Bool.{false≢true}
 use Rattle.std.specs.Prelude.{IfSome, Option, Some, None}
 use Rattle.moos_io.specs.Files.{is_among}
@@ -8,39 +8,41 @@ use Rattle.moos_io.specs.Pieces.{Took}
 use Rattle.moos_text.specs.declared.cause.Cause.{Cause}
 use Rattle.moos_text.specs.declared.cause.ReadFault.{ReadFault}
 use Rattle.moos_text.specs.declared.cause.ReadFault.TheVariants.{At}
-use Rattle.moos_jobs.specs.declared.job.Job.{Job}
-use Rattle.moos_jobs.specs.declared.status.FileKind.{FileKind}
-use Rattle.moos_jobs.specs.declared.status.Refusal.{Refusal}
-use Rattle.moos_jobs.specs.declared.status.Status.{Status}
-use Rattle.moos_jobs.specs.declared.status.Status.TheVariants.{Done, CheckNo, Usage, LoadFault, WriteFault, Refused, NoMemory}
-use Rattle.moos_jobs.specs.Jobs.{FileTurn, IsOutput, Ready, Task, Unfit, Wanted, job_named, turn_of}
-use Rattle.moos_jobs.specs.Run.{AreLoaded, Completes, Declines, DidFrom, EndsWith, EndsFrom, HasFiles, HasRoomFor, IsDoneBut, IsRefusedBut, Refuses, Succeeds, Surroundings, WasWanted}
-use Rattle.moos_jobs.specs.Steps.{Ended, Sinking, WroteAll}
+use Rattle.command_line.specs.declared.job.Job.{Job}
+use Rattle.command_line.specs.declared.status.FileKind.{FileKind}
+use Rattle.command_line.specs.declared.status.Refusal.{Refusal}
+use Rattle.command_line.specs.declared.status.Status.{Status}
+use Rattle.command_line.specs.declared.status.Status.TheVariants.{Done, CheckNo, Usage, LoadFault, WriteFault, Refused, NoMemory}
+use Rattle.command_line.specs.Turns.{FileTurn, Ready, Unfit, Wanted, AreLoaded, WasWanted}
+use Rattle.command_line.specs.Jobs.{job_named}
+use Rattle.moos_jobs.specs.Jobs.{IsOutput, Task, outcomes, turn_of}
+use Rattle.command_line.specs.Endings.{DidFrom, EndsFrom, Surroundings, Ended, Sinking, WroteAll}
+use Rattle.moos_jobs.specs.Run.{Completes, Declines, EndsWith, HasFiles, HasRoomFor, IsDoneBut, IsRefusedBut, Refuses, Succeeds}
 
 -- what the job that the words name did from its first file on is what the run did
-pub did : (words : List (List ℕ)) (run : Surroundings) (job : Job) (status : Status) → job_named words ≡ Some job → EndsFrom run job [] status → EndsWith words run status
+pub did : (words : List (List ℕ)) (run : Surroundings) (job : Job) (status : Status) → job_named words ≡ Some job → EndsFrom outcomes run (turn_of job) [] status → EndsWith words run status
 did words run job Usage named goes = absurd goes.ended
 did words run job NoMemory named goes = inr (record { job = job; named = named; ended = goes })
 did words run job status named goes = record { job = job; named = named; ended = goes }
 
 -- no more file is wanted
-pub data IsOver (turn : FileTurn) : Type 0 where
+pub data IsOver (turn : FileTurn Task) : Type 0 where
   Good : (task : Task) → turn ≡ Ready task → IsOver turn
   Bad : (kind : FileKind) (fault : ReadFault) → turn ≡ Unfit kind fault → IsOver turn
 
 -- where no more file is wanted none was loaded
-over_first : (told : Option (List ℕ → Option (List ℕ))) (turn : FileTurn) (bytes : List ℕ) → IsOver turn → WasWanted told turn bytes → ⊥
+over_first : (told : Option (List ℕ → Option (List ℕ))) (turn : FileTurn Task) (bytes : List ℕ) → IsOver turn → WasWanted told turn bytes → ⊥
 over_first told turn bytes (Good task is) was = subst (λ turn. WasWanted told turn bytes) is was
 over_first told turn bytes (Bad kind fault is) was = subst (λ turn. WasWanted told turn bytes) is was
 
 -- a file that is wanted is the one that the folder tells
-one_file : (files : List ℕ → Option (List ℕ)) (turn : FileTurn) (one other : List ℕ) → WasWanted (Some files) turn one → WasWanted (Some files) turn other → one ≡ other
+one_file : (files : List ℕ → Option (List ℕ)) (turn : FileTurn Task) (one other : List ℕ) → WasWanted (Some files) turn one → WasWanted (Some files) turn other → one ≡ other
 one_file files (Wanted kind name) one other was is = let both : Some one ≡ Some other = sym was ∙ is in cc
 one_file files (Ready task) one other was is = absurd was
 one_file files (Unfit kind fault) one other was is = absurd was
 
 -- two lists of files that a job loads up to its end are one
-one_list : (files : List ℕ → Option (List ℕ)) (job : Job) (front one other : List (List ℕ)) → AreLoaded (Some files) job front one → AreLoaded (Some files) job front other
+one_list : (files : List ℕ → Option (List ℕ)) (job : Job) (front one other : List (List ℕ)) → AreLoaded (Some files) (turn_of job) front one → AreLoaded (Some files) (turn_of job) front other
     → IsOver (turn_of job (front ++ one)) → IsOver (turn_of job (front ++ other)) → one ≡ other
 one_list files job front [] [] loaded is over last = refl
 one_list files job front [] (bytes ∷ other) loaded is over last =
@@ -49,7 +51,7 @@ one_list files job front (bytes ∷ one) [] loaded is over last =
     absurd (over_first (Some files) (turn_of job front) bytes (subst (λ all. IsOver (turn_of job all)) (append-nil front) last) loaded.0)
 one_list files job front (bytes ∷ one) (more ∷ other) loaded is over last =
     let first : bytes ≡ more = one_file files (turn_of job front) bytes more loaded.0 is.0 in
-    let is_same : AreLoaded (Some files) job (front ++ bytes ∷ []) other = subst (λ first. AreLoaded (Some files) job (front ++ first ∷ []) other) (sym first) is.1 in
+    let is_same : AreLoaded (Some files) (turn_of job) (front ++ bytes ∷ []) other = subst (λ first. AreLoaded (Some files) (turn_of job) (front ++ first ∷ []) other) (sym first) is.1 in
     let last_same : IsOver (turn_of job (front ++ bytes ∷ other)) = subst (λ first. IsOver (turn_of job (front ++ first ∷ other))) (sym first) last in
     let rest = one_list files job (front ++ bytes ∷ []) one other loaded.1 is_same
     (subst (λ all. IsOver (turn_of job all)) (sym (append_assoc front (bytes ∷ []) one)) over)
@@ -57,12 +59,12 @@ one_list files job front (bytes ∷ one) (more ∷ other) loaded is over last =
     ap (λ first. first ∷ one) first ∙ ap (λ rest. more ∷ rest) rest
 
 -- nor is one wanted there
-over_wanted : (turn : FileTurn) (kind : FileKind) (name : List ℕ) → IsOver turn → turn ≡ Wanted kind name → ⊥
+over_wanted : (turn : FileTurn Task) (kind : FileKind) (name : List ℕ) → IsOver turn → turn ≡ Wanted kind name → ⊥
 over_wanted turn kind name (Good task is) wanted = let both : Ready task ≡ Wanted kind name = sym is ∙ wanted in cc
 over_wanted turn kind name (Bad other fault is) wanted = let both : Unfit other fault ≡ Wanted kind name = sym is ∙ wanted in cc
 
 -- of a job whose files are all there, each file that is wanted on the way is told
-wanted_told : (files : List ℕ → Option (List ℕ)) (job : Job) (front one other : List (List ℕ)) (kind : FileKind) (name : List ℕ) → AreLoaded (Some files) job front one → AreLoaded (Some files) job front other
+wanted_told : (files : List ℕ → Option (List ℕ)) (job : Job) (front one other : List (List ℕ)) (kind : FileKind) (name : List ℕ) → AreLoaded (Some files) (turn_of job) front one → AreLoaded (Some files) (turn_of job) front other
     → IsOver (turn_of job (front ++ one)) → turn_of job (front ++ other) ≡ Wanted kind name → (bytes : List ℕ) × (files name ≡ Some bytes)
 wanted_told files job front [] [] kind name loaded is over wanted = absurd (over_wanted (turn_of job (front ++ [])) kind name over wanted)
 wanted_told files job front [] (bytes ∷ other) kind name loaded is over wanted =
@@ -71,14 +73,14 @@ wanted_told files job front (bytes ∷ one) [] kind name loaded is over wanted =
     (bytes, subst (λ turn. WasWanted (Some files) turn bytes) (ap (turn_of job) (sym (append-nil front)) ∙ wanted) loaded.0)
 wanted_told files job front (bytes ∷ one) (more ∷ other) kind name loaded is over wanted =
     let first : bytes ≡ more = one_file files (turn_of job front) bytes more loaded.0 is.0 in
-    let is_same : AreLoaded (Some files) job (front ++ bytes ∷ []) other = subst (λ first. AreLoaded (Some files) job (front ++ first ∷ []) other) (sym first) is.1 in
+    let is_same : AreLoaded (Some files) (turn_of job) (front ++ bytes ∷ []) other = subst (λ first. AreLoaded (Some files) (turn_of job) (front ++ first ∷ []) other) (sym first) is.1 in
     let wanted_same : turn_of job (front ++ bytes ∷ other) ≡ Wanted kind name = subst (λ first. turn_of job (front ++ first ∷ other) ≡ Wanted kind name) (sym first) wanted in
     wanted_told files job (front ++ bytes ∷ []) one other kind name loaded.1 is_same
     (subst (λ all. IsOver (turn_of job all)) (sym (append_assoc front (bytes ∷ []) one)) over)
     (ap (turn_of job) (append_assoc front (bytes ∷ []) other) ∙ wanted_same)
 
 -- what was written is what the task may write
-pub output_of : (task : Task) (status : Status) (sink : Sinking) (wrote : WroteAll (Ready task) status sink) → IsOutput task status wrote.text
+pub output_of : (task : Task) (status : Status) (sink : Sinking) (wrote : WroteAll outcomes (Ready task) status sink) → IsOutput task status wrote.text
 output_of task status sink wrote =
     let good : Ready task ≡ Ready wrote.task = wrote.good in
     let same : wrote.task ≡ task = cc in
@@ -89,9 +91,9 @@ none_written : (kind : FileKind) (fault : ReadFault) (task : Task) → Unfit kin
 none_written kind fault task good = cc
 
 -- two refusals of the same files are one
-one_refusal : (kind : FileKind) (line : ℕ) (cause : Cause) (refusal : Refusal) → Unfit kind (At line cause) ≡ Unfit refusal.file (At refusal.line refusal.cause)
+one_refusal : (turn : FileTurn Task) (kind : FileKind) (line : ℕ) (cause : Cause) (refusal : Refusal) → turn ≡ Unfit kind (At line cause) → turn ≡ Unfit refusal.file (At refusal.line refusal.cause)
     → Refused refusal ≡ Refused (record { file = kind; line = line; cause = cause })
-one_refusal kind line cause refusal same =
+one_refusal turn kind line cause refusal bad same =
     let kind_same : refusal.file ≡ kind = cc in
     let line_same : refusal.line ≡ line = cc in
     let cause_same : refusal.cause ≡ cause = cc in
@@ -102,17 +104,17 @@ module _ (words : List (List ℕ)) (run : Surroundings) (job : Job) (files : Lis
   one_job other named = let both : Some other ≡ Some job = sym named ∙ has.named in cc
 
   -- what the folder tells of the files that some job of these words loaded
-  told_loads : (other : Job) → other ≡ job → (loads : List (List ℕ)) → AreLoaded run.told other [] loads → AreLoaded (Some has.told) job [] loads
-  told_loads other same loads loaded = subst (λ told. AreLoaded told job [] loads) has.telling (subst (λ job. AreLoaded run.told job [] loads) same loaded)
+  told_loads : (other : Job) → other ≡ job → (loads : List (List ℕ)) → AreLoaded run.told (turn_of other) [] loads → AreLoaded (Some has.told) (turn_of job) [] loads
+  told_loads other same loads loaded = subst (λ told. AreLoaded told (turn_of job) [] loads) has.telling (subst (λ job. AreLoaded run.told (turn_of job) [] loads) same loaded)
 
   -- the job that the words name ended by what its files are told to hold
-  pub ended_with : (turn : FileTurn) → turn_of job files ≡ turn → IsOver turn → (status : Status) (other : Job) → job_named words ≡ Some other → (did : DidFrom run other [] status)
-      → IsOver (turn_of other did.files) → Ended turn run.sink status
+  pub ended_with : (turn : FileTurn Task) → turn_of job files ≡ turn → IsOver turn → (status : Status) (other : Job) → job_named words ≡ Some other → (did : DidFrom outcomes run (turn_of other) [] status)
+      → IsOver (turn_of other did.files) → Ended outcomes turn run.sink status
   ended_with turn is over status other named did done =
       let same_job : other ≡ job = one_job other named in
       let same : did.files ≡ files = one_list has.told job [] did.files files (told_loads other same_job did.files did.loaded) (told_loads job refl files has.loaded)
       (subst (λ job. IsOver (turn_of job did.files)) same_job done) (subst IsOver (sym is) over) in
-      subst (λ turn. Ended turn run.sink status) (ap (λ job. turn_of job did.files) same_job ∙ (ap (turn_of job) same ∙ is)) did.ended
+      subst (λ turn. Ended outcomes turn run.sink status) (ap (λ job. turn_of job did.files) same_job ∙ (ap (turn_of job) same ∙ is)) did.ended
 
   -- a folder that is sure of its files has failed at none of them
   loads_all : ((name bytes : List ℕ) → has.told name ≡ Some bytes → is_among run.sure name ≡ true) → IsOver (turn_of job files) → EndsWith words run LoadFault → ⊥
@@ -123,7 +125,7 @@ module _ (words : List (List ℕ)) (run : Surroundings) (job : Job) (files : Lis
       false≢true (sym ran.ended.unsure ∙ sure ran.ended.name found.0 found.1)
 
   -- with good files the job is done, where no load fails and no put does
-  is_done : (task : Task) (status : Status) → turn_of job files ≡ Ready task → (EndsWith words run LoadFault → ⊥) → (Ended (Ready task) run.sink WriteFault → ⊥) → EndsWith words run status
+  is_done : (task : Task) (status : Status) → turn_of job files ≡ Ready task → (EndsWith words run LoadFault → ⊥) → (Ended outcomes (Ready task) run.sink WriteFault → ⊥) → EndsWith words run status
       → IsDoneBut task run status
   is_done task Done good loads puts ran = inl (ended_with (Ready task) good (Good task refl) Done ran.job ran.named ran.ended (Good ran.ended.ended.task ran.ended.ended.good))
   is_done task CheckNo good loads puts ran = inl (ended_with (Ready task) good (Good task refl) CheckNo ran.job ran.named ran.ended (Good ran.ended.ended.task ran.ended.ended.good))
@@ -151,12 +153,12 @@ module _ (words : List (List ℕ)) (run : Surroundings) (job : Job) (files : Lis
       let wrote = ended_with (Unfit kind (At line cause)) bad (Bad kind (At line cause) refl) WriteFault ran.job ran.named ran.ended (Good ran.ended.ended.0.task ran.ended.ended.0.good) in
       absurd (none_written kind (At line cause) wrote.0.task wrote.0.good)
   is_refused kind line cause (Refused refusal) bad loads ran =
-      inl (one_refusal kind line cause refusal
+      inl (one_refusal (Unfit kind (At line cause)) kind line cause refusal refl
       (ended_with (Unfit kind (At line cause)) bad (Bad kind (At line cause) refl) (Refused refusal) ran.job ran.named ran.ended (Bad refusal.file (At refusal.line refusal.cause) ran.ended.ended.0)).0)
   is_refused kind line cause NoMemory bad loads ran = inr refl
 
 -- a sink with room for whatever the task may write has failed at nothing
-puts_all : (task : Task) (sink : Sinking) → HasRoomFor task sink → Ended (Ready task) sink WriteFault → ⊥
+puts_all : (task : Task) (sink : Sinking) → HasRoomFor task sink → Ended outcomes (Ready task) sink WriteFault → ⊥
 puts_all task sink has (wrote, fell) =
     let good : Ready task ≡ Ready wrote.task = wrote.good in
     let same : wrote.task ≡ task = cc in

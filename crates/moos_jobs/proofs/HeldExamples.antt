@@ -8,16 +8,16 @@ use Rattle.moos_io.specs.FolderState.{FolderState}
 use Rattle.moos_io.specs.Loads.{sure_names}
 use Rattle.moos_io.proofs.Files.{present}
 use Rattle.moos_text.specs.declared.cause.Cause.TheVariants.{P1}
-use Rattle.moos_jobs.specs.declared.job.Job.TheVariants.{Solve}
-use Rattle.moos_jobs.specs.declared.status.FileKind.TheVariants.{Problem as ProblemFile}
-use Rattle.moos_jobs.specs.declared.status.Status.{Status}
-use Rattle.moos_jobs.specs.declared.status.Status.TheVariants.{Done, CheckNo, Usage, LoadFault, WriteFault, Refused, NoMemory}
+use Rattle.command_line.specs.declared.job.Job.TheVariants.{Solve}
+use Rattle.command_line.specs.declared.status.FileKind.TheVariants.{Problem as ProblemFile}
+use Rattle.command_line.specs.declared.status.Status.{Status}
+use Rattle.command_line.specs.declared.status.Status.TheVariants.{Done, CheckNo, Usage, LoadFault, WriteFault, Refused, NoMemory}
 use Rattle.moos_jobs.specs.Jobs.{IsOutput}
 use Rattle.moos_jobs.specs.Jobs.Task.{Solving}
-use Rattle.moos_jobs.specs.Run.{EndsWith, HasRoomFor, IsHeld, Surroundings, surroundings}
-use Rattle.moos_jobs.specs.Steps.{Sinking, sinking}
+use Rattle.command_line.specs.Endings.{Surroundings, surroundings, Sinking, sinking}
+use Rattle.moos_jobs.specs.Run.{EndsWith, HasRoomFor, IsHeld}
 use Rattle.moos_jobs.proofs.Endings.{declines, output_of, succeeds}
-use Rattle.moos_jobs.proofs.Examples.{solves_by_one}
+use Rattle.command_line.proofs.Examples.{solves_by_one}
 use Rattle.moos_jobs.proofs.JobExamples.{decision_bytes, printed, problem, problem_bytes}
 
 -- the words of a run that solves a problem, a folder with its file and these marks, and an empty sink with room for so many bytes

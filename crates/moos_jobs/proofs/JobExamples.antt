@@ -5,7 +5,6 @@ use Rattle.std.specs.Fmt.{digits}
 use Rattle.std.specs.List.{All}
 use Rattle.std.proofs.lemmas.Bool.{cases_eq}
 use Rattle.std.proofs.lemmas.List.Elements.{All-cons, All-filter, All-head, All-nil, All-tail}
-use Rattle.clap.specs.Simple.{new_app, new_shape, with_rule, with_subcommand}
 use Rattle.ivp_cert.specs.declared.claim.Decision.{Decision}
 use Rattle.ivp_cert.specs.Texts.{decision_lines}
 use Rattle.ivp_cert.proofs.Accepting.{walked_accepts}
@@ -21,16 +20,15 @@ use Rattle.moos_client.specs.Calls.{entries_of}
 use Rattle.moos_play.specs.Lawful.{IsLawful}
 use Rattle.script_reader.specs.declared.script.Order.TheVariants.{Stamp, Race}
 use Rattle.script_reader.specs.declared.script.Script.{Script}
-use Rattle.moos_text.specs.declared.cause.Cause.TheVariants.{B1, M1, M8, P1, P9}
-use Rattle.moos_text.specs.declared.cause.ReadFault.TheVariants.{At, NoMemory as Unread}
-use Rattle.moos_jobs.specs.declared.job.Job.TheVariants.{Play, Solve, Check}
-use Rattle.moos_jobs.specs.declared.status.FileKind.TheVariants.{Script as ScriptFile, Mission as MissionFile, Behaviors as BehaviorsFile, Problem as ProblemFile, Decision as DecisionFile}
-use Rattle.moos_jobs.specs.declared.status.Status.TheVariants.{Done, CheckNo, Usage, LoadFault, WriteFault, Refused, NoMemory}
-use Rattle.moos_jobs.specs.Commands.{bounded, check_command, IsPlain, play_command, race_rule, solve_command, workers_rule}
-use Rattle.moos_jobs.specs.Exit.{code_of}
+use Rattle.moos_text.specs.declared.cause.Cause.TheVariants.{B1, M1, M8, P9, S7}
+use Rattle.moos_text.specs.declared.cause.ReadFault.TheVariants.{At}
+use Rattle.command_line.specs.declared.job.Job.TheVariants.{Play, Solve, Check}
+use Rattle.command_line.specs.declared.status.FileKind.TheVariants.{Script as ScriptFile, Mission as MissionFile, Behaviors as BehaviorsFile, Problem as ProblemFile, Decision as DecisionFile}
+use Rattle.command_line.specs.declared.status.Status.TheVariants.{Done, CheckNo, Usage, WriteFault, Refused}
 use Rattle.moos_jobs.specs.Jobs.Task.{Checking, Playing, Solving}
-use Rattle.moos_jobs.specs.Jobs.{HasFewWorkers, IsAccepted, IsOutput, Ready, turn_of, Unfit, Wanted, with_few_ticks}
-use Rattle.moos_jobs.specs.Steps.{Ended, Sinking, sinking, status_of}
+use Rattle.command_line.specs.Turns.{Ready, Unfit, Wanted}
+use Rattle.moos_jobs.specs.Jobs.{IsAccepted, IsOutput, outcomes, turn_of, with_few_ticks}
+use Rattle.command_line.specs.Endings.{Ended, Sinking, sinking}
 use Rattle.moos_jobs.proofs.Communities.{all_entries}
 
 -- one function over two points, of value 5 and 6
@@ -78,39 +76,15 @@ first_files : (turn_of (Play (codes "s") None Race 1) [] ≡ Wanted ScriptFile (
     × (turn_of (Solve (codes "p") 16) [] ≡ Wanted ProblemFile (codes "p")) × (turn_of (Check (codes "d")) [] ≡ Wanted DecisionFile (codes "d"))
 first_files = (refl, refl, refl, refl)
 
--- a job has from 1 to 16 workers
-workers : HasFewWorkers (Play (codes "s") None Stamp 16) × HasFewWorkers (Solve (codes "p") 1) × HasFewWorkers (Solve (codes "p") 16) × HasFewWorkers (Check (codes "d"))
-workers = ((omega arith, omega arith), (omega arith, omega arith), (omega arith, omega arith), tt)
+-- a bad interval, or nothing where a problem should be; the script is refused before its mission is wanted
+bad_interval : turn_of (Play (codes "a") None Stamp 1) (codes "0 a register X -1" ∷ []) ≡ Unfit ScriptFile (At 1 S7)
+bad_interval = refl
 
-no_workers : HasFewWorkers (Solve (codes "p") 0) → ⊥
-no_workers has = omega (arith, has.0)
+bad_interval_with_a_mission : turn_of (Play (codes "a") (Some (codes "m")) Stamp 1) (codes "0 a register X -1" ∷ []) ≡ Unfit ScriptFile (At 1 S7)
+bad_interval_with_a_mission = refl
 
-seventeen_workers : HasFewWorkers (Solve (codes "p") 17) → ⊥
-seventeen_workers has = omega (arith, has.1)
-
-no_workers_of_a_helm : HasFewWorkers (Play (codes "s") (Some (codes "m")) Stamp 0) → ⊥
-no_workers_of_a_helm has = omega (arith, has.0)
-
--- a number past these counts as 1
-few_workers : (bounded 1 16 0 ≡ 1) × (bounded 1 16 16 ≡ 16) × (bounded 1 16 17 ≡ 1)
-few_workers = (refl, refl, refl)
-
--- each status has a number of its own
-codes_of : (code_of Done ≡ 0) × (code_of CheckNo ≡ 1) × (code_of Usage ≡ 2) × (code_of LoadFault ≡ 3) × (code_of WriteFault ≡ 4) × (code_of (Refused (record { file = ProblemFile; line = 1; cause = P9 })) ≡ 5) × (code_of NoMemory ≡ 6)
-codes_of = (refl, refl, refl, refl, refl, refl, refl)
-
--- of these commands the command-line crate says exactly what they take; it doesn't of one with a rule on another argument, with a subcommand, or with a default that its own parser refuses
-plain_commands : IsPlain play_command × IsPlain solve_command × IsPlain check_command
-plain_commands = (record { free = refl; alone = refl; defaults = refl }, record { free = refl; alone = refl; defaults = refl }, record { free = refl; alone = refl; defaults = refl })
-
-bound_argument : IsPlain (with_rule (new_app (codes "play")) (record race_rule { is_free = false })) → ⊥
-bound_argument is = let free : false ≡ true = is.free in cc
-
-subcommand : IsPlain (with_subcommand check_command (new_shape (codes "all"))) → ⊥
-subcommand is = omega (arith, ap length is.alone)
-
-great_default : IsPlain (with_rule (new_app (codes "solve")) (record workers_rule { defaults = codes "17" ∷ [] })) → ⊥
-great_default is = let passes : false ≡ true = is.defaults in cc
+no_problem : turn_of (Solve (codes "p") 1) ([] ∷ []) ≡ Unfit ProblemFile (At 1 P9)
+no_problem = refl
 
 -- the bytes of two decisions: one claims the best point, and the other one the lesser
 checked : turn_of (Check (codes "d")) (decision_bytes ∷ []) ≡ Ready (Checking decision)
@@ -240,29 +214,25 @@ fetches_lawful = record { rest = fetches; opened = refl; steered = refl; own = �
 
 reported : IsOutput (Playing Stamp script None) Done (codes "%% moosdb play 1\n%% client 0 a\n%% entry 0 0 a fetch\n%% end 1 0\n")
 unfolding digits
-reported = record { history = fetches; lawful = fetches_lawful; printed = refl; listed = λ other is text. no_other other is }
+reported = record { history = fetches; lawful = fetches_lawful; printed = refl; listed = λ other is text. no_other other is; worth = tt }
 
 nothing_reported : IsOutput (Playing Stamp script None) Done [] → ⊥
 nothing_reported is = let printed = is.printed in cc
-
--- a reader's refusal is the run's, with the kind of file, and its want of memory is the run's
-statuses : (status_of DecisionFile (At 3 P1) ≡ Refused (record { file = DecisionFile; line = 3; cause = P1 })) × (status_of DecisionFile Unread ≡ NoMemory)
-statuses = (refl, refl)
 
 -- a sink by what it took before and after, and how often it failed since; it takes nothing for sure
 abbrev pub sink_of : List ℕ → List ℕ → ℕ → Sinking
 sink_of before after faults = sinking (Some before) (Some after) (record { faults = 0; firm = 0 }) (record { faults = faults; firm = 0 })
 
 -- how the problem's job ends: all is written, or a front of it where the sink failed
-all_written : Ended (Ready (Solving problem)) (sink_of (codes "x") (codes "x" ++ decision_bytes) 0) Done
+all_written : Ended outcomes (Ready (Solving problem)) (sink_of (codes "x") (codes "x" ++ decision_bytes) 0) Done
 unfolding digits
 all_written = record { task = Solving problem; good = refl; text = decision_bytes; output = refl; took = refl }
 
-front_written : Ended (Ready (Solving problem)) (sink_of [] (take 20 decision_bytes) 1) WriteFault
+front_written : Ended outcomes (Ready (Solving problem)) (sink_of [] (take 20 decision_bytes) 1) WriteFault
 unfolding digits
 front_written = (record { task = Solving problem; good = refl; status = Done; text = decision_bytes; output = refl; took = (20, omega arith, refl) }, record { rose = inl (omega arith); past = omega arith })
 
-failed_without_a_fault : Ended (Ready (Solving problem)) (sink_of [] decision_bytes 0) WriteFault → ⊥
+failed_without_a_fault : Ended outcomes (Ready (Solving problem)) (sink_of [] decision_bytes 0) WriteFault → ⊥
 failed_without_a_fault is =
     elim is.1.rose [
       | inl rose ↦ omega arith
@@ -270,28 +240,28 @@ failed_without_a_fault is =
     ]
 
 -- a good file isn't refused or half done with; a bad one is refused for what is wrong with it, and nothing is written
-ended_usage : Ended (Ready (Solving problem)) (sink_of [] [] 0) Usage → ⊥
+ended_usage : Ended outcomes (Ready (Solving problem)) (sink_of [] [] 0) Usage → ⊥
 ended_usage is = is
 
-good_refused : Ended (Ready (Solving problem)) (sink_of [] [] 0) (Refused (record { file = ProblemFile; line = 1; cause = P9 })) → ⊥
+good_refused : Ended outcomes (Ready (Solving problem)) (sink_of [] [] 0) (Refused (record { file = ProblemFile; line = 1; cause = P9 })) → ⊥
 good_refused is = let read = is.0 in cc
 
-bad_refused : Ended (Unfit ProblemFile (At 1 P9)) (sink_of [] [] 0) (Refused (record { file = ProblemFile; line = 1; cause = P9 }))
+bad_refused : Ended outcomes (Unfit ProblemFile (At 1 P9)) (sink_of [] [] 0) (Refused (record { file = ProblemFile; line = 1; cause = P9 }))
 bad_refused = (refl, record { taken = refl; faults = refl })
 
-other_line : Ended (Unfit ProblemFile (At 1 P9)) (sink_of [] [] 0) (Refused (record { file = ProblemFile; line = 2; cause = P9 })) → ⊥
+other_line : Ended outcomes (Unfit ProblemFile (At 1 P9)) (sink_of [] [] 0) (Refused (record { file = ProblemFile; line = 2; cause = P9 })) → ⊥
 other_line is = let read = is.0 in cc
 
-other_kind : Ended (Unfit ProblemFile (At 1 P9)) (sink_of [] [] 0) (Refused (record { file = DecisionFile; line = 1; cause = P9 })) → ⊥
+other_kind : Ended outcomes (Unfit ProblemFile (At 1 P9)) (sink_of [] [] 0) (Refused (record { file = DecisionFile; line = 1; cause = P9 })) → ⊥
 other_kind is = let kind = is.0 in cc
 
-refused_and_written : Ended (Unfit ProblemFile (At 1 P9)) (sink_of [] (codes "no\n") 0) (Refused (record { file = ProblemFile; line = 1; cause = P9 })) → ⊥
+refused_and_written : Ended outcomes (Unfit ProblemFile (At 1 P9)) (sink_of [] (codes "no\n") 0) (Refused (record { file = ProblemFile; line = 1; cause = P9 })) → ⊥
 refused_and_written is = let taken : Some (codes "no\n") ≡ Some [] = is.1.taken in cc
 
-done_with_the_bad : Ended (Unfit ProblemFile (At 1 P9)) (sink_of [] [] 0) Done → ⊥
+done_with_the_bad : Ended outcomes (Unfit ProblemFile (At 1 P9)) (sink_of [] [] 0) Done → ⊥
 done_with_the_bad is = let good = is.good in cc
 
-half_done : Ended (Ready (Solving problem)) (sink_of [] (take 20 decision_bytes) 0) Done → ⊥
+half_done : Ended outcomes (Ready (Solving problem)) (sink_of [] (take 20 decision_bytes) 0) Done → ⊥
 half_done is =
     let good : Ready (Solving problem) ≡ Ready is.task = is.good in
     let task : is.task ≡ Solving problem = cc in

@@ -8,15 +8,17 @@ use Rattle.helm_core.specs.Helms.{plan_of}
 use Rattle.helm_core.specs.Posts.{are_declared_modes}
 use Rattle.helm_core.specs.Plans.{plan_made}
 use Rattle.helm_core.specs.Ticks.{Tick}
+use Rattle.helm_core.specs.Worths.{DecidesByWorth}
 use Rattle.moos_play.specs.declared.run.HelmRun.{HelmRun}
 use Rattle.moos_play.specs.Lawful.{IsLawful, heard_of, helm_number, iterations, names_with, Steering, steering_with}
 use Rattle.moos_report.specs.declared.setup.Setup.{Setup}
 use Rattle.moos_report.specs.Report.{report_text, ReportsTell}
-use Rattle.moos_jobs.specs.Jobs.{HelmFiles, IsLawfulWith, IsReport, Ready, report_on, setup_of, steering_by}
+use Rattle.command_line.specs.Turns.{Ready}
+use Rattle.moos_jobs.specs.Jobs.{HelmFiles, IsLawfulWith, IsReport, report_on, setup_of, steering_by, IsToPlay, outcomes}
 use Rattle.moos_jobs.specs.Jobs.Task.{Playing}
-use Rattle.moos_jobs.specs.declared.status.Status.{Status}
-use Rattle.moos_jobs.specs.declared.status.Status.TheVariants.{Done, CheckNo, Usage, LoadFault, WriteFault, Refused, NoMemory}
-use Rattle.moos_jobs.specs.Steps.{Ended, IsToPlay, Sinking, WroteAll, WroteFront}
+use Rattle.command_line.specs.declared.status.Status.{Status}
+use Rattle.command_line.specs.declared.status.Status.TheVariants.{Done, CheckNo, Usage, LoadFault, WriteFault, Refused, NoMemory}
+use Rattle.command_line.specs.Endings.{Ended, Sinking, WroteAll, WroteFront}
 use Rattle.moos_jobs.specs.Telling.{IsOfLawful, Tells, ToldAll, ToldFront}
 use Rattle.moos_jobs.proofs.Communities.{AreGoodFiles, lawful_community, stand_on_lines}
 use Rattle.script_reader.specs.declared.script.Order.{Order}
@@ -33,6 +35,11 @@ told_apart order script helm history other tell valid files lawful is same =
     (tell setup setup names names history other _ _ (lawful_community order script helm history valid files lawful) (lawful_community order script helm other valid files is)
     (stand_on_lines script helm (heard history) files) (stand_on_lines script helm (heard other) files) same).1
 
+-- what a helm of good files decides is decided by worth
+worth_of : (helm : Option HelmFiles) → IfSome helm AreGoodFiles → IfSome helm (λ files. DecidesByWorth (plan_made files.mission files.file))
+worth_of None good = tt
+worth_of (Some files) good = good.worth
+
 reported_as : (order : Order) (script : Script) (helm : Option HelmFiles) (text : List ℕ) (history : History) → ReportsTell → IsValid script → IfSome helm AreGoodFiles
     → IsLawfulWith order script helm history → text ≡ report_on script helm history → IsReport order script helm text
 reported_as order script helm text history tell valid files lawful printed = record {
@@ -40,6 +47,7 @@ reported_as order script helm text history tell valid files lawful printed = rec
   lawful = lawful;
   printed = printed;
   listed = λ other is also. told_apart order script helm history other tell valid files lawful is (sym also ∙ printed);
+  worth = worth_of helm files;
 }
 
 -- a helm that was made of these files is run as they say
@@ -61,13 +69,13 @@ module _ (order : Order) (script : Script) (files : Option HelmFiles) (helm : Op
           (subst (λ names. IsLawful order script (option_map (steering_by script) files) names is.history) (names files) is.lawful)
           (is.printed ∙ (λ i. report_text (told i) (names files i) is.history (iterations (option_map (steering_by script) files) script.stop (heard_of (names files i) (helm_number script) is.history))))
 
-  all_told : (sink : Sinking) → ToldAll order script helm setup sink → WroteAll (Ready (Playing order script files)) Done sink
+  all_told : (sink : Sinking) → ToldAll order script helm setup sink → WroteAll outcomes (Ready (Playing order script files)) Done sink
   all_told sink all = record { task = Playing order script files; good = refl; text = all.text; output = output_as all.text all.lawful; took = all.took }
 
-  front_told : (sink : Sinking) → ToldFront order script helm setup sink → (wrote : WroteFront (Ready (Playing order script files)) sink) × IsToPlay wrote.task
+  front_told : (sink : Sinking) → ToldFront order script helm setup sink → (wrote : WroteFront outcomes (Ready (Playing order script files)) sink) × IsToPlay wrote.task
   front_told sink front = (record { task = Playing order script files; good = refl; status = Done; text = front.text; output = output_as front.text front.lawful; took = front.took }, tt)
 
-  pub told_ended : (sink : Sinking) (status : Status) → Tells order script helm setup sink status → Ended (Ready (Playing order script files)) sink status
+  pub told_ended : (sink : Sinking) (status : Status) → Tells order script helm setup sink status → Ended outcomes (Ready (Playing order script files)) sink status
   told_ended sink Done tells = all_told sink tells
   told_ended sink CheckNo tells = absurd tells
   told_ended sink Usage tells = absurd tells

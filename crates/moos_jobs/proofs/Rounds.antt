@@ -24,9 +24,9 @@ use Rattle.moos_report.specs.declared.setup.Setup.{Setup}
 use Rattle.moos_report.specs.IterationLines.{helm_fetches}
 use Rattle.moos_report.specs.Parts.{EndsWithin, front_text, FrontsStay, PartsAddUp}
 use Rattle.moos_report.specs.Report.{end_text, entries_text, head_text, report_text}
-use Rattle.moos_jobs.specs.Steps.{sinking}
-use Rattle.moos_jobs.specs.declared.status.Status.{Status}
-use Rattle.moos_jobs.specs.declared.status.Status.TheVariants.{Done, WriteFault}
+use Rattle.command_line.specs.Endings.{sinking}
+use Rattle.command_line.specs.declared.status.Status.{Status}
+use Rattle.command_line.specs.declared.status.Status.TheVariants.{Done, WriteFault}
 use Rattle.moos_jobs.specs.Telling.{IsOfLawful, IsToldSoFar, Tells, ToldFront}
 use Rattle.moos_jobs.proofs.Fetching.{IsNamed, fetched, ends_far, part_ends}
 use Rattle.script_reader.specs.declared.script.Order.{Order}

@@ -11,17 +11,18 @@ use Rattle.ivp_problem.specs.Problems.{WeightedSum}
 use Rattle.moos_text.specs.declared.cause.Cause.TheVariants.{P1}
 use Rattle.moos_text.specs.declared.cause.ReadFault.{ReadFault}
 use Rattle.script_reader.specs.declared.script.Order.TheVariants.{Stamp}
-use Rattle.moos_jobs.specs.declared.job.Job.TheVariants.{Play, Solve, Check}
-use Rattle.moos_jobs.specs.declared.status.FileKind.{FileKind}
-use Rattle.moos_jobs.specs.declared.status.FileKind.TheVariants.{Problem as ProblemFile}
-use Rattle.moos_jobs.specs.declared.status.Status.{Status}
-use Rattle.moos_jobs.specs.declared.status.Status.TheVariants.{Done, CheckNo, Usage, LoadFault, WriteFault, Refused, NoMemory}
+use Rattle.command_line.specs.declared.job.Job.TheVariants.{Play, Solve, Check}
+use Rattle.command_line.specs.declared.status.FileKind.{FileKind}
+use Rattle.command_line.specs.declared.status.FileKind.TheVariants.{Problem as ProblemFile}
+use Rattle.command_line.specs.declared.status.Status.{Status}
+use Rattle.command_line.specs.declared.status.Status.TheVariants.{Done, CheckNo, Usage, LoadFault, WriteFault, Refused, NoMemory}
 use Rattle.moos_jobs.specs.Jobs.Task.{Checking, Playing, Solving}
-use Rattle.moos_jobs.specs.Jobs.{Ready, turn_behind, turn_of, Unfit, Wanted}
-use Rattle.moos_jobs.specs.Run.{Completes, DidFrom, DidJob, HasBytes, HasFiles, IsServed, EndsWith, Refuses, Surroundings, surroundings}
-use Rattle.moos_jobs.specs.Steps.{Ended, IsToPlay, WroteAll}
+use Rattle.command_line.specs.Turns.{Ready, turn_behind, Unfit, Wanted, HasBytes}
+use Rattle.moos_jobs.specs.Jobs.{IsToPlay, outcomes, turn_of}
+use Rattle.command_line.specs.Endings.{DidFrom, Surroundings, surroundings, Ended, WroteAll}
+use Rattle.moos_jobs.specs.Run.{Completes, DidJob, HasFiles, IsServed, EndsWith, Refuses}
 use Rattle.moos_jobs.proofs.Endings.{completes, ended_with, Good, IsOver, output_of, refuses}
-use Rattle.moos_jobs.proofs.Examples.{checks, plays, solves_by_one}
+use Rattle.command_line.proofs.Examples.{checks, plays, solves_by_one}
 use Rattle.moos_jobs.proofs.JobExamples.{accepted, decision, decision_bytes, fetches_lawful, no_other, not_accepted, poor, poor_bytes, printed, problem, problem_bytes, script, sink_of}
 
 -- the words of a run that solves a problem, and what surrounds it, by what the file holds, what the sink has taken, and how often it failed; the folder tells its
@@ -64,14 +65,14 @@ solved =
     }
 
 -- how it ended, by what its file holds
-solving_ended : (taken : List ℕ) (status : Status) (is : DidJob solve (solving problem_bytes taken 0) status) (did : DidFrom (solving problem_bytes taken 0) is.job [] status) → IsOver (turn_of is.job did.files)
-    → Ended (Ready (Solving problem)) (sink_of [] taken 0) status
+solving_ended : (taken : List ℕ) (status : Status) (is : DidJob solve (solving problem_bytes taken 0) status) (did : DidFrom outcomes (solving problem_bytes taken 0) (turn_of is.job) [] status) → IsOver (turn_of is.job did.files)
+    → Ended outcomes (Ready (Solving problem)) (sink_of [] taken 0) status
 solving_ended taken status is did over =
     ended_with solve (solving problem_bytes taken 0) (Solve (codes "p") 1) (problem_bytes ∷ []) (served problem_bytes taken).has (Ready (Solving problem)) refl (Good (Solving problem) refl) status is.job is.named did over
 
 all_written : (taken : List ℕ) → EndsWith solve (solving problem_bytes taken 0) Done → taken ≡ decision_bytes
 all_written taken is =
-    let wrote : WroteAll (Ready (Solving problem)) Done (sink_of [] taken 0) = solving_ended taken Done is is.ended (Good is.ended.ended.task is.ended.ended.good) in
+    let wrote : WroteAll outcomes (Ready (Solving problem)) Done (sink_of [] taken 0) = solving_ended taken Done is is.ended (Good is.ended.ended.task is.ended.ended.good) in
     let output : wrote.text ≡ decision_lines [] (best_decision problem) = output_of (Solving problem) Done (sink_of [] taken 0) wrote in
     let took : Some taken ≡ Some wrote.text = wrote.took in
     let same : taken ≡ wrote.text = cc in
@@ -296,7 +297,7 @@ played =
                   task = Playing Stamp script None;
                   good = refl;
                   text = codes "%% moosdb play 1\n%% client 0 a\n%% entry 0 0 a fetch\n%% end 1 0\n";
-                  output = record { history = script.lines; lawful = fetches_lawful; printed = refl; listed = λ other is text. no_other other is };
+                  output = record { history = script.lines; lawful = fetches_lawful; printed = refl; listed = λ other is text. no_other other is; worth = tt };
                   took = refl;
                 };
           };
@@ -319,7 +320,7 @@ front_played =
                 good = refl;
                 status = Done;
                 text = codes "%% moosdb play 1\n%% client 0 a\n%% entry 0 0 a fetch\n%% end 1 0\n";
-                output = record { history = script.lines; lawful = fetches_lawful; printed = refl; listed = λ other is text. no_other other is };
+                output = record { history = script.lines; lawful = fetches_lawful; printed = refl; listed = λ other is text. no_other other is; worth = tt };
                 took = (31, omega arith, refl);
               },
               tt,
@@ -331,7 +332,7 @@ played_silently : EndsWith play (playing []) Done → ⊥
 played_silently is =
     let has : HasFiles play (playing []) (Play (codes "survey.txt") None Stamp 1) (codes "0 a fetch\n" ∷ [])
     = record { told = folder (codes "survey.txt") (codes "0 a fetch\n"); telling = refl; named = plays; loaded = (refl, tt) } in
-    let wrote : WroteAll (Ready (Playing Stamp script None)) Done (sink_of [] [] 0)
+    let wrote : WroteAll outcomes (Ready (Playing Stamp script None)) Done (sink_of [] [] 0)
     = ended_with play (playing []) (Play (codes "survey.txt") None Stamp 1) (codes "0 a fetch\n" ∷ []) has (Ready (Playing Stamp script None)) refl (Good (Playing Stamp script None) refl)
     Done is.job is.named is.ended (Good is.ended.ended.task is.ended.ended.good) in
     let printed = (output_of (Playing Stamp script None) Done (sink_of [] [] 0) wrote).printed in

@@ -1,12 +1,12 @@
--- What a command line asks for, which files a job reads, and what it may write.
-use Rattle.std.specs.Prelude.{◌≡◌, ℕ, ◌+◌, ◌/◌, ◌≤◌, nat_le, false, if◌then◌else◌, List, [], ◌∷◌, codes, bytes_eq, Option, Some, None, map, option_map, option_and_then, is_none, Result, Ok, Err}
-use Rattle.clap.specs.Words.{Row, Text, first_of}
+-- Which files a job reads, what is to be done with them, and what it may write.
+use Rattle.std.specs.Prelude.{◌≡◌, ℕ, ◌+◌, ◌/◌, nat_le, false, if◌then◌else◌, List, [], ◌∷◌, codes, Option, Some, None, map, option_map, IfSome, Result, Ok, Err}
 use Rattle.bhv_file.specs.declared.file.BhvFile.{BhvFile}
 use Rattle.bhv_file.specs.declared.file.Block.{Block}
 use Rattle.bhv_reader.specs.Behaviors.{behaviors_of}
 use Rattle.helm_core.specs.Decisions.{best_decision}
 use Rattle.helm_core.specs.Plans.{plan_made}
 use Rattle.helm_core.specs.Posts.{are_declared_modes}
+use Rattle.helm_core.specs.Worths.{DecidesByWorth}
 use Rattle.ivp_cert.specs.declared.claim.Decision.{Decision}
 use Rattle.ivp_cert.specs.Certificates.{Accepts}
 use Rattle.ivp_cert.specs.Decisions.{decision_of}
@@ -26,66 +26,18 @@ use Rattle.moos_text.specs.declared.cause.Cause.TheVariants.{M8}
 use Rattle.moos_text.specs.declared.cause.ReadFault.{ReadFault}
 use Rattle.moos_text.specs.declared.cause.ReadFault.TheVariants.{At}
 use Rattle.moos_text.specs.Refusals.{and_then}
-use Rattle.moos_jobs.specs.Commands.{check_command, file_in, found_in, generate_command, is_set, number_in, play_command, solve_command, workers_in}
 use Rattle.moos_play.specs.Lawful.{IsLawful, Steering, helm_number, heard_of, iterations, names_with}
-use Rattle.moos_jobs.specs.declared.job.Job.{Job}
-use Rattle.moos_jobs.specs.declared.job.Job.TheVariants.{Play, Solve, Check, Generate}
+use Rattle.command_line.specs.Endings.{Outcomes}
+use Rattle.command_line.specs.Turns.{FileTurn, Ready, Wanted, turn_behind}
+use Rattle.command_line.specs.declared.job.Job.{Job}
+use Rattle.command_line.specs.declared.job.Job.TheVariants.{Play, Solve, Check, Generate}
 use Rattle.script_reader.specs.declared.script.Order.{Order}
-use Rattle.script_reader.specs.declared.script.Order.TheVariants.{Stamp, Race}
-use Rattle.moos_jobs.specs.declared.status.FileKind.{FileKind}
-use Rattle.moos_jobs.specs.declared.status.FileKind.TheVariants.{Script as ScriptFile, Mission as MissionFile, Behaviors as BehaviorsFile, Problem as ProblemFile, Decision as DecisionFile}
-use Rattle.moos_jobs.specs.declared.status.Status.{Status}
-use Rattle.moos_jobs.specs.declared.status.Status.TheVariants.{Done, CheckNo}
+use Rattle.script_reader.specs.declared.script.Order.TheVariants.{Stamp}
+use Rattle.command_line.specs.declared.status.FileKind.TheVariants.{Script as ScriptFile, Mission as MissionFile, Behaviors as BehaviorsFile, Problem as ProblemFile, Decision as DecisionFile}
+use Rattle.command_line.specs.declared.status.Status.{Status}
+use Rattle.command_line.specs.declared.status.Status.TheVariants.{Done, CheckNo}
 use Rattle.script_reader.specs.declared.script.Script.{Script}
 use Rattle.script_reader.specs.Script.{script_of}
-
--- the order that was found: a race with `--race`
-abbrev pub order_in : List Row → Order
-order_in found = if is_set (codes "race") found then Race else Stamp
-
--- where a mission was found its name, which a text can hold; and none where none was found
-abbrev pub mission_in : List Row → Option (Option (List ℕ))
-mission_in found = if is_none (first_of (codes "mission") found) then Some None else option_map (λ name. Some name) (file_in (codes "mission") found)
-
--- the job of what `play` found; a name that no text can hold names no file
-abbrev pub play_of : List Row → Option Job
-play_of found =
-    option_and_then (λ script. option_map (λ mission. Play script mission (order_in found) (workers_in found)) (mission_in found))
-    (file_in (codes "script") found)
-
--- the job of what `solve` found, likewise
-abbrev pub solve_of : List Row → Option Job
-solve_of found = option_map (λ problem. Solve problem (workers_in found)) (file_in (codes "problem") found)
-
--- the job of what `check` found, likewise
-abbrev pub check_of : List Row → Option Job
-check_of found = option_map Check (file_in (codes "decision") found)
-
--- the job of what `generate` found
-abbrev pub generate_of : List Row → Job
-generate_of found = Generate (number_in found)
-
--- the job of a line that begins with this word
-abbrev pub job_of : Text → List Text → Option Job
-job_of word line =
-    if bytes_eq word (codes "play") then option_and_then play_of (found_in play_command line)
-    else if bytes_eq word (codes "solve") then option_and_then solve_of (found_in solve_command line)
-    else if bytes_eq word (codes "check") then option_and_then check_of (found_in check_command line)
-    else if bytes_eq word (codes "generate") then option_map generate_of (found_in generate_command line)
-    else None
-
--- the job that a command line asks for: its first word is that of a job, whose command takes the line, and the names of its
--- files are ones that a text can hold
-abbrev pub job_named : List Text → Option Job
-job_named [] = None
-job_named (word ∷ rest) = job_of word (word ∷ rest)
-
--- a job's workers are from 1 to 16
-abbrev pub HasFewWorkers : Job → Type 0
-HasFewWorkers (Play script mission order workers) = (1 ≤ workers) × (workers ≤ 16)
-HasFewWorkers (Solve problem workers) = (1 ≤ workers) × (workers ≤ 16)
-HasFewWorkers (Check decision) = Unit {0}
-HasFewWorkers (Generate number) = Unit {0}
 
 -- what a helm is made of: a mission, and the behaviour file that it names
 pub record HelmFiles : Type 0 where
@@ -100,43 +52,31 @@ pub data Task : Type 0 where
   Checking : Decision → Task
   Generating : ℕ → Task
 
--- Where a job stands with its files: the next one is wanted, of this kind and name; or all were good, and this is to be done;
--- or the last one, of this kind, is refused.
-pub data FileTurn : Type 0 where
-  Wanted : FileKind → List ℕ → FileTurn
-  Ready : Task → FileTurn
-  Unfit : FileKind → ReadFault → FileTurn
-
--- what comes behind a file of this kind, which was read or is refused
-abbrev pub turn_behind : {A : Type 0} → FileKind → (A → FileTurn) → Result A ReadFault → FileTurn
-turn_behind kind next (Ok value) = next value
-turn_behind kind next (Err fault) = Unfit kind fault
-
 -- the helm would tick at most 20,000 times while the script is played, or else its mission is refused at its last line
 abbrev pub with_few_ticks : Script → Mission → Result Mission ReadFault
 with_few_ticks script mission = if nat_le (script.stop / mission.period + 1) 20000 then Ok mission else Err (At mission.lines M8)
 
 -- behind a script and a mission, by the bytes of the behaviour file
-abbrev pub behaviors_turn : Order → Script → Mission → List (List ℕ) → FileTurn
+abbrev pub behaviors_turn : Order → Script → Mission → List (List ℕ) → FileTurn Task
 behaviors_turn order script mission [] = Wanted BehaviorsFile mission.behaviors
 behaviors_turn order script mission (bytes ∷ more) =
     turn_behind BehaviorsFile (λ file. Ready (Playing order script (Some (record { mission = mission; file = file }))))
     (behaviors_of mission.domain bytes)
 
 -- behind a script, by the bytes of the mission and what is behind it
-abbrev pub mission_turn : Order → Script → List ℕ → List (List ℕ) → FileTurn
+abbrev pub mission_turn : Order → Script → List ℕ → List (List ℕ) → FileTurn Task
 mission_turn order script name [] = Wanted MissionFile name
 mission_turn order script name (bytes ∷ more) =
     turn_behind MissionFile (λ mission. behaviors_turn order script mission more) (and_then (with_few_ticks script) (mission_of bytes))
 
 -- behind a script, with a mission of this name or without one
-abbrev pub script_turn : Order → Script → Option (List ℕ) → List (List ℕ) → FileTurn
+abbrev pub script_turn : Order → Script → Option (List ℕ) → List (List ℕ) → FileTurn Task
 script_turn order script None files = Ready (Playing order script None)
 script_turn order script (Some name) files = mission_turn order script name files
 
 -- Where a job stands, by the bytes of the files that were loaded so far, in order: a script, its mission, and the behaviour file
 -- that the mission names; or the one file of another job, or none. The number of workers is no part of it.
-abbrev pub turn_of : Job → List (List ℕ) → FileTurn
+abbrev pub turn_of : Job → List (List ℕ) → FileTurn Task
 turn_of (Play name mission order workers) [] = Wanted ScriptFile name
 turn_of (Play name mission order workers) (bytes ∷ more) = turn_behind ScriptFile (λ script. script_turn order script mission more) (script_of bytes)
 turn_of (Solve name workers) [] = Wanted ProblemFile name
@@ -175,12 +115,14 @@ report_on script helm history = report_text (setup_of helm) (names_with script h
 abbrev pub IsLawfulWith : Order → Script → Option HelmFiles → History → Type 0
 IsLawfulWith order script helm history = IsLawful order script (option_map (steering_by script) helm) (names_with script helm) history
 
--- The text is the report of a lawful history, which is the one that the text lists: no other lawful history has it.
+-- The text is the report of a lawful history, which is the one that the text lists: no other lawful history has it. What a helm
+-- decides in it is decided by worth: the first point at which the sum over its behaviours of weight times utility is greatest.
 pub record IsReport (order : Order) (script : Script) (helm : Option HelmFiles) (text : List ℕ) : Type 0 where
   pub history : History
   pub lawful : IsLawfulWith order script helm history
   pub printed : text ≡ report_on script helm history
   pub listed : (other : History) → IsLawfulWith order script helm other → text ≡ report_on script helm other → other ≡ history
+  pub worth : IfSome helm (λ files. DecidesByWorth (plan_made files.mission files.file))
 
 -- The text is the summary of the one history that the mission of this number leaves: counts and sums over it and the helm's
 -- iterations in it.
@@ -206,3 +148,12 @@ IsOutput (Checking decision) Done text = IsAccepted decision × (text ≡ codes 
 IsOutput (Checking decision) CheckNo text = (IsAccepted decision → ⊥) × (text ≡ codes "not accepted\n")
 IsOutput (Generating number) Done text = IsSummary number text
 IsOutput task status text = ⊥
+
+-- the task is to play a script, whose report is written as it comes; every other output is written when all of it is there
+abbrev pub IsToPlay : Task → Type 0
+IsToPlay (Playing order script helm) = Unit {0}
+IsToPlay task = ⊥
+
+-- what may come of each task
+abbrev pub outcomes : Outcomes Task
+outcomes = record { MayWrite = IsOutput; IsWrittenAsItComes = IsToPlay }

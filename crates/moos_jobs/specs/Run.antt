@@ -1,73 +1,23 @@
 -- What a run of the program does, by the status that it ends with.
-use Rattle.std.specs.Prelude.{◌≡◌, ℕ, ◌+◌, ◌≤◌, true, false, ◌⊎◌, List, [], ◌∷◌, ◌++◌, length, Option, Some, None, IfSome}
+use Rattle.std.specs.Prelude.{◌≡◌, ℕ, ◌+◌, ◌≤◌, true, ◌⊎◌, List, [], length, Option, Some, None}
 use Rattle.moos_io.specs.Faults.{Rose}
 use Rattle.moos_io.specs.Files.{is_among}
 use Rattle.moos_text.specs.declared.cause.Cause.{Cause}
 use Rattle.moos_text.specs.declared.cause.ReadFault.TheVariants.{At}
-use Rattle.moos_jobs.specs.declared.job.Job.{Job}
-use Rattle.moos_jobs.specs.declared.status.FileKind.{FileKind}
-use Rattle.moos_jobs.specs.declared.status.Status.{Status}
-use Rattle.moos_jobs.specs.declared.status.Status.TheVariants.{Usage, LoadFault, Refused, NoMemory}
-use Rattle.moos_jobs.specs.Jobs.{FileTurn, IsOutput, Ready, Task, Unfit, Wanted, job_named, turn_of}
-use Rattle.moos_jobs.specs.Steps.{Ended, IsUntouched, Sinking, WroteAll}
-
--- What surrounds a run besides its words: what the folder tells of its files, the names that it is sure of, and how often it
--- failed before the run and after it; and the sink.
-pub record Surroundings : Type 0 where
-  pub told : Option (List ℕ → Option (List ℕ))
-  pub sure : List (List ℕ)
-  pub load_faults_before : ℕ
-  pub load_faults_after : ℕ
-  pub sink : Sinking
-
--- the surroundings with these parts, in their order
-abbrev pub surroundings : Option (List ℕ → Option (List ℕ)) → List (List ℕ) → ℕ → ℕ → Sinking → Surroundings
-surroundings told sure load_faults_before load_faults_after sink =
-    record { told = told; sure = sure; load_faults_before = load_faults_before; load_faults_after = load_faults_after; sink = sink }
-
--- the folder's file of this name has these bytes, where the folder tells them
-abbrev pub HasBytes : Option (List ℕ → Option (List ℕ)) → List ℕ → List ℕ → Type 0
-HasBytes told name bytes = IfSome told (λ files. files name ≡ Some bytes)
-
--- these are the bytes of the file that is wanted
-abbrev pub WasWanted : Option (List ℕ → Option (List ℕ)) → FileTurn → List ℕ → Type 0
-WasWanted told (Wanted kind name) bytes = HasBytes told name bytes
-WasWanted told (Ready task) bytes = ⊥
-WasWanted told (Unfit kind fault) bytes = ⊥
-
--- the job, which has loaded the first files, loads the second ones behind them, each where it is wanted
-abbrev pub AreLoaded : Option (List ℕ → Option (List ℕ)) → Job → List (List ℕ) → List (List ℕ) → Type 0
-AreLoaded told job front [] = Unit {0}
-AreLoaded told job front (bytes ∷ files) = WasWanted told (turn_of job front) bytes × AreLoaded told job (front ++ bytes ∷ []) files
-
--- the job, which has loaded the first files, loads more of them and ends so
-pub record DidFrom (run : Surroundings) (job : Job) (front : List (List ℕ)) (status : Status) : Type 0 where
-  pub files : List (List ℕ)
-  pub loaded : AreLoaded run.told job front files
-  pub ended : Ended (turn_of job (front ++ files)) run.sink status
-
--- the job, which has loaded the first files, loads more of them up to one whose loading fails: the folder failed, and it isn't sure
--- of this file; nothing was written
-pub record FailsFrom (run : Surroundings) (job : Job) (front : List (List ℕ)) : Type 0 where
-  pub rose : Rose run.load_faults_before run.load_faults_after
-  pub files : List (List ℕ)
-  pub loaded : AreLoaded run.told job front files
-  pub kind : FileKind
-  pub name : List ℕ
-  pub wanted : turn_of job (front ++ files) ≡ Wanted kind name
-  pub unsure : is_among run.sure name ≡ false
-  pub silent : IsUntouched run.sink
-
--- how a job that has loaded the first files goes on and ends: it fails at loading a file, or ends with those that it has
-abbrev pub EndsFrom : Surroundings → Job → List (List ℕ) → Status → Type 0
-EndsFrom run job front LoadFault = FailsFrom run job front
-EndsFrom run job front status = DidFrom run job front status
+use Rattle.command_line.specs.declared.job.Job.{Job}
+use Rattle.command_line.specs.declared.status.FileKind.{FileKind}
+use Rattle.command_line.specs.declared.status.Status.{Status}
+use Rattle.command_line.specs.declared.status.Status.TheVariants.{Usage, Refused, NoMemory}
+use Rattle.command_line.specs.Endings.{EndsFrom, IsUntouched, Sinking, Surroundings, WroteAll}
+use Rattle.command_line.specs.Jobs.{job_named}
+use Rattle.command_line.specs.Turns.{AreLoaded, Ready, Unfit}
+use Rattle.moos_jobs.specs.Jobs.{IsOutput, Task, outcomes, turn_of}
 
 -- the words name a job, which begins without a file and ends so
 pub record DidJob (words : List (List ℕ)) (run : Surroundings) (status : Status) : Type 0 where
   pub job : Job
   pub named : job_named words ≡ Some job
-  pub ended : EndsFrom run job [] status
+  pub ended : EndsFrom outcomes run (turn_of job) [] status
 
 -- Usage: the words name no job. No load failed, and nothing was written.
 pub record HasNoJob (words : List (List ℕ)) (run : Surroundings) : Type 0 where
@@ -86,7 +36,7 @@ pub record HasFiles (words : List (List ℕ)) (run : Surroundings) (job : Job) (
   pub told : List ℕ → Option (List ℕ)
   pub telling : run.told ≡ Some told
   pub named : job_named words ≡ Some job
-  pub loaded : AreLoaded run.told job [] files
+  pub loaded : AreLoaded run.told (turn_of job) [] files
 
 -- such a job, where neither loading nor writing failed
 pub record IsServed (words : List (List ℕ)) (run : Surroundings) (job : Job) (files : List (List ℕ)) : Type 0 where
@@ -107,7 +57,7 @@ pub record HasRoomFor (task : Task) (sink : Sinking) : Type 0 where
 
 -- the run wrote all that the task may write and end with this status, or no memory was left
 abbrev pub IsDoneBut : Task → Surroundings → Status → Type 0
-IsDoneBut task run status = WroteAll (Ready task) status run.sink ⊎ (status ≡ NoMemory)
+IsDoneBut task run status = WroteAll outcomes (Ready task) status run.sink ⊎ (status ≡ NoMemory)
 
 -- the run was refused for this file, line and cause, or no memory was left
 abbrev pub IsRefusedBut : FileKind → ℕ → Cause → Status → Type 0

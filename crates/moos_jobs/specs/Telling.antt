@@ -9,9 +9,9 @@ use Rattle.moos_post.specs.History.{History}
 use Rattle.moos_report.specs.declared.setup.Setup.{Setup}
 use Rattle.moos_report.specs.Parts.{front_text}
 use Rattle.moos_report.specs.Report.{report_text}
-use Rattle.moos_jobs.specs.declared.status.Status.{Status}
-use Rattle.moos_jobs.specs.declared.status.Status.TheVariants.{Done, WriteFault, NoMemory}
-use Rattle.moos_jobs.specs.Steps.{IsUntouched, Sinking}
+use Rattle.command_line.specs.declared.status.Status.{Status}
+use Rattle.command_line.specs.declared.status.Status.TheVariants.{Done, WriteFault, NoMemory}
+use Rattle.command_line.specs.Endings.{IsUntouched, Sinking}
 use Rattle.script_reader.specs.declared.script.Order.{Order}
 use Rattle.script_reader.specs.declared.script.Script.{Script}
 

@@ -3,13 +3,13 @@ ghost use Rattle.std.specs.Prelude.{◌≡◌, ℕ, IfOk, IsTrue};
 ghost use Rattle.mission_maker.specs.Generated.{generated_script};
 ghost use Rattle.mission_maker.specs.Stamps.{rise_within};
 ghost use Rattle.moos_jobs.specs.Generating.{IsSurvey, WasGenerated};
-ghost use Rattle.moos_jobs.specs.Jobs.{Ready};
+ghost use Rattle.moos_jobs.specs.Jobs.{outcomes};
+ghost use Rattle.command_line.specs.Turns.{Ready};
 ghost use Rattle.moos_jobs.specs.Jobs.Task.{Generating};
-ghost use Rattle.moos_jobs.specs.Steps.{Ended, sinking};
+ghost use Rattle.command_line.specs.Endings.{Ended, sinking};
 ghost use Rattle.script_reader.specs.Validity.{IsValid};
 
-use crate::running::written;
-use crate::status::Status;
+use command_line::{Status, written};
 use helm_core::Helm;
 use mission_maker::{make_behaviors, make_mission, make_script};
 use moos_io::{Gate, Sink};
@@ -29,7 +29,7 @@ pub fn generate<R: Threads + Wait + Sync, K: Sink, G: Gate>(
     out: &mut K,
     gate: &G,
 ) -> Status
-    ensures { Ended (Ready (Generating number)) (sinking (K.taken out.old) (K.taken out.new) (K.faults out.old) (K.faults out.new)) result }
+    ensures { Ended outcomes (Ready (Generating number)) (sinking (K.taken out.old) (K.taken out.new) (K.faults out.old) (K.faults out.new)) result }
 {
     match play_generated(rt, alloc, number, gate) {
         Ok(ran) => {

@@ -5,19 +5,17 @@ ghost use Rattle.bhv_file.specs.Validity.{IsValidFile, serves};
 ghost use Rattle.mission_reader.specs.Missions.{mission_of};
 ghost use Rattle.mission_reader.specs.Validity.{IsValidMission};
 ghost use Rattle.moos_text.specs.Refusals.{IsFirst, and_then};
-ghost use Rattle.moos_jobs.specs.Jobs.{Ready, behaviors_turn, mission_turn, no_modes, turn_of, with_few_ticks};
+ghost use Rattle.command_line.specs.Turns.{FileTurn, Ready};
+ghost use Rattle.moos_jobs.specs.Jobs.{Task, behaviors_turn, mission_turn, no_modes, outcomes, turn_of, with_few_ticks};
 ghost use Rattle.moos_jobs.specs.Jobs.Task.{Playing};
-ghost use Rattle.moos_jobs.specs.Run.{EndsFrom, surroundings};
-ghost use Rattle.moos_jobs.specs.Steps.{Ended, sinking};
-ghost use Rattle.moos_jobs.specs.declared.job.Job.{Job};
-ghost use Rattle.moos_jobs.specs.declared.job.Job.TheVariants.{Play};
+ghost use Rattle.command_line.specs.Endings.{EndsFrom, surroundings, Ended, sinking};
+ghost use Rattle.command_line.specs.declared.job.Job.TheVariants.{Play};
 ghost use Rattle.script_reader.specs.Validity.{IsValid};
 
-use crate::running::{load, refused, unloaded};
-use crate::status::{FileKind, Status};
 use crate::telling::play_rounds;
 use bhv_reader::{BhvFile, Block, read_behaviors};
-use helm_core::{Helm, plan_law};
+use command_line::{FileKind, Status, load, refused, unloaded};
+use helm_core::{Helm, plan_law, worth_law};
 use mission_reader::{Mission, read_mission};
 use moos_io::{Folder, Gate, Sink};
 use moos_play::{HelmRun, Order};
@@ -46,8 +44,8 @@ pub fn play_files<R: Threads + Wait + Sync, F: Folder, K: Sink, G: Gate>(
     gate: &G,
 ) -> Status
     requires few { (1 ≤ workers) × (workers ≤ 16) }
-    ensures ends { EndsFrom (surroundings (F.told folder.old) (F.sure folder.old) (F.faults folder.old) (F.faults folder.new)
-        (sinking (K.taken out.old) (K.taken out.new) (K.faults out.old) (K.faults out.new))) (Play name.now mission.now order workers) [] result }
+    ensures ends { EndsFrom outcomes (surroundings (F.told folder.old) (F.sure folder.old) (F.faults folder.old) (F.faults folder.new)
+        (sinking (K.taken out.old) (K.taken out.new) (K.faults out.old) (K.faults out.new))) (turn_of (Play name.now mission.now order workers)) [] result }
     ensures same { (F.told folder.new ≡ F.told folder.old) × (F.sure folder.new ≡ F.sure folder.old) }
 {
     let bytes = match load(alloc, folder, name.bytes()) {
@@ -80,10 +78,10 @@ fn play_mission<R: Threads + Wait + Sync, F: Folder, K: Sink, G: Gate>(
 ) -> Status
     requires few { (1 ≤ workers) × (workers ≤ 16) }
     requires valid { IsValid script.now }
-    // Whichever job the script was loaded for.
-    ensures ends { (job : Job) (front : List (List ℕ)) → ((files : List (List ℕ)) → turn_of job (front ++ files) ≡ mission_turn order script.now name.now files)
-        → EndsFrom (surroundings (F.told folder.old) (F.sure folder.old) (F.faults folder.old) (F.faults folder.new)
-        (sinking (K.taken out.old) (K.taken out.new) (K.faults out.old) (K.faults out.new))) job front result }
+    // Whichever job the script was loaded for, by where it stands with its files.
+    ensures ends { (turn : List (List ℕ) → FileTurn Task) (front : List (List ℕ)) → ((files : List (List ℕ)) → turn (front ++ files) ≡ mission_turn order script.now name.now files)
+        → EndsFrom outcomes (surroundings (F.told folder.old) (F.sure folder.old) (F.faults folder.old) (F.faults folder.new)
+        (sinking (K.taken out.old) (K.taken out.new) (K.faults out.old) (K.faults out.new))) turn front result }
     ensures same { (F.told folder.new ≡ F.told folder.old) × (F.sure folder.new ≡ F.sure folder.old) }
 {
     let bytes = match load(alloc, folder, name.bytes()) {
@@ -132,10 +130,10 @@ fn play_behaviors<R: Threads + Wait + Sync, F: Folder, K: Sink, G: Gate>(
     requires few { (1 ≤ workers) × (workers ≤ 16) }
     requires valid { IsValid script.now }
     requires mission { IsValidMission mission.now }
-    // Whichever job the script and the mission were loaded for.
-    ensures ends { (job : Job) (front : List (List ℕ)) → ((files : List (List ℕ)) → turn_of job (front ++ files) ≡ behaviors_turn order script.now mission.now files)
-        → EndsFrom (surroundings (F.told folder.old) (F.sure folder.old) (F.faults folder.old) (F.faults folder.new)
-        (sinking (K.taken out.old) (K.taken out.new) (K.faults out.old) (K.faults out.new))) job front result }
+    // Whichever job the script and the mission were loaded for, by where it stands with its files.
+    ensures ends { (turn : List (List ℕ) → FileTurn Task) (front : List (List ℕ)) → ((files : List (List ℕ)) → turn (front ++ files) ≡ behaviors_turn order script.now mission.now files)
+        → EndsFrom outcomes (surroundings (F.told folder.old) (F.sure folder.old) (F.faults folder.old) (F.faults folder.new)
+        (sinking (K.taken out.old) (K.taken out.new) (K.faults out.old) (K.faults out.new))) turn front result }
     ensures same { (F.told folder.new ≡ F.told folder.old) × (F.sure folder.new ≡ F.sure folder.old) }
 {
     let bytes = match load(alloc, folder, mission.behaviors.bytes()) {
@@ -165,7 +163,7 @@ fn play_helm<R: Threads + Wait + Sync, K: Sink, G: Gate>(
     requires mission { IsValidMission mission.now }
     requires file { IsValidFile file }
     requires served { IsTrue (serves mission.now.domain file.blocks) }
-    ensures { Ended (Ready (Playing order script.now (Some (record { mission = mission.now; file = file }))))
+    ensures { Ended outcomes (Ready (Playing order script.now (Some (record { mission = mission.now; file = file }))))
         (sinking (K.taken out.old) (K.taken out.new) (K.faults out.old) (K.faults out.new)) result }
 {
     let Ok(behaviors) = names_of(alloc, file.blocks.all()) else {
@@ -186,6 +184,7 @@ fn play_helm<R: Threads + Wait + Sync, K: Sink, G: Gate>(
         period: mission.period,
     };
     plan_law();
+    worth_law();
     report_law();
     play_rounds(
         rt,
@@ -210,7 +209,7 @@ fn play_alone<R: Threads + Wait + Sync, K: Sink, G: Gate>(
     gate: &G,
 ) -> Status
     requires valid { IsValid script.now }
-    ensures { Ended (Ready (Playing order script.now None)) (sinking (K.taken out.old) (K.taken out.new) (K.faults out.old) (K.faults out.new)) result }
+    ensures { Ended outcomes (Ready (Playing order script.now None)) (sinking (K.taken out.old) (K.taken out.new) (K.faults out.old) (K.faults out.new)) result }
 {
     report_law();
     let setup = no_modes(alloc);

@@ -1,22 +1,18 @@
 // The top call: from a command line to what was written and how it ended.
-ghost use Rattle.std.specs.Prelude.{◌≡◌, ◌<◌, ◌≤◌, ◌^◌, ℕ, [], false, List, length, IfOk, IfErr, OnOk, OnErr};
-ghost use Rattle.moos_io.specs.Faults.{Rose};
-ghost use Rattle.moos_io.specs.Files.{is_among};
-ghost use Rattle.moos_jobs.specs.Jobs.{HasFewWorkers};
-ghost use Rattle.moos_jobs.specs.Run.{Completes, Declines, EndsWith, EndsFrom, HasBytes, Refuses, Succeeds, Surroundings, surroundings};
-ghost use Rattle.moos_jobs.specs.Steps.{sinking, status_of};
-ghost use Rattle.moos_jobs.specs.declared.job.Job.TheVariants.{Check, Solve};
+ghost use Rattle.std.specs.Prelude.{◌≡◌, ◌≤◌, ℕ, [], List};
+ghost use Rattle.command_line.specs.Jobs.{HasFewWorkers};
+ghost use Rattle.command_line.specs.Endings.{EndsFrom, Surroundings, sinking, surroundings};
+ghost use Rattle.moos_jobs.specs.Jobs.{outcomes, turn_of};
+ghost use Rattle.moos_jobs.specs.Run.{Completes, Declines, EndsWith, Refuses, Succeeds};
+ghost use Rattle.command_line.specs.declared.job.Job.TheVariants.{Check, Solve};
 
 use crate::generate_job::generate;
-use crate::job::{Job, job_named};
 use crate::play_job::play_files;
-use crate::status::{FileKind, Refusal, Status};
-use crate::words::Words;
+use command_line::{FileKind, Job, Status, Words, job_named, load, refused, unloaded, written};
 use helm_core::decide;
 use ivp_cert::{accepts, print_decision, read_decision, read_problem};
-use moos_io::{Failed, Folder, Gate, LoadFault, Sink, put_all};
+use moos_io::{Folder, Gate, Sink, put_all};
 use moos_post::Txt;
-use moos_text::ReadFault;
 use std::alloc::Global;
 use std::sync::Wait;
 use std::thread::Threads;
@@ -66,8 +62,8 @@ fn do_job<R: Threads + Wait + Sync, F: Folder, K: Sink, G: Gate>(
     gate: &G,
 ) -> Status
     requires few { HasFewWorkers job.now }
-    ensures ends { EndsFrom (surroundings (F.told folder.old) (F.sure folder.old) (F.faults folder.old) (F.faults folder.new)
-        (sinking (K.taken out.old) (K.taken out.new) (K.faults out.old) (K.faults out.new))) job.now [] result }
+    ensures ends { EndsFrom outcomes (surroundings (F.told folder.old) (F.sure folder.old) (F.faults folder.old) (F.faults folder.new)
+        (sinking (K.taken out.old) (K.taken out.new) (K.faults out.old) (K.faults out.new))) (turn_of job.now) [] result }
     ensures same { (F.told folder.new ≡ F.told folder.old) × (F.sure folder.new ≡ F.sure folder.old) }
 {
     match job {
@@ -98,8 +94,8 @@ fn solve_problem<R: Threads + Wait + Sync, F: Folder, K: Sink, G: Gate>(
     gate: &G,
 ) -> Status
     requires few { (1 ≤ workers) × (workers ≤ 16) }
-    ensures ends { EndsFrom (surroundings (F.told folder.old) (F.sure folder.old) (F.faults folder.old) (F.faults folder.new)
-        (sinking (K.taken out.old) (K.taken out.new) (K.faults out.old) (K.faults out.new))) (Solve name.now workers) [] result }
+    ensures ends { EndsFrom outcomes (surroundings (F.told folder.old) (F.sure folder.old) (F.faults folder.old) (F.faults folder.new)
+        (sinking (K.taken out.old) (K.taken out.new) (K.faults out.old) (K.faults out.new))) (turn_of (Solve name.now workers)) [] result }
     ensures same { (F.told folder.new ≡ F.told folder.old) × (F.sure folder.new ≡ F.sure folder.old) }
 {
     let bytes = match load(alloc, folder, name.bytes()) {
@@ -123,8 +119,8 @@ fn check_decision<F: Folder, K: Sink>(
     folder: &mut F,
     out: &mut K,
 ) -> Status
-    ensures ends { EndsFrom (surroundings (F.told folder.old) (F.sure folder.old) (F.faults folder.old) (F.faults folder.new)
-        (sinking (K.taken out.old) (K.taken out.new) (K.faults out.old) (K.faults out.new))) (Check name.now) [] result }
+    ensures ends { EndsFrom outcomes (surroundings (F.told folder.old) (F.sure folder.old) (F.faults folder.old) (F.faults folder.new)
+        (sinking (K.taken out.old) (K.taken out.new) (K.faults out.old) (K.faults out.new))) (turn_of (Check name.now)) [] result }
     ensures same { (F.told folder.new ≡ F.told folder.old) × (F.sure folder.new ≡ F.sure folder.old) }
 {
     let bytes = match load(alloc, folder, name.bytes()) {
@@ -139,54 +135,5 @@ fn check_decision<F: Folder, K: Sink>(
         written(Status::Done, put_all(out, b"accepted\n"))
     } else {
         written(Status::CheckNo, put_all(out, b"not accepted\n"))
-    }
-}
-
-/// Loads the file of this name, whole.
-#[tactic(auto, using(crate::proofs::Loading::whole))]
-pub fn load<F: Folder>(alloc: Global, folder: &mut F, name: &[u8]) -> Result<Vec<u8>, LoadFault>
-    ensures content { IfOk result (λ bytes. HasBytes (F.told folder.old) name.now bytes.items) }
-    ensures short { IfOk result (λ bytes. length bytes.items < 2 ^ 32) }
-    ensures rose { IfErr result (λ fault. fault ≡ LoadFault.Failed → Rose (F.faults folder.old) (F.faults folder.new)) }
-    ensures unsure { IfErr result (λ fault. fault ≡ LoadFault.Failed → is_among (F.sure folder.old) name.now ≡ false) }
-    ensures later { F.faults folder.old ≤ F.faults folder.new }
-    ensures same { (F.told folder.new ≡ F.told folder.old) × (F.sure folder.new ≡ F.sure folder.old) }
-{
-    let mut bytes = Vec::new(alloc);
-    match folder.load(name, &mut bytes) {
-        Ok(()) => Ok(bytes),
-        Err(fault) => Err(fault),
-    }
-}
-
-/// The status for a file that couldn't be loaded.
-pub fn unloaded(fault: LoadFault) -> Status
-    ensures failed { fault ≡ LoadFault.Failed → result ≡ Status.LoadFault }
-    ensures memory { fault ≡ LoadFault.NoMemory → result ≡ Status.NoMemory }
-{
-    match fault {
-        LoadFault::Failed => Status::LoadFault,
-        LoadFault::NoMemory => Status::NoMemory,
-    }
-}
-
-/// The status for a file that its reader refuses.
-pub fn refused(file: FileKind, fault: ReadFault) -> Status
-    ensures { result ≡ status_of file fault }
-{
-    match fault {
-        ReadFault::At { line, cause } => Status::Refused(Refusal { file, line, cause }),
-        ReadFault::NoMemory => Status::NoMemory,
-    }
-}
-
-/// How a run ends that was meant to end so once all was put, or that failed at a put.
-pub fn written(meant: Status, put: Result<(), Failed>) -> Status
-    ensures all { OnOk put (result ≡ meant) }
-    ensures fault { OnErr put (result ≡ Status.WriteFault) }
-{
-    match put {
-        Ok(()) => meant,
-        Err(_) => Status::WriteFault,
     }
 }

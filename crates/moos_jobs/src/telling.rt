@@ -8,12 +8,11 @@ ghost use Rattle.moos_play.specs.Steered.{GoesOnWith};
 ghost use Rattle.moos_report.specs.IterationLines.{helm_fetches};
 ghost use Rattle.moos_report.specs.Parts.{front_text};
 ghost use Rattle.moos_report.specs.Report.{end_text, entries_text};
-ghost use Rattle.moos_jobs.specs.Steps.{sinking};
+ghost use Rattle.command_line.specs.Endings.{sinking};
 ghost use Rattle.moos_jobs.specs.Telling.{IsToldSoFar, Tells};
 ghost use Rattle.script_reader.specs.Validity.{IsValid};
 
-use crate::running::written;
-use crate::status::Status;
+use command_line::{Status, written};
 use moos_db::Db;
 use moos_io::{Buffer, Failed, Gate, Sink};
 use moos_play::{HelmRun, Order, Play, Round};

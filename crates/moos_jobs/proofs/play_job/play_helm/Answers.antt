@@ -20,5 +20,9 @@ returns g c =
       modes = (ap (nat_lt 0) c.len.ensures ∙ declared c.args.file.decls) i;
     } in
     told_ended c.args.order c.args.script.now (Some files) (Some (steering_with c.args.script.now run)) setup c.report_law.ensures c.requires.valid
-    (record { file = c.requires.file; formed = c.plan_law.ensures c.args.mission.now c.args.file c.requires.mission c.requires.file })
+    (record {
+      file = c.requires.file;
+      formed = c.plan_law.ensures c.args.mission.now c.args.file c.requires.mission c.requires.file;
+      worth = c.worth_law.ensures c.args.mission.now c.args.file c.requires.mission c.requires.file c.requires.served;
+    })
     (ap (λ steering. Some steering) (steered_by c.args.script.now files run c.in-Ok-make.ensures.plan refl)) told _ c.play_rounds.result c.play_rounds.ensures

@@ -5,36 +5,37 @@ use Rattle.ivp_cert.specs.Problems.{problem_of}
 use Rattle.ivp_cert.specs.Texts.{decision_lines}
 use Rattle.ivp_problem.specs.Problems.{WeightedSum}
 use Rattle.moos_text.specs.Refusals.{IsFirst}
-use Rattle.moos_jobs.specs.Jobs.{FileTurn, Ready, turn_behind}
+use Rattle.command_line.specs.Turns.{FileTurn, Ready, turn_behind}
+use Rattle.moos_jobs.specs.Jobs.{Task, outcomes, turn_of}
 use Rattle.moos_jobs.specs.Jobs.Task.{Solving}
-use Rattle.moos_jobs.specs.declared.job.Job.TheVariants.{Solve}
-use Rattle.moos_jobs.specs.declared.status.FileKind.TheVariants.{Problem as ProblemFile}
-use Rattle.moos_jobs.specs.declared.status.Status.TheVariants.{Done}
-use Rattle.moos_jobs.proofs.Loading.{last_ends, load_ends, nothing_put, put_ends, refusal_ends}
+use Rattle.command_line.specs.declared.job.Job.TheVariants.{Solve}
+use Rattle.command_line.specs.declared.status.FileKind.TheVariants.{Problem as ProblemFile}
+use Rattle.command_line.specs.declared.status.Status.TheVariants.{Done}
+use Rattle.command_line.proofs.Loading.{last_ends, load_ends, nothing_put, put_ends, refusal_ends}
 use Rattle.moos_jobs.proofs.running.solve_problem.Goals as goal
 
 pub returns-in-Err-clause-ends : goal.returns-in-Err-clause-ends
 returns-in-Err-clause-ends g c =
-    load_ends _ _ _ _ _ _ (Solve c.args.name.now c.args.workers) [] ProblemFile c.args.name.now _ c.in-Err.fault c.unloaded.result refl c.bytes.ensures.value
+    load_ends outcomes _ _ _ _ _ _ (turn_of (Solve c.args.name.now c.args.workers)) [] ProblemFile c.args.name.now _ c.in-Err.fault c.unloaded.result refl c.bytes.ensures.value
     c.in-Err.ensures.rose c.in-Err.ensures.unsure c.unloaded.ensures.failed c.unloaded.ensures.memory
 
 pub returns-in-Err-read_problem-clause-ends : goal.returns-in-Err-read_problem-clause-ends
 returns-in-Err-read_problem-clause-ends g c =
     let bytes = c.in-Ok.bytes.items in
-    let next : WeightedSum → FileTurn = λ problem. Ready (Solving problem) in
+    let next : WeightedSum → FileTurn Task = λ problem. Ready (Solving problem) in
     let first : IsFirst c.in-Err-read_problem.fault (problem_of bytes) = subst (λ bytes. IsFirst c.in-Err-read_problem.fault (problem_of bytes)) c.deref.ensures.value c.in-Err-read_problem.ensures.refused in
-    last_ends _ _ _ _ _ (Solve c.args.name.now c.args.workers) [] ProblemFile c.args.name.now _ bytes _ c.refused.result refl c.bytes.ensures.value c.in-Ok.ensures.content c.in-Ok.ensures.later refl
-    (refusal_ends next ProblemFile _ c.in-Err-read_problem.fault c.refused.result _ _ first c.refused.ensures)
+    last_ends outcomes _ _ _ _ _ (turn_of (Solve c.args.name.now c.args.workers)) [] ProblemFile c.args.name.now _ bytes _ c.refused.result refl c.bytes.ensures.value c.in-Ok.ensures.content c.in-Ok.ensures.later refl
+    (refusal_ends outcomes next ProblemFile _ c.in-Err-read_problem.fault c.refused.result _ _ first c.refused.ensures)
 
 pub returns-in-Ok-decide-clause-ends : goal.returns-in-Ok-decide-clause-ends
 returns-in-Ok-decide-clause-ends g c =
     let bytes = c.in-Ok.bytes.items in
-    let next : WeightedSum → FileTurn = λ problem. Ready (Solving problem) in
+    let next : WeightedSum → FileTurn Task = λ problem. Ready (Solving problem) in
     let read : problem_of bytes ≡ Ok c.in-Ok-read_problem.problem = ap problem_of (sym c.deref.ensures.value) ∙ c.in-Ok-read_problem.ensures.read in
-    last_ends _ _ _ _ _ (Solve c.args.name.now c.args.workers) [] ProblemFile c.args.name.now _ bytes _ c.written.result refl c.bytes.ensures.value c.in-Ok.ensures.content c.in-Ok.ensures.later
+    last_ends outcomes _ _ _ _ _ (turn_of (Solve c.args.name.now c.args.workers)) [] ProblemFile c.args.name.now _ bytes _ c.written.result refl c.bytes.ensures.value c.in-Ok.ensures.content c.in-Ok.ensures.later
     (ap (turn_behind ProblemFile next) read)
-    (put_ends _ (Solving c.in-Ok-read_problem.problem) _ Done c.written.result _ c.print_decision.result (λ all. all) refl
+    (put_ends outcomes _ (Solving c.in-Ok-read_problem.problem) _ Done c.written.result _ c.print_decision.result (λ all. all) refl
     (ap (decision_lines []) c.in-Ok-decide.ensures.best) c.print_decision.ensures.ok c.print_decision.ensures.front c.print_decision.ensures.rose c.written.ensures.all c.written.ensures.fault)
 
 pub returns-clause-ends : goal.returns-clause-ends
-returns-clause-ends g c = record { files = []; loaded = tt; ended = nothing_put _ _ _ }
+returns-clause-ends g c = record { files = []; loaded = tt; ended = nothing_put outcomes _ _ _ }

@@ -1,7 +1,7 @@
 -- The run that is told has the order, the script, the helm and the names that were given.
 use Rattle.std.proofs.Common.{◌∙◌, ◌++◌, ap, append-nil, inl, refl, sym}
 use Rattle.moos_play.specs.Lawful.{names_with, steering_with}
-use Rattle.moos_jobs.specs.Steps.{sinking}
+use Rattle.command_line.specs.Endings.{sinking}
 use Rattle.moos_jobs.specs.Telling.{Tells}
 use Rattle.moos_jobs.proofs.Rounds.{named_with, run_as}
 use Rattle.moos_jobs.proofs.telling.play_rounds.Goals as goal

@@ -8,7 +8,7 @@ use Rattle.moos_play.specs.Plays.{clients_in, HasCompletion, history_in, IsBetwe
 use Rattle.moos_play.specs.Steered.{GoesOnWith}
 use Rattle.moos_play.proofs.Handing.{goes_on_twice}
 use Rattle.moos_report.specs.Parts.{front_text}
-use Rattle.moos_jobs.specs.Steps.{sinking}
+use Rattle.command_line.specs.Endings.{sinking}
 use Rattle.moos_jobs.specs.Telling.{IsToldSoFar, Tells}
 use Rattle.moos_jobs.proofs.Fetching.{IsNamed, named_on}
 use Rattle.moos_jobs.proofs.Rounds.{end_told, few_made, none_made, run_as, told_front}

@@ -3,7 +3,7 @@ use Rattle.std.proofs.Common.{◌∙◌, inr, subst, sym}
 use Rattle.std.specs.Prelude.{IfSome}
 use Rattle.moos_io.proofs.Writing.{fell_later}
 use Rattle.moos_play.specs.Plays.{IsRound}
-use Rattle.moos_jobs.specs.Steps.{sinking}
+use Rattle.command_line.specs.Endings.{sinking}
 use Rattle.moos_jobs.specs.Telling.{IsToldSoFar, ToldFront}
 use Rattle.moos_jobs.proofs.Fetching.{named_on}
 use Rattle.moos_jobs.proofs.Rounds.{fetched_before, part_front, part_told, run_as, told_front, told_so_far}

@@ -1,0 +1,4 @@
+pub mod Examples
+pub mod Finding
+pub mod Loading
+pub mod Taking

@@ -1,0 +1,56 @@
+-- Which job a command line asks for.
+use Rattle.std.specs.Prelude.{ℕ, ◌≤◌, if◌then◌else◌, List, [], ◌∷◌, codes, bytes_eq, Option, Some, None, option_map, option_and_then, is_none}
+use Rattle.clap.specs.Words.{Row, Text, first_of}
+use Rattle.command_line.specs.Commands.{check_command, file_in, found_in, generate_command, is_set, number_in, play_command, solve_command, workers_in}
+use Rattle.command_line.specs.declared.job.Job.{Job}
+use Rattle.command_line.specs.declared.job.Job.TheVariants.{Play, Solve, Check, Generate}
+use Rattle.script_reader.specs.declared.script.Order.{Order}
+use Rattle.script_reader.specs.declared.script.Order.TheVariants.{Stamp, Race}
+
+-- the order that was found: a race with `--race`
+abbrev pub order_in : List Row → Order
+order_in found = if is_set (codes "race") found then Race else Stamp
+
+-- where a mission was found its name, which a text can hold; and none where none was found
+abbrev pub mission_in : List Row → Option (Option (List ℕ))
+mission_in found = if is_none (first_of (codes "mission") found) then Some None else option_map (λ name. Some name) (file_in (codes "mission") found)
+
+-- the job of what `play` found; a name that no text can hold names no file
+abbrev pub play_of : List Row → Option Job
+play_of found =
+    option_and_then (λ script. option_map (λ mission. Play script mission (order_in found) (workers_in found)) (mission_in found))
+    (file_in (codes "script") found)
+
+-- the job of what `solve` found, likewise
+abbrev pub solve_of : List Row → Option Job
+solve_of found = option_map (λ problem. Solve problem (workers_in found)) (file_in (codes "problem") found)
+
+-- the job of what `check` found, likewise
+abbrev pub check_of : List Row → Option Job
+check_of found = option_map Check (file_in (codes "decision") found)
+
+-- the job of what `generate` found
+abbrev pub generate_of : List Row → Job
+generate_of found = Generate (number_in found)
+
+-- the job of a line that begins with this word
+abbrev pub job_of : Text → List Text → Option Job
+job_of word line =
+    if bytes_eq word (codes "play") then option_and_then play_of (found_in play_command line)
+    else if bytes_eq word (codes "solve") then option_and_then solve_of (found_in solve_command line)
+    else if bytes_eq word (codes "check") then option_and_then check_of (found_in check_command line)
+    else if bytes_eq word (codes "generate") then option_map generate_of (found_in generate_command line)
+    else None
+
+-- the job that a command line asks for: its first word is that of a job, whose command takes the line, and the names of its
+-- files are ones that a text can hold
+abbrev pub job_named : List Text → Option Job
+job_named [] = None
+job_named (word ∷ rest) = job_of word (word ∷ rest)
+
+-- a job's workers are from 1 to 16
+abbrev pub HasFewWorkers : Job → Type 0
+HasFewWorkers (Play script mission order workers) = (1 ≤ workers) × (workers ≤ 16)
+HasFewWorkers (Solve problem workers) = (1 ≤ workers) × (workers ≤ 16)
+HasFewWorkers (Check decision) = Unit {0}
+HasFewWorkers (Generate number) = Unit {0}

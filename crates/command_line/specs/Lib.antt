@@ -1,0 +1,5 @@
+pub mod Commands
+pub mod Endings
+pub mod Exit
+pub mod Jobs
+pub mod Turns
