@@ -3,9 +3,9 @@ use Rattle.std.proofs.Common.{◌≡◌, ℕ, Bool, List, ◌++◌, Option, opti
 use Rattle.std.specs.Prelude.{codes}
 use Rattle.moos_post.specs.declared.value.Pair.{Pair}
 use Rattle.ivp_cert.specs.declared.claim.Decision.{Decision}
-use Rattle.bhv_life.specs.declared.outcome.BhvState.{BhvState}
 use Rattle.helm_core.specs.declared.helm.Helm.{Helm}
 use Rattle.helm_core.specs.declared.iteration.BhvError.{BhvError}
+use Rattle.helm_core.specs.declared.iteration.BhvNow.{BhvNow}
 use Rattle.helm_core.specs.declared.iteration.Iteration.{Iteration}
 use Rattle.helm_core.specs.declared.iteration.Update.{Update}
 use Rattle.helm_core.specs.declared.outlook.Outlook.{Outlook}
@@ -42,7 +42,7 @@ posts_all helm now showings first posts course speed depth allstop decision befo
     (desired (codes "DESIRED_DEPTH") (codes "depth") (mentions_depth showings) (decision_made helm.crew.axes showings))
     (changed (codes "IVPHELM_ALLSTOP") (option_map allstop_text helm.allstop) (allstop_by helm.crew.axes now.parked showings))
 
-abbrev iteration_parts : ℕ → Bool → List ℕ → List Update → List BhvState → List BhvError → Option Decision → List Pair → Iteration
+abbrev iteration_parts : ℕ → Bool → List ℕ → List Update → List BhvNow → List BhvError → Option Decision → List Pair → Iteration
 iteration_parts stamp parked mode updates states faults decision posts = record {
   stamp = stamp;
   parked = parked;
@@ -54,7 +54,7 @@ iteration_parts stamp parked mode updates states faults decision posts = record 
   posts = posts;
 }
 
-pub answered : (helm : Helm) (stamp : ℕ) (now : Outlook) (showings : List Showing) (mode : List ℕ) (updates : List Update) (states : List BhvState) (faults : List BhvError) (decision : Option Decision) (posts : List Pair)
+pub answered : (helm : Helm) (stamp : ℕ) (now : Outlook) (showings : List Showing) (mode : List ℕ) (updates : List Update) (states : List BhvNow) (faults : List BhvError) (decision : Option Decision) (posts : List Pair)
     → mode ≡ now.mode → updates ≡ all_updates showings → states ≡ all_states showings → faults ≡ all_faults showings → decision ≡ decision_made helm.crew.axes showings → posts ≡ posts_by helm now showings
     → iteration_parts stamp now.parked mode updates states faults decision posts ≡ iteration_by helm stamp now showings
 answered helm stamp now showings mode updates states faults decision posts a b c d e f =

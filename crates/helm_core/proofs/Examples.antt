@@ -1,9 +1,10 @@
 -- Iterations worked by hand.
 use Rattle.std.proofs.Common.{◌≡◌, ℕ, ◌*◌, List, [], ◌∷◌, map, Some, None, refl, arith}
-use Rattle.std.specs.Prelude.{Bool, true, false, pos, codes, Option}
+use Rattle.std.specs.Prelude.{Bool, true, false, pos, codes, IsTrue, Option}
 use Rattle.std.proofs.lemmas.Int.{ints}
 use Rattle.std.proofs.lemmas.List.Elements.{All-cons, All-nil}
 use Rattle.moos_post.specs.Entries.{IsPair}
+use Rattle.moos_post.specs.Words.{is_name}
 use Rattle.moos_post.specs.declared.registration.Reg.{Reg}
 use Rattle.moos_post.specs.declared.value.Pair.{Pair}
 use Rattle.moos_post.specs.declared.value.Value.TheVariants.{Text}
@@ -14,7 +15,9 @@ use Rattle.helm_cond.specs.Conditions.{Condition, Compare, And}
 use Rattle.bhv_file.specs.declared.decl.Decl.{Decl}
 use Rattle.bhv_file.specs.declared.file.Block.{Block}
 use Rattle.bhv_file.specs.declared.spec.Shape.TheVariants.{Timer}
+use Rattle.bhv_life.specs.declared.outcome.BhvState.{BhvState}
 use Rattle.bhv_life.specs.declared.outcome.BhvState.TheVariants.{Idle, Running, Completed}
+use Rattle.helm_core.specs.declared.iteration.BhvNow.{BhvNow}
 use Rattle.helm_core.specs.Plans.{Plan, wants_of}
 use Rattle.helm_core.specs.Ticks.{Tick, is_parked, stamp_of_last, tick_of}
 use Rattle.helm_core.specs.Moments.{moment_at}
@@ -200,6 +203,10 @@ timer number conds updates perpetual = record {
   spec = record { weight = 100; shape = Timer };
 }
 
+-- such a behaviour is this
+abbrev now : BhvState → BhvNow
+now state = record { name = codes "t"; state = state }
+
 abbrev deployed : Condition
 deployed = is (codes "DEPLOY") (codes "true")
 
@@ -233,14 +240,14 @@ one_is_idle : helm_posts timed timed_run 4
 one_is_idle = refl
 
 states_in_file_order : map (λ i. (iteration_at timed timed_run i).states) (0 ∷ 2 ∷ 3 ∷ 4 ∷ [])
-    ≡ (Running ∷ Running ∷ []) ∷ (Completed ∷ Completed ∷ []) ∷ (Completed ∷ Running ∷ []) ∷ (Completed ∷ Idle ∷ []) ∷ []
+    ≡ (now Running ∷ now Running ∷ []) ∷ (now Completed ∷ now Completed ∷ []) ∷ (now Completed ∷ now Running ∷ []) ∷ (now Completed ∷ now Idle ∷ []) ∷ []
 states_in_file_order = refl
 
 -- A condition is asked with the iteration's own mode and mail.
 abbrev moded_timer : Plan
 moded_timer = record moded { blocks = timer 1 (is (codes "MODE") (codes "ACTIVE") ∷ []) None true ∷ [] }
 
-by_mode : map (λ i. (iteration_at moded_timer run i).states) (0 ∷ 2 ∷ 3 ∷ 4 ∷ []) ≡ (Running ∷ []) ∷ (Idle ∷ []) ∷ (Idle ∷ []) ∷ (Completed ∷ []) ∷ []
+by_mode : map (λ i. (iteration_at moded_timer run i).states) (0 ∷ 2 ∷ 3 ∷ 4 ∷ []) ≡ (now Running ∷ []) ∷ (now Idle ∷ []) ∷ (now Idle ∷ []) ∷ (now Completed ∷ []) ∷ []
 by_mode = refl
 
 -- The clock.
@@ -282,6 +289,7 @@ second_iteration : IsWellFormed (iteration_at moded run 1)
 second_iteration = record {
   posts = (omega arith, All-cons IsPair (units (codes "DESIRED_SPEED") 0) [] (record { var = refl; value = (omega (arith, ints), omega (arith, ints)) }) (All-nil IsPair));
   mode = refl;
+  names = All-nil (λ name. IsTrue (is_name name));
   axes = tt;
 }
 
@@ -293,3 +301,7 @@ variable_with_a_blank is =
     let pair : IsPair (text_pair (codes "A B") (codes "x")) = is.posts.1 1 (deploy (codes "true")) (omega arith) in
     let name : false ≡ true = pair.var in
     cc
+
+-- nor where a behaviour's name has a blank
+name_with_a_blank : IsWellFormed (record (iteration_at moded run 1) { states = record { name = codes "a b"; state = Idle } ∷ [] }) → ⊥
+name_with_a_blank is = let name : false ≡ true = is.names 0 [] (omega arith) in cc

@@ -8,10 +8,11 @@ pub mod Turning
 pub mod Readying
 pub mod Deciding
 pub mod Hearing
-pub mod Numbering
+pub mod Faults
 pub mod Answering
 pub mod Bounded
 pub mod Pairing
+pub mod NamesTold
 pub mod WellFormedPlans
 pub mod Worths
 pub mod FirstSteps

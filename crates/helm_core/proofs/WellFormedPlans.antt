@@ -1,5 +1,5 @@
 -- The plan of a valid mission and a valid behaviour file is well formed.
-use Rattle.std.proofs.Common.{◌≡◌, ℕ, Bool, true, false, cond, ◌&&◌, ◌||◌, nat_le, List, [], ◌∷◌, ◌++◌, length, map, flat_map, Option, Some, None, refl, arith}
+use Rattle.std.proofs.Common.{◌≡◌, ℕ, Bool, true, false, cond, ◌&&◌, ◌||◌, nat_le, List, [], ◌∷◌, ◌++◌, length, map, flat_map, Option, Some, None, refl, sym, subst, arith}
 use Rattle.std.specs.Prelude.{IfSome, IsTrue, bytes_eq, codes, fold}
 use Rattle.std.specs.List.{All, list_all, list_any, AllByRecursion as Each}
 use Rattle.std.specs.Option.{option_to_list}
@@ -21,12 +21,15 @@ use Rattle.mission_reader.specs.declared.mission.Mission.{Mission}
 use Rattle.mission_reader.specs.Validity.{HaveAxisNames, IsValidMission}
 use Rattle.mode_tree.proofs.Worded.{mode_is_text}
 use Rattle.helm_core.specs.declared.showing.Showing.{Showing}
-use Rattle.helm_core.specs.Behaviors.{showings_at}
+use Rattle.helm_core.specs.Behaviors.{all_begun, behaviors_before, has_fault, showings_at}
 use Rattle.helm_core.specs.Decisions.{active_problem, best_decision, decision_made, some_active}
 use Rattle.helm_core.specs.Iterations.{iteration_at}
 use Rattle.helm_core.specs.Plans.{always_read, block_names, decl_names, names_read, plan_made, reg_wanted, with_wanted}
-use Rattle.helm_core.specs.Ticks.{Tick, learnt_at}
+use Rattle.helm_core.specs.Moments.{moment_at, moment_before}
+use Rattle.helm_core.specs.Ticks.{Tick, learnt_at, seen_at}
 use Rattle.helm_core.specs.WellFormed.{IsWellFormed, IsWellFormedPlan}
+use Rattle.helm_core.proofs.Living.{blocks_kept}
+use Rattle.helm_core.proofs.NamesTold.{all_told, showings_named}
 use Rattle.helm_core.proofs.Pairing.{HasValidCommon, all_posts}
 
 -- the behaviours of a file
@@ -103,9 +106,15 @@ named_axes axes showings named = by (some_active showings)
 
 iterations_formed : (mission : Mission) (file : BhvFile) → IsValidMission mission → IsValidFile file → (ticks : List Tick) (i : ℕ) → IsWellFormed (iteration_at (plan_made mission file) ticks i)
 iterations_formed mission file valid read ticks i =
+    let plan = plan_made mission file in
     let mode = mode_is_text file.decls (latest_of (learnt_at ticks i)) read.decls in
-    let posts = all_posts (plan_made mission file) ticks i valid.domain (blocks_valid [] file.blocks read.blocks) mode in
+    let blocks = blocks_valid [] file.blocks read.blocks in
+    let posts = all_posts plan ticks i valid.domain blocks mode in
+    let seen = seen_at file.decls ticks i in
+    let ones = behaviors_before plan ticks i in
+    let named = showings_named mission.domain seen (list_any has_fault (all_begun mission.domain seen ones)) ones (subst (Each HasValidCommon) (sym (blocks_kept plan ticks i)) blocks) in
     record {
+      names = all_told plan (moment_before plan ticks i) (moment_at plan ticks i) named;
       posts = (omega (arith, posts.few, read.few_blocks), All-from_recursion IsPair _ posts.all);
       mode = mode;
       axes = named_axes mission.domain (showings_at (plan_made mission file) ticks i) valid.axes;

@@ -117,6 +117,7 @@ outcome_at seen fault one = (turn_after one.standing.block.common (past_so_far o
 -- what an iteration says of a behaviour
 abbrev pub showing_of : Seen → Bool → BegunTurn → Showing
 showing_of seen fault one = record {
+  name = one.standing.block.common.name;
   taken = one.taken;
   out = one.out;
   weight = weight_now one;

@@ -1,9 +1,11 @@
 -- An iteration of the helm, as a function of what the helm is made of and of all its ticks so far.
-use Rattle.std.specs.Prelude.{ℕ, Bool, List, map, Option, option_map}
-use Rattle.std.specs.List.{enumerate_from, filter_map, flat_map}
+use Rattle.std.specs.Prelude.{ℕ, Bool, if◌then◌else◌, List, map, Option, option_map}
+use Rattle.std.specs.List.{filter_map, flat_map}
 use Rattle.bhv_kinds.specs.declared.out.BhvFault.{BhvFault}
-use Rattle.bhv_life.specs.declared.outcome.BhvState.{BhvState}
 use Rattle.helm_core.specs.declared.iteration.BhvError.{BhvError}
+use Rattle.helm_core.specs.declared.iteration.BhvNow.{BhvNow}
+use Rattle.helm_core.specs.declared.iteration.How.{How}
+use Rattle.helm_core.specs.declared.iteration.How.TheVariants.{Changed, Refused}
 use Rattle.helm_core.specs.declared.iteration.Iteration.{Iteration}
 use Rattle.helm_core.specs.declared.iteration.Update.{Update}
 use Rattle.helm_core.specs.declared.showing.Showing.{Showing}
@@ -13,33 +15,41 @@ use Rattle.helm_core.specs.Decisions.{decision_made}
 use Rattle.helm_core.specs.Moments.{Moment, moment_at, moment_before}
 use Rattle.helm_core.specs.Posts.{posts_made}
 
--- an update of the behaviour of this number
-abbrev pub update_of : ℕ → Bool → Update
-update_of behavior taken = record { behavior = behavior; taken = taken }
+-- what became of an update that was good or not
+abbrev pub how_taken : Bool → How
+how_taken taken = if taken then Changed else Refused
 
--- the updates of the behaviour of this number, in order
-abbrev pub updates_of : (ℕ × Showing) → List Update
-updates_of one = map (update_of one.0) one.1.taken
+-- an update of the behaviour of this name
+abbrev pub update_of : List ℕ → Bool → Update
+update_of name taken = record { name = name; how = how_taken taken }
 
--- a fault of the behaviour of this number
-abbrev pub error_of : ℕ → BhvFault → BhvError
-error_of behavior fault = record { behavior = behavior; fault = fault }
+-- the updates of a behaviour, in order
+abbrev pub updates_of : Showing → List Update
+updates_of one = map (update_of one.name) one.taken
 
--- the fault of the behaviour of this number, where it raised one
-abbrev pub fault_of : (ℕ × Showing) → Option BhvError
-fault_of one = option_map (error_of one.0) one.1.out.fault
+-- what a behaviour is
+abbrev pub state_of : Showing → BhvNow
+state_of one = record { name = one.name; state = one.outcome.now }
+
+-- a fault of the behaviour of this name
+abbrev pub error_of : List ℕ → BhvFault → BhvError
+error_of name fault = record { name = name; fault = fault }
+
+-- the fault of a behaviour, where it raised one
+abbrev pub fault_of : Showing → Option BhvError
+fault_of one = option_map (error_of one.name) one.out.fault
 
 -- the updates of all behaviours
 abbrev pub all_updates : List Showing → List Update
-all_updates showings = flat_map updates_of (enumerate_from 0 showings)
+all_updates showings = flat_map updates_of showings
 
 -- what each behaviour is
-abbrev pub all_states : List Showing → List BhvState
-all_states showings = map (λ one. one.outcome.now) showings
+abbrev pub all_states : List Showing → List BhvNow
+all_states showings = map state_of showings
 
 -- the faults of all behaviours
 abbrev pub all_faults : List Showing → List BhvError
-all_faults showings = filter_map fault_of (enumerate_from 0 showings)
+all_faults showings = filter_map fault_of showings
 
 -- the answer of an iteration after this one
 abbrev pub iteration_of : Plan → Option Moment → Moment → Iteration

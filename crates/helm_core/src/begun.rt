@@ -17,7 +17,7 @@ use bhv_kinds::Out;
 use bhv_life::{Outcome, Started};
 use ivp_domain::Domain;
 use moos_db::Letter;
-use moos_post::{Batch, List, NoMemory};
+use moos_post::{Batch, Copied, List, NoMemory};
 use std::alloc::Global;
 
 // A turn of a behaviour after its step: which of its updates were good, and what the step gave.
@@ -84,12 +84,14 @@ impl<'a> Begun<'a> {
         let active = is_active(&self.out, weight, fault);
         let (life, outcome) = self.started.finish(active, self.out.done);
         let flags = flags_at(alloc, self.common, outcome)?;
+        let name = self.common.name.copy(alloc)?;
         Ok(EndedTurn {
             kept: Behavior {
                 kind: self.kind,
                 life,
             },
             showing: Showing {
+                name,
                 taken: self.taken,
                 out: self.out,
                 weight,

@@ -1,27 +1,42 @@
 use bhv_kinds::BhvFault;
 use bhv_life::BhvState;
 use ivp_cert::Decision;
-use moos_post::{Batch, List, Txt};
+use moos_post::{Batch, List, Name, Txt};
 
-/// An update of a behaviour, by the behaviour's number in the file, and whether it was taken.
-#[derive(Clone, Copy, Debug, PartialEq, Eq)]
-pub struct Update {
-    pub behavior: u32,
-    pub taken: bool,
+/// What became of an update: it was refused, it changed a behaviour, or it made the behaviour of this name. None makes one yet.
+#[derive(Drop)]
+pub enum How {
+    Refused,
+    Changed,
+    Spawned(Name),
 }
 
-/// A behaviour that raised a fault, by its number in the file.
-#[derive(Clone, Copy, Debug, PartialEq, Eq)]
+/// An update, by the name of the behaviour that heard it, and what became of it.
+#[derive(Drop)]
+pub struct Update {
+    pub name: Name,
+    pub how: How,
+}
+
+/// What a behaviour is, by its name.
+#[derive(Drop)]
+pub struct BhvNow {
+    pub name: Name,
+    pub state: BhvState,
+}
+
+/// A behaviour that raised a fault, by its name.
+#[derive(Drop)]
 pub struct BhvError {
-    pub behavior: u32,
+    pub name: Name,
     pub fault: BhvFault,
 }
 
 /// The updates of an iteration, in order.
 pub type Updates = List<Update>;
 
-/// The state of each behaviour, in file order.
-pub type States = List<BhvState>;
+/// What each behaviour is, in file order.
+pub type States = List<BhvNow>;
 
 /// The faults of an iteration, in file order.
 pub type Faults = List<BhvError>;

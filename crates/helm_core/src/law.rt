@@ -12,7 +12,8 @@ pub fn iterations_law()
 {}
 
 /// What holds of what a helm of a valid mission and a valid behaviour file says, whatever it hears: its calls are as a call's
-/// type lets them be, its mode is a text, and the axes that it decides over have names. It does nothing.
+/// type lets them be, its mode is a text, the names that it tells of behaviours are names, and the axes that it decides over
+/// have names. It does nothing.
 pub fn plan_law()
     ensures { ValidFilesPlanWell }
 {}

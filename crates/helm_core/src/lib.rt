@@ -33,5 +33,5 @@ mod wanted;
 
 pub use decision::decide;
 pub use helm::Helm;
-pub use iteration::{BhvError, Faults, Iteration, States, Update, Updates};
+pub use iteration::{BhvError, BhvNow, Faults, How, Iteration, States, Update, Updates};
 pub use law::{first_step_law, iterations_law, plan_law, worth_law};

@@ -1,10 +1,11 @@
 use bhv_kinds::Out;
 use bhv_life::Outcome;
-use moos_post::{Batch, List};
+use moos_post::{Batch, List, Name};
 
 // What an iteration says of a behaviour.
 #[derive(Drop)]
 pub(crate) struct Showing {
+    pub name: Name,
     // Of each of its updates, in order, whether it was good.
     pub taken: List<bool>,
     // What its step gave.

@@ -1,13 +1,13 @@
 // What an iteration says of the behaviours.
-ghost use Rattle.std.specs.Prelude.{◌≡◌, ◌++◌, ◌≤◌, ◌<◌, map, length, IfOk, OnOk};
+ghost use Rattle.std.specs.Prelude.{◌≡◌, ◌++◌, map, IfOk, OnOk};
 ghost use Rattle.std.specs.Option.{option_to_list};
-ghost use Rattle.helm_core.specs.Iterations.{all_faults, all_states, all_updates, fault_of, update_of};
+ghost use Rattle.helm_core.specs.Iterations.{all_faults, all_states, all_updates, fault_of, how_taken, state_of, update_of};
 ghost use Rattle.helm_core.specs.Posts.{flags_raised};
 
-use crate::iteration::{BhvError, Faults, States, Update, Updates};
+use crate::iteration::{BhvError, BhvNow, Faults, How, States, Update, Updates};
 use crate::posts::add_pairs;
 use crate::showing::Showing;
-use moos_post::{Batch, NoMemory};
+use moos_post::{Batch, Copied, Name, NoMemory};
 use std::alloc::Global;
 
 // The updates, the states and the faults of all behaviours.
@@ -15,7 +15,6 @@ pub(crate) fn told_of(
     alloc: Global,
     showings: &[Showing],
 ) -> Result<(Updates, States, Faults), NoMemory>
-    requires few { length showings.now ≤ 64 }
     ensures updates { IfOk result (λ told. told.0 ≡ all_updates showings.now) }
     ensures states { IfOk result (λ told. told.1 ≡ all_states showings.now) }
     ensures faults { IfOk result (λ told. told.2 ≡ all_faults showings.now) }
@@ -28,27 +27,36 @@ pub(crate) fn told_of(
 
 // The updates of all behaviours, in file order.
 fn updates_of(alloc: Global, showings: &[Showing]) -> Result<Updates, NoMemory>
-    requires few { length showings.now ≤ 64 }
     ensures { IfOk result (λ updates. updates ≡ all_updates showings.now) }
 {
     let mut updates = Updates::new(alloc);
-    for (number, showing) in showings.iter().enumerate() {
-        add_updates(&mut updates, number as u32, showing.taken.all())?;
+    for showing in showings {
+        add_updates(alloc, &mut updates, &showing.name, showing.taken.all())?;
     }
     Ok(updates)
 }
 
-fn add_updates(updates: &mut Updates, behavior: u32, taken: &[bool]) -> Result<(), NoMemory>
-    ensures { OnOk result (updates.new ≡ updates.old ++ map (update_of behavior) taken.now) }
+fn add_updates(
+    alloc: Global,
+    updates: &mut Updates,
+    name: &Name,
+    taken: &[bool],
+) -> Result<(), NoMemory>
+    ensures { OnOk result (updates.new ≡ updates.old ++ map (update_of name.now) taken.now) }
 {
     for answer in taken {
-        let update = Update {
-            behavior,
-            taken: *answer,
-        };
-        updates.add(update)?;
+        let name = name.copy(alloc)?;
+        let how = how_taken(*answer);
+        updates.add(Update { name, how })?;
     }
     Ok(())
+}
+
+// What became of an update that was good or not.
+fn how_taken(taken: bool) -> How
+    ensures { result ≡ how_taken taken }
+{
+    if taken { How::Changed } else { How::Refused }
 }
 
 // What each behaviour is.
@@ -57,30 +65,40 @@ fn states_of(alloc: Global, showings: &[Showing]) -> Result<States, NoMemory>
 {
     let mut states = States::new(alloc);
     for showing in showings {
-        states.add(showing.outcome.now)?;
+        states.add(state_of(alloc, showing)?)?;
     }
     Ok(states)
 }
 
+fn state_of(alloc: Global, showing: &Showing) -> Result<BhvNow, NoMemory>
+    ensures { IfOk result (λ state. state ≡ state_of showing.now) }
+{
+    let name = showing.name.copy(alloc)?;
+    Ok(BhvNow {
+        name,
+        state: showing.outcome.now,
+    })
+}
+
 // The faults that behaviours raised, in file order.
 fn faults_of(alloc: Global, showings: &[Showing]) -> Result<Faults, NoMemory>
-    requires few { length showings.now ≤ 64 }
     ensures { IfOk result (λ faults. faults ≡ all_faults showings.now) }
 {
     let mut faults = Faults::new(alloc);
-    for (number, showing) in showings.iter().enumerate() {
-        add_fault(&mut faults, number as u32, showing)?;
+    for showing in showings {
+        add_fault(alloc, &mut faults, showing)?;
     }
     Ok(faults)
 }
 
-fn add_fault(faults: &mut Faults, behavior: u32, showing: &Showing) -> Result<(), NoMemory>
-    ensures { OnOk result (faults.new ≡ faults.old ++ option_to_list (fault_of (behavior, showing.now))) }
+fn add_fault(alloc: Global, faults: &mut Faults, showing: &Showing) -> Result<(), NoMemory>
+    ensures { OnOk result (faults.new ≡ faults.old ++ option_to_list (fault_of showing.now)) }
 {
     let Some(fault) = showing.out.fault else {
         return Ok(());
     };
-    faults.add(BhvError { behavior, fault })
+    let name = showing.name.copy(alloc)?;
+    faults.add(BhvError { name, fault })
 }
 
 // Adds the flags of all behaviours, in file order.

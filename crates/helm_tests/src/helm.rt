@@ -87,7 +87,7 @@ fn shown(rt: &impl Abort, alloc: Global, iteration: &Iteration) -> Vec<u8> {
     append(rt, &mut text, &[parked_word(iteration.parked)]);
     append(rt, &mut text, &[iteration.mode.bytes(), b":"]);
     for state in iteration.states.all() {
-        append(rt, &mut text, &[state_word(*state)]);
+        append(rt, &mut text, &[state_word(state.state)]);
     }
     for pair in iteration.posts.all() {
         show_pair(rt, &mut text, pair);

@@ -5,7 +5,7 @@ use bhv_file::UnusedList;
 use helm_core::{Faults, Iteration, States, Updates};
 use moos_db::Db;
 use moos_io::MemSink;
-use moos_post::{Batch, Names};
+use moos_post::Batch;
 use moos_report::{Setup, parts_law, report, report_law};
 use std::alloc::Global;
 use std::process::Abort;
@@ -13,7 +13,6 @@ use std::process::Abort;
 fn setup(alloc: Global) -> Setup {
     Setup {
         unused: UnusedList::new(alloc),
-        behaviors: Names::new(alloc),
         modes: false,
     }
 }

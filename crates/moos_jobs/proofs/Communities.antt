@@ -2,11 +2,11 @@
 -- iterations name stands on lines.
 use Rattle.std.proofs.Common.{◌≡◌, ℕ, zero, suc, ◌*◌, ◌/◌, ◌<◌, ◌≤◌, ◌^◌, Bool, true, false, cond, not, ◌&&◌, ◌||◌, ◌==◌, nat_lt, nat_le, nat_eq, List, [], ◌∷◌, ◌++◌, length, length-append, bytes_eq, codes, refl, ap, sym, ◌∙◌, subst, arith, Option, None, Some, inl, inr}
 use Rattle.std.specs.Prelude.{IfSome, IsTrue, is_none, option_map}
-use Rattle.std.specs.List.{All, list_all, list_any, position_or_len, AllByRecursion as Each}
+use Rattle.std.specs.List.{All, list_all, list_any, position_or_len}
 use Rattle.std.proofs.Math.Nat.{div-mul-le_self, mul-le-mul_right}
 use Rattle.std.proofs.lemmas.Bool.{and_parts, cases_eq, eq-eqb, eqb-true, ltb-true}
 use Rattle.std.proofs.lemmas.Bool.Decides.{nat_tests}
-use Rattle.std.proofs.lemmas.List.Elements.{All-append, All-cons, All-filter, All-from_recursion, All-head, All-map, All-nil, All-push, All-tail, All-weaker}
+use Rattle.std.proofs.lemmas.List.Elements.{All-append, All-cons, All-filter, All-head, All-nil, All-push, All-tail, All-weaker}
 use Rattle.std.proofs.lemmas.List.Folds.{list_any-append, list_any_at}
 use Rattle.std.proofs.lemmas.List.Sums.{fails_before_first, list_all-from_AllPass}
 use Rattle.std.proofs.lemmas.Slice.Eq.{bytes_eq-Decides}
@@ -21,15 +21,14 @@ use Rattle.moos_client.specs.Calls.{entries_of, entry_of}
 use Rattle.ivp_domain.specs.declared.axis.Axis.{Axis}
 use Rattle.ivp_domain.specs.AxisNames.{is_axis_name, is_word_byte}
 use Rattle.ivp_cert.specs.declared.claim.Decision.{Decision}
-use Rattle.bhv_file.specs.declared.file.Block.{Block}
 use Rattle.bhv_file.specs.declared.file.Unused.{Unused}
-use Rattle.bhv_file.specs.Validity.{AreBlocks, IsValidFile}
+use Rattle.bhv_file.specs.Validity.{IsValidFile}
 use Rattle.mission_reader.specs.Validity.{HaveAxisNames}
 use Rattle.helm_core.specs.declared.iteration.Iteration.{Iteration}
 use Rattle.helm_core.specs.Iterations.{iteration_at}
 use Rattle.helm_core.specs.Plans.{Plan, plan_made, wants_of}
 use Rattle.helm_core.specs.Ticks.{Tick}
-use Rattle.helm_core.specs.WellFormed.{IsWellFormedPlan}
+use Rattle.helm_core.specs.WellFormed.{IsWellFormedPlan, names_told}
 use Rattle.helm_core.specs.Worths.{DecidesByWorth}
 use Rattle.moos_play.specs.Lawful.{Steering, heard_of, helm_number, iterations, iterations_of, names_with, opening, opening_of, tick_entries, ticks, ticks_of, ticks_to}
 use Rattle.moos_report.specs.Community.{HaveOwnNames, IsCommunity, is_one_line, StandOnLines}
@@ -244,10 +243,9 @@ text_line text is =
     past true e none = absurd cc
     past false e none = grind (arith, nat_tests)
 
--- what the helm's files name
-blocks_line : (earlier blocks : List Block) → AreBlocks earlier blocks → Each (λ block. IsTrue (is_one_line block.common.name)) blocks
-blocks_line earlier [] valid = tt
-blocks_line earlier (block ∷ blocks) valid = (name_line block.common.name valid.0.common.name, blocks_line (earlier ++ block ∷ []) blocks valid.1)
+-- the names that an iteration tells
+abbrev ToldOnLines : Iteration → Type 0
+ToldOnLines iteration = All (λ name. IsTrue (is_one_line name)) (names_told iteration)
 
 -- what holds of each iteration
 each_iteration : (P : Iteration → Type 0) (plan : Plan) (heard : List Tick) (n : ℕ) → ((i : ℕ) → P (iteration_at plan heard i)) → All P (iterations_of plan heard n)
@@ -264,8 +262,8 @@ decided_line (Some decision) named = All-weaker (λ (axis : Axis). IsTrue (is_ax
 pub stand_on_lines : (script : Script) (helm : Option HelmFiles) (heard : List Tick) → IfSome helm AreGoodFiles → StandOnLines (setup_of helm) (iterations (steered script helm) script.stop heard)
 stand_on_lines script None heard files = record {
   unused = All-nil (λ (unused : Unused). IsTrue (is_one_line unused.name));
-  behaviors = All-nil (λ name. IsTrue (is_one_line name));
   modes = All-nil (λ (iteration : Iteration). IsTrue (is_one_line iteration.mode));
+  names = All-nil ToldOnLines;
   axes = All-nil (λ (iteration : Iteration). IfSome iteration.decision HasAxesOnLines);
 }
 stand_on_lines script (Some helm) heard files =
@@ -273,9 +271,7 @@ stand_on_lines script (Some helm) heard files =
     let count : ℕ = ticks_to script.stop (steering_by script helm) in
     record {
       unused = All-weaker (λ (unused : Unused). IsTrue (is_name unused.name)) (λ (unused : Unused). IsTrue (is_one_line unused.name)) (λ unused. name_line unused.name) helm.file.unused files.file.unused;
-      behaviors =
-          All-map (λ name. IsTrue (is_one_line name)) (λ (block : Block). block.common.name) helm.file.blocks
-          (All-from_recursion (λ (block : Block). IsTrue (is_one_line block.common.name)) helm.file.blocks (blocks_line [] helm.file.blocks files.file.blocks));
       modes = each_iteration (λ (iteration : Iteration). IsTrue (is_one_line iteration.mode)) plan heard count (λ i. text_line (iteration_at plan heard i).mode (files.formed.iterations heard i).mode);
+      names = each_iteration ToldOnLines plan heard count (λ i. All-weaker (λ name. IsTrue (is_name name)) (λ name. IsTrue (is_one_line name)) name_line (names_told (iteration_at plan heard i)) (files.formed.iterations heard i).names);
       axes = each_iteration (λ (iteration : Iteration). IfSome iteration.decision HasAxesOnLines) plan heard count (λ i. decided_line (iteration_at plan heard i).decision (files.formed.iterations heard i).axes);
     }

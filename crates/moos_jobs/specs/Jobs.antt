@@ -1,7 +1,6 @@
 -- Which files a job reads, what is to be done with them, and what it may write.
 use Rattle.std.specs.Prelude.{◌≡◌, ℕ, ◌+◌, ◌/◌, nat_le, false, if◌then◌else◌, List, [], ◌∷◌, codes, Option, Some, None, map, option_map, IfSome, Result, Ok, Err}
 use Rattle.bhv_file.specs.declared.file.BhvFile.{BhvFile}
-use Rattle.bhv_file.specs.declared.file.Block.{Block}
 use Rattle.bhv_reader.specs.Behaviors.{behaviors_of}
 use Rattle.helm_core.specs.Decisions.{best_decision}
 use Rattle.helm_core.specs.Plans.{plan_made}
@@ -89,18 +88,14 @@ turn_of (Generate number) files = Ready (Generating number)
 abbrev pub steering_by : Script → HelmFiles → Steering
 steering_by script files = record { client = helm_number script; plan = plan_made files.mission files.file; period = files.mission.period }
 
--- a setup without behaviours and modes
+-- a setup without unused parameters and modes
 abbrev pub no_modes : Setup
-no_modes = record { unused = []; behaviors = []; modes = false }
+no_modes = record { unused = []; modes = false }
 
--- what a report tells of the behaviour file: its unused parameters, its behaviours, and that its modes are told where it declares any
+-- what a report tells of the behaviour file: its unused parameters, and that its modes are told where it declares any
 abbrev pub setup_of : Option HelmFiles → Setup
 setup_of None = no_modes
-setup_of (Some files) = record {
-  unused = files.file.unused;
-  behaviors = map (λ (block : Block). block.common.name) files.file.blocks;
-  modes = are_declared_modes files.file.decls;
-}
+setup_of (Some files) = record { unused = files.file.unused; modes = are_declared_modes files.file.decls }
 
 -- the iterations that the helm's own mails in a history come to
 abbrev pub iterations_on : Script → Option HelmFiles → History → List Iteration

@@ -1,6 +1,5 @@
 // The job that plays a script, with the helm of a mission or without one: its files one after another, and its report.
-ghost use Rattle.std.specs.Prelude.{◌≡◌, ◌<◌, ◌≤◌, ◌^◌, ◌++◌, ◌∷◌, ℕ, [], length, map, List, None, Some, Ok, IfOk, IsTrue, IfErr, OnOk};
-ghost use Rattle.bhv_file.specs.declared.file.Block.{Block};
+ghost use Rattle.std.specs.Prelude.{◌≡◌, ◌<◌, ◌≤◌, ◌^◌, ◌++◌, ℕ, [], length, List, None, Some, Ok, IfOk, IsTrue, IfErr};
 ghost use Rattle.bhv_file.specs.Validity.{IsValidFile, serves};
 ghost use Rattle.mission_reader.specs.Missions.{mission_of};
 ghost use Rattle.mission_reader.specs.Validity.{IsValidMission};
@@ -13,13 +12,13 @@ ghost use Rattle.command_line.specs.declared.job.Job.TheVariants.{Play};
 ghost use Rattle.script_reader.specs.Validity.{IsValid};
 
 use crate::telling::play_rounds;
-use bhv_reader::{BhvFile, Block, read_behaviors};
+use bhv_reader::{BhvFile, read_behaviors};
 use command_line::{FileKind, Status, load, refused, unloaded};
 use helm_core::{Helm, plan_law, worth_law};
 use mission_reader::{Mission, read_mission};
 use moos_io::{Folder, Gate, Sink};
 use moos_play::{HelmRun, Order};
-use moos_post::{Copied, List, Name, Names, NoMemory, Txt};
+use moos_post::{List, Txt};
 use moos_report::{Setup, report_law};
 use moos_text::{Cause, ReadFault};
 use script_reader::{Script, read_script};
@@ -166,14 +165,10 @@ fn play_helm<R: Threads + Wait + Sync, K: Sink, G: Gate>(
     ensures { Ended outcomes (Ready (Playing order script.now (Some (record { mission = mission.now; file = file }))))
         (sinking (K.taken out.old) (K.taken out.new) (K.faults out.old) (K.faults out.new)) result }
 {
-    let Ok(behaviors) = names_of(alloc, file.blocks.all()) else {
-        return Status::NoMemory;
-    };
     // The helm has no use of what no behaviour uses.
     let unused = mem::replace(&mut file.unused, List::new(alloc));
     let setup = Setup {
         unused,
-        behaviors,
         modes: file.decls.len() > 0,
     };
     let Ok(helm) = Helm::make(alloc, mission, file) else {
@@ -216,31 +211,12 @@ fn play_alone<R: Threads + Wait + Sync, K: Sink, G: Gate>(
     play_rounds(rt, alloc, script, None, &setup, order, 1, out, gate)
 }
 
-// The names of the behaviours, in file order.
-fn names_of(alloc: Global, blocks: &[Block]) -> Result<Names, NoMemory>
-    ensures { IfOk result (λ names. names ≡ map (λ (block : Block). block.common.name) blocks.now) }
-{
-    let mut names = Names::new(alloc);
-    for block in blocks {
-        push_copy(alloc, &mut names, &block.common.name)?;
-    }
-    Ok(names)
-}
-
-// Adds a copy of the name at the end.
-fn push_copy(alloc: Global, names: &mut Names, name: &Name) -> Result<(), NoMemory>
-    ensures { OnOk result (names.new ≡ names.old ++ name.now ∷ []) }
-{
-    names.add(name.copy(alloc)?)
-}
-
-// The setup of a script without a mission: no behaviours and no modes.
+// The setup of a script without a mission: nothing unused and no modes.
 fn no_modes(alloc: Global) -> Setup
     ensures { result ≡ no_modes }
 {
     Setup {
         unused: List::new(alloc),
-        behaviors: List::new(alloc),
         modes: false,
     }
 }

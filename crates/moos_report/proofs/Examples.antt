@@ -15,22 +15,26 @@ use Rattle.moos_post.specs.Entries.{IsEntry, IsPair, IsReg}
 use Rattle.ivp_domain.specs.declared.axis.Axis.{Axis}
 use Rattle.ivp_cert.specs.Texts.{claim_text}
 use Rattle.ivp_cert.proofs.CertExamples.{decision}
+use Rattle.bhv_kinds.specs.declared.out.BhvFault.{BhvFault}
 use Rattle.bhv_kinds.specs.declared.out.BhvFault.TheVariants.{NoPosition, OutsidePolygon, TooDeep, TooLate}
 use Rattle.bhv_life.specs.declared.outcome.BhvState.TheVariants.{Idle, Running, Active, Completed}
 use Rattle.bhv_file.specs.declared.file.Unused.{Unused}
+use Rattle.helm_core.specs.declared.iteration.BhvError.{BhvError}
+use Rattle.helm_core.specs.declared.iteration.How.TheVariants.{Changed, Refused, Spawned}
 use Rattle.helm_core.specs.declared.iteration.Iteration.{Iteration}
+use Rattle.helm_core.specs.WellFormed.{names_told}
 use Rattle.moos_report.specs.declared.setup.Setup.{Setup}
 use Rattle.moos_report.specs.Community.{HaveOwnNames, IsCommunity, is_one_line, StandOnLines}
-use Rattle.moos_report.specs.IterationLines.{error_text, fetches_first, iteration_text, outcome_text, states_text}
+use Rattle.moos_report.specs.IterationLines.{behavior_text, error_text, fetches_first, iteration_text, outcome_text}
 use Rattle.moos_report.specs.Parts.{BeginsWith, EndsWithin}
 use Rattle.moos_report.specs.Report.{entries_text, report_text, unused_text}
 
 -- modes are declared, or not
 abbrev with_modes : Setup
-with_modes = record { unused = []; behaviors = []; modes = true }
+with_modes = record { unused = []; modes = true }
 
 abbrev no_modes : Setup
-no_modes = record { unused = []; behaviors = []; modes = false }
+no_modes = record { unused = []; modes = false }
 
 abbrev first_lines : List Entry
 first_lines =
@@ -161,33 +165,32 @@ unfolding digits
 unused_parameters = refl
 
 -- a helm of two behaviours: one is done with its survey, and the other raises a fault
-abbrev survey : Setup
-survey = record { unused = []; behaviors = codes "waypt_survey" ∷ codes "op_region" ∷ []; modes = false }
-
 abbrev surveyed : Iteration
 surveyed = record {
   stamp = 500;
   parked = false;
   mode = [];
-  updates = record { behavior = 1; taken = false } ∷ record { behavior = 0; taken = true } ∷ [];
-  states = Completed ∷ Running ∷ [];
-  faults = record { behavior = 1; fault = NoPosition } ∷ [];
+  updates =
+      record { name = codes "op_region"; how = Refused } ∷ record { name = codes "waypt_survey"; how = Changed }
+      ∷ record { name = codes "station"; how = Spawned (codes "s1") } ∷ [];
+  states = record { name = codes "waypt_survey"; state = Completed } ∷ record { name = codes "op_region"; state = Running } ∷ [];
+  faults = record { name = codes "op_region"; fault = NoPosition } ∷ [];
   decision = None;
   posts = [];
 }
 
-survey_done : iteration_text survey 2 surveyed
-    ≡ codes "%% iteration 2 0.5 DRIVE\n%% update op_region refused\n%% update waypt_survey taken\n%% behavior waypt_survey completed\n%% behavior op_region running\n%% error op_region NoPosition\n%% none\n"
+survey_done : iteration_text no_modes 2 surveyed
+    ≡ codes "%% iteration 2 0.5 DRIVE\n%% update op_region refused\n%% update waypt_survey taken\n%% update station spawned s1\n%% behavior waypt_survey completed\n%% behavior op_region running\n%% error op_region NoPosition\n%% none\n"
 unfolding digits
 survey_done = refl
 
-timer_done : states_text (codes "t" ∷ []) (Completed ∷ []) ≡ codes "%% behavior t completed\n"
-timer_done = refl
-
-other_states : states_text (codes "a" ∷ codes "b" ∷ []) (Idle ∷ Active ∷ []) ≡ codes "%% behavior a idle\n%% behavior b active\n"
+other_states : flat_map behavior_text (record { name = codes "a"; state = Idle } ∷ record { name = codes "b"; state = Active } ∷ []) ≡ codes "%% behavior a idle\n%% behavior b active\n"
 other_states = refl
 
-other_faults : flat_map (error_text (codes "r" ∷ [])) (record { behavior = 0; fault = OutsidePolygon } ∷ record { behavior = 0; fault = TooDeep } ∷ record { behavior = 0; fault = TooLate } ∷ [])
+abbrev raised : BhvFault → BhvError
+raised fault = record { name = codes "r"; fault = fault }
+
+other_faults : flat_map error_text (raised OutsidePolygon ∷ raised TooDeep ∷ raised TooLate ∷ [])
     ≡ codes "%% error r OutsidePolygon\n%% error r TooDeep\n%% error r TooLate\n"
 other_faults = refl
 
@@ -209,11 +212,18 @@ two_lines lines = false≢true (lines.modes 0 (in_mode 0 true []) (omega arith))
 abbrev OverLines : Iteration → Type 0
 OverLines iteration = IfSome iteration.decision (λ decided. All (λ (axis : Axis). IsTrue (is_one_line axis.name)) decided.problem.axes)
 
-one_line : StandOnLines survey (in_mode 0 false (codes "A:B") ∷ [])
+-- so does the name of a behaviour with one
+name_on_two_lines : StandOnLines no_modes (record (in_mode 0 false []) { states = record { name = codes "a\n%% end 1 0"; state = Idle } ∷ [] } ∷ []) → ⊥
+name_on_two_lines lines = false≢true (lines.names 0 (in_mode 0 true []) (omega arith) 0 [] (omega arith))
+
+abbrev ToldOnLines : Iteration → Type 0
+ToldOnLines iteration = All (λ name. IsTrue (is_one_line name)) (names_told iteration)
+
+one_line : StandOnLines no_modes (in_mode 0 false (codes "A:B") ∷ [])
 one_line = record {
   unused = All-nil (λ (unused : Unused). IsTrue (is_one_line unused.name));
-  behaviors = All-cons (λ name. IsTrue (is_one_line name)) (codes "waypt_survey") (codes "op_region" ∷ []) refl (All-cons (λ name. IsTrue (is_one_line name)) (codes "op_region") [] refl (All-nil (λ name. IsTrue (is_one_line name))));
   modes = All-cons (λ (iteration : Iteration). IsTrue (is_one_line iteration.mode)) (in_mode 0 false (codes "A:B")) [] refl (All-nil (λ (iteration : Iteration). IsTrue (is_one_line iteration.mode)));
+  names = All-cons ToldOnLines (in_mode 0 false (codes "A:B")) [] (All-nil (λ name. IsTrue (is_one_line name))) (All-nil ToldOnLines);
   axes = All-cons OverLines (in_mode 0 false (codes "A:B")) [] tt (All-nil OverLines);
 }
 

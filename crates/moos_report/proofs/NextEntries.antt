@@ -1,12 +1,12 @@
 -- Behind an entry's own lines the next entry, or the end, is found line by line: no line of an iteration begins as theirs do.
-use Rattle.std.proofs.Common.{◌≡◌, ◌≢◌, ℕ, zero, suc, true, false, Bool, Some, None, Option, List, [], ◌∷◌, ◌++◌, flat_map, get_or, refl, sym, ◌∙◌, subst, arith, append_assoc}
+use Rattle.std.proofs.Common.{◌≡◌, ◌≢◌, ℕ, zero, suc, true, false, Bool, Some, None, Option, List, [], ◌∷◌, ◌++◌, flat_map, map, get_or, refl, sym, ◌∙◌, subst, arith, append_assoc}
 use Rattle.std.specs.Prelude.{codes, decimal, IsTrue, IfSome, if◌then◌else◌, slice_get}
 use Rattle.std.specs.List.{All, concat, AllByRecursion as Each}
 use Rattle.std.proofs.lemmas.List.Elements.{recursion_from_All}
 use Rattle.std.proofs.lemmas.Option.{get_or_from_slice_get, slice_get_within}
 use Rattle.moos_io.proofs.Lists.{each_weaker}
 use Rattle.moos_post.specs.declared.entry.Entry.{Entry}
-use Rattle.moos_post.specs.History.{History, name_of}
+use Rattle.moos_post.specs.History.{History}
 use Rattle.moos_text.specs.Numbers.{unsigned_text}
 use Rattle.ivp_domain.specs.declared.axis.Axis.{Axis}
 use Rattle.bhv_kinds.specs.declared.out.BhvFault.{BhvFault}
@@ -15,23 +15,28 @@ use Rattle.bhv_life.specs.declared.outcome.BhvState.{BhvState}
 use Rattle.bhv_life.specs.declared.outcome.BhvState.TheVariants.{Idle, Running, Active, Completed}
 use Rattle.bhv_file.specs.declared.file.Unused.{Unused}
 use Rattle.helm_core.specs.declared.iteration.BhvError.{BhvError}
+use Rattle.helm_core.specs.declared.iteration.BhvNow.{BhvNow}
+use Rattle.helm_core.specs.declared.iteration.How.{How}
+use Rattle.helm_core.specs.declared.iteration.How.TheVariants.{Changed, Refused, Spawned}
 use Rattle.helm_core.specs.declared.iteration.Iteration.{Iteration}
 use Rattle.helm_core.specs.declared.iteration.Update.{Update}
+use Rattle.helm_core.specs.WellFormed.{name_made, names_in_update, names_told}
 use Rattle.moos_report.specs.declared.setup.Setup.{Setup}
 use Rattle.moos_report.specs.Community.{is_one_line, StandOnLines}
-use Rattle.moos_report.specs.IterationLines.{behavior_text, current_text, decided_text, drive_text, error_text, fault_text, helm_fetches, is_helm_post, iteration_text, listed_text, mode_line, outcome_text, shown_mode, state_line, behavior_state, states_text, update_text}
+use Rattle.moos_report.specs.IterationLines.{behavior_text, current_text, decided_text, drive_text, error_text, fault_text, helm_fetches, how_text, is_helm_post, iteration_text, listed_text, mode_line, outcome_text, shown_mode, state_line, behavior_state, update_text}
 use Rattle.moos_report.specs.Report.{unused_text}
 use Rattle.moos_report.proofs.PassedDecisions.{decided_passed}
-use Rattle.moos_report.proofs.PassedLines.{Clean, clean_line, clean_on, IsPassed, line_passed, name_clean, names_clean, next_entry, passed_as, passed_each, passed_none, passed_on, seconds_lack, whole_lacks}
+use Rattle.moos_report.proofs.PassedLines.{Clean, clean_line, clean_on, IsPassed, line_passed, names_clean, next_entry, passed_as, passed_each, passed_none, passed_on, seconds_lack, whole_lacks}
 
 -- fixed words
 driver_clean : (parked : Bool) → Clean (drive_text parked)
 driver_clean true = clean_line (codes "PARK") refl
 driver_clean false = clean_line (codes "DRIVE") refl
 
-taken_clean : (taken : Bool) → Clean (if taken then codes "taken" else codes "refused")
-taken_clean true = clean_line (codes "taken") refl
-taken_clean false = clean_line (codes "refused") refl
+how_clean : (how : How) → Each Clean (name_made how) → Clean (how_text how)
+how_clean Refused clean = clean_line (codes "refused") refl
+how_clean Changed clean = clean_line (codes "taken") refl
+how_clean (Spawned name) clean = clean_on (codes "spawned ") name (clean_line (codes "spawned ") refl) clean.0
 
 state_clean : (state : BhvState) → Clean (behavior_state state)
 state_clean Idle = clean_line (codes "idle") refl
@@ -69,29 +74,38 @@ unused_skipped setup iterations lines =
     (each_weaker (λ (unused : Unused). IsTrue (is_one_line unused.name)) (λ unused. IsPassed (unused_text unused)) unused_passed setup.unused
     (recursion_from_All (λ (unused : Unused). IsTrue (is_one_line unused.name)) setup.unused lines.unused))
 
+-- each of two lists
+each_parts : (one other : List (List ℕ)) → Each Clean (one ++ other) → Each Clean one × Each Clean other
+each_parts [] other all = (tt, all)
+each_parts (name ∷ one) other all = let rest = each_parts one other all.1 in ((all.0, rest.0), rest.1)
+
 -- what an iteration tells of the behaviours
-update_passed : (names : List (List ℕ)) → Each Clean names → (update : Update) → IsPassed (update_text names update)
-update_passed names clean update =
-    let name = name_of names update.behavior in
-    let taken = if update.taken then codes "taken" else codes "refused" in
-    passed_as (pair_open (codes "%% update ") name taken)
-    (line_passed (codes "%% update ") (name ++ 32 ∷ taken) (λ text. refl) (blank_clean name taken (name_clean names update.behavior clean) (taken_clean update.taken)))
+update_passed : (update : Update) → Each Clean (names_in_update update) → IsPassed (update_text update)
+update_passed update clean =
+    passed_as (pair_open (codes "%% update ") update.name (how_text update.how))
+    (line_passed (codes "%% update ") (update.name ++ 32 ∷ how_text update.how) (λ text. refl) (blank_clean update.name (how_text update.how) clean.0 (how_clean update.how clean.1)))
 
-error_passed : (names : List (List ℕ)) → Each Clean names → (error : BhvError) → IsPassed (error_text names error)
-error_passed names clean error =
-    let name = name_of names error.behavior in
-    let cause = fault_text error.fault in
-    passed_as (pair_open (codes "%% error ") name cause)
-    (line_passed (codes "%% error ") (name ++ 32 ∷ cause) (λ text. refl) (blank_clean name cause (name_clean names error.behavior clean) (fault_clean error.fault)))
+updates_passed : (updates : List Update) → Each Clean (flat_map names_in_update updates) → IsPassed (flat_map update_text updates)
+updates_passed [] clean = passed_none
+updates_passed (update ∷ updates) clean =
+    let parts = each_parts (names_in_update update) (flat_map names_in_update updates) clean in
+    passed_on (update_text update) (flat_map update_text updates) (update_passed update parts.0) (updates_passed updates parts.1)
 
-states_passed : (names : List (List ℕ)) (states : List BhvState) → Each Clean names → IsPassed (states_text names states)
-states_passed [] states clean = passed_none
-states_passed (name ∷ names) [] clean = passed_none
-states_passed (name ∷ names) (state ∷ states) clean =
-    passed_on (behavior_text name state) (states_text names states)
-    (passed_as (pair_open (codes "%% behavior ") name (behavior_state state))
-    (line_passed (codes "%% behavior ") (name ++ 32 ∷ behavior_state state) (λ text. refl) (blank_clean name (behavior_state state) clean.0 (state_clean state))))
-    (states_passed names states clean.1)
+states_passed : (states : List BhvNow) → Each Clean (map (λ one. one.name) states) → IsPassed (flat_map behavior_text states)
+states_passed [] clean = passed_none
+states_passed (one ∷ states) clean =
+    passed_on (behavior_text one) (flat_map behavior_text states)
+    (passed_as (pair_open (codes "%% behavior ") one.name (behavior_state one.state))
+    (line_passed (codes "%% behavior ") (one.name ++ 32 ∷ behavior_state one.state) (λ text. refl) (blank_clean one.name (behavior_state one.state) clean.0 (state_clean one.state))))
+    (states_passed states clean.1)
+
+errors_passed : (faults : List BhvError) → Each Clean (map (λ error. error.name) faults) → IsPassed (flat_map error_text faults)
+errors_passed [] clean = passed_none
+errors_passed (error ∷ faults) clean =
+    passed_on (error_text error) (flat_map error_text faults)
+    (passed_as (pair_open (codes "%% error ") error.name (fault_text error.fault))
+    (line_passed (codes "%% error ") (error.name ++ 32 ∷ fault_text error.fault) (λ text. refl) (blank_clean error.name (fault_text error.fault) clean.0 (fault_clean error.fault))))
+    (errors_passed faults clean.1)
 
 -- the line of an iteration
 iteration_open : (number stamp driver : List ℕ) → concat (codes "%% iteration " ∷ number ∷ codes " " ∷ stamp ∷ codes " " ∷ driver ∷ codes "\n" ∷ [])
@@ -117,31 +131,28 @@ mode_passed setup mode clean = by setup.modes
     by true = passed_as (mode_open (shown_mode mode)) (line_passed (codes "%% mode ") (shown_mode mode) (λ text. refl) (mode_clean mode clean))
     by false = passed_none
 
-each_of : {X : Type 0} (P : X → Type 0) (all : List X) → ((x : X) → P x) → Each P all
-each_of P [] holds = tt
-each_of P (x ∷ all) holds = (holds x, each_of P all holds)
-
 -- the names of an iteration stand on one line each
 record HasLines (iteration : Iteration) : Type 0 where
   mode : IsTrue (is_one_line iteration.mode)
+  names : All (λ name. IsTrue (is_one_line name)) (names_told iteration)
   axes : IfSome iteration.decision (λ decision. All (λ (axis : Axis). IsTrue (is_one_line axis.name)) decision.problem.axes)
 
 -- the lines of an iteration are passed over
-iteration_passed : (setup : Setup) (number : ℕ) (iteration : Iteration) → Each Clean setup.behaviors → HasLines iteration → IsPassed (iteration_text setup number iteration)
-iteration_passed setup number iteration clean lines =
-    let names = setup.behaviors in
+iteration_passed : (setup : Setup) (number : ℕ) (iteration : Iteration) → HasLines iteration → IsPassed (iteration_text setup number iteration)
+iteration_passed setup number iteration lines =
     let decided = decided_text iteration.decision in
-    let errors = flat_map (error_text names) iteration.faults in
-    let states = states_text names iteration.states in
-    let updates = flat_map (update_text names) iteration.updates in
+    let errors = flat_map error_text iteration.faults in
+    let states = flat_map behavior_text iteration.states in
+    let updates = flat_map update_text iteration.updates in
+    let in_states = map (λ (one : BhvNow). one.name) iteration.states in
+    let in_faults = map (λ (error : BhvError). error.name) iteration.faults in
+    let of_updates = each_parts (flat_map names_in_update iteration.updates) (in_states ++ in_faults) (names_clean (names_told iteration) lines.names) in
+    let of_behaviors = each_parts in_states in_faults of_updates.1 in
     passed_on (state_line number iteration) (mode_line setup iteration.mode ++ (updates ++ (states ++ (errors ++ decided)))) (line_of_state number iteration)
     (passed_on (mode_line setup iteration.mode) (updates ++ (states ++ (errors ++ decided))) (mode_passed setup iteration.mode (clean_line iteration.mode lines.mode))
-    (passed_on updates (states ++ (errors ++ decided))
-    (passed_each (update_text names) iteration.updates (each_of (λ update. IsPassed (update_text names update)) iteration.updates (update_passed names clean)))
-    (passed_on states (errors ++ decided) (states_passed names iteration.states clean)
-    (passed_on errors decided
-    (passed_each (error_text names) iteration.faults (each_of (λ error. IsPassed (error_text names error)) iteration.faults (error_passed names clean)))
-    (decided_passed iteration.decision lines.axes)))))
+    (passed_on updates (states ++ (errors ++ decided)) (updates_passed iteration.updates of_updates.0)
+    (passed_on states (errors ++ decided) (states_passed iteration.states of_behaviors.0)
+    (passed_on errors decided (errors_passed iteration.faults of_behaviors.1) (decided_passed iteration.decision lines.axes)))))
 
 -- what holds of nothing, and of each iteration, holds of what follows an entry
 outcome_by : (P : List ℕ → Type 0) (setup : Setup) (iterations : List Iteration) (names : List (List ℕ)) (past : History) (entry : Entry) → StandOnLines setup iterations → P []
@@ -152,7 +163,7 @@ outcome_by P setup iterations names past entry lines none some = by (is_helm_pos
     listed number None at = none
     listed number (Some iteration) at =
         let within = slice_get_within iterations number iteration at in
-        let has : HasLines (get_or iterations number iteration) = record { mode = lines.modes number iteration within; axes = lines.axes number iteration within } in
+        let has : HasLines (get_or iterations number iteration) = record { mode = lines.modes number iteration within; names = lines.names number iteration within; axes = lines.axes number iteration within } in
         some number iteration (subst HasLines (get_or_from_slice_get iterations number iteration iteration at) has)
 
     by : (posts : Bool) (fetches : ℕ) → P (if posts then current_text setup 0 iterations fetches else [])
@@ -165,7 +176,7 @@ pub outcome_skipped : (setup : Setup) (iterations : List Iteration) (names : Lis
     → IsPassed (outcome_text setup 0 iterations names past entry)
 outcome_skipped setup iterations names past entry lines =
     outcome_by IsPassed setup iterations names past entry lines passed_none
-    (λ number iteration has. iteration_passed setup number iteration (names_clean setup.behaviors lines.behaviors) has)
+    (λ number iteration has. iteration_passed setup number iteration has)
 
 -- a line whose letter behind `%% ` is another one
 abbrev pub Differs : ℕ → List ℕ → Type 0

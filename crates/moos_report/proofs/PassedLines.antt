@@ -6,7 +6,6 @@ use Rattle.std.specs.Fmt.{digit_glyph, digits, digits_onto}
 use Rattle.std.proofs.lemmas.Bool.Decides.{nat_tests}
 use Rattle.std.proofs.lemmas.List.Elements.{recursion_from_All}
 use Rattle.moos_io.proofs.Lists.{each_append, each_weaker}
-use Rattle.moos_post.specs.History.{name_of}
 use Rattle.moos_post.specs.Words.{is_digit}
 use Rattle.moos_text.specs.Numbers.{decimals_text, milli_text, unsigned_text}
 use Rattle.moos_text.proofs.PrintedDigits.{decimals_shape, Shape}
@@ -43,12 +42,6 @@ clean_on one other = each_append (λ it. it ≢ 10) one other
 
 pub clean_line : (text : List ℕ) → IsTrue (is_one_line text) → Clean text
 clean_line text line = lacks_all (λ byte. not (byte == 10)) 10 text refl line
-
--- the name of a client or a behaviour
-pub name_clean : (names : List (List ℕ)) (number : ℕ) → Each Clean names → Clean (name_of names number)
-name_clean [] number each = tt
-name_clean (name ∷ names) zero each = each.0
-name_clean (name ∷ names) (suc number) each = name_clean names number each.1
 
 pub names_clean : (names : List (List ℕ)) → All (λ name. IsTrue (is_one_line name)) names → Each Clean names
 names_clean names lines = each_weaker (λ name. IsTrue (is_one_line name)) Clean clean_line names (recursion_from_All (λ name. IsTrue (is_one_line name)) names lines)

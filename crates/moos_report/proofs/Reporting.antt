@@ -1,9 +1,9 @@
 -- Lemmas on the parts of a report.
-use Rattle.std.proofs.Common.{◌≡◌, ℕ, zero, suc, Bool, true, false, ◌+◌, ◌-◌, ◌<◌, ◌≤◌, ◌&&◌, ◌||◌, not, cond, Some, None, List, [], ◌∷◌, ◌++◌, map, flat_map, length, take, drop, get_or, refl, ap, sym, ◌∙◌, arith, add-one, codes, decimal, length-take, length-take-le, append-nil, Option}
+use Rattle.std.proofs.Common.{◌≡◌, ℕ, zero, suc, Bool, true, false, ◌+◌, ◌-◌, ◌<◌, ◌≤◌, ◌&&◌, ◌||◌, not, cond, Some, None, List, [], ◌∷◌, ◌++◌, map, flat_map, length, take, drop, refl, ap, sym, ◌∙◌, arith, add-one, codes, decimal, length-take, length-take-le, append-nil, Option}
 use Rattle.std.specs.Prelude.{slice_get, option_map, if◌then◌else◌}
 use Rattle.std.specs.List.{concat, filter}
 use Rattle.std.proofs.Math.Seq.{drop-cons, take-suc}
-use Rattle.std.proofs.lemmas.List.{append_assoc, drop_all}
+use Rattle.std.proofs.lemmas.List.{append_assoc}
 use Rattle.std.proofs.lemmas.List.Folds.{concat-append}
 use Rattle.std.proofs.lemmas.List.Filters.{length-filter_more}
 use Rattle.std.proofs.lemmas.List.Sums.{length-filter}
@@ -20,11 +20,10 @@ use Rattle.moos_post.specs.History.{History, posts_of, post_of, name_of}
 use Rattle.moos_db.specs.declared.mail.Origin.{Origin}
 use Rattle.moos_db.specs.Database.{pair_posted, origin_of}
 use Rattle.moos_db.proofs.Growth.{posts-front}
-use Rattle.bhv_life.specs.declared.outcome.BhvState.{BhvState}
 use Rattle.helm_core.specs.declared.iteration.Iteration.{Iteration}
 use Rattle.moos_text.specs.Numbers.{unsigned_text}
 use Rattle.moos_report.specs.declared.setup.Setup.{Setup}
-use Rattle.moos_report.specs.IterationLines.{behavior_text, current_text, fetches_first, helm_fetches, is_helm_fetch, is_helm_post, iteration_from, listed_text, outcome_text, states_text}
+use Rattle.moos_report.specs.IterationLines.{current_text, fetches_first, helm_fetches, is_helm_fetch, is_helm_post, iteration_from, listed_text, outcome_text}
 use Rattle.moos_report.specs.Report.{client_text, clients_text, entry_text, entries_text, said_text, post_text, letter_text, letters_text, call_text}
 
 -- the first elements stand in the front where they stand in the list
@@ -173,24 +172,6 @@ letter_is names posts first number {origin = origin} {pair = pair} below =
           let same_pair : pair ≡ pair_posted post = cc in
           rw (same_origin, same_pair) refl
     ])
-
--- the behaviour that is due
-pub states_due : (names : List (List ℕ)) (states : List BhvState) (number : ℕ) (name : List ℕ) (state : BhvState) → number < length states → number < length names
-    → name ≡ get_or names number name
-    → states_text (drop number names) (drop number states) ≡ behavior_text name (get_or states number state) ++ states_text (drop (number + 1) names) (drop (number + 1) states)
-states_due names states number name state within some is =
-    rw (drop-cons names number name some, drop-cons states number state within, ← is, add-one) refl
-
--- none is due where the names or the states end
-pub no_names : (names : List (List ℕ)) (states : List BhvState) (number : ℕ) → length names ≤ number → states_text (drop number names) (drop number states) ≡ []
-no_names names states number past = rw (drop_all number names past) refl
-
-no_states : (names : List (List ℕ)) → states_text names [] ≡ []
-no_states [] = refl
-no_states (name ∷ names) = refl
-
-pub states_end : (names : List (List ℕ)) (states : List BhvState) (number : ℕ) → length states ≤ number → states_text (drop number names) (drop number states) ≡ []
-states_end names states number past = rw (drop_all number states past) (no_states (drop number names))
 
 -- a text that a sink took whole, without a buffer that held anything before or after
 pub went_whole : {before now : Option (List ℕ)} {faring after : Faring} {text : List ℕ} → Took before now text → FaresOn faring after → Went (way before [] faring) (way now [] after) text

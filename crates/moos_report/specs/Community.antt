@@ -8,6 +8,7 @@ use Rattle.moos_post.specs.Words.{is_name}
 use Rattle.ivp_domain.specs.declared.axis.Axis.{Axis}
 use Rattle.bhv_file.specs.declared.file.Unused.{Unused}
 use Rattle.helm_core.specs.declared.iteration.Iteration.{Iteration}
+use Rattle.helm_core.specs.WellFormed.{names_told}
 use Rattle.moos_report.specs.declared.setup.Setup.{Setup}
 
 -- each entry is by one of this many clients
@@ -29,10 +30,10 @@ pub record IsCommunity (names : List (List ℕ)) (history : History) : Type 0 wh
 abbrev pub is_one_line : List ℕ → Bool
 is_one_line text = list_all (λ byte. not (byte == 10)) text
 
--- Whatever is named stands on one line: the unused parameters and the behaviours of the setup, the mode of each iteration,
+-- Whatever is named stands on one line: the unused parameters of the setup, the mode of each iteration, the names that it tells,
 -- and the axes that it decides over.
 pub record StandOnLines (setup : Setup) (iterations : List Iteration) : Type 0 where
   pub unused : All (λ (unused : Unused). IsTrue (is_one_line unused.name)) setup.unused
-  pub behaviors : All (λ name. IsTrue (is_one_line name)) setup.behaviors
   pub modes : All (λ (iteration : Iteration). IsTrue (is_one_line iteration.mode)) iterations
+  pub names : All (λ (iteration : Iteration). All (λ name. IsTrue (is_one_line name)) (names_told iteration)) iterations
   pub axes : All (λ (iteration : Iteration). IfSome iteration.decision (λ decision. All (λ (axis : Axis). IsTrue (is_one_line axis.name)) decision.problem.axes)) iterations

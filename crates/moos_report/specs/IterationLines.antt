@@ -14,6 +14,9 @@ use Rattle.bhv_kinds.specs.declared.out.BhvFault.TheVariants.{NoPosition, Outsid
 use Rattle.bhv_life.specs.declared.outcome.BhvState.{BhvState}
 use Rattle.bhv_life.specs.declared.outcome.BhvState.TheVariants.{Idle, Running, Active, Completed}
 use Rattle.helm_core.specs.declared.iteration.BhvError.{BhvError}
+use Rattle.helm_core.specs.declared.iteration.BhvNow.{BhvNow}
+use Rattle.helm_core.specs.declared.iteration.How.{How}
+use Rattle.helm_core.specs.declared.iteration.How.TheVariants.{Changed, Refused, Spawned}
 use Rattle.helm_core.specs.declared.iteration.Iteration.{Iteration}
 use Rattle.helm_core.specs.declared.iteration.Update.{Update}
 use Rattle.moos_report.specs.declared.setup.Setup.{Setup}
@@ -59,10 +62,15 @@ shown_mode (first ∷ rest) = first ∷ rest
 abbrev pub mode_line : Setup → List ℕ → List ℕ
 mode_line setup mode = if setup.modes then concat (codes "%% mode " ∷ shown_mode mode ∷ codes "\n" ∷ []) else []
 
--- the line of an update: the behaviour, and whether it took it
-abbrev pub update_text : List (List ℕ) → Update → List ℕ
-update_text behaviors update =
-    concat (codes "%% update " ∷ name_of behaviors update.behavior ∷ codes " " ∷ (if update.taken then codes "taken" else codes "refused") ∷ codes "\n" ∷ [])
+-- what became of an update
+abbrev pub how_text : How → List ℕ
+how_text Refused = codes "refused"
+how_text Changed = codes "taken"
+how_text (Spawned name) = codes "spawned " ++ name
+
+-- the line of an update: the behaviour that heard it, and what became of it
+abbrev pub update_text : Update → List ℕ
+update_text update = concat (codes "%% update " ∷ update.name ∷ codes " " ∷ how_text update.how ∷ codes "\n" ∷ [])
 
 -- what a behaviour is
 abbrev pub behavior_state : BhvState → List ℕ
@@ -72,14 +80,8 @@ behavior_state Active = codes "active"
 behavior_state Completed = codes "completed"
 
 -- the line of a behaviour: its name and what it is
-abbrev pub behavior_text : List ℕ → BhvState → List ℕ
-behavior_text name state = concat (codes "%% behavior " ∷ name ∷ codes " " ∷ behavior_state state ∷ codes "\n" ∷ [])
-
--- the lines of the behaviours with these names and states, one by one
-abbrev pub states_text : List (List ℕ) → List BhvState → List ℕ
-states_text [] states = []
-states_text (name ∷ names) [] = []
-states_text (name ∷ names) (state ∷ states) = behavior_text name state ++ states_text names states
+abbrev pub behavior_text : BhvNow → List ℕ
+behavior_text behavior = concat (codes "%% behavior " ∷ behavior.name ∷ codes " " ∷ behavior_state behavior.state ∷ codes "\n" ∷ [])
 
 -- why a behaviour wants all to stop
 abbrev pub fault_text : BhvFault → List ℕ
@@ -89,9 +91,8 @@ fault_text TooDeep = codes "TooDeep"
 fault_text TooLate = codes "TooLate"
 
 -- the line of a fault: the behaviour that raised it, and its cause
-abbrev pub error_text : List (List ℕ) → BhvError → List ℕ
-error_text behaviors error =
-    concat (codes "%% error " ∷ name_of behaviors error.behavior ∷ codes " " ∷ fault_text error.fault ∷ codes "\n" ∷ [])
+abbrev pub error_text : BhvError → List ℕ
+error_text error = concat (codes "%% error " ∷ error.name ∷ codes " " ∷ fault_text error.fault ∷ codes "\n" ∷ [])
 
 -- the lines of a decision, each behind `%% `; or that there is none
 abbrev pub decided_text : Option Decision → List ℕ
@@ -108,8 +109,8 @@ abbrev pub iteration_text : Setup → ℕ → Iteration → List ℕ
 iteration_text setup number iteration =
     state_line number iteration
     ++ (mode_line setup iteration.mode
-    ++ (flat_map (update_text setup.behaviors) iteration.updates
-    ++ (states_text setup.behaviors iteration.states ++ (flat_map (error_text setup.behaviors) iteration.faults ++ decided_text iteration.decision))))
+    ++ (flat_map update_text iteration.updates
+    ++ (flat_map behavior_text iteration.states ++ (flat_map error_text iteration.faults ++ decided_text iteration.decision))))
 
 -- the iteration of this number, where there is one
 abbrev pub listed_text : Setup → ℕ → Option Iteration → List ℕ

@@ -1,88 +1,87 @@
 // What an iteration tells of the behaviours: the updates, what each behaviour is, and the faults.
-ghost use Rattle.std.specs.Prelude.{◌≡◌, [], ◌∷◌, flat_map, codes, if◌then◌else◌};
+ghost use Rattle.std.specs.Prelude.{◌≡◌, [], ◌∷◌, flat_map, codes};
 ghost use Rattle.std.specs.List.{concat};
 ghost use Rattle.moos_io.specs.Writing.{Wrote, way};
-ghost use Rattle.moos_post.specs.History.{name_of};
-ghost use Rattle.moos_report.specs.IterationLines.{behavior_state, behavior_text, error_text, fault_text, states_text, update_text};
+ghost use Rattle.helm_core.specs.declared.iteration.How.TheVariants.{Spawned};
+ghost use Rattle.moos_report.specs.IterationLines.{behavior_state, behavior_text, error_text, fault_text, update_text};
 
 use super::lines::put;
 use bhv_kinds::BhvFault;
 use bhv_life::BhvState;
-use helm_core::{BhvError, Update};
+use helm_core::{BhvError, BhvNow, How, Update};
 use moos_io::{Buffer, Failed, Sink};
-use moos_post::Name;
 
 // The updates, in order.
 pub(super) fn put_updates<K: Sink>(
-    behaviors: &[Name],
     updates: &[Update],
     buffer: &mut Buffer,
     out: &mut K,
 ) -> Result<(), Failed>
     ensures { Wrote (way (K.taken out.old) buffer.old (K.faults out.old)) (way (K.taken out.new) buffer.new (K.faults out.new))
-        result (flat_map (update_text behaviors.now) updates.now) }
+        result (flat_map update_text updates.now) }
 {
     for update in updates {
-        if let Err(failed) = put_update(behaviors, update, buffer, out) {
+        if let Err(failed) = put_update(update, buffer, out) {
             return Err(failed);
         }
     }
     Ok(())
 }
 
-fn put_update<K: Sink>(
-    behaviors: &[Name],
-    update: &Update,
+fn put_update<K: Sink>(update: &Update, buffer: &mut Buffer, out: &mut K) -> Result<(), Failed>
+    ensures { Wrote (way (K.taken out.old) buffer.old (K.faults out.old)) (way (K.taken out.new) buffer.new (K.faults out.new))
+        result (update_text update.now) }
+{
+    let name = update.name.bytes();
+    match &update.how {
+        How::Refused => put_words(b"%% update ", name, b"refused", buffer, out),
+        How::Changed => put_words(b"%% update ", name, b"taken", buffer, out),
+        How::Spawned(made) => put_spawned(name, made.bytes(), buffer, out),
+    }
+}
+
+// The line of an update that made a behaviour.
+fn put_spawned<K: Sink>(
+    name: &[u8],
+    made: &[u8],
     buffer: &mut Buffer,
     out: &mut K,
 ) -> Result<(), Failed>
     ensures { Wrote (way (K.taken out.old) buffer.old (K.faults out.old)) (way (K.taken out.new) buffer.new (K.faults out.new))
-        result (update_text behaviors.now update.now) }
+        result (update_text (record { name = name.now; how = Spawned made.now })) }
 {
-    let name = name_at(behaviors, update.behavior);
-    put_words(b"%% update ", name, taken_text(update.taken), buffer, out)
+    put(
+        &[b"%% update ", name, b" spawned ", made, b"\n"],
+        buffer,
+        out,
+    )
 }
 
-fn taken_text(taken: bool) -> &'static [u8]
-    ensures { result.now ≡ (if taken then codes "taken" else codes "refused") }
-{
-    if taken { b"taken" } else { b"refused" }
-}
-
-// What each behaviour is, in file order.
+// What each behaviour is, in order.
 pub(super) fn put_states<K: Sink>(
-    behaviors: &[Name],
-    states: &[BhvState],
+    states: &[BhvNow],
     buffer: &mut Buffer,
     out: &mut K,
 ) -> Result<(), Failed>
     ensures { Wrote (way (K.taken out.old) buffer.old (K.faults out.old)) (way (K.taken out.new) buffer.new (K.faults out.new))
-        result (states_text behaviors.now states.now) }
+        result (flat_map behavior_text states.now) }
 {
-    for (number, &state) in states.iter().enumerate() {
-        if number >= behaviors.len() {
-            return Ok(());
-        }
-        if let Err(failed) = put_behavior(&behaviors[number], state, buffer, out) {
+    for state in states {
+        if let Err(failed) = put_behavior(state, buffer, out) {
             return Err(failed);
         }
     }
     Ok(())
 }
 
-fn put_behavior<K: Sink>(
-    name: &Name,
-    state: BhvState,
-    buffer: &mut Buffer,
-    out: &mut K,
-) -> Result<(), Failed>
+fn put_behavior<K: Sink>(behavior: &BhvNow, buffer: &mut Buffer, out: &mut K) -> Result<(), Failed>
     ensures { Wrote (way (K.taken out.old) buffer.old (K.faults out.old)) (way (K.taken out.new) buffer.new (K.faults out.new))
-        result (behavior_text name.now state) }
+        result (behavior_text behavior.now) }
 {
     put_words(
         b"%% behavior ",
-        name.bytes(),
-        behavior_state(state),
+        behavior.name.bytes(),
+        behavior_state(behavior.state),
         buffer,
         out,
     )
@@ -101,33 +100,32 @@ fn behavior_state(state: BhvState) -> &'static [u8]
 
 // The faults, in order.
 pub(super) fn put_errors<K: Sink>(
-    behaviors: &[Name],
     faults: &[BhvError],
     buffer: &mut Buffer,
     out: &mut K,
 ) -> Result<(), Failed>
     ensures { Wrote (way (K.taken out.old) buffer.old (K.faults out.old)) (way (K.taken out.new) buffer.new (K.faults out.new))
-        result (flat_map (error_text behaviors.now) faults.now) }
+        result (flat_map error_text faults.now) }
 {
     for error in faults {
-        if let Err(failed) = put_error(behaviors, error, buffer, out) {
+        if let Err(failed) = put_error(error, buffer, out) {
             return Err(failed);
         }
     }
     Ok(())
 }
 
-fn put_error<K: Sink>(
-    behaviors: &[Name],
-    error: &BhvError,
-    buffer: &mut Buffer,
-    out: &mut K,
-) -> Result<(), Failed>
+fn put_error<K: Sink>(error: &BhvError, buffer: &mut Buffer, out: &mut K) -> Result<(), Failed>
     ensures { Wrote (way (K.taken out.old) buffer.old (K.faults out.old)) (way (K.taken out.new) buffer.new (K.faults out.new))
-        result (error_text behaviors.now error.now) }
+        result (error_text error.now) }
 {
-    let name = name_at(behaviors, error.behavior);
-    put_words(b"%% error ", name, fault_text(error.fault), buffer, out)
+    put_words(
+        b"%% error ",
+        error.name.bytes(),
+        fault_text(error.fault),
+        buffer,
+        out,
+    )
 }
 
 fn fault_text(fault: BhvFault) -> &'static [u8]
@@ -138,17 +136,6 @@ fn fault_text(fault: BhvFault) -> &'static [u8]
         BhvFault::OutsidePolygon => b"OutsidePolygon",
         BhvFault::TooDeep => b"TooDeep",
         BhvFault::TooLate => b"TooLate",
-    }
-}
-
-// The name of the behaviour with this number, or nothing for a number that none has.
-fn name_at(behaviors: &[Name], number: u32) -> &[u8]
-    ensures { result.now ≡ name_of behaviors.now number }
-{
-    if (number as usize) < behaviors.len() {
-        behaviors[number as usize].bytes()
-    } else {
-        &[]
     }
 }
 

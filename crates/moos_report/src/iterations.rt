@@ -147,14 +147,13 @@ fn put_iteration<K: Sink>(
     if let Err(failed) = put_mode(setup, iteration.mode.bytes(), buffer, out) {
         return Err(failed);
     }
-    let behaviors = setup.behaviors.all();
-    if let Err(failed) = put_updates(behaviors, iteration.updates.all(), buffer, out) {
+    if let Err(failed) = put_updates(iteration.updates.all(), buffer, out) {
         return Err(failed);
     }
-    if let Err(failed) = put_states(behaviors, iteration.states.all(), buffer, out) {
+    if let Err(failed) = put_states(iteration.states.all(), buffer, out) {
         return Err(failed);
     }
-    if let Err(failed) = put_errors(behaviors, iteration.faults.all(), buffer, out) {
+    if let Err(failed) = put_errors(iteration.faults.all(), buffer, out) {
         return Err(failed);
     }
     put_decided(&iteration.decision, buffer, out)

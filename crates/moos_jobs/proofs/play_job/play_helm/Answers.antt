@@ -1,7 +1,6 @@
 -- What was told of the run is what its job may write.
-use Rattle.std.proofs.Common.{◌≡◌, ◌∙◌, ap, map, nat_lt, refl}
+use Rattle.std.proofs.Common.{◌≡◌, ◌∙◌, ap, nat_lt, refl}
 use Rattle.std.specs.Prelude.{Some}
-use Rattle.bhv_file.specs.declared.file.Block.{Block}
 use Rattle.moos_play.specs.declared.run.HelmRun.{HelmRun}
 use Rattle.moos_play.specs.Lawful.{steering_with}
 use Rattle.moos_report.specs.declared.setup.Setup.{Setup}
@@ -12,11 +11,10 @@ use Rattle.moos_jobs.proofs.play_job.play_helm.Goals as goal
 pub returns : goal.returns
 returns g c =
     let files : HelmFiles = record { mission = c.args.mission.now; file = c.args.file } in
-    let run : HelmRun = record { helm = c.in-Ok-make.helm; period = c.args.mission.now.period } in
-    let setup : Setup = record { unused = c.replace-unused.result; behaviors = c.in-Ok.behaviors; modes = nat_lt 0 c.len.result } in
+    let run : HelmRun = record { helm = c.in-Ok.helm; period = c.args.mission.now.period } in
+    let setup : Setup = record { unused = c.replace-unused.result; modes = nat_lt 0 c.len.result } in
     let told : setup ≡ setup_of (Some files) = λ i. record {
       unused = c.replace-unused.ensures.value i;
-      behaviors = (c.in-Ok.ensures ∙ ap (map (λ (block : Block). block.common.name)) c.all.ensures) i;
       modes = (ap (nat_lt 0) c.len.ensures ∙ declared c.args.file.decls) i;
     } in
     told_ended c.args.order c.args.script.now (Some files) (Some (steering_with c.args.script.now run)) setup c.report_law.ensures c.requires.valid
@@ -25,4 +23,4 @@ returns g c =
       formed = c.plan_law.ensures c.args.mission.now c.args.file c.requires.mission c.requires.file;
       worth = c.worth_law.ensures c.args.mission.now c.args.file c.requires.mission c.requires.file c.requires.served;
     })
-    (ap (λ steering. Some steering) (steered_by c.args.script.now files run c.in-Ok-make.ensures.plan refl)) told _ c.play_rounds.result c.play_rounds.ensures
+    (ap (λ steering. Some steering) (steered_by c.args.script.now files run c.in-Ok.ensures.plan refl)) told _ c.play_rounds.result c.play_rounds.ensures

@@ -8,4 +8,4 @@ abbrev pub invariant-loop-error : goal.invariant-loop-error
 invariant-loop-error g l =
     Leads (way (g.K.Sink.taken l.initial.out) l.initial.buffer (g.K.Sink.faults l.initial.out))
     (way (g.K.Sink.taken l.out) l.buffer (g.K.Sink.faults l.out))
-    (flat_map (error_text l.behaviors) (drop l.error-index l.faults)) (flat_map (error_text l.behaviors) l.faults)
+    (flat_map error_text (drop l.error-index l.faults)) (flat_map error_text l.faults)

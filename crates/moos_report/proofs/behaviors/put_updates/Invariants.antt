@@ -8,4 +8,4 @@ abbrev pub invariant-loop-update : goal.invariant-loop-update
 invariant-loop-update g l =
     Leads (way (g.K.Sink.taken l.initial.out) l.initial.buffer (g.K.Sink.faults l.initial.out))
     (way (g.K.Sink.taken l.out) l.buffer (g.K.Sink.faults l.out))
-    (flat_map (update_text l.behaviors) (drop l.update-index l.updates)) (flat_map (update_text l.behaviors) l.updates)
+    (flat_map update_text (drop l.update-index l.updates)) (flat_map update_text l.updates)

@@ -1,63 +1,59 @@
 use Rattle.std.proofs.Common.{◌++◌, flat_map}
 use Rattle.moos_io.proofs.Passages.{wrote_on}
 use Rattle.moos_io.proofs.Writing.{stopped_before, stopped_later}
-use Rattle.moos_report.specs.IterationLines.{decided_text, error_text, mode_line, states_text, update_text}
+use Rattle.moos_report.specs.IterationLines.{behavior_text, decided_text, error_text, mode_line, update_text}
 use Rattle.moos_report.proofs.iterations.put_iteration.Goals as goal
 
 pub returns-in-Err : goal.returns-in-Err
 returns-in-Err g c =
-    let names = c.args.setup.now.behaviors in
     let iteration = c.args.iteration.now in
     record {
       ok = tt;
       front =
           stopped_before
           (mode_line c.args.setup.now iteration.mode
-          ++ (flat_map (update_text names) iteration.updates ++ (states_text names iteration.states ++ (flat_map (error_text names) iteration.faults ++ decided_text iteration.decision))))
+          ++ (flat_map update_text iteration.updates ++ (flat_map behavior_text iteration.states ++ (flat_map error_text iteration.faults ++ decided_text iteration.decision))))
           c.in-Err.ensures.front;
     }
 
 pub returns-in-Err-put_mode : goal.returns-in-Err-put_mode
 returns-in-Err-put_mode g c =
-    let names = c.args.setup.now.behaviors in
     let iteration = c.args.iteration.now in
     let failed = rw c.bytes.ensures.value at c.in-Err-put_mode.ensures.front in
-    let later = flat_map (update_text names) iteration.updates ++ (states_text names iteration.states ++ (flat_map (error_text names) iteration.faults ++ decided_text iteration.decision)) in
+    let later = flat_map update_text iteration.updates ++ (flat_map behavior_text iteration.states ++ (flat_map error_text iteration.faults ++ decided_text iteration.decision)) in
     record { ok = tt; front = stopped_later c.in_default.ensures.ok (stopped_before later failed) }
 
 pub returns-in-Err-put_updates : goal.returns-in-Err-put_updates
 returns-in-Err-put_updates g c =
-    let names = c.args.setup.now.behaviors in
     let iteration = c.args.iteration.now in
     let mode = rw c.bytes.ensures.value at c.in_default-put_mode.ensures.ok in
-    let failed = rw (c.all-behaviors.ensures, c.all.ensures) at c.in-Err-put_updates.ensures.front in
-    let later = states_text names iteration.states ++ (flat_map (error_text names) iteration.faults ++ decided_text iteration.decision) in
+    let failed = rw c.all.ensures at c.in-Err-put_updates.ensures.front in
+    let later = flat_map behavior_text iteration.states ++ (flat_map error_text iteration.faults ++ decided_text iteration.decision) in
     record { ok = tt; front = stopped_later c.in_default.ensures.ok (stopped_later mode (stopped_before later failed)) }
 
 pub returns-in-Err-put_states : goal.returns-in-Err-put_states
 returns-in-Err-put_states g c =
-    let names = c.args.setup.now.behaviors in
     let iteration = c.args.iteration.now in
     let mode = rw c.bytes.ensures.value at c.in_default-put_mode.ensures.ok in
-    let updates = rw (c.all-behaviors.ensures, c.all.ensures) at c.in_default-put_updates.ensures.ok in
-    let failed = rw (c.all-behaviors.ensures, c.all-2.ensures) at c.in-Err-put_states.ensures.front in
-    let later = flat_map (error_text names) iteration.faults ++ decided_text iteration.decision in
+    let updates = rw c.all.ensures at c.in_default-put_updates.ensures.ok in
+    let failed = rw c.all-2.ensures at c.in-Err-put_states.ensures.front in
+    let later = flat_map error_text iteration.faults ++ decided_text iteration.decision in
     record { ok = tt; front = stopped_later c.in_default.ensures.ok (stopped_later mode (stopped_later updates (stopped_before later failed))) }
 
 pub returns-in-Err-put_errors : goal.returns-in-Err-put_errors
 returns-in-Err-put_errors g c =
     let mode = rw c.bytes.ensures.value at c.in_default-put_mode.ensures.ok in
-    let updates = rw (c.all-behaviors.ensures, c.all.ensures) at c.in_default-put_updates.ensures.ok in
-    let states = rw (c.all-behaviors.ensures, c.all-2.ensures) at c.in_default-put_states.ensures.ok in
-    let failed = rw (c.all-behaviors.ensures, c.all-3.ensures) at c.in-Err-put_errors.ensures.front in
+    let updates = rw c.all.ensures at c.in_default-put_updates.ensures.ok in
+    let states = rw c.all-2.ensures at c.in_default-put_states.ensures.ok in
+    let failed = rw c.all-3.ensures at c.in-Err-put_errors.ensures.front in
     let later = decided_text c.args.iteration.now.decision in
     record { ok = tt; front = stopped_later c.in_default.ensures.ok (stopped_later mode (stopped_later updates (stopped_later states (stopped_before later failed)))) }
 
 pub returns : goal.returns
 returns g c =
     let mode = rw c.bytes.ensures.value at c.in_default-put_mode.ensures.ok in
-    let updates = rw (c.all-behaviors.ensures, c.all.ensures) at c.in_default-put_updates.ensures.ok in
-    let states = rw (c.all-behaviors.ensures, c.all-2.ensures) at c.in_default-put_states.ensures.ok in
-    let errors = rw (c.all-behaviors.ensures, c.all-3.ensures) at c.in_default-put_errors.ensures.ok in
+    let updates = rw c.all.ensures at c.in_default-put_updates.ensures.ok in
+    let states = rw c.all-2.ensures at c.in_default-put_states.ensures.ok in
+    let errors = rw c.all-3.ensures at c.in_default-put_errors.ensures.ok in
     let last = c.put_decided.result in
     wrote_on last c.in_default.ensures.ok (wrote_on last mode (wrote_on last updates (wrote_on last states (wrote_on last errors c.put_decided.ensures))))

@@ -5,9 +5,9 @@ use Rattle.helm_core.proofs.begun.Begun.finish.Goals as goal
 
 pub returns-clause-ends : goal.returns-clause-ends
 returns-clause-ends c seen one is =
-    ends seen c.args.fault one c.args.self c.weight-weight.result c.is_active-active.result c.finish.result.0 c.finish.result.1 c.in_ok-flags.flags is
+    ends seen c.args.fault one c.args.self c.weight-weight.result c.is_active-active.result c.finish.result.0 c.finish.result.1 c.in_ok-flags.flags c.in_ok-name.name is
     (λ spec turns stands. c.weight-weight.ensures spec turns (subst (IsKindOf spec turns) (sym c.lent.ensures) stands))
-    c.is_active-active.ensures c.finish.ensures.life c.finish.ensures.outcome c.in_ok-flags.ensures
+    c.is_active-active.ensures c.finish.ensures.life c.finish.ensures.outcome c.in_ok-flags.ensures c.in_ok-name.ensures
 
 pub returns-clause-fit : goal.returns-clause-fit
 returns-clause-fit c axes fit = record {
