@@ -1,5 +1,5 @@
 -- Which files a job reads, what is to be done with them, and what it may write.
-use Rattle.std.specs.Prelude.{◌≡◌, ℕ, ◌+◌, ◌/◌, nat_le, false, if◌then◌else◌, List, [], ◌∷◌, codes, Option, Some, None, map, option_map, IfSome, Result, Ok, Err}
+use Rattle.std.specs.Prelude.{◌≡◌, ℕ, ◌+◌, ◌/◌, nat_le, false, if◌then◌else◌, List, [], ◌∷◌, codes, Option, Some, None, option_map, IfSome, Result, Ok, Err}
 use Rattle.bhv_file.specs.declared.file.BhvFile.{BhvFile}
 use Rattle.bhv_reader.specs.Behaviors.{behaviors_of}
 use Rattle.helm_core.specs.Decisions.{best_decision}

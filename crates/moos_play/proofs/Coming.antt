@@ -94,7 +94,7 @@ helm_known : (script : Script) (lines later : List Entry) → clients_below (len
 helm_known script lines later below fronts = beside_pass (length script.names + 1) (helm_number script) lines later (omega arith) (below_raised (length script.names) (length script.names + 1) lines (omega arith) below) fronts
 
 -- lines that are left behind a tick
-behind_late : (clients last stop : ℕ) (lines : List Entry) (from stamp : ℕ) → are_lines clients last stop lines ≡ true → IsBehind (Some stamp) (drop from lines) → list_all (λ line. nat_le (suc stamp) line.stamp) (drop from lines) ≡ true
+pub behind_late : (clients last stop : ℕ) (lines : List Entry) (from stamp : ℕ) → are_lines clients last stop lines ≡ true → IsBehind (Some stamp) (drop from lines) → list_all (λ line. nat_le (suc stamp) line.stamp) (drop from lines) ≡ true
 behind_late clients last stop lines from stamp valid behind = by (drop from lines) refl behind
   where
     by : (left : List Entry) → drop from lines ≡ left → IsBehind (Some stamp) left → list_all (λ line. nat_le (suc stamp) line.stamp) left ≡ true

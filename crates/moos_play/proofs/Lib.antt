@@ -13,6 +13,7 @@ pub mod Handing
 pub mod Ending
 pub mod Finishing
 pub mod Beginning
+pub mod Leaving
 pub mod Lending
 pub mod Calling
 pub mod Rounding

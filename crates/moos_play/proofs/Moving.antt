@@ -53,7 +53,7 @@ lines_on clients last stop (first ∷ lines) (suc from) (suc to) line valid less
     lines_on clients first.stamp stop lines from to line tests.3 (omega (arith, less)) is
 
 -- the earlier of two stamps is not above either
-least_tick : (stop tick : ℕ) (line : Option ℕ) → earliest stop (Some tick) line ≤ tick
+pub least_tick : (stop tick : ℕ) (line : Option ℕ) → earliest stop (Some tick) line ≤ tick
 least_tick stop tick None = omega arith
 least_tick stop tick (Some line) = by (nat_lt tick line) refl
   where
@@ -61,7 +61,7 @@ least_tick stop tick (Some line) = by (nat_lt tick line) refl
     by true e = omega arith
     by false e = grind (arith, nat_tests)
 
-least_line : (stop line : ℕ) (tick : Option ℕ) → earliest stop tick (Some line) ≤ line
+pub least_line : (stop line : ℕ) (tick : Option ℕ) → earliest stop tick (Some line) ≤ line
 least_line stop line None = omega arith
 least_line stop line (Some tick) = by (nat_lt tick line) refl
   where

@@ -1,8 +1,10 @@
 -- A script that is played round by round, as its player sees it.
 use Rattle.moos_client.specs.Calls.{entries_of}
-use Rattle.std.specs.Prelude.{◌≡◌, ◌≢◌, ◌⊎◌, ℕ, ◌≤◌, ◌<◌, nat_lt, if◌then◌else◌, List, [], ◌++◌, drop, length, Option, None, Some, IfSome, IsTrue, OnErr, OnOk, option_map, Result, slice_get, ◌*◌}
+use Rattle.std.specs.Prelude.{◌≡◌, ◌≢◌, ◌⊎◌, ℕ, ◌≤◌, ◌<◌, nat_le, nat_lt, if◌then◌else◌, List, [], ◌++◌, drop, length, Option, None, Some, IfSome, IsTrue, OnErr, OnOk, option_map, Result, slice_get, ◌*◌}
+use Rattle.std.specs.List.{list_all}
 use Rattle.helm_core.specs.declared.iteration.Iteration.{Iteration}
 use Rattle.helm_core.specs.Helms.{plan_of}
+use Rattle.moos_post.specs.declared.entry.Entry.{Entry}
 use Rattle.moos_post.specs.History.{History}
 use Rattle.moos_play.specs.declared.playing.Play.{Play}
 use Rattle.moos_play.specs.declared.round_made.Round.{Round}
@@ -201,6 +203,17 @@ pub record HasTicked (names : List (List ℕ)) (helm : Steering) (count : ℕ) (
 -- so the helm of a run, where there is one, has made as many ticks as there are iterations
 abbrev pub HasSteeredSoFar : Play → Type 0
 HasSteeredSoFar play = IfSome (helm_in play) (λ helm. HasTicked (clients_in play) helm (length (iterations_made play)) (history_in play))
+
+-- what an order says of what is left for a client: nothing of it is before the next stamp, and in a race it may be
+abbrev pub KeepsLeft : Order → ℕ → List Entry → Type 0
+KeepsLeft Stamp stamp left = IsTrue (list_all (λ entry. nat_le stamp entry.stamp) left)
+KeepsLeft Race stamp left = Unit {0}
+
+-- What is left for a client of a run between two rounds: nothing where nothing is left of the run, and in order Stamp nothing that is
+-- before the next stamp.
+pub record IsLeft (play : Play) (left : List Entry) : Type 0 where
+  pub none : left_in play ≡ 0 → left ≡ []
+  pub late : KeepsLeft play.order (next_stamp play) left
 
 -- A run in which nothing is left: its history is lawful beside the entries of further clients, by itself where there are
 -- none, and its iterations are those of this history.

@@ -1,6 +1,6 @@
 // A run in the open: from round to round, with the database lent in between.
-ghost use Rattle.std.specs.Prelude.{◌≡◌, ◌<◌, ◌≤◌, length, option_map, slice_get, IfOk, IfNone, IfSome, OnErr, OnOk};
-ghost use Rattle.moos_play.specs.Plays.{AddsAt, earliest, handed, HasCompletion, HasPlayedOn, MayGoOn, HasSteeredSoFar, HasTurn, history_in, IsBetween, IsStampOver, IsLentAs, IsPlayedOut, IsRound, IsSeated, known_clients_in, left_in, clients_in, next_stamp, order_played, returned, schedule_in, StaysSeated, untold_in, schedule_in};
+ghost use Rattle.std.specs.Prelude.{◌≡◌, ◌<◌, ◌≤◌, ℕ, length, option_map, slice_get, IfOk, IfNone, IfSome, OnErr, OnOk};
+ghost use Rattle.moos_play.specs.Plays.{AddsAt, earliest, handed, HasCompletion, HasPlayedOn, MayGoOn, HasSteeredSoFar, HasTurn, history_in, IsBetween, IsLeft, IsStampOver, IsLentAs, IsPlayedOut, IsRound, IsSeated, known_clients_in, left_in, clients_in, next_stamp, order_played, returned, schedule_in, StaysSeated, untold_in, schedule_in};
 ghost use Rattle.moos_lawful.specs.Schedules.{IsLawfulSoFar};
 ghost use Rattle.moos_play.specs.Steered.{GoesOnWith};
 
@@ -80,13 +80,14 @@ impl<'a> Play<'a> {
     }
 
     /// The law of a run between two rounds: its history is lawful so far; with some entries more it is lawful, and the helm's
-    /// iterations so far are the first of those of that history; and the helm, where there is one, has made as many ticks as there
-    /// are iterations. It does nothing.
+    /// iterations so far are the first of those of that history; the helm, where there is one, has made as many ticks as there
+    /// are iterations; and what is left for each client isn't before the next round. It does nothing.
     pub fn front_law(&self)
         requires { IsBetween self.now }
         ensures front { HasCompletion self.now }
         ensures steered { HasSteeredSoFar self.now }
         ensures so_far { IsLawfulSoFar (schedule_in self.now) (history_in self.now) }
+        ensures left { (so : IsLawfulSoFar (schedule_in self.now) (history_in self.now)) (n : ℕ) → n < known_clients_in self.now → IsLeft self.now (so.left n) }
     {}
 
     // Plays on while what is next has this stamp.

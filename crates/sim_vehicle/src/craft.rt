@@ -1,6 +1,6 @@
 ghost use Rattle.std.specs.Prelude.{◌≡◌, ◌≤ℤ◌, IsTrue};
 ghost use Rattle.sim_vehicle.specs.Motion.{IsHull, start_hull};
-ghost use Rattle.sim_vehicle.specs.Settings.{default_settings, is_allowed, set_to, setting_high, setting_low, setting_value};
+ghost use Rattle.sim_vehicle.specs.Settings.{AreAllowed, default_settings, is_allowed, set_to, setting_high, setting_low, setting_value};
 
 use crate::hull::Hull;
 use crate::setting::CraftSetting;
@@ -39,6 +39,13 @@ impl Craft {
             speed: 0,
             depth: self.settings.start_depth,
         }
+    }
+
+    /// The law of a vehicle: each of its settings is in its range. It does nothing.
+    pub fn allowed_law(&self)
+        ensures { AreAllowed self.now }
+    {
+        let _settings = &self.settings;
     }
 
     /// The vehicle of an empty file.
