@@ -5,9 +5,10 @@
 //! What `close_one` makes of a node is a part of its tree: each node without children there was handed to the tray or has a
 //! bound that the scout's key reaches, so no point of the node is lost.
 //!
-//! Reading order: `tray`, `close`, `law`, `work`, `rule`, `deque`, `team`, `setup`, `search`, `solved`.
+//! Reading order: `tray`, `close`, `at_once`, `law`, `work`, `rule`, `deque`, `team`, `setup`, `search`, `solved`.
 #![tactic(auto)]
 
+mod at_once;
 mod close;
 mod deque;
 mod law;
@@ -19,6 +20,7 @@ mod team;
 mod tray;
 mod work;
 
+pub use at_once::close_whole;
 pub use close::close_one;
 pub use law::{parts_law, tally_law};
 pub use solved::{Solved, solve};

@@ -1,7 +1,7 @@
 // One problem of twelve points, whose nodes go to trays that take all, none, or every second of them.
 use crate::made::{key_at, two};
 use best_word::{Best, key_in};
-use ivp_pool::{Tray, close_one, parts_law, tally_law};
+use ivp_pool::{Tray, close_one, close_whole, parts_law, tally_law};
 use ivp_problem::{Key, Node, Problem, greater_own, key_of};
 use std::alloc::Global;
 use std::process::Abort;
@@ -115,4 +115,14 @@ fn all_are_taken(rt: HostRuntime) {
 #[test]
 fn every_second_is_taken(rt: HostRuntime) {
     leaves(&rt, rt.alloc(), [false, true], 1, 3, Some(key_of(55, 10)));
+}
+
+/// The whole tree at once: as many nodes as with a tray that takes none, and the key that a search by workers finds.
+#[test]
+fn whole_tree_at_once(rt: HostRuntime) {
+    let alloc = rt.alloc();
+    let problem = two(&rt, alloc);
+    let (best, mut scout) = Best::make(alloc, &problem).expect(&rt, "memory");
+    assert_eq!(rt; close_whole(&problem, &best, &mut scout), 4);
+    assert_eq!(rt; key_in(best.known(&mut scout)), key_of(75, 2));
 }
