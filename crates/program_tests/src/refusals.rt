@@ -1,8 +1,10 @@
 // Runs that don't end well: files that are refused or absent.
-use crate::files::{ALPHA, COURSE_MISSION, DEPLOYING_SCRIPT, FIRST_PROBLEM, MODES, levels};
+use crate::files::{
+    ALPHA, COURSE_MISSION, DEPLOYING_SCRIPT, FIRST_PROBLEM, MODES, append, decided, levels,
+};
 use crate::runs::{command_line, ends, ends_so, run_beside};
 use moos_jobs::{FileKind, Refusal, Status};
-use moos_text::Cause;
+use moos_text::{Cause, Limit};
 use std::alloc::Global;
 use std::process::Abort;
 use std::sync::Wait;
@@ -26,11 +28,42 @@ const REFUSED: &[(&str, &str, FileKind, u32, Cause)] = &[
     ),
     ("play", "0 pHelmIvP fetch", FileKind::Script, 1, Cause::S9),
     ("play", "0 a jump", FileKind::Script, 1, Cause::S3),
+    ("play", "0 a fetch now", FileKind::Script, 1, Cause::S3),
+    ("play", "0 a post 9X=1", FileKind::Script, 1, Cause::S4),
     ("play", "0 a post X=\"open", FileKind::Script, 1, Cause::S5),
+    ("play", "0 a post X=1 #", FileKind::Script, 1, Cause::S5),
     ("play", "0 a register N#", FileKind::Script, 1, Cause::S6),
     ("play", "0 a register X -1", FileKind::Script, 1, Cause::S7),
     ("play", FIRST_PROBLEM, FileKind::Script, 1, Cause::S1),
+    (
+        "play",
+        "1000000.001 a fetch",
+        FileKind::Script,
+        1,
+        Cause::S1,
+    ),
     ("solve", "", FileKind::Problem, 1, Cause::P9),
+    (
+        "solve",
+        "ivp 1\ndomain course:0:359:360\nend\n",
+        FileKind::Problem,
+        3,
+        Cause::P8,
+    ),
+    (
+        "solve",
+        "ivp 1\ndomain course:0:359:360\nfunction 100\npiece 0 360 7 0\nend\n",
+        FileKind::Problem,
+        4,
+        Cause::P3,
+    ),
+    (
+        "solve",
+        "ivp 1\ndomain course:0:359:360\nfunction 100\npiece 0 359 7 300\nend\n",
+        FileKind::Problem,
+        3,
+        Cause::P5,
+    ),
     (
         "solve",
         "ivp 1\ndomain a:0:2:3\nfunction 1\npiece 0 1 0 0\npiece 1 2 0 0\nend\n",
@@ -63,6 +96,33 @@ fn bad_files_are_refused(rt: HostRuntime) {
         status,
         "",
     );
+}
+
+// So many clients, each with a fetch.
+fn fetches(rt: &impl Abort, alloc: Global, clients: u32) -> String {
+    let mut text = String::new(alloc);
+    for number in 0..clients {
+        let line = format!(in alloc; "0 c{number} fetch\n").expect(rt, "memory");
+        append(rt, &mut text, &[line.as_str()]);
+    }
+    text
+}
+
+#[test]
+fn a_client_too_many_is_refused(rt: HostRuntime) {
+    let text = fetches(&rt, rt.alloc(), 65);
+    let status = refused(FileKind::Script, 65, Cause::S8(Limit::Clients));
+    let line = ["play", "f.txt"];
+    ends_so(&rt, rt.alloc(), &line, text.as_str(), status, "");
+}
+
+#[test]
+fn a_decision_outside_the_domain_is_refused(rt: HostRuntime) {
+    let decision = "decision 360 700\ncut : 700 0\ndone\n";
+    let text = decided(&rt, rt.alloc(), FIRST_PROBLEM, decision);
+    let status = refused(FileKind::Decision, 6, Cause::P10);
+    let line = ["check", "f.txt"];
+    ends_so(&rt, rt.alloc(), &line, text.as_str(), status, "");
 }
 
 // Played, these files end so, and nothing is written.
@@ -246,6 +306,31 @@ fn a_changed_survey_is_refused(rt: HostRuntime) {
         let status = refused(*file, *line, *cause);
         survey_ends(&rt, rt.alloc(), *old, *new, status);
     }
+}
+
+// The lines with which the survey's behaviour file may end: behind each other one a block is open.
+const LAST_LINES: &[u32] = &[1, 2, 3, 20, 21, 34, 35, 43];
+
+// The survey for one tick, whose behaviour file is cut behind this line.
+fn cut_ends<R: Threads + Wait + Sync + Abort>(rt: &R, alloc: Global, line: u32, behaviors: &str) {
+    let files = ["0 until\n", ALPHA[1], behaviors];
+    if LAST_LINES.contains(&line) {
+        let (status, _) = run_beside(rt, alloc, &["play", "s.txt", "m.moos"], files);
+        assert_eq!(rt; status, Status::Done, "{line}");
+    } else {
+        let status = refused(FileKind::Behaviors, line, Cause::B2);
+        is_told(rt, alloc, files, status);
+    }
+}
+
+#[test]
+fn a_survey_may_end_between_its_blocks(rt: HostRuntime) {
+    let mut behaviors = String::new(rt.alloc());
+    for (number, line) in (1..44).zip(ALPHA[2].lines()) {
+        append(&rt, &mut behaviors, &[line, "\n"]);
+        cut_ends(&rt, rt.alloc(), number, behaviors.as_str());
+    }
+    assert_eq!(rt; behaviors.as_str(), ALPHA[2]);
 }
 
 #[test]
