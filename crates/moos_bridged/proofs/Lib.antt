@@ -1,0 +1,10 @@
+pub mod Alone
+pub mod Beginning
+pub mod Bridging
+pub mod Carried
+pub mod Ending
+pub mod Lines
+pub mod Moments
+pub mod NextFetches
+pub mod Playing
+pub mod Stamping

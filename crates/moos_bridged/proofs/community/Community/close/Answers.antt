@@ -1,0 +1,5 @@
+use Rattle.moos_step.proofs.Growing.{closed_same}
+use Rattle.moos_bridged.proofs.community.Community.close.Goals as goal
+
+pub returns-clause-history : goal.returns-clause-history
+returns-clause-history c = closed_same c.args.self.first.seat c.close-db.result.0.history c.close-db.ensures.seen c.close-db.ensures.whole c.requires.whole

@@ -1,0 +1,3 @@
+pub mod Bridging
+pub mod Communities
+pub mod Stamping

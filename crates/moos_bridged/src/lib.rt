@@ -1,0 +1,16 @@
+//! Plays two scripts at once, each on its own database, with a bridge that carries posts from the first community to the second.
+//!
+//! The contract for the layer above: with Ok the two histories are bridged, whatever the threads did. All entries
+//! but the bridge's are the scripts' lines, each client's in order.
+//!
+//! Reading order: `community`, one of the two; `crossing`, one carrying while nobody else calls; `by_stamp`, from one stamp to the
+//! next; `sharing`, the whole.
+#![tactic(auto)]
+
+mod by_stamp;
+mod community;
+mod crossing;
+mod seating;
+mod sharing;
+
+pub use sharing::{Shared, share};
