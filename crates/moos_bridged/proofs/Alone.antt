@@ -1,16 +1,13 @@
 -- One call of the bridge while nobody else calls, at the first seat or at a seat parted from it.
-use Rattle.std.proofs.Common.{◌≡◌, ℕ, ◌<◌, true, List, [], ◌∷◌, ◌++◌, length, Ok, Result, refl, sym, ap, ◌∙◌, subst, arith}
-use Rattle.std.specs.Prelude.{codes, slice_index_or}
+use Rattle.std.proofs.Common.{◌≡◌, ℕ, ◌<◌, true, List, [], ◌∷◌, ◌++◌, length, Ok, Result, refl, sym, ap, ◌∙◌, arith}
 use Rattle.std.specs.declared.alloc.AllocError.{AllocError}
 use Rattle.moos_bridged.proofs.Playing.{bridge_last}
-use Rattle.moos_bridged.specs.Communities.{bridge_in, community_script, IsResting}
+use Rattle.moos_bridged.specs.Communities.{bridge_in, IsResting}
 use Rattle.moos_bridged.specs.declared.community.Community.{Community}
 use Rattle.moos_client.specs.Calls.{entry_of, SeatState}
 use Rattle.moos_db.specs.declared.mail.Letter.{Letter}
 use Rattle.moos_post.specs.declared.entry.Call.{Call}
 use Rattle.moos_post.specs.declared.entry.Entry.{Entry}
-use Rattle.moos_post.specs.History.{name_of}
-use Rattle.moos_share.specs.Carrying.{MayCarry}
 use Rattle.moos_step.proofs.Calling.{branch_mail, call_first, call_other, goes_on_just, IsJust}
 use Rattle.moos_step.proofs.Leading.{IsLed, led_gathered, led_on}
 use Rattle.moos_step.proofs.Taking.{seen_gathered, seen_whole}
@@ -19,29 +16,6 @@ use Rattle.turn_lock.proofs.Fronts.{begins_itself, begins_on}
 use Rattle.turn_lock.proofs.Mets.{is_taken}
 use Rattle.turn_lock.specs.Passes.{Begins, beside, events_in, has_number, HasAll, met_with, without_number}
 use Rattle.std.specs.List.{list_any}
-
--- the bridge's name stands behind the others
-last_name : (names : List (List ℕ)) (name : List ℕ) → slice_index_or (names ++ name ∷ []) (length names) [] ≡ name
-last_name [] name = refl
-last_name (one ∷ names) name = last_name names name
-
-bridge_named : (community : Community) → IsResting community → name_of community.lock.base (bridge_in community) ≡ codes "pShare"
-bridge_named community so = ap (λ names. name_of names (bridge_in community)) so.names ∙ last_name (community_script community).names (codes "pShare")
-
--- the bridge may carry at the first seat, where that is its own, and at a seat parted for it
-pub may_first : (community : Community) → IsResting community → bridge_in community ≡ 0 → MayCarry community.lock community.first.seat
-may_first community so none = record {
-  of_lock = so.gathered.may.of_lock;
-  free = so.gathered.may.free;
-  named = ap (name_of community.lock.base) (so.gathered.number ∙ sym none) ∙ bridge_named community so;
-}
-
-pub may_parted : (community : Community) (seat : SeatState) (events : List Entry) → IsResting community → seat ≡ beside community.first.seat (bridge_in community) events → MayCarry community.lock seat
-may_parted community seat events so is = subst (MayCarry community.lock) (sym is) (record {
-  of_lock = record { same = so.gathered.may.of_lock.same; live = so.gathered.may.of_lock.live; base = so.gathered.may.of_lock.base };
-  free = refl;
-  named = bridge_named community so;
-})
 
 -- the first seat has taken the bridge's in
 pub has_bridge : (community : Community) → IsResting community → 0 < bridge_in community → list_any (has_number (bridge_in community)) community.first.seat.met ≡ true

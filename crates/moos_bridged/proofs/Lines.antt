@@ -6,7 +6,7 @@ use Rattle.std.proofs.lemmas.Bool.Decides.{nat_tests}
 use Rattle.std.proofs.lemmas.List.{take_all, take-append-drop}
 use Rattle.std.proofs.lemmas.List.Folds.{list_all-append, list_any-append}
 use Rattle.std.proofs.Math.Seq.{drop-nil, take-add}
-use Rattle.moos_bridged.specs.Communities.{is_next, lines_cut, next_of}
+use Rattle.moos_bridged.specs.Communities.{is_next, lines_cut, next_line_stamp}
 use Rattle.moos_post.specs.declared.entry.Entry.{Entry}
 use Rattle.moos_share.specs.Bridged.{has_stamp}
 use Rattle.script_reader.proofs.Sound.{line_tests}
@@ -83,11 +83,6 @@ lines_below clients last stop (line ∷ lines) valid =
     let tests = line_tests (nat_lt line.client clients) (nat_le last line.stamp) (keeps_limits line.call) (are_lines clients line.stamp stop lines) valid in
     and_from (nat_lt line.client clients) (list_all (λ line. nat_lt line.client clients) lines) tests.0 (lines_below clients line.stamp stop lines tests.3)
 
--- where there is a line there is a client
-pub has_client : (clients from : ℕ) (lines : List Entry) → list_all (λ line. nat_lt line.client clients) lines ≡ true → from < length lines → 0 < clients
-has_client clients from [] all some = absurd (omega (arith, some))
-has_client clients from (line ∷ lines) all some = let here = (and_parts (nat_lt line.client clients) (list_all (λ line. nat_lt line.client clients) lines) all).0 in grind (arith, nat_tests)
-
 -- none of them has a stamp below that of one before it
 raised : (low high : ℕ) (lines : List Entry) → low ≤ high → list_all (λ line. nat_le high line.stamp) lines ≡ true → list_all (λ line. nat_le low line.stamp) lines ≡ true
 raised low high [] less all = refl
@@ -105,7 +100,7 @@ none_earlier clients last stop (line ∷ lines) valid =
     and_from (nat_le last line.stamp) (list_all (λ line. nat_le last line.stamp) lines) tests.1 (raised last line.stamp lines less (none_earlier clients line.stamp stop lines tests.3))
 
 -- nor one of those that are left below that of the next one
-pub next_least : (clients last stop from : ℕ) (lines : List Entry) (stamp : ℕ) → are_lines clients last stop lines ≡ true → next_of (drop from lines) ≡ Some stamp → list_all (λ line. nat_le stamp line.stamp) (drop from lines) ≡ true
+pub next_least : (clients last stop from : ℕ) (lines : List Entry) (stamp : ℕ) → are_lines clients last stop lines ≡ true → next_line_stamp (drop from lines) ≡ Some stamp → list_all (λ line. nat_le stamp line.stamp) (drop from lines) ≡ true
 next_least clients last stop zero [] stamp valid is = refl
 next_least clients last stop (suc from) [] stamp valid is = refl
 next_least clients last stop zero (line ∷ lines) stamp valid is =
@@ -117,20 +112,20 @@ next_least clients last stop (suc from) (line ∷ lines) stamp valid is =
     next_least clients line.stamp stop from lines stamp tests.3 is
 
 -- none that is left has a stamp below one that the next hasn't
-pub late_next : (clients last stop from : ℕ) (lines : List Entry) (low : ℕ) → are_lines clients last stop lines ≡ true → ((stamp : ℕ) → next_of (drop from lines) ≡ Some stamp → low ≤ stamp) → list_all (λ line. nat_le low line.stamp) (drop from lines) ≡ true
+pub late_next : (clients last stop from : ℕ) (lines : List Entry) (low : ℕ) → are_lines clients last stop lines ≡ true → ((stamp : ℕ) → next_line_stamp (drop from lines) ≡ Some stamp → low ≤ stamp) → list_all (λ line. nat_le low line.stamp) (drop from lines) ≡ true
 late_next clients last stop from lines low valid least = by (drop from lines) refl
   where
     by : (left : List Entry) → drop from lines ≡ left → list_all (λ line. nat_le low line.stamp) (drop from lines) ≡ true
     by [] is = ap (list_all (λ (line : Entry). nat_le low line.stamp)) is
     by (line ∷ left) is =
-        let next : next_of (drop from lines) ≡ Some line.stamp = ap next_of is in
+        let next : next_line_stamp (drop from lines) ≡ Some line.stamp = ap next_line_stamp is in
         raised low line.stamp (drop from lines) (least line.stamp next) (next_least clients last stop from lines line.stamp valid next)
 
 -- those that are left behind all lines of a stamp have later ones
 pub over_next : (clients last stop from : ℕ) (lines : List Entry) (stamp : ℕ) → are_lines clients last stop lines ≡ true → list_all (λ line. nat_le stamp line.stamp) (drop from lines) ≡ true → is_next stamp (drop from lines) ≡ false → list_all (λ line. nat_lt stamp line.stamp) (drop from lines) ≡ true
 over_next clients last stop from lines stamp valid late other = later (drop from lines) (late_next clients last stop from lines (suc stamp) valid (λ next is. first (drop from lines) next is late other))
   where
-    first : (left : List Entry) (next : ℕ) → next_of left ≡ Some next → list_all (λ line. nat_le stamp line.stamp) left ≡ true → is_next stamp left ≡ false → suc stamp ≤ next
+    first : (left : List Entry) (next : ℕ) → next_line_stamp left ≡ Some next → list_all (λ line. nat_le stamp line.stamp) left ≡ true → is_next stamp left ≡ false → suc stamp ≤ next
     first [] next is late other = absurd cc
     first (line ∷ left) next is late other =
         let here = (and_parts (nat_le stamp line.stamp) (list_all (λ line. nat_le stamp line.stamp) left) late).0 in
@@ -145,11 +140,11 @@ over_next clients last stop from lines stamp valid late other = later (drop from
         and_from (nat_lt stamp line.stamp) (list_all (λ line. nat_lt stamp line.stamp) left) (grind (arith, nat_tests, here)) (later left tests.1)
 
 -- the next one is a line
-pub next_among : (from : ℕ) (lines : List Entry) (stamp : ℕ) → next_of (drop from lines) ≡ Some stamp → has_stamp stamp lines ≡ true
+pub next_among : (from : ℕ) (lines : List Entry) (stamp : ℕ) → next_line_stamp (drop from lines) ≡ Some stamp → has_stamp stamp lines ≡ true
 next_among from lines stamp is =
     ap (list_any (λ (line : Entry). line.stamp == stamp)) (sym (take-append-drop from lines)) ∙ list_any-append (λ (line : Entry). line.stamp == stamp) (take from lines) (drop from lines)
     ∙ or_right (has_stamp stamp (take from lines)) (has_stamp stamp (drop from lines)) (first (drop from lines) is)
   where
-    first : (left : List Entry) → next_of left ≡ Some stamp → has_stamp stamp left ≡ true
+    first : (left : List Entry) → next_line_stamp left ≡ Some stamp → has_stamp stamp left ≡ true
     first [] none = absurd cc
     first (line ∷ left) some = or_left (line.stamp == stamp) (has_stamp stamp left) (let same = some_same some in grind (arith, nat_tests, same))

@@ -6,14 +6,13 @@ use Rattle.std.proofs.lemmas.Bool.{and_parts}
 use Rattle.std.specs.declared.alloc.AllocError.{AllocError}
 use Rattle.std.proofs.lemmas.List.Elements.{filter-append}
 use Rattle.moos_bridged.proofs.Bridging.{other_next}
-use Rattle.moos_bridged.proofs.Lines.{all_cut, drop_cut, lines_below, over_next, take_cut}
-use Rattle.moos_bridged.specs.Communities.{bridge_in, community_history, community_script, done_lines, HasPlayed, HasPlayedStamp, IsResting, IsStampEnd, left_lines, lines_cut, StaysAt}
+use Rattle.moos_bridged.proofs.Lines.{drop_cut, over_next, take_cut}
+use Rattle.moos_bridged.specs.Communities.{bridge_in, community_history, community_script, done_lines, HasPlayedLines, HasPlayedStamp, IsResting, IsStampEnd, left_lines, lines_cut, StaysAt}
 use Rattle.moos_bridged.specs.declared.community.Community.{Community}
 use Rattle.moos_client.specs.Calls.{entries_of}
 use Rattle.moos_post.specs.declared.entry.Entry.{Entry}
 use Rattle.moos_share.specs.Bridged.{bridge_number, names_bridged}
 use Rattle.moos_step.proofs.Growing.{grown}
-use Rattle.moos_step.proofs.Steps.{none_past}
 use Rattle.moos_step.specs.Steps.{CommunityLock, GoesOn, IsGathered, IsPlayed, IsWhole, KnowsNothing}
 use Rattle.script_reader.specs.declared.script.Script.{Script}
 use Rattle.script_reader.specs.Validity.{IsValid}
@@ -50,7 +49,7 @@ rests_played before after so script lock more within calls gathered on = record 
 
 -- what it adds to the history
 pub plays_lines : (before after : Community) → IsResting before → community_script after ≡ community_script before → after.lock ≡ before.lock → (lines : List Entry)
-    → GoesOn (IsPlayed {E = AllocError} lines (Ok tt)) before.first.seat after.first.seat → HasPlayed lines before after
+    → GoesOn (IsPlayed {E = AllocError} lines (Ok tt)) before.first.seat after.first.seat → HasPlayedLines lines before after
 plays_lines before after so script lock lines on = record {
   added = on.later.0;
   on = record { script = script; lock = lock; history = on.later.1 };
@@ -88,15 +87,9 @@ rests_new community script is valid from names gathered nothing calls = record {
   own = λ client other. ap (entries_of client) nothing.seen ∙ ap (λ n. entries_of client (take n (community_script community).lines)) (sym from);
 }
 
--- no line is the bridge's
-pub no_bridge_lines : (community : Community) → IsResting community → (from to : ℕ) → entries_of (bridge_in community) (lines_cut from to (community_script community).lines) ≡ []
-no_bridge_lines community so from to =
-    let script : Script = community_script community in
-    none_past (length script.names) (length script.names) (lines_cut from to script.lines) (all_cut (λ line. nat_lt line.client (length script.names)) script.lines from to (lines_below (length script.names) 0 script.stop script.lines so.valid.lines)) (omega arith)
-
 -- a step of all lines of a stamp
 pub plays_stamp : (stamp : ℕ) (before after : Community) → IsResting before → list_all (λ line. nat_le stamp line.stamp) (left_lines before) ≡ true → IsStampEnd stamp before.from after.from (community_script before).lines
-    → HasPlayed (lines_cut before.from after.from (community_script before).lines) before after → HasPlayedStamp stamp before after
+    → HasPlayedLines (lines_cut before.from after.from (community_script before).lines) before after → HasPlayedStamp stamp before after
 plays_stamp stamp before after so late end played = record {
   lines = lines_cut before.from after.from lines;
   played = played;
@@ -118,10 +111,10 @@ plays_stamp stamp before after so late end played = record {
         behind (line ∷ some) more all = behind some more (and_parts (nat_le stamp line.stamp) (list_all (λ line. nat_le stamp line.stamp) (some ++ more)) all).1
 
 -- nothing was there to play
-pub plays_none : (from : ℕ) (before : Community) → HasPlayed (lines_cut from from (community_script before).lines) before before
+pub plays_none : (from : ℕ) (before : Community) → HasPlayedLines (lines_cut from from (community_script before).lines) before before
 plays_none from before =
     let none : from - from ≡ 0 = omega arith in
-    subst (λ n. HasPlayed (take n (drop from (community_script before).lines)) before before) (sym none) (record {
+    subst (λ n. HasPlayedLines (take n (drop from (community_script before).lines)) before before) (sym none) (record {
       added = [];
       on = record { script = refl; lock = refl; history = sym (append-nil (community_history before)) };
       own = λ client. refl;

@@ -8,7 +8,7 @@ use Rattle.moos_bridged.proofs.Bridging.{bridged_next, bridged_on, post_at}
 use Rattle.moos_bridged.proofs.Lines.{all_left, late_next, lines_below, next_among, some_same}
 use Rattle.moos_bridged.proofs.Moments.{below_next, early_next, keeps_next, rising_next}
 use Rattle.moos_bridged.specs.Bridging.{IsBridgedSoFar}
-use Rattle.moos_bridged.specs.Communities.{bridge_entry, bridge_in, community_history, community_script, done_lines, GoesOnBy, HasCrossed, HasPlayedStamp, IsResting, left_lines, next_of, StaysAt}
+use Rattle.moos_bridged.specs.Communities.{bridge_entry, bridge_in, community_history, community_script, done_lines, GoesOnBy, HasCrossed, HasPlayedStamp, IsResting, left_lines, next_line_stamp, StaysAt}
 use Rattle.moos_bridged.specs.declared.community.Community.{Community}
 use Rattle.moos_bridged.specs.Stamping.{behind_opening, earlier, IsPlayedTo, IsSharedSoFar, lines_left}
 use Rattle.moos_client.proofs.Histories.{fronts_pass}
@@ -54,38 +54,38 @@ earlier_second (Some one) (Some two) stamp next is here = by (nat_lt two one) re
     by false e is = let same = some_same here in grind (arith, nat_tests, e, is, same)
 
 -- the next stamp, as it was looked up
-pub next_is : (one two : Community) (first second result : Option ℕ) (stamp : ℕ) → first ≡ next_of (left_lines one) → second ≡ next_of (left_lines two) → result ≡ earlier first second → result ≡ Some stamp → earlier (next_of (left_lines one)) (next_of (left_lines two)) ≡ Some stamp
-next_is one two first second result stamp f s r is = ap (λ first. earlier first (next_of (left_lines two))) (sym f) ∙ ap (earlier first) (sym s) ∙ sym r ∙ is
+pub next_is : (one two : Community) (first second result : Option ℕ) (stamp : ℕ) → first ≡ next_line_stamp (left_lines one) → second ≡ next_line_stamp (left_lines two) → result ≡ earlier first second → result ≡ Some stamp → earlier (next_line_stamp (left_lines one)) (next_line_stamp (left_lines two)) ≡ Some stamp
+next_is one two first second result stamp f s r is = ap (λ first. earlier first (next_line_stamp (left_lines two))) (sym f) ∙ ap (earlier first) (sym s) ∙ sym r ∙ is
 
 -- so no line of an earlier stamp is left
-pub first_late : (one two : Community) (stamp : ℕ) → IsResting one → earlier (next_of (left_lines one)) (next_of (left_lines two)) ≡ Some stamp → list_all (λ line. nat_le stamp line.stamp) (left_lines one) ≡ true
+pub first_late : (one two : Community) (stamp : ℕ) → IsResting one → earlier (next_line_stamp (left_lines one)) (next_line_stamp (left_lines two)) ≡ Some stamp → list_all (λ line. nat_le stamp line.stamp) (left_lines one) ≡ true
 first_late one two stamp so is =
     let script : Script = community_script one in
-    late_next (length script.names) 0 script.stop one.from script.lines stamp so.valid.lines (λ next here. earlier_first (next_of (left_lines one)) (next_of (left_lines two)) stamp next is here)
+    late_next (length script.names) 0 script.stop one.from script.lines stamp so.valid.lines (λ next here. earlier_first (next_line_stamp (left_lines one)) (next_line_stamp (left_lines two)) stamp next is here)
 
-pub second_late : (one two : Community) (stamp : ℕ) → IsResting two → earlier (next_of (left_lines one)) (next_of (left_lines two)) ≡ Some stamp → list_all (λ line. nat_le stamp line.stamp) (left_lines two) ≡ true
+pub second_late : (one two : Community) (stamp : ℕ) → IsResting two → earlier (next_line_stamp (left_lines one)) (next_line_stamp (left_lines two)) ≡ Some stamp → list_all (λ line. nat_le stamp line.stamp) (left_lines two) ≡ true
 second_late one two stamp so is =
     let script : Script = community_script two in
-    late_next (length script.names) 0 script.stop two.from script.lines stamp so.valid.lines (λ next here. earlier_second (next_of (left_lines one)) (next_of (left_lines two)) stamp next is here)
+    late_next (length script.names) 0 script.stop two.from script.lines stamp so.valid.lines (λ next here. earlier_second (next_line_stamp (left_lines one)) (next_line_stamp (left_lines two)) stamp next is here)
 
 -- the stamp is that of a line of either script
-stamp_among : (one two : Community) (stamp : ℕ) → earlier (next_of (left_lines one)) (next_of (left_lines two)) ≡ Some stamp → (has_stamp stamp (community_script one).lines || has_stamp stamp (community_script two).lines) ≡ true
-stamp_among one two stamp is = by (earlier_one (next_of (left_lines one)) (next_of (left_lines two)) stamp is)
+stamp_among : (one two : Community) (stamp : ℕ) → earlier (next_line_stamp (left_lines one)) (next_line_stamp (left_lines two)) ≡ Some stamp → (has_stamp stamp (community_script one).lines || has_stamp stamp (community_script two).lines) ≡ true
+stamp_among one two stamp is = by (earlier_one (next_line_stamp (left_lines one)) (next_line_stamp (left_lines two)) stamp is)
   where
-    by : (next_of (left_lines one) ≡ Some stamp) ⊎ (next_of (left_lines two) ≡ Some stamp) → (has_stamp stamp (community_script one).lines || has_stamp stamp (community_script two).lines) ≡ true
+    by : (next_line_stamp (left_lines one) ≡ Some stamp) ⊎ (next_line_stamp (left_lines two) ≡ Some stamp) → (has_stamp stamp (community_script one).lines || has_stamp stamp (community_script two).lines) ≡ true
     by (inl here) = or_left (has_stamp stamp (community_script one).lines) (has_stamp stamp (community_script two).lines) (next_among one.from (community_script one).lines stamp here)
     by (inr here) = or_right (has_stamp stamp (community_script one).lines) (has_stamp stamp (community_script two).lines) (next_among two.from (community_script two).lines stamp here)
 
 -- nor is it below any that a line which is left may have
-least_next : (low stamp : ℕ) (left : List Entry) → list_all (λ line. nat_le low line.stamp) left ≡ true → next_of left ≡ Some stamp → low ≤ stamp
+least_next : (low stamp : ℕ) (left : List Entry) → list_all (λ line. nat_le low line.stamp) left ≡ true → next_line_stamp left ≡ Some stamp → low ≤ stamp
 least_next low stamp [] late is = absurd cc
 least_next low stamp (line ∷ left) late is =
     let here = (and_parts (nat_le low line.stamp) (list_all (λ line. nat_le low line.stamp) left) late).0 in let same = some_same is in grind (arith, nat_tests, here, same)
 
-low_next : (low stamp : ℕ) (one two : Community) → list_all (λ line. nat_le low line.stamp) (left_lines one) ≡ true → list_all (λ line. nat_le low line.stamp) (left_lines two) ≡ true → earlier (next_of (left_lines one)) (next_of (left_lines two)) ≡ Some stamp → low ≤ stamp
-low_next low stamp one two first second is = by (earlier_one (next_of (left_lines one)) (next_of (left_lines two)) stamp is)
+low_next : (low stamp : ℕ) (one two : Community) → list_all (λ line. nat_le low line.stamp) (left_lines one) ≡ true → list_all (λ line. nat_le low line.stamp) (left_lines two) ≡ true → earlier (next_line_stamp (left_lines one)) (next_line_stamp (left_lines two)) ≡ Some stamp → low ≤ stamp
+low_next low stamp one two first second is = by (earlier_one (next_line_stamp (left_lines one)) (next_line_stamp (left_lines two)) stamp is)
   where
-    by : (next_of (left_lines one) ≡ Some stamp) ⊎ (next_of (left_lines two) ≡ Some stamp) → low ≤ stamp
+    by : (next_line_stamp (left_lines one) ≡ Some stamp) ⊎ (next_line_stamp (left_lines two) ≡ Some stamp) → low ≤ stamp
     by (inl here) = least_next low stamp (left_lines one) first here
     by (inr here) = least_next low stamp (left_lines two) second here
 
@@ -170,7 +170,7 @@ bridged_same first first' second second' rules rules' stamps one one' two two' f
     (subst (λ two. IsBridgedSoFar first second rules stamps one two) (sym t) so))))
 
 -- THE NEXT STAMP
-pub shared_next : (bridge bridge' : BridgeState) (stamp : ℕ) (one played_one after_one two played_two after_two : Community) → IsSharedSoFar bridge one two → earlier (next_of (left_lines one)) (next_of (left_lines two)) ≡ Some stamp
+pub shared_next : (bridge bridge' : BridgeState) (stamp : ℕ) (one played_one after_one two played_two after_two : Community) → IsSharedSoFar bridge one two → earlier (next_line_stamp (left_lines one)) (next_line_stamp (left_lines two)) ≡ Some stamp
     → HasPlayedStamp stamp one played_one → HasPlayedStamp stamp two played_two → bridge' ≡ bridge → IsResting after_one → IsResting after_two → HasCrossed bridge.rules stamp played_one after_one played_two after_two → IsSharedSoFar bridge' after_one after_two
 shared_next bridge bridge' stamp one played_one after_one two played_two after_two so is on_one on_two same rests_one rests_two crossed = record {
   none = ap (λ (bridge : BridgeState). bridge.unposted) same ∙ so.none;
@@ -242,32 +242,32 @@ lines_fewer stamp before played after on script stays =
     omega (arith, ap length on.left, length-append on.lines (left_lines played), ap (λ (s : Script). length (drop after.from s.lines)) script, ap (λ n. length (drop n (community_script played).lines)) stays)
 
 -- and fewer where the next line has the stamp
-fewer_next : (stamp : ℕ) (before played after : Community) → HasPlayedStamp stamp before played → community_script after ≡ community_script played → StaysAt played after → next_of (left_lines before) ≡ Some stamp → length (left_lines after) < length (left_lines before)
+fewer_next : (stamp : ℕ) (before played after : Community) → HasPlayedStamp stamp before played → community_script after ≡ community_script played → StaysAt played after → next_line_stamp (left_lines before) ≡ Some stamp → length (left_lines after) < length (left_lines before)
 fewer_next stamp before played after on script stays next =
-    omega (arith, some on.lines (subst (λ left. next_of left ≡ Some stamp) on.left next), ap length on.left, length-append on.lines (left_lines played), ap (λ (s : Script). length (drop after.from s.lines)) script, ap (λ n. length (drop n (community_script played).lines)) stays)
+    omega (arith, some on.lines (subst (λ left. next_line_stamp left ≡ Some stamp) on.left next), ap length on.left, length-append on.lines (left_lines played), ap (λ (s : Script). length (drop after.from s.lines)) script, ap (λ n. length (drop n (community_script played).lines)) stays)
   where
-    later : (left : List Entry) → list_all (λ line. nat_lt stamp line.stamp) left ≡ true → next_of left ≡ Some stamp → ⊥
+    later : (left : List Entry) → list_all (λ line. nat_lt stamp line.stamp) left ≡ true → next_line_stamp left ≡ Some stamp → ⊥
     later [] over is = absurd cc
     later (line ∷ left) over is =
         let here = (and_parts (nat_lt stamp line.stamp) (list_all (λ line. nat_lt stamp line.stamp) left) over).0 in let same = some_same is in absurd (grind (arith, nat_tests, here, same))
 
-    some : (lines : List Entry) → next_of (lines ++ left_lines played) ≡ Some stamp → 0 < length lines
+    some : (lines : List Entry) → next_line_stamp (lines ++ left_lines played) ≡ Some stamp → 0 < length lines
     some [] is = absurd (later (left_lines played) on.over is)
     some (line ∷ lines) is = omega arith
 
-pub left_less : (stamp : ℕ) (one played_one after_one two played_two after_two : Community) → earlier (next_of (left_lines one)) (next_of (left_lines two)) ≡ Some stamp → HasPlayedStamp stamp one played_one → HasPlayedStamp stamp two played_two
+pub left_less : (stamp : ℕ) (one played_one after_one two played_two after_two : Community) → earlier (next_line_stamp (left_lines one)) (next_line_stamp (left_lines two)) ≡ Some stamp → HasPlayedStamp stamp one played_one → HasPlayedStamp stamp two played_two
     → community_script after_one ≡ community_script played_one → community_script after_two ≡ community_script played_two → StaysAt played_one after_one → StaysAt played_two after_two → lines_left after_one after_two < lines_left one two
-left_less stamp one played_one after_one two played_two after_two is on_one on_two script_one script_two from to = by (earlier_one (next_of (left_lines one)) (next_of (left_lines two)) stamp is)
+left_less stamp one played_one after_one two played_two after_two is on_one on_two script_one script_two from to = by (earlier_one (next_line_stamp (left_lines one)) (next_line_stamp (left_lines two)) stamp is)
   where
-    by : (next_of (left_lines one) ≡ Some stamp) ⊎ (next_of (left_lines two) ≡ Some stamp) → lines_left after_one after_two < lines_left one two
+    by : (next_line_stamp (left_lines one) ≡ Some stamp) ⊎ (next_line_stamp (left_lines two) ≡ Some stamp) → lines_left after_one after_two < lines_left one two
     by (inl here) = omega (arith, fewer_next stamp one played_one after_one on_one script_one from here, lines_fewer stamp two played_two after_two on_two script_two to)
     by (inr here) = omega (arith, fewer_next stamp two played_two after_two on_two script_two to here, lines_fewer stamp one played_one after_one on_one script_one from)
 
 -- where there is no next stamp nothing is left
-pub left_none : (one two : Community) → earlier (next_of (left_lines one)) (next_of (left_lines two)) ≡ None → lines_left one two ≡ 0
+pub left_none : (one two : Community) → earlier (next_line_stamp (left_lines one)) (next_line_stamp (left_lines two)) ≡ None → lines_left one two ≡ 0
 left_none one two is = by (left_lines one) (left_lines two) is
   where
-    by : (one two : List Entry) → earlier (next_of one) (next_of two) ≡ None → length one + length two ≡ 0
+    by : (one two : List Entry) → earlier (next_line_stamp one) (next_line_stamp two) ≡ None → length one + length two ≡ 0
     by [] [] is = refl
     by [] (line ∷ lines) is = absurd cc
     by (line ∷ lines) [] is = absurd cc

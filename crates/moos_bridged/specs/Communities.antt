@@ -17,20 +17,23 @@ use Rattle.moos_step.specs.Steps.{IsGathered, IsWhole}
 use Rattle.script_reader.specs.declared.script.Script.{Script}
 use Rattle.script_reader.specs.Validity.{IsValid}
 
--- the script that a community plays, its history so far, and the number of the bridge in it
+-- the script that a community plays
 abbrev pub community_script : Community → Script
 community_script community = community.script.now
 
+-- its history so far
 abbrev pub community_history : Community → History
 community_history community = community.first.seat.seen
 
+-- the number of the bridge in it
 abbrev pub bridge_in : Community → ℕ
 bridge_in community = bridge_number (community_script community)
 
--- the lines that it has played, and those that are left
+-- the lines that it has played
 abbrev pub done_lines : Community → List Entry
 done_lines community = take community.from (community_script community).lines
 
+-- those that are left
 abbrev pub left_lines : Community → List Entry
 left_lines community = drop community.from (community_script community).lines
 
@@ -39,9 +42,9 @@ abbrev pub lines_cut : ℕ → ℕ → List Entry → List Entry
 lines_cut from to lines = take (to - from) (drop from lines)
 
 -- the stamp of the first of these lines, where there is one
-abbrev pub next_of : List Entry → Option ℕ
-next_of [] = None
-next_of (line ∷ lines) = Some line.stamp
+abbrev pub next_line_stamp : List Entry → Option ℕ
+next_line_stamp [] = None
+next_line_stamp (line ∷ lines) = Some line.stamp
 
 -- whether the first of these lines has this stamp
 abbrev pub is_next : ℕ → List Entry → Bool
@@ -74,7 +77,7 @@ abbrev pub StaysAt : Community → Community → Type 0
 StaysAt before after = after.from ≡ before.from
 
 -- Its clients have played these lines, each its own in order.
-pub record HasPlayed (lines : List Entry) (before after : Community) : Type 0 where
+pub record HasPlayedLines (lines : List Entry) (before after : Community) : Type 0 where
   pub added : List Entry
   pub on : GoesOnBy added before after
   pub own : (client : ℕ) → entries_of client added ≡ entries_of client lines
@@ -89,7 +92,7 @@ pub record IsStampEnd (stamp from to : ℕ) (lines : List Entry) : Type 0 where
 -- Its clients have played the lines of a stamp, which are the first that were left: none of this stamp or an earlier one is left.
 pub record HasPlayedStamp (stamp : ℕ) (before after : Community) : Type 0 where
   pub lines : List Entry
-  pub played : HasPlayed lines before after
+  pub played : HasPlayedLines lines before after
   pub left : left_lines before ≡ lines ++ left_lines after
   pub done : done_lines after ≡ done_lines before ++ lines
   pub one : IsTrue (list_all (λ line. line.stamp == stamp) lines)

@@ -1,7 +1,7 @@
 // One of two communities that are played with a bridge between them.
 ghost use Rattle.std.specs.Prelude.{◌≡◌, ◌∷◌, ◌<◌, ◌≤◌, [], length, nat_le, IfOk, IsTrue, OnOk};
 ghost use Rattle.std.specs.List.{list_all};
-ghost use Rattle.moos_bridged.specs.Communities.{bridge_entry, bridge_in, community_history, community_script, GoesOnBy, HasPlayed, HasPlayedStamp, is_next, IsResting, IsStampEnd, left_lines, lines_cut, next_of, StaysAt};
+ghost use Rattle.moos_bridged.specs.Communities.{bridge_entry, bridge_in, community_history, community_script, GoesOnBy, HasPlayedLines, HasPlayedStamp, is_next, IsResting, IsStampEnd, left_lines, lines_cut, next_line_stamp, StaysAt};
 ghost use Rattle.moos_post.specs.declared.entry.Call.TheVariants.{Register};
 ghost use Rattle.moos_share.specs.Bridged.{names_bridged};
 ghost use Rattle.script_reader.specs.Validity.{IsValid};
@@ -90,7 +90,7 @@ impl<'a> Community<'a> {
     /// The stamp of the next line, where one is left.
     pub(crate) fn next_stamp(&self) -> Option<u64>
         requires { IsResting self.now }
-        ensures { result ≡ next_of (left_lines self.now) }
+        ensures { result ≡ next_line_stamp (left_lines self.now) }
     {
         let left = &self.script.lines.all()[self.from..];
         match left {
@@ -131,7 +131,7 @@ impl<'a> Community<'a> {
         requires more { self.old.from < to }
         requires within { to ≤ length (community_script self.old).lines }
         ensures resting { OnOk result (IsResting self.new) }
-        ensures played { OnOk result (HasPlayed (lines_cut self.old.from to (community_script self.old).lines) self.old self.new) }
+        ensures played { OnOk result (HasPlayedLines (lines_cut self.old.from to (community_script self.old).lines) self.old self.new) }
         ensures to { OnOk result (self.new.from ≡ to) }
     {
         let lines = &self.script.lines.all()[self.from..to];
