@@ -13,7 +13,7 @@ pub mod Handing
 pub mod Ending
 pub mod Finishing
 pub mod Beginning
-pub mod Lending
+pub mod Showing
 pub mod Calling
 pub mod Rounding
 pub mod Stamping
