@@ -4,9 +4,7 @@ use Rattle.std.specs.Prelude.{codes, option_map}
 use Rattle.moos_play.specs.declared.playing.Play.{Play}
 use Rattle.moos_play.specs.declared.run.HelmRun.{HelmRun}
 use Rattle.moos_play.specs.Lawful.{known_clients, names_with, steering_with}
-use Rattle.moos_play.specs.Plays.{clients_in, helm_in, IsFurther}
-use Rattle.moos_step.specs.Steps.{CommunityLock}
-use Rattle.moos_play.specs.Steered.{GoesOnWith}
+use Rattle.moos_play.specs.Plays.{clients_in, GoesOnWith, helm_in, IsFurther, script_played}
 use Rattle.script_reader.specs.declared.script.Script.{Script}
 
 -- a helm is one client more than the script's
@@ -17,11 +15,11 @@ helm_more script run = length-append script.names (codes "pHelmIvP" ∷ [])
 pub further_on : (before after : Play) (client : ℕ) → GoesOnWith before after → IsFurther before client → IsFurther after client
 further_on before after client on so = record {
   past = subst (λ number. number ≤ client) (λ i. known_clients (sym on.script i) (sym on.helm i)) so.past;
-  named = subst (λ (lock : CommunityLock). client < length lock.base) (sym on.lock) so.named;
+  named = subst (λ (names : List (List ℕ)). client < length names) (sym on.names) so.named;
 }
 
 -- behind one client of a script and a helm the next one is
-pub further_third : (script : Script) (run : HelmRun) (further : List (List ℕ)) (play : Play) → length script.names ≡ 1 → length further ≡ 1 → play.script.now ≡ script → helm_in play ≡ option_map (steering_with script) (Some run)
+pub further_third : (script : Script) (run : HelmRun) (further : List (List ℕ)) (play : Play) → length script.names ≡ 1 → length further ≡ 1 → script_played play ≡ script → helm_in play ≡ option_map (steering_with script) (Some run)
     → clients_in play ≡ names_with script (Some run) ++ further → IsFurther play 2
 further_third script run further play one more script_is helm_is names_is = record {
   past = subst (λ number. number ≤ 2) (λ i. known_clients (sym script_is i) (sym helm_is i)) (omega (arith, helm_more script (steering_with script run), one));

@@ -1,13 +1,13 @@
 -- How often the helm of a run has fetched, and which iterations stand in a part of its history.
 use Rattle.std.proofs.Common.{◌≡◌, ℕ, zero, suc, ◌+◌, ◌*◌, ◌<◌, ◌≤◌, ◌==◌, ◌&&◌, Bool, true, false, cond, nat_le, List, [], ◌∷◌, ◌++◌, length, drop, filter, Option, None, Some, inl, inr, refl, ap, sym, ◌∙◌, subst, arith, length-append, append_assoc}
-use Rattle.std.specs.Prelude.{◌⊎◌}
+use Rattle.std.specs.Prelude.{◌⊎◌, IfSome}
 use Rattle.std.proofs.Math.Dec.{eqb-suc-suc, eqb-suc-zero, eqb-zero-suc}
 use Rattle.std.proofs.lemmas.Bool.{and_parts}
 use Rattle.std.proofs.lemmas.Bool.Decides.{nat_tests}
 use Rattle.std.proofs.lemmas.List.{drop_all, drop_at, drop-append-le, drop-drop}
 use Rattle.std.proofs.lemmas.List.Elements.{filter-append}
 use Rattle.std.proofs.lemmas.List.Sums.{length-filter, sum_by-append, sum_by_push}
-use Rattle.helm_core.specs.Helms.{plan_of}
+use Rattle.helm_core.specs.declared.iteration.Iteration.{Iteration}
 use Rattle.helm_core.specs.Ticks.{Tick, tick_of}
 use Rattle.moos_client.specs.Calls.{entries_of}
 use Rattle.moos_db.specs.Database.{letters_after}
@@ -17,12 +17,9 @@ use Rattle.moos_post.specs.declared.entry.Entry.{Entry}
 use Rattle.moos_post.specs.Delivery.{is_fetch}
 use Rattle.moos_post.specs.History.{History}
 use Rattle.moos_play.specs.declared.playing.Play.{Play}
-use Rattle.moos_play.specs.declared.steersman.Steersman.{Steersman}
 use Rattle.moos_client.specs.Hearing.{heard_in}
 use Rattle.moos_play.specs.Lawful.{heard_of, helm_number, names_with, opening_of, Steering, tick_entries, ticks_of, mailed_in}
-use Rattle.moos_play.specs.Plays.{clients_in, helm_in, history_in, IsBetween, iterations_made, made_by}
-use Rattle.moos_play.specs.Steered.{GoesOnWith, helm_of, opened_by, StandsAt, steering_of, Steers}
-use Rattle.moos_play.proofs.Hearing.{iterations_many}
+use Rattle.moos_play.specs.Plays.{clients_in, GoesOnWith, HasSteeredSoFar, HasTicked, helm_in, history_in, IsRunFor, iterations_by, iterations_made, script_played}
 use Rattle.moos_report.specs.IterationLines.{helm_fetches, is_helm, is_helm_fetch, is_helm_post, is_posting}
 use Rattle.moos_report.specs.Parts.{EndsWithin}
 use Rattle.moos_jobs.proofs.Communities.{helm_name, not_true}
@@ -157,40 +154,32 @@ ticks_begin helm heard first (suc n) = by (nat_le first n) refl (ticks_begin hel
         subst BeginsFetching (sym (drop_all (2 * first) (front ++ tick_entries helm heard n) (omega (arith, past, ticks_many helm heard (suc n))))) tt
 
 -- from one stand of the helm to a later one it fetches first
-steered_on : (names : List (List ℕ)) (s t : Steersman) (history part : History) → steering_of t ≡ steering_of s → s.opened ≡ true → t.opened ≡ true → Steers names s history → Steers names t (history ++ part)
-    → BeginsFetching (entries_of s.number part)
-steered_on names s t history part same opened also before after =
-    subst BeginsFetching (sym parts) (ticks_begin (steering_of s) heard s.ticks t.ticks)
+steered_on : (names : List (List ℕ)) (helm : Steering) (m n : ℕ) (history part : History) → HasTicked names helm m history → HasTicked names helm n (history ++ part) → BeginsFetching (entries_of helm.client part)
+steered_on names helm m n history part before after = subst BeginsFetching (sym parts) (ticks_begin helm heard m n)
   where
     heard : List Tick
-    heard = heard_of names s.number (history ++ part)
+    heard = heard_of names helm.client (history ++ part)
 
     front : List Entry
-    front = opening_of (steering_of s)
+    front = opening_of helm
 
-    many : length (entries_of s.number history) ≡ length front + 2 * s.ticks
-    many = ap length (before.own ∙ ap (λ b. opened_by b (steering_of s) ++ ticks_of (steering_of s) (heard_of names s.number history) s.ticks) opened)
-        ∙ length-append front (ticks_of (steering_of s) (heard_of names s.number history) s.ticks) ∙ ap (λ n. length front + n) (ticks_many (steering_of s) (heard_of names s.number history) s.ticks)
+    many : length (entries_of helm.client history) ≡ length front + 2 * m
+    many = ap length before.own ∙ length-append front (ticks_of helm (heard_of names helm.client history) m) ∙ ap (λ n. length front + n) (ticks_many helm (heard_of names helm.client history) m)
 
-    own : entries_of s.number (history ++ part) ≡ front ++ ticks_of (steering_of s) heard t.ticks
-    own = subst (λ (helm : Steering). entries_of helm.client (history ++ part) ≡ opening_of helm ++ ticks_of helm (heard_of names helm.client (history ++ part)) t.ticks) same
-        (after.own ∙ ap (λ b. opened_by b (steering_of t) ++ ticks_of (steering_of t) (heard_of names t.number (history ++ part)) t.ticks) also)
-
-    parts : entries_of s.number part ≡ drop (2 * s.ticks) (ticks_of (steering_of s) heard t.ticks)
+    parts : entries_of helm.client part ≡ drop (2 * m) (ticks_of helm heard n)
     parts =
-        sym (drop_at (entries_of s.number history) (entries_of s.number part) (length front + 2 * s.ticks) many)
-        ∙ ap (drop (length front + 2 * s.ticks)) (sym (filter-append (λ entry. entry.client == s.number) history part) ∙ own)
-        ∙ sym (drop-drop (2 * s.ticks) (length front) (front ++ ticks_of (steering_of s) heard t.ticks))
-        ∙ ap (drop (2 * s.ticks)) (drop_at front (ticks_of (steering_of s) heard t.ticks) (length front) refl)
+        sym (drop_at (entries_of helm.client history) (entries_of helm.client part) (length front + 2 * m) many)
+        ∙ ap (drop (length front + 2 * m)) (sym (filter-append (λ entry. entry.client == helm.client) history part) ∙ after.own)
+        ∙ sym (drop-drop (2 * m) (length front) (front ++ ticks_of helm heard n)) ∙ ap (drop (2 * m)) (drop_at front (ticks_of helm heard n) (length front) refl)
 
 -- the helm of a script has fetched as often as it has made iterations
-counted : (script : Script) (names : List (List ℕ)) (s : Option Steersman) (history : History) → IsValid script → names ≡ names_with script (helm_of s) → StandsAt names (helm_number script) s history
-    → helm_fetches names history ≡ length (made_by names history s)
-counted script names None history valid is stands =
-    ap (λ names. helm_fetches names history) is ∙ none history
+counted : (script : Script) (names : List (List ℕ)) (helm : Option Steering) (made : List Iteration) (history : History) → IsValid script → names ≡ names_with script helm → (helm ≡ None → made ≡ []) → IfSome helm (λ helm. helm.client ≡ helm_number script)
+    → IfSome helm (λ helm. HasTicked names helm (length made) history) → helm_fetches names history ≡ length made
+counted script names None made history valid is none number ticked =
+    ap (λ names. helm_fetches names history) is ∙ none_fetch history ∙ sym (ap length (none refl))
   where
-    none : (history : History) → helm_fetches script.names history ≡ 0
-    none history = sym (length-filter (is_helm_fetch script.names) history) ∙ none_in history
+    none_fetch : (history : History) → helm_fetches script.names history ≡ 0
+    none_fetch history = sym (length-filter (is_helm_fetch script.names) history) ∙ none_in history
       where
         none_in : (history : History) → length (filter (is_helm_fetch script.names) history) ≡ 0
         none_in [] = refl
@@ -201,40 +190,51 @@ counted script names None history valid is stands =
             by true f e so = absurd cc
             by false true e so = so
             by false false e so = so
-counted script names (Some s) history valid is stands =
+counted script names (Some helm) made history valid is none number ticked =
     sym (length-filter (is_helm_fetch names) history)
     ∙ fetched_heard names (helm_number script) (subst (λ names. (client : ℕ) → is_helm names client ≡ (client == helm_number script)) (sym is) (helm_named script.names valid.clients)) [] history
-    ∙ ap (λ number. length (heard_of names number history)) (sym stands.0) ∙ stands.2.many
-    ∙ sym (iterations_many (plan_of s.helm) (heard_of names s.number history) s.ticks)
+    ∙ ap (λ number. length (heard_of names number history)) (sym number) ∙ ticked.many
 
 -- the part between two rounds has the iterations that are made in it
-pub part_ends : (script : Script) (names : List (List ℕ)) (s t : Option Steersman) (history part : History) → IsValid script → names ≡ names_with script (helm_of s) → helm_of t ≡ helm_of s
-    → StandsAt names (helm_number script) s history → StandsAt names (helm_number script) t (history ++ part)
-    → EndsWithin names history (length (made_by names history s)) (length (made_by names (history ++ part) t)) part
-part_ends script names None None history part valid is same before after =
-    ends_none names history part 0 0 (subst (λ names. (client : ℕ) → is_helm names client ≡ false) (sym is) (none_named script.names valid.clients))
-part_ends script names None (Some t) history part valid is same before after = absurd cc
-part_ends script names (Some s) None history part valid is same before after = absurd cc
-part_ends script names (Some s) (Some t) history part valid is same before after =
-    let first = counted script names (Some s) history valid is before in
-    let last = counted script names (Some t) (history ++ part) valid (is ∙ ap (λ helm. names_with script helm) (sym same)) after in
-    let one : steering_of t ≡ steering_of s = cc in
-    let begins = subst (λ n. BeginsFetching (entries_of n part)) before.0 (steered_on names s t history part one before.1 after.1 before.2 after.2) in
-    ends_here names (helm_number script) (subst (λ names. (client : ℕ) → is_helm names client ≡ (client == helm_number script)) (sym is) (helm_named script.names valid.clients))
-    history part (length (made_by names history (Some s))) (length (made_by names (history ++ part) (Some t))) (omega (arith, last)) (inr (omega (arith, first), begins))
+pub part_ends : (script : Script) (names : List (List ℕ)) (helm : Option Steering) (old new : List Iteration) (history part : History) → IsValid script → names ≡ names_with script helm → (helm ≡ None → old ≡ []) → (helm ≡ None → new ≡ [])
+    → IfSome helm (λ helm. helm.client ≡ helm_number script) → IfSome helm (λ helm. HasTicked names helm (length old) history) → IfSome helm (λ helm. HasTicked names helm (length new) (history ++ part))
+    → EndsWithin names history (length old) (length new) part
+part_ends script names None old new history part valid is none none' number before after =
+    ends_none names history part (length old) (length new) (subst (λ names. (client : ℕ) → is_helm names client ≡ false) (sym is) (none_named script.names valid.clients))
+part_ends script names (Some helm) old new history part valid is none none' number before after =
+    let first = counted script names (Some helm) old history valid is none number before in
+    let last = counted script names (Some helm) new (history ++ part) valid is none' number after in
+    let begins = subst (λ n. BeginsFetching (entries_of n part)) number (steered_on names helm (length old) (length new) history part before after) in
+    ends_here names (helm_number script) (subst (λ names. (client : ℕ) → is_helm names client ≡ (client == helm_number script)) (sym is) (helm_named script.names valid.clients)) history part (length old) (length new) (omega (arith, last))
+    (inr (omega (arith, first), begins))
+
+-- what is known of a run between two rounds
+pub record IsRunWell (play : Play) : Type 0 where
+  pub valid : IsValid (script_played play)
+  pub helm : IfSome (helm_in play) (IsRunFor (script_played play) (length (iterations_made play)))
+  pub steered : HasSteeredSoFar play
+
+-- its helm, where there is one, has the number behind the script's clients
+pub helm_behind : (script : Script) (made : ℕ) (helm : Option Steering) → IfSome helm (IsRunFor script made) → IfSome helm (λ helm. helm.client ≡ helm_number script)
+helm_behind script made None run = tt
+helm_behind script made (Some helm) run = run.client
+
+-- without a helm no iteration is made
+pub none_without : (play : Play) → helm_in play ≡ None → iterations_made play ≡ []
+none_without play none = ap (λ helm. iterations_by (clients_in play) (history_in play) helm play.ticks) none
 
 -- the names of a run's clients are those of its script, and its helm's
 abbrev pub IsNamed : Play → Type 0
-IsNamed play = clients_in play ≡ names_with play.script.now (helm_in play)
+IsNamed play = clients_in play ≡ names_with (script_played play) (helm_in play)
 
 pub named_on : (before after : Play) → GoesOnWith before after → IsNamed before → IsNamed after
-named_on before after on named =
-    ap (λ lock. lock.base) on.lock ∙ named ∙ (λ i. names_with (sym on.script i) (sym on.helm i))
+named_on before after on named = on.names ∙ named ∙ (λ i. names_with (sym on.script i) (sym on.helm i))
 
-pub fetched : (play : Play) → IsBetween play → IsNamed play → helm_fetches (clients_in play) (history_in play) ≡ length (iterations_made play)
-fetched play between named = counted play.script.now play.lock.base play.steersman play.first.seat.seen between.valid named between.at_play.under.steered
+pub fetched : (play : Play) → IsRunWell play → IsNamed play → helm_fetches (clients_in play) (history_in play) ≡ length (iterations_made play)
+fetched play well named =
+    counted (script_played play) (clients_in play) (helm_in play) (iterations_made play) (history_in play) well.valid named (none_without play) (helm_behind (script_played play) (length (iterations_made play)) (helm_in play) well.helm) well.steered
 
 -- what was written so far has no iteration that isn't made
-pub ends_far : (play : Play) → IsBetween play → IsNamed play → EndsWithin (clients_in play) [] 0 (length (iterations_made play)) (history_in play)
-ends_far play between named =
-    ends_so_far (clients_in play) [] (history_in play) (length (iterations_made play)) (omega (arith, fetched play between named))
+pub ends_far : (play : Play) → IsRunWell play → IsNamed play → EndsWithin (clients_in play) [] 0 (length (iterations_made play)) (history_in play)
+ends_far play well named =
+    ends_so_far (clients_in play) [] (history_in play) (length (iterations_made play)) (omega (arith, fetched play well named))

@@ -5,7 +5,6 @@ use Rattle.std.proofs.Math.Seq.{take-append-add}
 use Rattle.std.proofs.Math.Nat.{div-le_self}
 use Rattle.std.proofs.lemmas.List.{drop_at, take_at, take-append-le}
 use Rattle.helm_core.specs.declared.iteration.Iteration.{Iteration}
-use Rattle.helm_core.specs.Helms.{plan_of}
 use Rattle.helm_core.specs.Plans.{wants_of}
 use Rattle.moos_client.specs.Calls.{entry_of}
 use Rattle.moos_io.specs.Faults.{Faring, FaresOn, Fell}
@@ -15,11 +14,8 @@ use Rattle.moos_post.specs.declared.entry.Call.TheVariants.{Register, Post as Po
 use Rattle.moos_post.specs.History.{History}
 use Rattle.moos_play.specs.declared.playing.Play.{Play}
 use Rattle.moos_play.specs.declared.round_made.Round.{Round}
-use Rattle.moos_play.specs.declared.steersman.Steersman.{Steersman}
-use Rattle.moos_play.specs.Lawful.{heard_of, helm_number, IsLawful, iterations, names_with, opening, Steering, ticks_to}
-use Rattle.moos_play.specs.Plays.{clients_in, HasCompletion, helm_in, history_in, IsBetween, IsPlayedOut, IsRound, iterations_made, made_by, StaysSeated}
-use Rattle.moos_play.specs.Steered.{GoesOnWith, StandsAt, steering_of}
-use Rattle.moos_play.proofs.Hearing.{iterations_many}
+use Rattle.moos_play.specs.Lawful.{heard_of, helm_number, IsLawful, iterations, names_with, opening, Steering}
+use Rattle.moos_play.specs.Plays.{clients_in, GoesOnWith, HasCompletion, HasTicked, helm_in, history_in, IsPlayedOut, IsRound, IsRunFor, iterations_made, order_played, script_played, StaysSeated}
 use Rattle.moos_report.specs.declared.setup.Setup.{Setup}
 use Rattle.moos_report.specs.IterationLines.{helm_fetches}
 use Rattle.moos_report.specs.Parts.{EndsWithin, front_text, FrontsStay, PartsAddUp}
@@ -28,7 +24,7 @@ use Rattle.command_line.specs.Endings.{sinking}
 use Rattle.command_line.specs.declared.status.Status.{Status}
 use Rattle.command_line.specs.declared.status.Status.TheVariants.{Done, WriteFault}
 use Rattle.moos_jobs.specs.Telling.{IsOfLawful, IsToldSoFar, Tells, ToldFront}
-use Rattle.moos_jobs.proofs.Fetching.{IsNamed, fetched, ends_far, part_ends}
+use Rattle.moos_jobs.proofs.Fetching.{IsNamed, IsRunWell, ends_far, fetched, helm_behind, none_without, part_ends}
 use Rattle.script_reader.specs.declared.script.Order.{Order}
 use Rattle.script_reader.specs.declared.script.Script.{Script}
 
@@ -60,7 +56,7 @@ whole_of_more before after text more some took =
     (length text, omega (arith, some, length-append text more), subst (Took before after) (sym (take_at text more (length text) refl)) took)
 
 -- what a round brought stands behind what was printed before
-module _ (setup : Setup) (old new : Play) (round : Round) (adds : PartsAddUp) (before : IsBetween old) (after : IsBetween new) (named : IsNamed old) (on : GoesOnWith old new) (stays : StaysSeated old new)
+module _ (setup : Setup) (old new : Play) (round : Round) (adds : PartsAddUp) (before : IsRunWell old) (after : IsRunWell new) (named : IsNamed old) (on : GoesOnWith old new) (stays : StaysSeated old new)
     (made : IsRound old new round) where
   abbrev part : History
   part = stays.later.0
@@ -72,23 +68,24 @@ module _ (setup : Setup) (old new : Play) (round : Round) (adds : PartsAddUp) (b
   entries_behind = ap (drop round.from) stays.later.1 ∙ drop_at (history_in old) part round.from (sym made.from)
 
   names_same : clients_in new ≡ clients_in old
-  names_same = ap (λ lock. lock.base) on.lock
+  names_same = on.names
 
   pub fetched_before : helm_fetches (clients_in new) (take round.from (history_in new)) ≡ length (iterations_made old)
   fetched_before = (λ i. helm_fetches (names_same i) (entries_before i)) ∙ fetched old before named
 
   part_own : EndsWithin (clients_in old) (history_in old) (length (iterations_made old)) (length (iterations_made old) + length round.iterations) part
   part_own =
-      subst (λ limit. EndsWithin (clients_in old) (history_in old) (length (iterations_made old)) limit part) many
-      (part_ends old.script.now (clients_in old) old.steersman new.steersman (history_in old) part before.valid named on.helm before.at_play.under.steered stands)
+      subst (λ limit. EndsWithin (clients_in old) (history_in old) (length (iterations_made old)) limit part) (ap length made.iterations ∙ length-append (iterations_made old) round.iterations)
+      (part_ends (script_played old) (clients_in old) (helm_in old) (iterations_made old) (iterations_made new) (history_in old) part before.valid named (none_without old) (λ none. none_without new (on.helm ∙ none))
+      (helm_behind (script_played old) (length (iterations_made old)) (helm_in old) before.helm) before.steered stands)
     where
-      stands : StandsAt (clients_in old) (helm_number old.script.now) new.steersman (history_in old ++ part)
-      stands = subst (λ history. StandsAt (clients_in old) (helm_number old.script.now) new.steersman history) stays.later.1
-          (subst (λ names. StandsAt names (helm_number old.script.now) new.steersman (history_in new)) names_same
-          (subst (λ (script : Script). StandsAt (clients_in new) (helm_number script) new.steersman (history_in new)) on.script after.at_play.under.steered))
+      count : ℕ
+      count = length (iterations_made new)
 
-      many : length (made_by (clients_in old) (history_in old ++ part) new.steersman) ≡ length (iterations_made old) + length round.iterations
-      many = ap length ((λ i. made_by (sym names_same i) (sym stays.later.1 i) new.steersman) ∙ made.iterations) ∙ length-append (iterations_made old) round.iterations
+      stands : IfSome (helm_in old) (λ helm. HasTicked (clients_in old) helm count (history_in old ++ part))
+      stands = subst (λ history. IfSome (helm_in old) (λ helm. HasTicked (clients_in old) helm count history)) stays.later.1
+          (subst (λ names. IfSome (helm_in old) (λ helm. HasTicked names helm count (history_in new))) on.names
+          (subst (λ helm. IfSome helm (λ helm. HasTicked (clients_in new) helm count (history_in new))) on.helm after.steered))
 
   part_joins : front_text setup (clients_in old) (history_in old) (iterations_made old)
       ++ entries_text setup (length (iterations_made old)) round.iterations (clients_in new) (take round.from (history_in new)) (drop round.from (history_in new))
@@ -124,7 +121,7 @@ of_lawful order script helm setup names history made named lawful is = record {
 }
 
 -- what was printed of a run between two rounds is a front of the report of a lawful history
-module _ (setup : Setup) (play : Play) (stay : FrontsStay) (between : IsBetween play) (named : IsNamed play) (on : HasCompletion play) where
+module _ (setup : Setup) (play : Play) (stay : FrontsStay) (well : IsRunWell play) (named : IsNamed play) (on : HasCompletion play) where
   abbrev behind : List ℕ
   behind = entries_text setup 0 (iterations_made play ++ on.more) (clients_in play) (history_in play) on.rest ++ end_text (history_in play ++ on.rest)
 
@@ -134,12 +131,12 @@ module _ (setup : Setup) (play : Play) (stay : FrontsStay) (between : IsBetween 
   abbrev text : List ℕ
   text = front_text setup (clients_in play) (history_in play) (iterations_made play) ++ behind
 
-  lawful_text : IsOfLawful play.order play.script.now (helm_in play) setup text
+  lawful_text : IsOfLawful (order_played play) (script_played play) (helm_in play) setup text
   lawful_text =
-      subst (IsOfLawful play.order play.script.now (helm_in play) setup) (stay setup (clients_in play) (history_in play) on.rest (iterations_made play) on.more (ends_far play between named))
-      (of_lawful play.order play.script.now (helm_in play) setup (clients_in play) (history_in play ++ on.rest) (iterations_made play ++ on.more) named (on.alone named) (sym on.iterations))
+      subst (IsOfLawful (order_played play) (script_played play) (helm_in play) setup) (stay setup (clients_in play) (history_in play) on.rest (iterations_made play) on.more (ends_far play well named))
+      (of_lawful (order_played play) (script_played play) (helm_in play) setup (clients_in play) (history_in play ++ on.rest) (iterations_made play ++ on.more) named (on.alone named) (sym on.iterations))
 
-  pub told_so_far : (before after : Option (List ℕ)) (faults later : Faring) → IsToldSoFar setup before after play → ToldFront play.order play.script.now (helm_in play) setup (sinking before after faults later)
+  pub told_so_far : (before after : Option (List ℕ)) (faults later : Faring) → IsToldSoFar setup before after play → ToldFront (order_played play) (script_played play) (helm_in play) setup (sinking before after faults later)
   told_so_far before after faults later told = record {
     text = text;
     lawful = lawful_text;
@@ -147,7 +144,7 @@ module _ (setup : Setup) (play : Play) (stay : FrontsStay) (between : IsBetween 
   }
 
   pub told_front : (before after : Option (List ℕ)) (faults later : Faring) → TookFront before after (front_text setup (clients_in play) (history_in play) (iterations_made play))
-      → ToldFront play.order play.script.now (helm_in play) setup (sinking before after faults later)
+      → ToldFront (order_played play) (script_played play) (helm_in play) setup (sinking before after faults later)
   told_front before after faults later front = record {
     text = text;
     lawful = lawful_text;
@@ -160,11 +157,11 @@ whole_text : (setup : Setup) (play : Play) → front_text setup (clients_in play
 whole_text setup play =
     append_assoc (head_text setup (clients_in play)) (entries_text setup 0 (iterations_made play) (clients_in play) [] (history_in play)) (end_text (history_in play))
 
-over_text : (setup : Setup) (play : Play) → IsNamed play → IsPlayedOut play → IsOfLawful play.order play.script.now (helm_in play) setup
+over_text : (setup : Setup) (play : Play) → IsNamed play → IsPlayedOut play → IsOfLawful (order_played play) (script_played play) (helm_in play) setup
     (front_text setup (clients_in play) (history_in play) (iterations_made play) ++ end_text (history_in play))
 over_text setup play named over =
-    subst (IsOfLawful play.order play.script.now (helm_in play) setup) (sym (whole_text setup play))
-    (of_lawful play.order play.script.now (helm_in play) setup (clients_in play) (history_in play) (iterations_made play) named (over.alone named) over.iterations)
+    subst (IsOfLawful (order_played play) (script_played play) (helm_in play) setup) (sym (whole_text setup play))
+    (of_lawful (order_played play) (script_played play) (helm_in play) setup (clients_in play) (history_in play) (iterations_made play) named (over.alone named) over.iterations)
 
 -- what holds of one run holds of another by the same order, script and helm
 pub run_as : (P : Order → Script → Option Steering → Type 0) {order order' : Order} {script script' : Script} {helm helm' : Option Steering} → order ≡ order' → script ≡ script' → helm ≡ helm'
@@ -175,7 +172,7 @@ run_as P {order = order} {order' = order'} {script = script} {script' = script'}
 -- a run in which nothing is left, whose end is put
 pub end_told : {E : Type 0} (setup : Setup) (play : Play) (before between after : Option (List ℕ)) (first then last : Faring) (put : Result (Unit {0}) E) (status : Status) → IsNamed play → IsPlayedOut play → IsToldSoFar setup before between play
     → OnOk put (Took between after (end_text (history_in play))) → OnErr put (TookFront between after (end_text (history_in play))) → FaresOn first then → OnErr put (Fell then last after)
-    → OnOk put (status ≡ Done) → OnErr put (status ≡ WriteFault) → Tells play.order play.script.now (helm_in play) setup (sinking before after first last) status
+    → OnOk put (status ≡ Done) → OnErr put (status ≡ WriteFault) → Tells (order_played play) (script_played play) (helm_in play) setup (sinking before after first last) status
 end_told setup play before between after first then last (Ok put) status named over told took front later rose all fault =
     rw all (record {
       text = front_text setup (clients_in play) (history_in play) (iterations_made play) ++ end_text (history_in play);
@@ -193,9 +190,9 @@ end_told setup play before between after first then last (Err failed) status nam
     )
 
 -- before the first round no iteration is made
-pub none_made : (play : Play) → IsBetween play → IsNamed play → history_in play ≡ opening (helm_in play) → iterations_made play ≡ []
-none_made play between named begun =
-    none (iterations_made play) (sym (fetched play between named) ∙ ap (helm_fetches (clients_in play)) begun ∙ deaf (helm_in play))
+pub none_made : (play : Play) → IsRunWell play → IsNamed play → history_in play ≡ opening (helm_in play) → iterations_made play ≡ []
+none_made play well named begun =
+    none (iterations_made play) (sym (fetched play well named) ∙ ap (helm_fetches (clients_in play)) begun ∙ deaf (helm_in play))
   where
     none : (made : List Iteration) → length made ≡ 0 → made ≡ []
     none [] many = refl
@@ -210,13 +207,21 @@ none_made play between named begun =
         by false = refl
 
 -- the iterations of a run are few
-pub few_made : (play : Play) → IsBetween play → length (iterations_made play) ≤ 1000000001
-few_made play between = few play.steersman between.at_play.period
+pub few_made : (play : Play) → IsRunWell play → length (iterations_made play) ≤ 1000000001
+few_made play well = few (helm_in play) (λ none. none_without play none) well.helm
   where
-    few : (s : Option Steersman) → IfSome s (λ helm. (1 ≤ helm.period) × (helm.ticks ≤ ticks_to play.script.now.stop (steering_of helm))) → length (made_by (clients_in play) (history_in play) s) ≤ 1000000001
-    few None period = omega arith
-    few (Some s) period =
-        omega (arith, iterations_many (plan_of s.helm) (heard_of (clients_in play) s.number (history_in play)) s.ticks, period.1, div-le_self play.script.now.stop s.period, between.valid.early)
+    few : (helm : Option Steering) → (helm ≡ None → iterations_made play ≡ []) → IfSome helm (IsRunFor (script_played play) (length (iterations_made play))) → length (iterations_made play) ≤ 1000000001
+    few None none run = omega (arith, ap length (none refl))
+    few (Some helm) none run = omega (arith, run.few, div-le_self (script_played play).stop helm.period, well.valid.early)
+
+-- a run that goes on twice
+pub goes_on_twice : (before middle after : Play) → GoesOnWith before middle → GoesOnWith middle after → GoesOnWith before after
+goes_on_twice before middle after one other = record {
+  script = other.script ∙ one.script;
+  order = other.order ∙ one.order;
+  names = other.names ∙ one.names;
+  helm = other.helm ∙ one.helm;
+}
 
 -- the names with a helm are the same, whatever is known of it
 pub named_with : {A : Type 0} (script : Script) (steering : A → Steering) (helm : Option A) → names_with script helm ≡ names_with script (option_map steering helm)

@@ -1,10 +1,9 @@
 // A run whose report is written as it comes: how it begins before the first round, and what each round brings before the next.
-ghost use Rattle.std.specs.Prelude.{◌≡◌, ◌+◌, ◌<◌, ◌≤◌, [], drop, length, option_map, take, IfErr, IfNone, IfOk, IfSome, OnErr, OnOk, Option, List, ℕ};
+ghost use Rattle.std.specs.Prelude.{◌≡◌, ◌+◌, ◌^◌, ◌<◌, ◌≤◌, [], drop, length, option_map, take, IfErr, IfNone, IfOk, IfSome, OnErr, OnOk, Option, List, ℕ};
 ghost use Rattle.moos_io.specs.Faults.{Faring, FaresOn, Fell};
 ghost use Rattle.moos_io.specs.Pieces.{Took, TookFront};
 ghost use Rattle.moos_play.specs.Lawful.{MayStart, names_with, opening, steering_with};
-ghost use Rattle.moos_play.specs.Plays.{clients_in, HasCompletion, helm_in, history_in, IsBetween, IsPlayedOut, IsSeated, iterations_made, left_in, order_played, script_played};
-ghost use Rattle.moos_play.specs.Steered.{GoesOnWith};
+ghost use Rattle.moos_play.specs.Plays.{clients_in, GoesOnWith, HasCompletion, helm_in, history_in, IsBetween, IsPlayedOut, IsSeated, iterations_made, left_in, order_played, script_played};
 ghost use Rattle.moos_report.specs.IterationLines.{helm_fetches};
 ghost use Rattle.moos_report.specs.Parts.{front_text};
 ghost use Rattle.moos_report.specs.Report.{end_text, entries_text};
@@ -114,6 +113,7 @@ fn tell_round<R: Threads + Wait + Sync, K: Sink, G: Gate>(
     ensures same { OnOk result (GoesOnWith play.old play.new) }
     ensures later { FaresOn (K.faults out.old) (K.faults out.new) }
     ensures made { IfOk result (λ more. IfSome more (λ more. length (iterations_made play.new) ≡ made + more)) }
+    ensures few { IfOk result (λ more. IfSome more (λ more. made + more < 2 ^ 64)) }
     ensures less { IfOk result (λ more. IfSome more (λ _. left_in play.new < left_in play.old)) }
     ensures on { IfOk result (λ more. IfSome more (λ _. HasCompletion play.new)) }
     // Whatever was told before.
@@ -125,6 +125,7 @@ fn tell_round<R: Threads + Wait + Sync, K: Sink, G: Gate>(
         → Tells (order_played play.old) (script_played play.old) (helm_in play.old) setup.now (sinking before (K.taken out.new) faults (K.faults out.new)) status) }
 {
     parts_law();
+    play.front_law();
     let Ok(next) = play.round(rt, alloc, workers, gate) else {
         return Err(Status::NoMemory);
     };

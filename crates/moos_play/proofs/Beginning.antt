@@ -7,7 +7,11 @@ use Rattle.script_reader.specs.declared.script.Order.TheVariants.{Stamp, Race}
 use Rattle.script_reader.specs.declared.script.Order.{Order}
 use Rattle.moos_step.specs.Steps.{CommunityLock, GoesOn, IsAlone, IsGathered, IsWhole, KnowsNothing}
 use Rattle.moos_play.proofs.Turns.{helm_part, start_is}
+use Rattle.moos_play.specs.Lawful.{heard_of, helm_number, iterations_of, mailed_in, names_with, opening, opening_of, Steering, ticks_of, ticks_to}
+use Rattle.moos_play.specs.Plays.{helm_in, history_in}
+use Rattle.moos_play.specs.Runs.{IsAtPlay, IsPaused, shown_by}
 use Rattle.moos_play.specs.Schedules.{answerers, answering, schedule_with, tick_period}
+use Rattle.moos_play.specs.Steered.{HasOpened, helm_of, IsUnderWay, IsUnopened, left_for, parts, run_as, StandsAt, steering_of, Steers, told_in, turns_left}
 use Rattle.moos_post.specs.declared.entry.Entry.{Entry}
 use Rattle.moos_lawful.proofs.Stepping.{line_moment, race_rises, turns_rise}
 use Rattle.moos_lawful.proofs.Rising.{lower}
@@ -22,7 +26,7 @@ use Rattle.std.proofs.Common.{◌≡◌, ℕ, ◌+◌, ◌*◌, ◌^◌, ◌<◌
 use Rattle.std.specs.List.{list_all}
 use Rattle.std.proofs.lemmas.List.{drop_all}
 use Rattle.std.specs.Prelude.{IfSome, option_map, map}
-use Rattle.moos_play.specs.declared.playing.Play.{Play}
+use Rattle.moos_play.specs.declared.stage.Stage.{Stage}
 use Rattle.moos_play.specs.declared.run.HelmRun.{HelmRun}
 use Rattle.moos_play.specs.declared.steersman.Steersman.{Steersman}
 use Rattle.helm_core.specs.Helms.{plan_of}
@@ -31,9 +35,6 @@ use Rattle.moos_client.specs.Calls.{entry_of, entries_of, SeatState}
 use Rattle.moos_post.specs.declared.entry.Call.TheVariants.{Register, Post as Posts}
 use Rattle.moos_post.specs.Delivery.{is_fetch}
 use Rattle.moos_post.specs.History.{History}
-use Rattle.moos_play.specs.Lawful.{heard_of, helm_number, names_with, ticks_to, iterations_of, opening, opening_of, Steering, ticks_of, mailed_in}
-use Rattle.moos_play.specs.Plays.{helm_in, history_in, IsBetween}
-use Rattle.moos_play.specs.Steered.{HasOpened, helm_of, IsAtPlay, IsUnopened, IsUnderWay, run_as, StandsAt, steering_of, Steers, told_in, left_for, parts, turns_left}
 use Rattle.moos_play.proofs.Below.{names_more}
 use Rattle.moos_client.proofs.Hearing.{heard_deaf}
 use Rattle.script_reader.specs.declared.script.Script.{Script}
@@ -141,7 +142,7 @@ ticks_begin stop None so = tt
 ticks_begin stop (Some s) so = (so.1, omega (arith, so.0))
 
 -- the run that is made
-pub play_made : (script : Script) (helm : Option HelmRun) (further : List (List ℕ)) (n : ℕ) (steersman : Option Steersman) (play : Play) → are_lines (length script.names) 0 script.stop script.lines ≡ true → n ≡ length script.names → helm_of play.steersman ≡ helm_of steersman
+pub play_made : (script : Script) (helm : Option HelmRun) (further : List (List ℕ)) (n : ℕ) (steersman : Option Steersman) (play : Stage) → are_lines (length script.names) 0 script.stop script.lines ≡ true → n ≡ length script.names → helm_of play.steersman ≡ helm_of steersman
     → helm_of steersman ≡ option_map (run_as n) helm → play.lock.base ≡ names_with script helm ++ further → HasOpened play.lock n play.steersman play.first.seat → length play.calls.items ≡ n → play.from ≡ 0 → IsAtPlay script play
 play_made script helm further n steersman play valid number same is names opened calls from = record {
   under = subst (λ from. IsUnderWay play.order script play.lock play.steersman from play.first.seat) (sym from)
@@ -167,7 +168,7 @@ new_steers names n s seen is empty = subst (λ (seen : History). Steers names s 
 })
 
 -- a run that has made just its opening has handed out nothing
-pub none_told : (play : Play) → IsBetween play → history_in play ≡ opening (helm_in play) → told_in play.steersman ≡ 0
+pub none_told : (play : Stage) → IsPaused play → history_in (shown_by play) ≡ opening (helm_in (shown_by play)) → told_in play.steersman ≡ 0
 none_told play between begun = by play.steersman between.told between.at_play.under.steered begun
   where
     deaf : (helm : Steering) → heard_of play.lock.base helm.client (opening_of helm) ≡ []

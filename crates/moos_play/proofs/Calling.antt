@@ -1,9 +1,14 @@
 -- A run after a call of a further client.
 use Rattle.script_reader.specs.declared.script.Script.{Script}
 use Rattle.script_reader.specs.declared.script.Order.{Order}
+use Rattle.moos_play.specs.Lawful.{helm_number, iterations_of, known_clients, mailed_in}
+use Rattle.moos_play.specs.Plays.{IsFurther, iterations_made}
+use Rattle.moos_play.specs.Runs.{playing_of, IsPaused, shown_by}
 use Rattle.moos_play.specs.Schedules.{schedule_with}
+use Rattle.moos_play.specs.Steered.{HasPlayed, helm_of, IsUnderWay, made_by, parts, StandsAt, turns_left}
 use Rattle.moos_lawful.proofs.Going.{further_on}
 use Rattle.moos_play.proofs.Finishing.{parts_known, plays}
+use Rattle.moos_play.proofs.Showing.{seated_at}
 use Rattle.std.proofs.Common.{◌≡◌, ℕ, ◌≤◌, ◌<◌, true, cond, [], ◌∷◌, ◌++◌, length, nat_lt, Option, None, Some, Ok, Err, OnOk, Result, refl, sym, ap, ◌∙◌, subst, arith, append-nil, ne_eqb, List, drop, Bool, false}
 use Rattle.std.specs.Prelude.{OnErr}
 use Rattle.std.specs.declared.alloc.AllocError.{AllocError}
@@ -13,11 +18,8 @@ use Rattle.moos_play.proofs.Below.{known_helm}
 use Rattle.moos_play.proofs.Coming.{stands_on, turns_stay}
 use Rattle.moos_client.proofs.Hearing.{heard_on}
 use Rattle.moos_lawful.specs.Schedules.{IsLawfulSoFar}
-use Rattle.moos_play.specs.Lawful.{helm_number, iterations_of, known_clients, mailed_in}
 use Rattle.moos_step.specs.Steps.{added_by, IsGathered, IsWhole}
-use Rattle.moos_play.specs.Plays.{IsBetween, IsFurther, iterations_made, made_by}
-use Rattle.moos_play.specs.Steered.{HasPlayed, helm_of, IsUnderWay, parts, StandsAt, turns_left}
-use Rattle.moos_play.specs.declared.playing.Play.{Play}
+use Rattle.moos_play.specs.declared.stage.Stage.{Stage}
 use Rattle.moos_play.specs.declared.steersman.Steersman.{Steersman}
 use Rattle.moos_post.specs.History.{History}
 use Rattle.moos_post.specs.declared.entry.Entry.{Entry}
@@ -36,14 +38,14 @@ not_helm (Ok _) n entry past = ap (λ b. cond b (entry ∷ []) []) (ne_eqb entry
 not_helm (Err _) n entry past = refl
 
 -- who is at the helm stands as before
-helm_stands : {A : Type 0} (result : Result A AllocError) (play : Play) (entry : Entry) (steersman : Option Steersman) (history : History) → known_clients play.script.now (helm_of steersman) ≤ entry.client → StandsAt play.lock.base (helm_number play.script.now) steersman history
+helm_stands : {A : Type 0} (result : Result A AllocError) (play : Stage) (entry : Entry) (steersman : Option Steersman) (history : History) → known_clients play.script.now (helm_of steersman) ≤ entry.client → StandsAt play.lock.base (helm_number play.script.now) steersman history
     → StandsAt play.lock.base (helm_number play.script.now) steersman (history ++ added_by result entry)
 helm_stands result play entry None history past so = tt
 helm_stands result play entry (Some s) history past so =
     stands_on play.lock.base (helm_number play.script.now) (Some s) history (added_by result entry) so (not_helm result (helm_number play.script.now) entry (omega (arith, past, known_helm play.script.now s)))
 
 -- and has made the same iterations
-helm_made : {A : Type 0} (result : Result A AllocError) (play : Play) (entry : Entry) (steersman : Option Steersman) (history : History) → known_clients play.script.now (helm_of steersman) ≤ entry.client → StandsAt play.lock.base (helm_number play.script.now) steersman history
+helm_made : {A : Type 0} (result : Result A AllocError) (play : Stage) (entry : Entry) (steersman : Option Steersman) (history : History) → known_clients play.script.now (helm_of steersman) ≤ entry.client → StandsAt play.lock.base (helm_number play.script.now) steersman history
     → made_by play.lock.base (history ++ added_by result entry) steersman ≡ made_by play.lock.base history steersman
 helm_made result play entry None history past so = refl
 helm_made result play entry (Some s) history past so =
@@ -72,14 +74,10 @@ further_played (Ok _) order script names s from history entry played room stands
     by n true = refl
     by n false = turns s stands past
 
--- the run with another seat
-abbrev pub sat_at : Play → SeatState → Play
-sat_at play seat = record play { first = record play.first { seat = seat } }
-
 -- the run after a call of a further client
-pub entered_between : {A : Type 0} (result : Result A AllocError) (play : Play) (entry : Entry) (after : SeatState) → IsBetween play → IsFurther play entry.client → IsGathered play.lock after → IsWhole after → after.seen ≡ play.first.seat.seen ++ added_by result entry
-    → IsBetween (sat_at play after)
-entered_between result play entry after between further gathered whole is = record {
+pub entered_between : {A : Type 0} (result : Result A AllocError) (play : Stage) (w : Bool) (entry : Entry) (after : SeatState) → IsPaused play → IsFurther (playing_of play w) entry.client → IsGathered play.lock after → IsWhole after → after.seen ≡ play.first.seat.seen ++ added_by result entry
+    → IsPaused (seated_at play after)
+entered_between result play w entry after between further gathered whole is = record {
   valid = between.valid;
   at_play = record {
     under = record {
@@ -99,7 +97,7 @@ entered_between result play entry after between further gathered whole is = reco
     under : IsUnderWay play.order play.script.now play.lock play.steersman play.from play.first.seat
     under = between.at_play.under
 
-pub entered_made : {A : Type 0} (result : Result A AllocError) (play : Play) (entry : Entry) (after : SeatState) → IsBetween play → IsFurther play entry.client → after.seen ≡ play.first.seat.seen ++ added_by result entry
-    → iterations_made (sat_at play after) ≡ iterations_made play
-entered_made result play entry after between further is =
+pub entered_made : {A : Type 0} (result : Result A AllocError) (play : Stage) (w : Bool) (entry : Entry) (after : SeatState) → IsPaused play → IsFurther (playing_of play w) entry.client → after.seen ≡ play.first.seat.seen ++ added_by result entry
+    → iterations_made (shown_by (seated_at play after)) ≡ iterations_made (shown_by play)
+entered_made result play w entry after between further is =
     ap (λ history. made_by play.lock.base history play.steersman) is ∙ helm_made result play entry play.steersman play.first.seat.seen further.past between.at_play.under.steered

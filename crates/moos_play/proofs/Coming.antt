@@ -21,10 +21,10 @@ use Rattle.moos_step.specs.Steps.{CommunityLock, GoesOn, IsAlone, IsGathered, Is
 use Rattle.moos_post.specs.declared.entry.Call.TheVariants.{Fetch}
 use Rattle.moos_post.specs.declared.entry.Entry.{Entry}
 use Rattle.moos_post.specs.History.{History}
-use Rattle.moos_play.specs.declared.playing.Play.{Play}
+use Rattle.moos_play.specs.declared.stage.Stage.{Stage}
 use Rattle.moos_play.specs.declared.steersman.Steersman.{Steersman}
-use Rattle.moos_play.specs.Plays.{MayPlay}
 use Rattle.moos_play.specs.Lawful.{heard_of, helm_number, mailed_in, opening_of, Steering, tick_entries, ticks_of, ticks_to}
+use Rattle.moos_play.specs.Runs.{MayPlay}
 use Rattle.moos_play.specs.Schedules.{answerers, answering, schedule_with}
 use Rattle.moos_play.specs.Steered.{HasHeard, HasPlayed, helm_of, IsBehind, IsStopped, IsUnderWay, left_for, opened_by, StandsAt, steering_of, Steers, turns_left}
 use Rattle.moos_play.proofs.Below.{below_raised, beside_pass}
@@ -125,11 +125,11 @@ has_heard names number stop None history so period = tt
 has_heard names number stop (Some s) history so period = (so.0, omega (arith, so.2.many), period.1)
 
 -- lines that may be played are within the script, and may come next
-pub may_within : (order : Order) (play : Play) (to : ℕ) → MayPlay order play to → to ≤ length play.script.now.lines
+pub may_within : (order : Order) (play : Stage) (to : ℕ) → MayPlay order play to → to ≤ length play.script.now.lines
 may_within Stamp play to due = due.within
 may_within Race play to within = within
 
-pub may_come : (order : Order) (play : Play) (to : ℕ) → MayPlay order play to → play.from < to → MayCome play.script.now order play.steersman (take (to - play.from) (drop play.from play.script.now.lines))
+pub may_come : (order : Order) (play : Stage) (to : ℕ) → MayPlay order play to → play.from < to → MayCome play.script.now order play.steersman (take (to - play.from) (drop play.from play.script.now.lines))
 may_come Race play to within some = tt
 may_come Stamp play to due some = record {
   stamp = due.stamp;

@@ -4,11 +4,11 @@ use Rattle.std.specs.Prelude.{IfSome}
 use Rattle.helm_core.specs.declared.iteration.Iteration.{Iteration}
 use Rattle.helm_core.specs.Helms.{plan_of}
 use Rattle.moos_post.specs.History.{History}
-use Rattle.moos_play.specs.declared.playing.Play.{Play}
+use Rattle.moos_play.specs.declared.stage.Stage.{Stage}
 use Rattle.moos_play.specs.declared.steersman.Steersman.{Steersman}
 use Rattle.moos_play.specs.Lawful.{heard_of, helm_number, iterations, iterations_of, Steering, ticks_to}
-use Rattle.moos_play.specs.Plays.{made_by}
-use Rattle.moos_play.specs.Steered.{helm_of, IsAtPlay, iterations_in, left_of, StandsAt, steering_of, ticks_left, told_in}
+use Rattle.moos_play.specs.Runs.{IsAtPlay, left_of}
+use Rattle.moos_play.specs.Steered.{helm_of, iterations_in, made_by, StandsAt, steering_of, ticks_left, told_in}
 use Rattle.script_reader.specs.declared.script.Script.{Script}
 
 -- the helm has made all its ticks
@@ -29,12 +29,12 @@ made_kept names number history None so none = refl
 made_kept names number history (Some s) so none = so.2.same ∙ ap (λ told. drop told (iterations_of (plan_of s.helm) (heard_of names s.number history) s.ticks)) none
 
 -- where no tick is left the helm has made all
-pub over_ticks : (script : Script) (play : Play) (steersman : Option Steersman) → IfSome steersman (λ helm. (1 ≤ helm.period) × (helm.ticks ≤ ticks_to script.stop (steering_of helm))) → ticks_left script.stop steersman ≡ 0 → HasTicked script.stop steersman
+pub over_ticks : (script : Script) (play : Stage) (steersman : Option Steersman) → IfSome steersman (λ helm. (1 ≤ helm.period) × (helm.ticks ≤ ticks_to script.stop (steering_of helm))) → ticks_left script.stop steersman ≡ 0 → HasTicked script.stop steersman
 over_ticks script play None period none = tt
 over_ticks script play (Some s) period none = omega (arith, period.1, none)
 
 -- and they are those of the history
-pub iterations_end : (script : Script) (play : Play) (helm : Option Steering) (names : List (List ℕ)) (history : History) (done : List Iteration) → IsAtPlay script play → left_of script play ≡ 0 → told_in play.steersman ≡ 0 → helm_of play.steersman ≡ helm
+pub iterations_end : (script : Script) (play : Stage) (helm : Option Steering) (names : List (List ℕ)) (history : History) (done : List Iteration) → IsAtPlay script play → left_of script play ≡ 0 → told_in play.steersman ≡ 0 → helm_of play.steersman ≡ helm
     → names ≡ play.lock.base → history ≡ play.first.seat.seen → done ≡ iterations_in play.steersman → done ≡ iterations helm script.stop (heard_of names (helm_number script) history)
 iterations_end script play helm names history done at none untold helm_is names_is history_is done_is =
     done_is ∙ made_kept play.lock.base (helm_number script) play.first.seat.seen play.steersman at.under.steered untold

@@ -18,13 +18,14 @@ use Rattle.moos_lawful.proofs.Playable.{is_playable}
 use Rattle.moos_lawful.proofs.Rising.{true_le}
 use Rattle.moos_post.specs.declared.entry.Entry.{Entry}
 use Rattle.moos_post.specs.History.{History}
-use Rattle.moos_play.specs.declared.playing.Play.{Play}
+use Rattle.moos_play.specs.declared.stage.Stage.{Stage}
 use Rattle.moos_play.specs.declared.steersman.Steersman.{Steersman}
 use Rattle.moos_play.specs.Lawful.{heard_of, helm_number, IsLawful, IsLawfulBeside, KeepsOrder, known_clients, mailed_in, moment_of, names_with, never_falls, opening_of, Steering, steering_with, ticks_of, ticks_to}
-use Rattle.moos_play.specs.declared.run.HelmRun.{HelmRun}
-use Rattle.moos_play.specs.Plays.{HasCompletion, IsBetween, IsCutOff, history_in, IsPlayedOut, left_in, schedule_in, HasSteeredSoFar, HasTicked, made_by}
+use Rattle.moos_play.specs.Plays.{IsRunFor, iterations_made, HasCompletion, HasSteeredSoFar, HasTicked, history_in, IsPlayedOut, left_in, schedule_in}
+use Rattle.moos_play.specs.Runs.{playing_of, IsAtPlay, IsCutOff, IsPaused, left_of, shown_by}
 use Rattle.moos_play.specs.Schedules.{answerers, answering, schedule_with, tick_period}
-use Rattle.moos_play.specs.Steered.{HasHeard, helm_of, IsAtPlay, left_of, parts, steering_of, ticks_left, turns_left, StandsAt}
+use Rattle.moos_play.specs.Steered.{HasHeard, helm_of, made_by, parts, StandsAt, steering_of, ticks_left, turns_left}
+use Rattle.moos_play.specs.declared.run.HelmRun.{HelmRun}
 use Rattle.moos_play.proofs.Below.{kept_pass, lawful_alone, names_more, none_below, own_below}
 use Rattle.moos_play.proofs.Coming.{has_heard}
 use Rattle.moos_play.proofs.Ending.{made_over, over_ticks}
@@ -222,12 +223,12 @@ abbrev pub ValidLines : Script → Type 0
 ValidLines script = are_lines (length script.names) 0 script.stop script.lines ≡ true
 
 -- the history of a run that was cut off is lawful so far
-pub cut_so_far : (play : Play) → IsCutOff play.script.now play → IsLawfulSoFar (schedule_in play) (history_in play)
+pub cut_so_far : (play : Stage) → IsCutOff play.script.now play → IsLawfulSoFar (schedule_in (shown_by play)) (history_in (shown_by play))
 cut_so_far play cut = cut.so_far
 
 -- a run that was cut off can be completed
-pub completed : (play : Play) → are_lines (length play.script.now.names) 0 play.script.now.stop play.script.now.lines ≡ true → IsCutOff play.script.now play → HasCompletion play
-completed play valid cut =
+pub completed : (play : Stage) (w : Bool) → are_lines (length play.script.now.names) 0 play.script.now.stop play.script.now.lines ≡ true → IsCutOff play.script.now play → HasCompletion (playing_of play w)
+completed play w valid cut =
     let whole = completion (schedule_with play.order play.script.now (helm_of play.steersman) play.lock.base) (plays play.order play.script.now play.steersman play.lock.base cut.room) play.first.seat.seen cut.so_far in
     let made = iterations_more play.lock.base (helm_number play.script.now) play.script.now.stop play.steersman play.first.seat.seen whole.rest cut.heard in
     let lawful = lawful_beside play.order play.script.now play.steersman play.lock.base (play.first.seat.seen ++ whole.rest) play.first.seat.seen valid cut.heard whole.lawful in
@@ -241,15 +242,15 @@ completed play valid cut =
     }
 
 -- so can one between two rounds
-pub has_completion : (play : Play) → IsBetween play → HasCompletion play
-has_completion play between = completed play between.valid.lines (record {
+pub has_completion : (play : Stage) (w : Bool) → IsPaused play → HasCompletion (playing_of play w)
+has_completion play w between = completed play w between.valid.lines (record {
   so_far = between.at_play.under.played.so_far;
   room = between.at_play.under.seats;
   heard = has_heard play.lock.base (helm_number play.script.now) play.script.now.stop play.steersman play.first.seat.seen between.at_play.under.steered between.at_play.period;
 })
 
 -- a run in which nothing is left
-pub lawful_end : (script : Script) (play : Play) → are_lines (length script.names) 0 script.stop script.lines ≡ true → IsAtPlay script play → left_of script play ≡ 0 → IsLawfulBeside play.order script (helm_of play.steersman) play.lock.base play.first.seat.seen
+pub lawful_end : (script : Script) (play : Stage) → are_lines (length script.names) 0 script.stop script.lines ≡ true → IsAtPlay script play → left_of script play ≡ 0 → IsLawfulBeside play.order script (helm_of play.steersman) play.lock.base play.first.seat.seen
 lawful_end script play valid at none =
     lawful_beside play.order script play.steersman play.lock.base play.first.seat.seen play.first.seat.seen valid (has_heard play.lock.base (helm_number script) script.stop play.steersman play.first.seat.seen at.under.steered at.period)
     (lawful_then (schedule_with play.order script (helm_of play.steersman) play.lock.base) (plays play.order script play.steersman play.lock.base at.under.seats) play.first.seat.seen at.under.played.so_far (λ n below. at.under.played.left n below ∙ by n (nat_lt n (length script.names))))
@@ -266,7 +267,7 @@ lawful_end script play valid at none =
     by n false = no_turns play.steersman (omega (arith, none))
 
 -- a run without further clients, in which nothing is left
-pub lawful_whole : (order : Order) (script : Script) (play : Play) (helm : Option HelmRun) (names : List (List ℕ)) (history : History) → are_lines (length script.names) 0 script.stop script.lines ≡ true → IsAtPlay script play → left_of script play ≡ 0 → play.order ≡ order
+pub lawful_whole : (order : Order) (script : Script) (play : Stage) (helm : Option HelmRun) (names : List (List ℕ)) (history : History) → are_lines (length script.names) 0 script.stop script.lines ≡ true → IsAtPlay script play → left_of script play ≡ 0 → play.order ≡ order
     → helm_of play.steersman ≡ option_map (steering_with script) helm → names ≡ play.lock.base → history ≡ play.first.seat.seen → names ≡ names_with script helm → IsLawful order script (option_map (steering_with script) helm) names history
 lawful_whole order script play helm names history valid at none order_is helm_is names_is history_is named =
     lawful_alone order script (option_map (steering_with script) helm) names history (named ∙ same helm)
@@ -280,21 +281,21 @@ lawful_whole order script play helm names history valid at none order_is helm_is
     same (Some run) = refl
 
 -- the end of a run that is played round by round
-pub over_now : (play last : Play) → IsBetween play → left_in play ≡ 0 → last ≡ play → IsPlayedOut last
-over_now play last between none is = subst IsPlayedOut (sym is) (record {
+pub over_now : (play : Stage) (w : Bool) → IsPaused play → left_in (shown_by play) ≡ 0 → IsPlayedOut (playing_of play w)
+over_now play w between none = record {
   lawful = lawful;
   alone = λ named. lawful_alone play.order play.script.now (helm_of play.steersman) play.lock.base play.first.seat.seen named lawful;
   iterations =
       made_over play.lock.base (helm_number play.script.now) play.script.now.stop play.first.seat.seen play.steersman between.at_play.under.steered
       (over_ticks play.script.now play play.steersman between.at_play.period (omega (arith, none)));
-})
+}
   where
     lawful : IsLawfulBeside play.order play.script.now (helm_of play.steersman) play.lock.base play.first.seat.seen
     lawful = lawful_end play.script.now play between.valid.lines between.at_play none
 
 -- between two rounds the helm has made as many ticks as there are iterations, and heard as many mails
-pub has_steered : (play : Play) → IsBetween play → HasSteeredSoFar play
-has_steered play between = at play.steersman between.at_play.under.steered
+pub has_steered : (play : Stage) (w : Bool) → IsPaused play → HasSteeredSoFar (playing_of play w)
+has_steered play w between = at play.steersman between.at_play.under.steered
   where
     at : (s : Option Steersman) → StandsAt play.lock.base (helm_number play.script.now) s play.first.seat.seen
         → IfSome (helm_of s) (λ helm. HasTicked play.lock.base helm (length (made_by play.lock.base play.first.seat.seen s)) play.first.seat.seen)
@@ -305,3 +306,12 @@ has_steered play between = at play.steersman between.at_play.under.steered
           own = subst (λ b. entries_of s.number play.first.seat.seen ≡ cond b (opening_of (steering_of s)) [] ++ ticks_of (steering_of s) (heard_of play.lock.base s.number play.first.seat.seen) s.ticks) stands.1 stands.2.own;
           many = stands.2.many;
         })
+
+-- the helm, where there is one, is run for the script
+pub runs_for : (play : Stage) (w : Bool) → IsPaused play → IfSome (helm_of play.steersman) (IsRunFor play.script.now (length (iterations_made (playing_of play w))))
+runs_for play w ready = at play.steersman ready.at_play.under.steered ready.at_play.period
+  where
+    at : (s : Option Steersman) → StandsAt play.lock.base (helm_number play.script.now) s play.first.seat.seen → IfSome s (λ helm. (1 ≤ helm.period) × (helm.ticks ≤ ticks_to play.script.now.stop (steering_of helm)))
+        → IfSome (helm_of s) (IsRunFor play.script.now (length (made_by play.lock.base play.first.seat.seen s)))
+    at None stands period = tt
+    at (Some s) stands period = record { client = stands.0; period = period.0; few = omega (arith, made_many play.lock.base play.first.seat.seen (Some s), period.1) }

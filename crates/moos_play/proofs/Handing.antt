@@ -11,13 +11,14 @@ use Rattle.helm_core.specs.Ticks.{Tick}
 use Rattle.moos_client.specs.Calls.{SeatState}
 use Rattle.moos_post.specs.declared.entry.Entry.{Entry}
 use Rattle.moos_post.specs.History.{History}
-use Rattle.moos_play.specs.declared.playing.Play.{Play}
+use Rattle.moos_play.specs.declared.stage.Stage.{Stage}
 use Rattle.moos_play.specs.declared.steersman.Steersman.{Steersman}
 use Rattle.moos_client.specs.Hearing.{heard_in}
-use Rattle.moos_play.specs.Lawful.{heard_of, helm_number, iterations, iterations_of, Steering, ticks_to, mailed_in}
-use Rattle.moos_play.specs.Plays.{handed, handed_of, IsBetween, IsStampOver, iterations_made, made_by, stamp_next, StaysSeated, untold_in}
+use Rattle.moos_play.specs.Lawful.{heard_of, helm_number, iterations, iterations_of, mailed_in, Steering, ticks_to}
+use Rattle.moos_play.specs.Plays.{IsStampOver, iterations_made, stamp_next}
+use Rattle.moos_play.specs.Runs.{handed, handed_of, IsAtPlay, IsPaused, KeepsRun, KeepsSeats, shown_by, untold_in}
+use Rattle.moos_play.specs.Steered.{HasHeard, helm_of, IsUnderWay, iterations_in, made_by, StandsAt, steering_of, Steers, tick_due, ticks_left, told_in}
 use Rattle.moos_step.specs.Steps.{CommunityLock}
-use Rattle.moos_play.specs.Steered.{GoesOnWith, HasHeard, helm_of, IsAtPlay, IsUnderWay, iterations_in, StandsAt, steering_of, Steers, tick_due, ticks_left, told_in}
 use Rattle.moos_client.proofs.Hearing.{heard_append}
 use Rattle.moos_play.proofs.Hearing.{iterations_many, iterations_stay}
 use Rattle.script_reader.specs.declared.script.Order.{Order}
@@ -92,7 +93,7 @@ handed_under order script lock (Some s) from first under = record {
 }
 
 -- so does the run
-pub handed_at_play : (script : Script) (play : Play) → IsAtPlay script play → IsAtPlay script (handed play)
+pub handed_at_play : (script : Script) (play : Stage) → IsAtPlay script play → IsAtPlay script (handed play)
 handed_at_play script play at = record {
   under = handed_under play.order script play.lock play.steersman play.from play.first.seat at.under;
   calls = at.calls;
@@ -125,14 +126,14 @@ made_handed names history None = refl
 made_handed names history (Some s) = refl
 
 -- a run that goes on twice
-pub stays_twice : (before middle after : Play) → StaysSeated before middle → StaysSeated middle after → StaysSeated before after
+pub stays_twice : (before middle after : Stage) → KeepsSeats before middle → KeepsSeats middle after → KeepsSeats before after
 stays_twice before middle after one other = record {
   seated = other.seated;
   lock = other.lock ∙ one.lock;
   later = (one.later.0 ++ other.later.0, other.later.1 ∙ ap (λ front. front ++ other.later.0) one.later.1 ∙ append_assoc before.first.seat.seen one.later.0 other.later.0);
 }
 
-pub goes_on_twice : (before middle after : Play) → GoesOnWith before middle → GoesOnWith middle after → GoesOnWith before after
+pub goes_on_twice : (before middle after : Stage) → KeepsRun before middle → KeepsRun middle after → KeepsRun before after
 goes_on_twice before middle after one other = record {
   script = other.script ∙ one.script;
   lock = other.lock ∙ one.lock;
@@ -141,14 +142,14 @@ goes_on_twice before middle after one other = record {
 }
 
 -- what was handed out changes nothing of the rest
-pub stays_handed : (before after : Play) → StaysSeated before after → StaysSeated before (handed after)
+pub stays_handed : (before after : Stage) → KeepsSeats before after → KeepsSeats before (handed after)
 stays_handed before after stays = record {
   seated = record { gathered = stays.seated.gathered; whole = stays.seated.whole };
   lock = stays.lock;
   later = stays.later;
 }
 
-pub goes_on_handed : (before after : Play) → GoesOnWith before after → GoesOnWith before (handed after)
+pub goes_on_handed : (before after : Stage) → KeepsRun before after → KeepsRun before (handed after)
 goes_on_handed before after on = record { script = on.script; lock = on.lock; order = on.order; helm = helm_handed after.steersman ∙ on.helm }
 
 pub left_handed : (script : Script) (from : ℕ) (steersman : Option Steersman) → length script.lines - from + ticks_left script.stop (option_map handed_of steersman) ≡ length script.lines - from + ticks_left script.stop steersman
@@ -159,18 +160,18 @@ pub next_handed : (order : Order) (stop : ℕ) (line : Option ℕ) (steersman : 
 next_handed order stop line None = refl
 next_handed order stop line (Some s) = refl
 
-pub finished_handed : (play : Play) (stamp : ℕ) → IsStampOver play stamp → IsStampOver (handed play) stamp
+pub finished_handed : (play : Stage) (stamp : ℕ) → IsStampOver (shown_by play) stamp → IsStampOver (shown_by (handed play)) stamp
 finished_handed play stamp (inl none) = inl (left_handed play.script.now play.from play.steersman ∙ none)
 finished_handed play stamp (inr other) =
     inr (λ same. other (sym (next_handed play.order play.script.now.stop (option_map (λ (line : Entry). line.stamp) (slice_get play.script.now.lines play.from)) play.steersman) ∙ same))
 
 -- the run between two rounds, once all iterations are handed out
-pub handed_between : (play : Play) → IsValid play.script.now → IsAtPlay play.script.now play → IsBetween (handed play)
+pub handed_between : (play : Stage) → IsValid play.script.now → IsAtPlay play.script.now play → IsPaused (handed play)
 handed_between play valid at = record { valid = valid; at_play = handed_at_play play.script.now play at; told = handed_told play.steersman }
 
 -- the iterations of a round follow those before
-pub round_iterations : (before after : Play) → IsBetween before → IsAtPlay after.script.now after → StaysSeated before after → GoesOnWith before after → told_in after.steersman ≡ told_in before.steersman
-    → iterations_made (handed after) ≡ iterations_made before ++ untold_in after
+pub round_iterations : (before after : Stage) → IsPaused before → IsAtPlay after.script.now after → KeepsSeats before after → KeepsRun before after → told_in after.steersman ≡ told_in before.steersman
+    → iterations_made (shown_by (handed after)) ≡ iterations_made (shown_by before) ++ untold_in after
 round_iterations before after between at stays on told =
     made_handed after.lock.base after.first.seat.seen after.steersman
     ∙ ap (λ names. made_by names after.first.seat.seen after.steersman) (ap (λ (lock : CommunityLock). lock.base) on.lock)

@@ -7,7 +7,7 @@ use Rattle.helm_core.specs.Plans.{Plan}
 use Rattle.helm_core.specs.Ticks.{Tick}
 use Rattle.moos_client.specs.Calls.{entry_of}
 use Rattle.moos_post.specs.declared.entry.Call.TheVariants.{Post as Posts, Fetch}
-use Rattle.moos_play.specs.Lawful.{Steering, iterations_of, tick_entries, ticks_of}
+use Rattle.moos_play.specs.Lawful.{iterations_of, Steering, tick_entries, ticks_of}
 
 -- there is an iteration a tick
 pub iterations_many : (plan : Plan) (heard : List Tick) (n : ℕ) → length (iterations_of plan heard n) ≡ n

@@ -14,9 +14,9 @@ use Rattle.moos_post.specs.declared.registration.Reg.{Reg}
 use Rattle.moos_post.specs.declared.value.Pair.{Pair}
 use Rattle.moos_post.specs.History.{History}
 use Rattle.moos_play.specs.declared.steersman.Steersman.{Steersman}
-use Rattle.moos_play.specs.Lawful.{heard_of, opening_of, mailed_in}
-use Rattle.moos_step.specs.Steps.{Anything, Makes}
+use Rattle.moos_play.specs.Lawful.{heard_of, mailed_in, opening_of}
 use Rattle.moos_play.specs.Steered.{HasOwn, IsSteered, steering_of, Steers}
+use Rattle.moos_step.specs.Steps.{Anything, Makes}
 use Rattle.moos_client.proofs.Hearing.{entries_next, heard_next, IsNext}
 use Rattle.moos_step.proofs.Lines.{made_more}
 use Rattle.moos_play.proofs.Steering.{anything, called_next, called_of, called_own, mail_heard, opened_on, opening_none, opening_some, ticked_on}

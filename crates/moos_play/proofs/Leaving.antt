@@ -14,10 +14,11 @@ use Rattle.moos_play.proofs.Below.{names_more}
 use Rattle.moos_play.proofs.Coming.{behind_late}
 use Rattle.moos_play.proofs.Moving.{least_line, least_tick}
 use Rattle.moos_play.proofs.Stamping.{next_line}
-use Rattle.moos_play.specs.declared.playing.Play.{Play}
+use Rattle.moos_play.specs.declared.stage.Stage.{Stage}
 use Rattle.moos_play.specs.declared.steersman.Steersman.{Steersman}
 use Rattle.moos_play.specs.Lawful.{heard_of, known_clients, ticks_to}
-use Rattle.moos_play.specs.Plays.{earliest, history_in, IsBetween, IsLeft, KeepsLeft, known_clients_in, schedule_in, stamp_next}
+use Rattle.moos_play.specs.Plays.{earliest, history_in, IsLeft, KeepsLeft, known_clients_in, schedule_in, stamp_next}
+use Rattle.moos_play.specs.Runs.{IsPaused, playing_of}
 use Rattle.moos_play.specs.Schedules.{answering}
 use Rattle.moos_play.specs.Steered.{helm_of, IsBehind, left_for, parts, steering_of, tick_due, ticks_left, turns_left}
 use Rattle.moos_post.specs.declared.entry.Entry.{Entry}
@@ -118,8 +119,8 @@ known_parts script None = omega arith
 known_parts script (Some s) = names_more script (steering_of s)
 
 -- WHAT IS LEFT FOR A CLIENT of a run between two rounds
-pub is_left : (play : Play) → IsBetween play → (so : IsLawfulSoFar (schedule_in play) (history_in play)) (n : ℕ) → n < known_clients_in play → IsLeft play (so.left n)
-is_left play between so n below = record {
+pub is_left : (play : Stage) (whole : Bool) → IsPaused play → (so : IsLawfulSoFar (schedule_in (playing_of play whole)) (history_in (playing_of play whole))) (n : ℕ) → n < known_clients_in (playing_of play whole) → IsLeft (playing_of play whole) (so.left n)
+is_left play whole between so n below = record {
   none = λ none. same ∙ none_left play.script.now play.lock.base play.from play.steersman play.first.seat.seen n none;
   late = late play.order refl;
 }
@@ -128,7 +129,7 @@ is_left play between so n below = record {
     known = omega (arith, below, known_parts play.script.now play.steersman)
 
     same : so.left n ≡ left_for play.script.now play.steersman play.lock.base play.from play.first.seat.seen n
-    same = left_one (schedule_in play) (history_in play) so between.at_play.under.played.so_far n known ∙ between.at_play.under.played.left n known
+    same = left_one (schedule_in (playing_of play whole)) (history_in (playing_of play whole)) so between.at_play.under.played.so_far n known ∙ between.at_play.under.played.left n known
 
     tick : Option ℕ
     tick = tick_due play.script.now.stop play.steersman

@@ -14,7 +14,7 @@ pub mod Ending
 pub mod Finishing
 pub mod Beginning
 pub mod Leaving
-pub mod Lending
+pub mod Showing
 pub mod Calling
 pub mod Rounding
 pub mod Stamping

@@ -8,12 +8,13 @@ use Rattle.helm_core.specs.declared.iteration.Iteration.{Iteration}
 use Rattle.helm_core.specs.Helms.{plan_of}
 use Rattle.moos_post.specs.declared.entry.Entry.{Entry}
 use Rattle.moos_post.specs.History.{History}
-use Rattle.moos_play.specs.declared.playing.Play.{Play}
+use Rattle.moos_play.specs.declared.stage.Stage.{Stage}
 use Rattle.moos_play.specs.declared.round_made.Round.{Round}
 use Rattle.moos_play.specs.declared.steersman.Steersman.{Steersman}
 use Rattle.moos_play.specs.Lawful.{heard_of, Steering, ticks_to}
-use Rattle.moos_play.specs.Plays.{earliest, HasNoTick, HasTick, HasTurn, handed, IsBetween, IsStampOver, iterations_made, left_in, made_by, next_stamp, stamp_due, stamp_next}
-use Rattle.moos_play.specs.Steered.{GoesOnWith, helm_of, IsBehind, KeepsMoves, left_of, MovesAt, period_in, steering_of, tick_due, ticks_in, ticks_left}
+use Rattle.moos_play.specs.Plays.{earliest, HasNoTick, HasTick, HasTurn, IsStampOver, iterations_made, left_in, next_stamp, stamp_next}
+use Rattle.moos_play.specs.Runs.{playing_of, handed, IsPaused, KeepsMoves, KeepsRun, left_of, MovesAt, shown_by, stamp_due}
+use Rattle.moos_play.specs.Steered.{helm_of, IsBehind, made_by, period_in, steering_of, tick_due, ticks_in, ticks_left}
 use Rattle.moos_play.proofs.Handing.{left_handed, next_handed}
 use Rattle.moos_play.proofs.Hearing.{iterations_many}
 use Rattle.moos_play.proofs.Rounding.{due_is}
@@ -155,7 +156,7 @@ none_next script from s tick line = omega (arith, lines (slice_get script.lines 
         by false e h = grind (arith, nat_tests)
 
 -- so the stamp of what is next doesn't go back
-stamps_on : (script : Script) (before after : Play) (stamp : ℕ) → are_lines (length script.names) 0 script.stop script.lines ≡ true → GoesOnWith before after → MovesAt stamp before after → before.order ≡ Stamp
+stamps_on : (script : Script) (before after : Stage) (stamp : ℕ) → are_lines (length script.names) 0 script.stop script.lines ≡ true → KeepsRun before after → MovesAt stamp before after → before.order ≡ Stamp
     → (left_of script after ≡ 0) ⊎ (stamp_due script before ≤ stamp_due script after)
 stamps_on script before after stamp valid on moves order =
     by (least_on script.stop tick line tick' line' (ticks_on script.stop before.steersman after.steersman on.helm (more moves.ticks)) lines)
@@ -194,22 +195,22 @@ stamps_on script before after stamp valid on moves order =
 -- ---- moves
 
 -- nothing is done
-pub moves_none : (order : Order) (stamp : ℕ) (play : Play) → KeepsMoves order stamp play play
+pub moves_none : (order : Order) (stamp : ℕ) (play : Stage) → KeepsMoves order stamp play play
 moves_none Stamp stamp play = record { lines = omega arith; ticks = inl refl }
 moves_none Race stamp play = tt
 
 -- lines alone
-pub moves_lines : (order : Order) (stamp : ℕ) (before after : Play) → before.from ≤ after.from → after.steersman ≡ before.steersman → KeepsMoves order stamp before after
+pub moves_lines : (order : Order) (stamp : ℕ) (before after : Stage) → before.from ≤ after.from → after.steersman ≡ before.steersman → KeepsMoves order stamp before after
 moves_lines Stamp stamp before after less same = record { lines = less; ticks = inl (ap ticks_in same) }
 moves_lines Race stamp before after less same = tt
 
 -- any in a race
-pub moves_race : (order : Order) (stamp : ℕ) (before after : Play) → order ≡ Race → KeepsMoves order stamp before after
+pub moves_race : (order : Order) (stamp : ℕ) (before after : Stage) → order ≡ Race → KeepsMoves order stamp before after
 moves_race Stamp stamp before after race = absurd cc
 moves_race Race stamp before after race = tt
 
 -- a tick that is due
-pub moves_tick : (script : Script) (play after : Play) (old new : Steersman) (result : Result (Unit {0}) AllocError) → play.steersman ≡ Some old → after.steersman ≡ Some new → after.from ≡ play.from → tick_due script.stop play.steersman ≢ None → IsBehind (tick_due script.stop play.steersman) (drop play.from script.lines)
+pub moves_tick : (script : Script) (play after : Stage) (old new : Steersman) (result : Result (Unit {0}) AllocError) → play.steersman ≡ Some old → after.steersman ≡ Some new → after.from ≡ play.from → tick_due script.stop play.steersman ≢ None → IsBehind (tick_due script.stop play.steersman) (drop play.from script.lines)
     → OnOk result ((new.opened ≡ true) × (new.ticks ≡ old.ticks + 1)) → OnOk result (KeepsMoves play.order (stamp_due script play) play after)
 moves_tick script play after old new (Err _) is is' from due behind reached = tt
 moves_tick script play after old new (Ok _) is is' from due behind reached = by play.order
@@ -234,7 +235,7 @@ moves_tick script play after old new (Ok _) is is' from due behind reached = by 
     by Race = tt
 
 -- one part behind another
-pub moves_twice : (order : Order) (stamp : ℕ) (before middle after : Play) → GoesOnWith before middle → IfSome before.steersman (λ helm. 1 ≤ helm.period) → KeepsMoves order stamp before middle → KeepsMoves order stamp middle after → KeepsMoves order stamp before after
+pub moves_twice : (order : Order) (stamp : ℕ) (before middle after : Stage) → KeepsRun before middle → IfSome before.steersman (λ helm. 1 ≤ helm.period) → KeepsMoves order stamp before middle → KeepsMoves order stamp middle after → KeepsMoves order stamp before after
 moves_twice Race stamp before middle after on period one other = tt
 moves_twice Stamp stamp before middle after on period one other = record { lines = omega (arith, one.lines, other.lines); ticks = by one.ticks other.ticks }
   where
@@ -268,15 +269,15 @@ made_many names history None = refl
 made_many names history (Some s) = iterations_many (plan_of s.helm) (heard_of names s.number history) s.ticks
 
 -- with these iterations more
-turn_of : (before after : Play) (round : Round) (stamp : ℕ) → MovesAt stamp before after → round.stamp ≡ stamp → (left_in after ≡ 0) ⊎ (round.stamp < next_stamp after) → helm_of after.steersman ≡ helm_of before.steersman → after.script.now ≡ before.script.now → after.order ≡ Stamp
+turn_of : (before after : Stage) (round : Round) (stamp : ℕ) → MovesAt stamp before after → round.stamp ≡ stamp → (left_in (shown_by after) ≡ 0) ⊎ (round.stamp < next_stamp (shown_by after)) → helm_of after.steersman ≡ helm_of before.steersman → after.script.now ≡ before.script.now → after.order ≡ Stamp
     → length round.iterations + ticks_in before.steersman ≡ ticks_in after.steersman
-    → IfSome (helm_of before.steersman) (λ helm. HasNoTick helm before.script.now.stop (length (iterations_made before)) round ⊎ HasTick helm (length (iterations_made before)) round)
+    → IfSome (helm_of before.steersman) (λ helm. HasNoTick helm before.script.now.stop (length (iterations_made (shown_by before))) round ⊎ HasTick helm (length (iterations_made (shown_by before))) round)
 turn_of before after round stamp moves is later same script order many = at before.steersman after.steersman refl refl same
   where
-    made : length (iterations_made before) ≡ ticks_in before.steersman
+    made : length (iterations_made (shown_by before)) ≡ ticks_in before.steersman
     made = made_many before.lock.base before.first.seat.seen before.steersman
 
-    at : (s t : Option Steersman) → before.steersman ≡ s → after.steersman ≡ t → helm_of t ≡ helm_of s → IfSome (helm_of s) (λ helm. HasNoTick helm before.script.now.stop (length (iterations_made before)) round ⊎ HasTick helm (length (iterations_made before)) round)
+    at : (s t : Option Steersman) → before.steersman ≡ s → after.steersman ≡ t → helm_of t ≡ helm_of s → IfSome (helm_of s) (λ helm. HasNoTick helm before.script.now.stop (length (iterations_made (shown_by before))) round ⊎ HasTick helm (length (iterations_made (shown_by before))) round)
     at None t b a same = tt
     at (Some s) None b a same = absurd cc
     at (Some s) (Some t) b a same = by moves.ticks
@@ -290,7 +291,7 @@ turn_of before after round stamp moves is later same script order many = at befo
         after_is : ticks_in after.steersman ≡ t.ticks
         after_is = ap ticks_in a
 
-        made_is : length (iterations_made before) ≡ s.ticks
+        made_is : length (iterations_made (shown_by before)) ≡ s.ticks
         made_is = made ∙ before_is
 
         early : t.ticks ≡ s.ticks → s.ticks < suc (before.script.now.stop / s.period) → round.stamp < s.ticks * s.period
@@ -314,18 +315,18 @@ turn_of before after round stamp moves is later same script order many = at befo
             line : Option ℕ
             line = option_map (λ (line : Entry). line.stamp) (slice_get after.script.now.lines after.from)
 
-            next : next_stamp after ≤ t.ticks * t.period
+            next : next_stamp (shown_by after) ≤ t.ticks * t.period
             next = subst (λ order. stamp_next order after.script.now.stop (tick_due after.script.now.stop after.steersman) line ≤ t.ticks * t.period) (sym order)
                 (subst (λ tick. earliest after.script.now.stop tick line ≤ t.ticks * t.period) (sym due) (least_tick after.script.now.stop (t.ticks * t.period) line))
 
-            from : (left_in after ≡ 0) ⊎ (round.stamp < next_stamp after) → round.stamp < s.ticks * s.period
+            from : (left_in (shown_by after) ≡ 0) ⊎ (round.stamp < next_stamp (shown_by after)) → round.stamp < s.ticks * s.period
             from (inl none) =
                 let ticks : ticks_left after.script.now.stop (Some t) ≡ 0 = omega (arith, none, ap (ticks_left after.script.now.stop) a) in
                 absurd (omega (arith, ticks, due_left))
             from (inr sooner) = omega (arith, sooner, next, stamp_same)
 
         by : (ticks_in after.steersman ≡ ticks_in before.steersman) ⊎ ((ticks_in after.steersman ≡ suc (ticks_in before.steersman)) × (stamp ≡ ticks_in before.steersman * period_in before.steersman))
-            → HasNoTick (steering_of s) before.script.now.stop (length (iterations_made before)) round ⊎ HasTick (steering_of s) (length (iterations_made before)) round
+            → HasNoTick (steering_of s) before.script.now.stop (length (iterations_made (shown_by before))) round ⊎ HasTick (steering_of s) (length (iterations_made (shown_by before))) round
         by (inl stays) = inl (record {
           none = nothing round.iterations (omega (arith, many, stays));
           later = λ left. subst (λ n. round.stamp < n * s.period) (sym made_is) (early (sym after_is ∙ stays ∙ before_is) (subst (λ n. n < suc (before.script.now.stop / s.period)) made_is left));
@@ -350,11 +351,11 @@ ticks_handed None = refl
 ticks_handed (Some s) = refl
 
 -- the turn of a round
-pub turn_here : (before after : Play) (round : Round) → IsBetween before → GoesOnWith before after → KeepsMoves before.order round.stamp before after → IsStampOver after round.stamp
-    → round.stamp ≡ next_stamp before → iterations_made (handed after) ≡ iterations_made before ++ round.iterations → HasTurn before.order before (handed after) round
-turn_here before after round between on kept over stamp made = by before.order refl
+pub turn_here : (before after : Stage) (w v : Bool) (round : Round) → IsPaused before → KeepsRun before after → KeepsMoves before.order round.stamp before after → IsStampOver (shown_by after) round.stamp
+    → round.stamp ≡ next_stamp (shown_by before) → iterations_made (shown_by (handed after)) ≡ iterations_made (shown_by before) ++ round.iterations → HasTurn before.order (playing_of before w) (playing_of (handed after) v) round
+turn_here before after w v round between on kept over stamp made = by before.order refl
   where
-    by : (order : Order) → before.order ≡ order → HasTurn order before (handed after) round
+    by : (order : Order) → before.order ≡ order → HasTurn order (playing_of before w) (playing_of (handed after) v) round
     by Race order = tt
     by Stamp order = record {
       later = handed_later later;
@@ -367,24 +368,24 @@ turn_here before after round between on kept over stamp made = by before.order r
         moves : MovesAt round.stamp before after
         moves = subst (λ order. KeepsMoves order round.stamp before after) order kept
 
-        due_same : stamp_due script after ≡ next_stamp after
+        due_same : stamp_due script after ≡ next_stamp (shown_by after)
         due_same = ap (λ script. stamp_due script after) (sym on.script)
 
-        left_same : left_of script after ≡ left_in after
+        left_same : left_of script after ≡ left_in (shown_by after)
         left_same = ap (λ script. left_of script after) (sym on.script)
 
-        later_by : IsStampOver after round.stamp → (left_of script after ≡ 0) ⊎ (stamp_due script before ≤ stamp_due script after) → (left_in after ≡ 0) ⊎ (round.stamp < next_stamp after)
+        later_by : IsStampOver (shown_by after) round.stamp → (left_of script after ≡ 0) ⊎ (stamp_due script before ≤ stamp_due script after) → (left_in (shown_by after) ≡ 0) ⊎ (round.stamp < next_stamp (shown_by after))
         later_by (inl none) on = inl none
         later_by (inr apart) (inl none) = inl (sym left_same ∙ none)
-        later_by (inr apart) (inr less) = inr (strict (next_stamp after) (omega (arith, less, stamp, due_same)) apart)
+        later_by (inr apart) (inr less) = inr (strict (next_stamp (shown_by after)) (omega (arith, less, stamp, due_same)) apart)
           where
             strict : (next : ℕ) → round.stamp ≤ next → next ≢ round.stamp → round.stamp < next
             strict next less apart = omega (arith, less, apart)
 
-        later : (left_in after ≡ 0) ⊎ (round.stamp < next_stamp after)
+        later : (left_in (shown_by after) ≡ 0) ⊎ (round.stamp < next_stamp (shown_by after))
         later = later_by over (stamps_on script before after round.stamp between.valid.lines on moves order)
 
-        handed_later : (left_in after ≡ 0) ⊎ (round.stamp < next_stamp after) → (left_in (handed after) ≡ 0) ⊎ (round.stamp < next_stamp (handed after))
+        handed_later : (left_in (shown_by after) ≡ 0) ⊎ (round.stamp < next_stamp (shown_by after)) → (left_in (shown_by (handed after)) ≡ 0) ⊎ (round.stamp < next_stamp (shown_by (handed after)))
         handed_later (inl none) = inl (left_handed after.script.now after.from after.steersman ∙ none)
         handed_later (inr less) =
             inr (subst (λ n. round.stamp < n) (sym (next_handed after.order after.script.now.stop (option_map (λ (line : Entry). line.stamp) (slice_get after.script.now.lines after.from)) after.steersman)) less)
@@ -392,6 +393,6 @@ turn_here before after round between on kept over stamp made = by before.order r
         many : length round.iterations + ticks_in before.steersman ≡ ticks_in after.steersman
         many =
             let all = sym (ap length made) ∙ made_many (handed after).lock.base (handed after).first.seat.seen (handed after).steersman ∙ ticks_handed after.steersman in
-            let both = length-append (iterations_made before) round.iterations in
+            let both = length-append (iterations_made (shown_by before)) round.iterations in
             let start = made_many before.lock.base before.first.seat.seen before.steersman in
             omega (arith, all, both, start)

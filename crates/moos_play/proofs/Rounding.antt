@@ -3,8 +3,10 @@ use Rattle.moos_client.specs.Calls.{SeatState}
 use Rattle.moos_post.specs.History.{History}
 use Rattle.script_reader.specs.declared.script.Order.TheVariants.{Race}
 use Rattle.moos_lawful.specs.Schedules.{IsLawfulSoFar}
+use Rattle.moos_play.specs.Lawful.{heard_of, helm_number, Steering, ticks_to}
+use Rattle.moos_play.specs.Runs.{IsAtPlay, IsCutOff}
 use Rattle.moos_play.specs.Schedules.{schedule_with}
-use Rattle.moos_play.specs.Plays.{IsCutOff}
+use Rattle.moos_play.specs.Steered.{HasHeard, IsBehind, IsStopped, IsUnderWay, parts, steering_of, Steers, tick_due}
 use Rattle.std.proofs.Common.{◌≡◌, ◌≢◌, ℕ, suc, ◌+◌, ◌*◌, ◌/◌, ◌<◌, ◌≤◌, Bool, true, false, cond, List, [], ◌∷◌, ◌++◌, length, length-append, take, drop, Option, None, Some, Ok, Err, OnOk, Result, nat_le, nat_lt, refl, sym, ap, subst, arith, ◌∙◌, ◌-◌}
 use Rattle.std.specs.Prelude.{IfSome, OnErr}
 use Rattle.std.specs.List.{list_all}
@@ -14,11 +16,9 @@ use Rattle.std.proofs.lemmas.Bool.Decides.{nat_tests}
 use Rattle.std.proofs.lemmas.List.{length-take}
 use Rattle.moos_post.specs.declared.entry.Entry.{Entry}
 use Rattle.moos_step.specs.declared.player.Player.{Player}
-use Rattle.moos_play.specs.declared.playing.Play.{Play}
+use Rattle.moos_play.specs.declared.stage.Stage.{Stage}
 use Rattle.moos_play.specs.declared.steersman.Steersman.{Steersman}
-use Rattle.moos_play.specs.Lawful.{Steering, ticks_to, heard_of, helm_number}
 use Rattle.moos_step.specs.Steps.{GoesOn, IsAlone, IsGathered, IsPlayedBeside}
-use Rattle.moos_play.specs.Steered.{IsAtPlay, IsBehind, IsUnderWay, steering_of, Steers, tick_due, IsStopped, HasHeard, parts}
 use Rattle.moos_play.proofs.Coming.{race_cut, tick_cut, tick_next}
 use Rattle.script_reader.specs.declared.script.Script.{Script}
 use Rattle.script_reader.specs.Validity.{are_lines}
@@ -43,7 +43,7 @@ some_client clients [] from all some = absurd (omega (arith, some))
 some_client clients (line ∷ lines) from all some = let here = (and_parts (nat_lt line.client clients) (list_all (λ line. nat_lt line.client clients) lines) all).0 in grind (arith, nat_tests)
 
 -- the run after a tick
-pub tick_at_play : (script : Script) (play : Play) (first : Player) (old new : Steersman) (result : Result (Unit {0}) AllocError) → are_lines (length script.names) 0 script.stop script.lines ≡ true → IsAtPlay script play → play.steersman ≡ Some old
+pub tick_at_play : (script : Script) (play : Stage) (first : Player) (old new : Steersman) (result : Result (Unit {0}) AllocError) → are_lines (length script.names) 0 script.stop script.lines ≡ true → IsAtPlay script play → play.steersman ≡ Some old
     → tick_due script.stop play.steersman ≢ None → IsBehind (tick_due script.stop play.steersman) (drop play.from script.lines) → IsGathered play.lock first.seat → GoesOn (IsAlone old.number) play.first.seat first.seat
     → steering_of new ≡ steering_of old → OnOk result (Steers play.lock.base new first.seat.seen) → OnOk result ((new.opened ≡ true) × (new.ticks ≡ old.ticks + 1)) → OnOk result (IsAtPlay script (record play { first = first; steersman = Some new }))
 tick_at_play script play first old new (Err _) valid at is due behind gathered on steering steers reached = tt
@@ -71,7 +71,7 @@ stopped_heard names number stop most old new history steering is stopped few = (
 )
 
 -- the run after a tick that was cut off
-pub tick_stops : (script : Script) (play : Play) (first : Player) (old new : Steersman) (result : Result (Unit {0}) AllocError) → are_lines (length script.names) 0 script.stop script.lines ≡ true → IsAtPlay script play → play.steersman ≡ Some old
+pub tick_stops : (script : Script) (play : Stage) (first : Player) (old new : Steersman) (result : Result (Unit {0}) AllocError) → are_lines (length script.names) 0 script.stop script.lines ≡ true → IsAtPlay script play → play.steersman ≡ Some old
     → tick_due script.stop play.steersman ≢ None → IsBehind (tick_due script.stop play.steersman) (drop play.from script.lines) → GoesOn (IsAlone old.number) play.first.seat first.seat → steering_of new ≡ steering_of old
     → (old.opened ≡ true → OnErr result (IsStopped play.lock.base (steering_of old) new.ticks (old.ticks + 1) first.seat.seen)) → OnErr result (IsCutOff script (record play { first = first; steersman = Some new }))
 tick_stops script play first old new (Ok _) valid at is due behind on steering stops = tt
@@ -89,7 +89,7 @@ tick_stops script play first old new (Err _) valid at is due behind on steering 
     }
 
 -- and after a race
-pub race_stops : {E : Type 0} {result : Result (Unit {0}) E} (script : Script) (play : Play) (after : SeatState) (old new : Steersman) (to most : ℕ) (all : List Entry) → play.order ≡ Race → are_lines (length script.names) 0 script.stop script.lines ≡ true → IsAtPlay script play
+pub race_stops : {E : Type 0} {result : Result (Unit {0}) E} (script : Script) (play : Stage) (after : SeatState) (old new : Steersman) (to most : ℕ) (all : List Entry) → play.order ≡ Race → are_lines (length script.names) 0 script.stop script.lines ≡ true → IsAtPlay script play
     → play.steersman ≡ Some old → all ≡ script.lines → play.from ≤ to → GoesOn (IsPlayedBeside old.number (take (to - play.from) (drop play.from all)) result) play.first.seat after → steering_of new ≡ steering_of old
     → (old.opened ≡ true → IsStopped play.lock.base (steering_of old) new.ticks most after.seen) → most ≤ ticks_to script.stop (steering_of old)
     → IsLawfulSoFar (schedule_with play.order script (Some (steering_of new)) play.lock.base) after.seen × (parts script (Some new) ≤ length play.lock.base) × HasHeard play.lock.base (helm_number script) script.stop (Some new) after.seen

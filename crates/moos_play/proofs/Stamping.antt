@@ -13,13 +13,14 @@ use Rattle.helm_core.specs.Ticks.{Tick}
 use Rattle.moos_client.specs.Calls.{entries_of, SeatState}
 use Rattle.moos_post.specs.declared.entry.Entry.{Entry}
 use Rattle.moos_post.specs.History.{History}
-use Rattle.moos_play.specs.declared.playing.Play.{Play}
+use Rattle.moos_play.specs.declared.stage.Stage.{Stage}
 use Rattle.moos_play.specs.declared.steersman.Steersman.{Steersman}
 use Rattle.moos_lawful.specs.Schedules.{clients_below}
 use Rattle.moos_play.specs.Lawful.{entries_from, heard_of, helm_number, KeepsStamp, known_clients, Steering, tick_entries, ticks_of}
-use Rattle.moos_play.specs.Plays.{AddsAt, earliest, further_in, helm_in, history_in, known_clients_in, next_stamp, stamp_due, stamp_next, MayPlay, next_tick}
+use Rattle.moos_play.specs.Plays.{AddsAt, earliest, further_in, helm_in, history_in, known_clients_in, next_stamp, stamp_next}
+use Rattle.moos_play.specs.Runs.{KeepsRun, MayPlay, next_tick, shown_by, stamp_due}
+use Rattle.moos_play.specs.Steered.{comes_before, helm_of, IsBehind, IsDue, IsStopped, IsUnderWay, opened_by, steering_of, Steers, tick_due}
 use Rattle.moos_step.specs.Steps.{GoesOn, IsAlone, IsPlayed, IsPlayedBeside, IsWhole}
-use Rattle.moos_play.specs.Steered.{comes_before, GoesOnWith, helm_of, IsBehind, IsDue, IsStopped, IsUnderWay, opened_by, steering_of, Steers, tick_due}
 use Rattle.moos_play.proofs.Below.{below_raised, both_below, from_more, known_helm, known_more, tick_below, beside_pass}
 use Rattle.moos_play.proofs.Stepping.{all_part, lines_clients}
 use Rattle.moos_play.proofs.Coming.{tick_alone}
@@ -59,9 +60,9 @@ all_stamped order stamp number from before after all adds =
     subst (KeepsStamp order stamp) (sym (ap (λ n. drop n after) all ∙ ap (drop (length before)) adds.later.1 ∙ drop-append_seam before adds.later.0)) adds.stamped
 
 -- no further client's entry is among it
-pub none_further : (before after : Play) (stamp : ℕ) → GoesOnWith before after → AddsAt before.order stamp (known_clients_in before) (history_in before) (history_in after) → further_in after ≡ further_in before
+pub none_further : (before after : Stage) (stamp : ℕ) → KeepsRun before after → AddsAt before.order stamp (known_clients_in (shown_by before)) (history_in (shown_by before)) (history_in (shown_by after)) → further_in (shown_by after) ≡ further_in (shown_by before)
 none_further before after stamp on adds =
-    (λ i. entries_from (known_clients (on.script i) (on.helm i)) (history_in after)) ∙ ap (entries_from (known_clients_in before)) adds.later.1 ∙ from_more (known_clients_in before) (history_in before) adds.later.0 adds.known
+    (λ i. entries_from (known_clients (on.script i) (on.helm i)) (history_in (shown_by after))) ∙ ap (entries_from (known_clients_in (shown_by before))) adds.later.1 ∙ from_more (known_clients_in (shown_by before)) (history_in (shown_by before)) adds.later.0 adds.known
 
 -- lines are entries of the script's clients
 lines_known : {E : Type 0} (script : Script) (helm : Option Steering) (from n : ℕ) (result : Result (Unit {0}) E) (first after : SeatState) → are_lines (length script.names) 0 script.stop script.lines ≡ true → IsWhole first
@@ -108,8 +109,8 @@ tick_stamp lines tick stop from behind = by (drop from lines) refl behind
     by (line ∷ left) is behind = ap (λ next. earliest stop (Some tick) (option_map (λ (line : Entry). line.stamp) next)) (next_line lines from line left is) ∙ ap (λ b. cond b tick line.stamp) behind
 
 -- lines that may be played are played
-pub lines_add : {E : Type 0} {result : Result (Unit {0}) E} (play : Play) (to : ℕ) (all : List Entry) (after : SeatState) → are_lines (length play.script.now.names) 0 play.script.now.stop play.script.now.lines ≡ true → IsWhole play.first.seat → all ≡ play.script.now.lines
-    → GoesOn (IsPlayed (take (to - play.from) (drop play.from all)) result) play.first.seat after → MayPlay play.order play to → play.from < to → AddsAt play.order (next_stamp play) (known_clients_in play) play.first.seat.seen after.seen
+pub lines_add : {E : Type 0} {result : Result (Unit {0}) E} (play : Stage) (to : ℕ) (all : List Entry) (after : SeatState) → are_lines (length play.script.now.names) 0 play.script.now.stop play.script.now.lines ≡ true → IsWhole play.first.seat → all ≡ play.script.now.lines
+    → GoesOn (IsPlayed (take (to - play.from) (drop play.from all)) result) play.first.seat after → MayPlay play.order play to → play.from < to → AddsAt play.order (next_stamp (shown_by play)) (known_clients_in (shown_by play)) play.first.seat.seen after.seen
 lines_add {result = result} play to all after valid whole same went may some =
     record { later = on.later; stamped = stamped play.order may; known = lines_known script (helm_of play.steersman) play.from (to - play.from) result play.first.seat after valid whole on }
   where
@@ -149,9 +150,9 @@ race_add {result = result} order script s stamp from to all first after race val
     }
 
 -- a front of the tick that is due
-tick_begins : (script : Script) (play : Play) (old : Steersman) (after heard : History) → IsUnderWay play.order script play.lock (Some old) play.from play.first.seat → tick_due script.stop play.steersman ≡ Some (old.ticks * old.period) → play.steersman ≡ Some old
+tick_begins : (script : Script) (play : Stage) (old : Steersman) (after heard : History) → IsUnderWay play.order script play.lock (Some old) play.from play.first.seat → tick_due script.stop play.steersman ≡ Some (old.ticks * old.period) → play.steersman ≡ Some old
     → IsBehind (Some (old.ticks * old.period)) (drop play.from script.lines) → (later : Begins after play.first.seat.seen) → Begins heard later.0 → list_all (λ entry. entry.stamp == old.ticks * old.period) heard ≡ true → clients_below (known_clients script (Some old)) heard ≡ true
-    → AddsAt play.order (stamp_due script play) (known_clients script (helm_in play)) play.first.seat.seen after
+    → AddsAt play.order (stamp_due script play) (known_clients script (helm_in (shown_by play))) play.first.seat.seen after
 tick_begins script play old after tick under due is behind later begins one known = record {
   later = later;
   stamped = subst (λ tick. KeepsStamp play.order (stamp_next play.order script.stop tick line) later.0) (sym due) (stamped play.order);
@@ -168,10 +169,10 @@ tick_begins script play old after tick under due is behind later begins one know
         (front_pass (λ entry. entry.stamp == old.ticks * old.period) tick later.0 begins one)
 
 -- the tick that is due is made, or a front of it
-pub tick_adds : (script : Script) (play : Play) (old new : Steersman) (after : SeatState) (result : Result (Unit {0}) AllocError) → IsUnderWay play.order script play.lock play.steersman play.from play.first.seat → play.steersman ≡ Some old
+pub tick_adds : (script : Script) (play : Stage) (old new : Steersman) (after : SeatState) (result : Result (Unit {0}) AllocError) → IsUnderWay play.order script play.lock play.steersman play.from play.first.seat → play.steersman ≡ Some old
     → tick_due script.stop play.steersman ≢ None → IsBehind (tick_due script.stop play.steersman) (drop play.from script.lines) → GoesOn (IsAlone old.number) play.first.seat after → steering_of new ≡ steering_of old
     → OnOk result (Steers play.lock.base new after.seen) → OnOk result ((new.opened ≡ true) × (new.ticks ≡ old.ticks + 1)) → (old.opened ≡ true → OnErr result (IsStopped play.lock.base (steering_of old) new.ticks (old.ticks + 1) after.seen))
-    → AddsAt play.order (stamp_due script play) (known_clients script (helm_in play)) play.first.seat.seen after.seen
+    → AddsAt play.order (stamp_due script play) (known_clients script (helm_in (shown_by play))) play.first.seat.seen after.seen
 tick_adds script play old new after result under is due behind on steering steers reached stops =
     tick_begins script play old after.seen (tick_entries helm heard old.ticks) here tick is (subst (λ tick. IsBehind tick (drop play.from script.lines)) tick behind) on.later (begins result steers reached stops)
     (and_from (old.ticks * old.period == old.ticks * old.period) ((old.ticks * old.period == old.ticks * old.period) && true) same (and_from (old.ticks * old.period == old.ticks * old.period) true same refl))
@@ -205,9 +206,9 @@ tick_adds script play old new after result under is due behind on steering steer
         (subst (λ b. entries_of old.number play.first.seat.seen ≡ opened_by b helm ++ ticks_of helm (heard_of play.lock.base old.number play.first.seat.seen) old.ticks) here.steered.1 here.steered.2.own) alone stopped)
 
 -- steps at one stamp behind others
-pub adds_on : (play before after : Play) (stamp : ℕ) → GoesOnWith play before → AddsAt play.order stamp (known_clients_in play) (history_in play) (history_in before)
-    → AddsAt before.order stamp (known_clients_in before) (history_in before) (history_in after) → AddsAt play.order stamp (known_clients_in play) (history_in play) (history_in after)
+pub adds_on : (play before after : Stage) (stamp : ℕ) → KeepsRun play before → AddsAt play.order stamp (known_clients_in (shown_by play)) (history_in (shown_by play)) (history_in (shown_by before))
+    → AddsAt before.order stamp (known_clients_in (shown_by before)) (history_in (shown_by before)) (history_in (shown_by after)) → AddsAt play.order stamp (known_clients_in (shown_by play)) (history_in (shown_by play)) (history_in (shown_by after))
 adds_on play before after stamp same one other =
-    adds_twice play.order stamp (known_clients_in play) (history_in play) (history_in before) (history_in after) one
-    (subst (λ number. AddsAt play.order stamp number (history_in before) (history_in after)) (λ i. known_clients (same.script i) (same.helm i))
-    (subst (λ order. AddsAt order stamp (known_clients_in before) (history_in before) (history_in after)) same.order other))
+    adds_twice play.order stamp (known_clients_in (shown_by play)) (history_in (shown_by play)) (history_in (shown_by before)) (history_in (shown_by after)) one
+    (subst (λ number. AddsAt play.order stamp number (history_in (shown_by before)) (history_in (shown_by after))) (λ i. known_clients (same.script i) (same.helm i))
+    (subst (λ order. AddsAt order stamp (known_clients_in (shown_by before)) (history_in (shown_by before)) (history_in (shown_by after))) same.order other))

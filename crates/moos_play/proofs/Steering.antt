@@ -18,9 +18,9 @@ use Rattle.moos_post.specs.declared.entry.Call.TheVariants.{Register, Post as Po
 use Rattle.moos_post.specs.declared.entry.Entry.{Entry}
 use Rattle.moos_post.specs.Delivery.{mail_after}
 use Rattle.moos_post.specs.History.{History, posts_of}
-use Rattle.moos_play.specs.Lawful.{Steering, heard_of, iterations_of, opening_of, ticks_of, mailed_in}
-use Rattle.moos_step.specs.Steps.{Anything, HasMade, Makes}
+use Rattle.moos_play.specs.Lawful.{heard_of, iterations_of, mailed_in, opening_of, Steering, ticks_of}
 use Rattle.moos_play.specs.Steered.{HasOwn, IsSteered, opened_by}
+use Rattle.moos_step.specs.Steps.{Anything, HasMade, Makes}
 use Rattle.moos_client.proofs.Hearing.{entries_next, heard_fetch, heard_next, heard_on, IsNext}
 use Rattle.moos_play.proofs.Hearing.{iterations_many, iterations_stay, ticks_stay}
 

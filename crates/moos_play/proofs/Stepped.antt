@@ -2,9 +2,10 @@
 use Rattle.std.proofs.Common.{◌≡◌, ◌∙◌, ℕ, Ok, Err, OnOk, Result, refl, subst}
 use Rattle.std.specs.Prelude.{OnErr}
 use Rattle.std.specs.declared.alloc.AllocError.{AllocError}
-use Rattle.moos_play.specs.declared.playing.Play.{Play}
-use Rattle.moos_play.specs.Plays.{HasPlayedOn, history_in, IsCutOff, known_clients_in}
-use Rattle.moos_play.specs.Steered.{IsAtPlay, KeepsMoves, told_in}
+use Rattle.moos_play.specs.declared.stage.Stage.{Stage}
+use Rattle.moos_play.specs.Plays.{history_in, known_clients_in}
+use Rattle.moos_play.specs.Runs.{HasPlayedOn, IsAtPlay, IsCutOff, KeepsMoves, shown_by}
+use Rattle.moos_play.specs.Steered.{told_in}
 use Rattle.moos_play.proofs.Handing.{goes_on_twice, stays_twice}
 use Rattle.moos_play.proofs.Moving.{moves_none, moves_twice, some_period}
 use Rattle.moos_play.proofs.Stamping.{adds_none, adds_on}
@@ -16,15 +17,15 @@ ok_any (Ok x) so = so
 ok_any (Err _) so = tt
 
 -- a step that answers something else
-pub stepped_ok : {A B : Type 0} {x : A} {y : B} (stamp : ℕ) (before after : Play) → HasPlayedOn {E = AllocError} stamp before after (Ok x) → HasPlayedOn {E = AllocError} stamp before after (Ok y)
+pub stepped_ok : {A B : Type 0} {x : A} {y : B} (stamp : ℕ) (before after : Stage) → HasPlayedOn {E = AllocError} stamp before after (Ok x) → HasPlayedOn {E = AllocError} stamp before after (Ok y)
 stepped_ok stamp before after so = record { same = so.same; seated = so.seated; stamped = so.stamped; front = tt; at_play = so.at_play; told = so.told; moves = so.moves }
 
 -- no step
-pub stepped_none : {A : Type 0} {x : A} (stamp : ℕ) (play : Play) → IsAtPlay play.script.now play → HasPlayedOn {E = AllocError} stamp play play (Ok x)
+pub stepped_none : {A : Type 0} {x : A} (stamp : ℕ) (play : Stage) → IsAtPlay play.script.now play → HasPlayedOn {E = AllocError} stamp play play (Ok x)
 stepped_none stamp play at = record {
   same = record { script = refl; lock = refl; order = refl; helm = refl };
   seated = record { seated = record { gathered = at.under.gathered; whole = at.under.whole }; lock = refl; later = begins_itself play.first.seat.seen };
-  stamped = adds_none play.order stamp (known_clients_in play) (history_in play);
+  stamped = adds_none play.order stamp (known_clients_in (shown_by play)) (history_in (shown_by play));
   front = tt;
   at_play = at;
   told = refl;
@@ -32,11 +33,11 @@ stepped_none stamp play at = record {
 }
 
 -- a step whose stamp has another name
-pub stepped_at : {A E : Type 0} {r : Result A E} {stamp other : ℕ} {before after : Play} → stamp ≡ other → HasPlayedOn stamp before after r → HasPlayedOn other before after r
+pub stepped_at : {A E : Type 0} {r : Result A E} {stamp other : ℕ} {before after : Stage} → stamp ≡ other → HasPlayedOn stamp before after r → HasPlayedOn other before after r
 stepped_at {r = r} {before = before} {after = after} same so = subst (λ stamp. HasPlayedOn stamp before after r) same so
 
 -- steps at one stamp behind others
-pub stepped_twice : {A B : Type 0} {x : A} (result : Result B AllocError) (stamp : ℕ) (before middle after : Play) → IsAtPlay before.script.now before → HasPlayedOn {E = AllocError} stamp before middle (Ok x) → HasPlayedOn stamp middle after result → HasPlayedOn stamp before after result
+pub stepped_twice : {A B : Type 0} {x : A} (result : Result B AllocError) (stamp : ℕ) (before middle after : Stage) → IsAtPlay before.script.now before → HasPlayedOn {E = AllocError} stamp before middle (Ok x) → HasPlayedOn stamp middle after result → HasPlayedOn stamp before after result
 stepped_twice {B = B} result stamp before middle after at one other = record {
   same = goes_on_twice before middle after one.same other.same;
   seated = stays_twice before middle after one.seated other.seated;
@@ -64,3 +65,7 @@ stepped_twice {B = B} result stamp before middle after at one other = record {
         moves_twice before.order stamp before middle after one.same (some_period before.script.now.stop before.steersman at.period) one.moves
         (subst (λ order. KeepsMoves order stamp middle after) one.same.order so)
     moves (Err _) so = tt
+
+-- steps from a run that has another name
+pub stepped_from : {A E : Type 0} {r : Result A E} {stamp : ℕ} {before after run : Stage} → before ≡ run → HasPlayedOn stamp before after r → HasPlayedOn stamp run after r
+stepped_from {r = r} {stamp = stamp} {after = after} same so = subst (λ before. HasPlayedOn stamp before after r) same so

@@ -15,9 +15,9 @@ use Rattle.moos_post.specs.declared.entry.Call.TheVariants.{Post as Posts, Fetch
 use Rattle.moos_post.specs.declared.entry.Entry.{Entry}
 use Rattle.moos_post.specs.History.{History}
 use Rattle.moos_play.specs.declared.steersman.Steersman.{Steersman}
-use Rattle.moos_play.specs.Lawful.{heard_of, opening_of, Steering, ticks_of, mailed_in}
-use Rattle.moos_step.specs.Steps.{HasSeenAll, IsWhole}
+use Rattle.moos_play.specs.Lawful.{heard_of, mailed_in, opening_of, Steering, ticks_of}
 use Rattle.moos_play.specs.Steered.{HasOwn, HasStopped, IsSteered, IsStopped, steering_of, Steers}
+use Rattle.moos_step.specs.Steps.{HasSeenAll, IsWhole}
 use Rattle.moos_client.proofs.Hearing.{entries_next, heard_fetch, heard_on, IsNext}
 use Rattle.moos_play.proofs.Hearing.{ticks_stay}
 use Rattle.moos_play.proofs.Helming.{fetch_next}

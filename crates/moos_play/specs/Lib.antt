@@ -1,4 +1,5 @@
 pub mod Lawful
 pub mod Schedules
-pub mod Steered
 pub mod Plays
+pub mod Steered
+pub mod Runs

@@ -1,5 +1,5 @@
 -- The helm at its seat, and where a run stands between two rounds.
-use Rattle.std.specs.Prelude.{◌≡◌, ◌⊎◌, ℕ, ◌+◌, ◌-◌, ◌*◌, ◌/◌, ◌^◌, ◌==◌, ◌≤◌, ◌<◌, Bool, true, false, not, nat_le, nat_lt, suc, if◌then◌else◌, List, [], ◌∷◌, ◌++◌, length, drop, take, Option, None, Some, option_map, IfSome, IsTrue, OnErr, OnOk, Result}
+use Rattle.std.specs.Prelude.{◌≡◌, ◌⊎◌, ℕ, ◌+◌, ◌-◌, ◌*◌, ◌^◌, ◌==◌, ◌≤◌, ◌<◌, Bool, true, false, not, nat_lt, if◌then◌else◌, List, [], ◌∷◌, ◌++◌, length, drop, take, Option, None, Some, option_map, IfSome, IsTrue, OnErr, OnOk, Result}
 use Rattle.std.specs.List.{list_all}
 use Rattle.moos_post.specs.Delivery.{is_fetch}
 use Rattle.moos_post.specs.History.{History}
@@ -12,14 +12,13 @@ use Rattle.helm_core.specs.declared.iteration.Iteration.{Iteration}
 use Rattle.helm_core.specs.Helms.{clock_of, IsTicked, plan_of, StandsFor}
 use Rattle.moos_lawful.specs.Answering.{turns_from}
 use Rattle.moos_lawful.specs.Schedules.{IsLawfulSoFar}
+use Rattle.moos_play.specs.Plays.{iterations_by, tick_at, ticks_behind}
 use Rattle.moos_play.specs.Schedules.{answerers, answering, schedule_with}
-use Rattle.moos_play.specs.declared.playing.Play.{Play}
 use Rattle.moos_play.specs.declared.run.HelmRun.{HelmRun}
 use Rattle.moos_play.specs.declared.steersman.Steersman.{Steersman}
 use Rattle.moos_play.specs.Lawful.{Steering, heard_of, helm_number, iterations_of, opening, opening_of, ticks_of, ticks_to}
 use Rattle.moos_step.specs.Steps.{Anything, CommunityLock, IsGathered, IsWhole, Makes}
 use Rattle.script_reader.specs.declared.script.Order.{Order}
-use Rattle.script_reader.specs.declared.script.Order.TheVariants.{Stamp, Race}
 use Rattle.script_reader.specs.declared.script.Script.{Script}
 use Rattle.turn_lock.specs.Passes.{Begins}
 
@@ -149,11 +148,14 @@ HasHeard names number stop None history = Unit {0}
 HasHeard names number stop (Some steersman) history =
     (steersman.number ≡ number) × (steersman.ticks ≤ length (heard_of names steersman.number history)) × (steersman.ticks ≤ ticks_to stop (steering_of steersman))
 
+-- how many ticks the helm has made, none without one
+abbrev pub ticks_in : Option Steersman → ℕ
+ticks_in None = 0
+ticks_in (Some steersman) = steersman.ticks
+
 -- the stamp of the helm's next tick, where one is left up to this stamp
 abbrev pub tick_due : ℕ → Option Steersman → Option ℕ
-tick_due stop None = None
-tick_due stop (Some steersman) =
-    if nat_le steersman.ticks (stop / steersman.period) then Some (steersman.ticks * steersman.period) else None
+tick_due stop steersman = tick_at stop (helm_of steersman) (ticks_in steersman)
 
 -- there is a tick, and it is before a stamp
 abbrev pub comes_before : Option ℕ → ℕ → Bool
@@ -175,35 +177,18 @@ pub record IsDue (lines : List Entry) (tick : Option ℕ) (from to : ℕ) : Type
   pub early : from < to → comes_before tick stamp ≡ false
   pub next : from ≡ to → IsBehind tick (drop from lines)
 
--- how many ticks the helm has made, none without one
-abbrev pub ticks_in : Option Steersman → ℕ
-ticks_in None = 0
-ticks_in (Some steersman) = steersman.ticks
-
 -- the milliseconds from one tick to the next, any without a helm
 abbrev pub period_in : Option Steersman → ℕ
 period_in None = 1
 period_in (Some steersman) = steersman.period
 
--- Steps of a run at this stamp: no line is taken back, and the helm makes one tick at most, its next one, which has this stamp.
-pub record MovesAt (stamp : ℕ) (before after : Play) : Type 0 where
-  pub lines : before.from ≤ after.from
-  pub ticks : (ticks_in after.steersman ≡ ticks_in before.steersman)
-      ⊎ ((ticks_in after.steersman ≡ suc (ticks_in before.steersman)) × (stamp ≡ ticks_in before.steersman * period_in before.steersman))
-
--- the same in order Stamp
-abbrev pub KeepsMoves : Order → ℕ → Play → Play → Type 0
-KeepsMoves Stamp stamp before after = MovesAt stamp before after
-KeepsMoves Race stamp before after = Unit {0}
-
 -- how many of the helm's ticks up to a stamp are left
 abbrev pub ticks_left : ℕ → Option Steersman → ℕ
-ticks_left stop None = 0
-ticks_left stop (Some steersman) = ticks_to stop (steering_of steersman) - steersman.ticks
+ticks_left stop steersman = ticks_behind stop (helm_of steersman) (ticks_in steersman)
 
--- how many lines and ticks are left
-abbrev pub left_of : Script → Play → ℕ
-left_of script play = length script.lines - play.from + ticks_left script.stop play.steersman
+-- the helm's iterations so far over what it has heard in a history
+abbrev pub made_by : List (List ℕ) → History → Option Steersman → List Iteration
+made_by names history steersman = iterations_by names history (helm_of steersman) (ticks_in steersman)
 
 -- the iterations so far, none without a helm
 abbrev pub iterations_in : Option Steersman → List Iteration
@@ -233,20 +218,7 @@ pub record HasOpened (lock : CommunityLock) (number : ℕ) (steersman : Option S
   pub ticks : IfSome steersman (λ helm. (helm.ticks ≡ 0) × (1 ≤ helm.period))
   pub told : IfSome steersman (λ helm. helm.told ≡ 0)
 
--- A run of a script between two rounds, with a count of calls for each of its clients.
-pub record IsAtPlay (script : Script) (play : Play) : Type 0 where
-  pub under : IsUnderWay play.order script play.lock play.steersman play.from play.first.seat
-  pub calls : length play.calls.items ≡ length script.names
-  pub period : IfSome play.steersman (λ helm. (1 ≤ helm.period) × (helm.ticks ≤ ticks_to script.stop (steering_of helm)))
-
 -- how many iterations were handed out
 abbrev pub told_in : Option Steersman → ℕ
 told_in None = 0
 told_in (Some steersman) = steersman.told
-
--- what stays the same from round to round
-pub record GoesOnWith (before after : Play) : Type 0 where
-  pub script : after.script.now ≡ before.script.now
-  pub lock : after.lock ≡ before.lock
-  pub order : after.order ≡ before.order
-  pub helm : helm_of after.steersman ≡ helm_of before.steersman

@@ -2,8 +2,7 @@
 ghost use Rattle.std.specs.Prelude.{◌≡◌, ◌<◌, ◌++◌, ◌∷◌, [], IfOk, OnErr, OnOk};
 ghost use Rattle.moos_client.specs.Calls.{entry_of};
 ghost use Rattle.moos_step.specs.Steps.{mail_of_call};
-ghost use Rattle.moos_play.specs.Plays.{clients_in, history_in, IsBetween, IsFurther, iterations_made, left_in, next_stamp, StaysSeated};
-ghost use Rattle.moos_play.specs.Steered.{GoesOnWith};
+ghost use Rattle.moos_play.specs.Plays.{clients_in, GoesOnWith, history_in, IsBetween, IsFurther, iterations_made, left_in, next_stamp, StaysSeated};
 
 use crate::playing::Play;
 use moos_db::Mail;
@@ -35,7 +34,8 @@ impl<'a> Play<'a> {
         ensures next { next_stamp self.new ≡ next_stamp self.old }
         ensures iterations { iterations_made self.new ≡ iterations_made self.old }
     {
-        let first = &mut self.first.seat;
-        call_alone(rt, alloc, &self.lock, first, client, stamp, call)
+        let run = &mut self.run;
+        let first = &mut run.first.seat;
+        call_alone(rt, alloc, &run.lock, first, client, stamp, call)
     }
 }

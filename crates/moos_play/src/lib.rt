@@ -6,9 +6,9 @@
 //! by round may have further clients, whose entries stand where they were entered; without these its history is as lawful.
 //! Between two rounds its history is lawful so far, and so it is after a round that found no memory.
 //!
-//! Reading order: `steersman`, the helm's calls; `race`, the helm beside the clients; `seats`, how a run begins; `stamps`, what is next; `playing`, from one step to
-//! the next; `round_made`, what a round leaves; `by_round`, a run that is played round by round; `entering`, what further
-//! clients do between rounds; `run`, the whole.
+//! Reading order: `steersman`, the helm's calls; `race`, the helm beside the clients; `seats`, how a run begins; `stamps`, what is
+//! next; `stage`, from one step to the next; `by_round`, the steps of a round; `round_made`, what a round leaves; `playing`, a run
+//! that is played round by round; `entering`, what further clients do between rounds; `run`, the whole.
 #![tactic(auto)]
 
 mod by_round;
@@ -18,6 +18,7 @@ mod race;
 mod round_made;
 mod run;
 mod seats;
+mod stage;
 mod stamps;
 mod steersman;
 

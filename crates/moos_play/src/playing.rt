@@ -1,34 +1,48 @@
-// A run from one step to the next: the clients' lines and the helm's ticks, in the order that was asked for.
-ghost use Rattle.std.specs.Prelude.{◌≡◌, ◌≢◌, ◌<◌, ◌++◌, ◌^◌, None, Ok, true, false, [], drop, length, option_map, IfOk, OnOk, IfSome};
-ghost use Rattle.moos_play.specs.Lawful.{names_with, opening, steering_with, MayStart};
-ghost use Rattle.moos_play.specs.Plays.{helm_in, HasPlayedOn, history_in, IsBetween, IsSeated, clients_in, left_in, MayPlay, MayGoOn, next_stamp, order_played, script_played, next_tick, untold_in};
-ghost use Rattle.moos_play.specs.Steered.{IsAtPlay, IsBehind, IsDue};
+// A script that is played round by round, as its player sees it.
+ghost use Rattle.std.specs.Prelude.{◌≡◌, ◌<◌, ◌≤◌, ◌++◌, ◌^◌, ℕ, [], length, option_map, IfNone, IfOk, IfSome, OnErr, OnOk};
+ghost use Rattle.moos_lawful.specs.Schedules.{IsLawfulSoFar};
+ghost use Rattle.moos_play.specs.Lawful.{MayStart, names_with, opening, steering_with};
+ghost use Rattle.moos_play.specs.Plays.{AddsAt, clients_in, GoesOnWith, HasCompletion, HasSteeredSoFar, HasTurn, helm_in, history_in, IsBetween, IsLeft, IsLentAs, IsPlayedOut, IsRound, IsRunFor, IsSeated, iterations_made, known_clients_in, left_in, next_stamp, order_played, returned, schedule_in, script_played, StaysSeated};
 ghost use Rattle.script_reader.specs.Validity.{IsValid};
 
-use crate::race::race;
+use crate::round_made::Round;
 use crate::run::{HelmRun, Ran};
 use crate::seats::{open_all, seats_for, steersman_for};
-use crate::stamps::{due_end, tick_due};
-use crate::steersman::{Steersman, lead};
-use moos_client::Lock;
+use crate::stage::Stage;
+use moos_db::Db;
 use moos_io::Gate;
 use moos_post::{List, Names, NoMemory};
-use moos_step::{Player, play_step};
+use moos_step::Player;
 use script_reader::{Order, Script};
 use std::alloc::Global;
+use std::marker::Model;
 use std::sync::Wait;
 use std::thread::Threads;
+use turn_lock::Held;
 
-/// A script that is played round by round. Between two rounds the seat of the first client has taken in all others.
+/// A script that is played round by round. Contracts see the script, the clients' names, how the helm is run, the history so
+/// far, and how far the run has come in the script's lines and the helm's ticks.
 #[derive(Drop)]
 pub struct Play<'a> {
-    pub(crate) script: &'a Script,
-    pub(crate) lock: Lock,
-    pub(crate) first: Player,
-    pub(crate) steersman: Option<Steersman>,
-    pub(crate) calls: Vec<u64>,
-    pub(crate) from: usize,
-    pub(crate) order: Order,
+    pub(crate) run: Stage<'a>,
+    // Whether each round so far was played to its end.
+    pub(crate) whole: bool,
+}
+
+impl<'a> Model for Play<'a> {
+    ghost use Rattle.helm_cond.specs.contracts.cond.Cond as cond;
+    ghost use Rattle.std.specs.Coded.{codes};
+    ghost use Rattle.moos_play.specs.Plays.{Playing};
+
+    ghost Value = { Playing };
+
+    ghost coded = { Prim.hlevel (codes, cond.the_row.coded) };
+
+    ghost use Rattle.moos_play.specs.Runs.{IsCoherent, playing_of};
+
+    ghost view = { λ play. playing_of play.run play.whole };
+
+    ghost invariant = { λ play. IsCoherent play.run play.whole };
 }
 
 impl<'a> Play<'a> {
@@ -62,7 +76,7 @@ impl<'a> Play<'a> {
             calls: 0,
             ended: Ok(()),
         };
-        Ok(Play {
+        let run = Stage {
             script,
             lock,
             first,
@@ -70,155 +84,88 @@ impl<'a> Play<'a> {
             calls,
             from: 0,
             order,
-        })
-    }
-
-    /// Plays the next step: in order Stamp the lines of the next stamp or the helm's next tick, and in order Race
-    /// everything. It answers false where nothing was left. Also where memory is missing the first seat has all others.
-    pub(crate) fn go_on<R: Threads + Wait + Sync, G: Gate>(
-        &mut self,
-        rt: &R,
-        alloc: Global,
-        workers: u32,
-        gate: &G,
-    ) -> Result<bool, NoMemory>
-        requires may { MayGoOn self.old workers }
-        ensures stepped { HasPlayedOn (next_stamp self.old) self.old self.new result }
-        ensures more { result ≡ Ok true → left_in self.new < left_in self.old }
-        ensures over { result ≡ Ok false → (left_in self.old ≡ 0) × (self.new ≡ self.old) }
-    {
-        let tick = tick_due(&self.steersman, self.script.stop);
-        let lines = self.script.lines.all();
-        let to = due_end(lines, self.from, tick);
-        if self.from == to && tick.is_none() {
-            return Ok(false);
-        }
-        match self.order {
-            Order::Race => self.play_all(rt, alloc, workers, gate)?,
-            Order::Stamp => self.play_next(rt, alloc, to, workers, gate)?,
-        }
-        Ok(true)
-    }
-
-    // Plays the lines before this place, or the next tick where that is the place that the lines have come to.
-    fn play_next<R: Threads + Wait + Sync, G: Gate>(
-        &mut self,
-        rt: &R,
-        alloc: Global,
-        to: usize,
-        workers: u32,
-        gate: &G,
-    ) -> Result<(), NoMemory>
-        requires may { MayGoOn self.old workers }
-        requires due { IsDue self.old.script.now.lines (next_tick self.old) self.old.from to }
-        requires some { (self.old.from ≡ to) → (next_tick self.old ≢ None) }
-        ensures stepped { HasPlayedOn (next_stamp self.old) self.old self.new result }
-        ensures more { OnOk result (left_in self.new < left_in self.old) }
-    {
-        if self.from < to {
-            self.play_lines(rt, alloc, to, gate)
-        } else {
-            self.play_tick(rt, alloc, workers, gate)
-        }
-    }
-
-    // Plays the lines before this place, which in order Stamp have one stamp.
-    fn play_lines<R: Threads + Wait + Sync, G: Gate>(
-        &mut self,
-        rt: &R,
-        alloc: Global,
-        to: usize,
-        gate: &G,
-    ) -> Result<(), NoMemory>
-        requires valid { IsValid self.old.script.now }
-        requires at_play { IsAtPlay self.old.script.now self.old }
-        requires due { MayPlay self.old.order self.old to }
-        requires some { self.old.from < to }
-        ensures stepped { HasPlayedOn (next_stamp self.old) self.old self.new result }
-        ensures more { OnOk result (left_in self.new < left_in self.old) }
-        ensures on { OnOk result (self.new.from ≡ to) }
-        ensures helm { self.new.steersman ≡ self.old.steersman }
-    {
-        let lines = &self.script.lines.all()[self.from..to];
-        let calls = self.calls.as_mut_slice();
-        play_step(rt, alloc, &self.lock, &mut self.first, calls, lines, gate)?;
-        self.from = to;
-        Ok(())
-    }
-
-    // Has the helm make its next tick, where one is left and no line is left of its stamp or before.
-    fn play_tick<R: Threads + Wait + Sync, G: Gate>(
-        &mut self,
-        rt: &R,
-        alloc: Global,
-        workers: u32,
-        gate: &G,
-    ) -> Result<(), NoMemory>
-        requires may { MayGoOn self.old workers }
-        requires some { next_tick self.old ≢ None }
-        requires behind { IsBehind (next_tick self.old) (drop self.old.from self.old.script.now.lines) }
-        ensures stepped { HasPlayedOn (next_stamp self.old) self.old self.new result }
-        ensures more { OnOk result (left_in self.new < left_in self.old) }
-    {
-        let Some(steersman) = &mut self.steersman else {
-            unreachable!()
         };
-        let ticks = steersman.ticks + 1;
-        let first = &mut self.first.seat;
-        lead(
-            rt, alloc, &self.lock, first, steersman, ticks, workers, gate,
-        )
+        Ok(Play { run, whole: true })
     }
 
-    // Has all clients play the lines that are left and the helm, where there is one, make its ticks, all beside each other.
-    fn play_all<R: Threads + Wait + Sync, G: Gate>(
+    /// Plays the next round: in order Stamp the lines and the tick of the next stamp, and in order Race everything. None
+    /// where nothing is left. After want of memory the history is lawful so far still, perhaps within a round, and only `hold`,
+    /// `put_back` and `end` may be called. There are 1 to 16 workers for what the helm solves.
+    pub fn round<R: Threads + Wait + Sync, G: Gate>(
         &mut self,
         rt: &R,
         alloc: Global,
         workers: u32,
         gate: &G,
-    ) -> Result<(), NoMemory>
-        requires may { MayGoOn self.old workers }
-        requires race { self.old.order ≡ Order.Race }
-        requires left { (self.old.steersman ≡ None) → self.old.from < length self.old.script.now.lines }
-        ensures stepped { HasPlayedOn (next_stamp self.old) self.old self.new result }
-        ensures over { OnOk result (left_in self.new ≡ 0) }
+    ) -> Result<Option<Round>, NoMemory>
+        requires between { IsBetween self.old }
+        requires workers { (1 ≤ workers) × (workers ≤ 16) }
+        ensures seated { StaysSeated self.old self.new }
+        ensures same { GoesOnWith self.old self.new }
+        ensures between { OnOk result (IsBetween self.new) }
+        ensures front { OnErr result (HasCompletion self.new) }
+        ensures so_far { OnErr result (IsLawfulSoFar (schedule_in self.new) (history_in self.new)) }
+        ensures stamped { OnErr result (AddsAt (order_played self.old) (next_stamp self.old) (known_clients_in self.old) (history_in self.old) (history_in self.new)) }
+        ensures round { IfOk result (λ round. IfSome round (IsRound self.old self.new)) }
+        ensures turn { IfOk result (λ round. IfSome round (HasTurn (order_played self.old) self.old self.new)) }
+        ensures more { IfOk result (λ round. IfSome round (λ _. left_in self.new < left_in self.old)) }
+        ensures none { IfOk result (λ round. IfNone round ((left_in self.old ≡ 0) × (self.new ≡ self.old))) }
+        ensures over { IfOk result (λ round. IfNone round (IsPlayedOut self.new)) }
     {
-        if self.steersman.is_none() {
-            let to = self.script.lines.len();
-            self.play_lines(rt, alloc, to, gate)
-        } else {
-            self.race_left(rt, alloc, workers, gate)
+        let stamp = self.run.next_stamp();
+        let from = self.run.count_entries(rt);
+        self.whole = false;
+        if !self.run.play_stamp(rt, alloc, stamp, workers, gate)? {
+            self.whole = true;
+            return Ok(None);
         }
+        self.whole = true;
+        let iterations = self.run.hand_out(alloc);
+        Ok(Some(Round {
+            stamp,
+            from,
+            iterations,
+        }))
     }
 
-    // Has all clients play the lines that are left beside the helm, which makes its ticks.
-    fn race_left<R: Threads + Wait + Sync, G: Gate>(
-        &mut self,
-        rt: &R,
-        alloc: Global,
-        workers: u32,
-        gate: &G,
-    ) -> Result<(), NoMemory>
-        requires may { MayGoOn self.old workers }
-        requires race { self.old.order ≡ Order.Race }
-        requires some { self.old.steersman ≢ None }
-        ensures stepped { HasPlayedOn (next_stamp self.old) self.old self.new result }
-        ensures over { OnOk result (left_in self.new ≡ 0) }
+    /// Lends the database, until it is put back.
+    pub fn hold<R: Wait>(&mut self, rt: &R) -> Held<Db>
+        requires { IsSeated self.old }
+        ensures lent { IsLentAs self.new result.number result.start.value.history }
+        ensures start { result.start.value ≡ result.value }
+        ensures names { result.value.names ≡ clients_in self.old }
+        ensures history { result.value.history ≡ history_in self.old }
+        ensures back { returned self.new ≡ self.old }
     {
-        let Some(steersman) = &mut self.steersman else {
-            unreachable!()
-        };
-        let ticks = self.script.stop / steersman.period + 1;
-        let to = self.script.lines.len();
-        let lines = &self.script.lines.all()[self.from..to];
-        let calls = self.calls.as_mut_slice();
-        let first = &mut self.first;
-        race(
-            rt, alloc, &self.lock, first, steersman, calls, lines, ticks, workers, gate,
-        )?;
-        self.from = to;
-        Ok(())
+        let run = &mut self.run;
+        run.lock.take(rt, &mut run.first.seat)
+    }
+
+    /// Takes the database back, with the clients and the entries that it had.
+    pub fn put_back(&mut self, held: Held<Db>)
+        requires lent { IsLentAs self.old held.number held.start.value.history }
+        requires names { held.value.names ≡ clients_in self.old }
+        requires history { held.value.history ≡ history_in self.old }
+        ensures { self.new ≡ returned self.old }
+    {
+        let run = &mut self.run;
+        run.lock.give_back(&mut run.first.seat, held);
+    }
+
+    /// The law of a run between two rounds: its history is lawful so far; with some entries more it is lawful, and the helm's
+    /// iterations so far are the first of those of that history; and the helm, where there is one, has made as many ticks as there
+    /// are iterations, which are some of its ticks up to the script's last stamp; and what is left for each client isn't before the next
+    /// round. It does nothing.
+    pub fn front_law(&self)
+        requires { IsBetween self.now }
+        ensures front { HasCompletion self.now }
+        ensures steered { HasSteeredSoFar self.now }
+        ensures so_far { IsLawfulSoFar (schedule_in self.now) (history_in self.now) }
+        ensures valid { IsValid (script_played self.now) }
+        ensures helm { IfSome (helm_in self.now) (IsRunFor (script_played self.now) (length (iterations_made self.now))) }
+        ensures left { (so : IsLawfulSoFar (schedule_in self.now) (history_in self.now)) (n : ℕ) → n < known_clients_in self.now → IsLeft self.now (so.left n) }
+    {
+        let _ = &self.run;
     }
 
     /// Ends the run: its database with the history so far. It hands out no iterations: those of a round are the round's, and
@@ -229,32 +176,9 @@ impl<'a> Play<'a> {
         ensures history { result.db.history ≡ history_in self.entry }
         ensures iterations { result.iterations ≡ [] }
     {
-        let Ran { db, iterations: _ } = self.close(alloc);
+        let Play { run, whole: _ } = self;
+        let Ran { db, iterations: _ } = run.close(alloc);
         let iterations = List::new(alloc);
-        Ran { db, iterations }
-    }
-
-    /// Ends the run: its database with the history so far, and those of the helm's iterations that no round has handed out.
-    pub(crate) fn close(self, alloc: Global) -> Ran
-        requires { IsSeated self }
-        ensures names { result.db.names ≡ clients_in self.entry }
-        ensures history { result.db.history ≡ history_in self.entry }
-        ensures iterations { result.iterations ≡ untold_in self.entry }
-    {
-        let Play {
-            script: _,
-            lock,
-            first,
-            steersman,
-            calls: _,
-            from: _,
-            order: _,
-        } = self;
-        let (db, _) = lock.close(first.seat);
-        let iterations = match steersman {
-            Some(steersman) => steersman.iterations,
-            None => List::new(alloc),
-        };
         Ran { db, iterations }
     }
 }

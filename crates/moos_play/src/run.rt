@@ -1,11 +1,13 @@
 // The whole of a run, round by round.
 ghost use Rattle.std.specs.Prelude.{◌≡◌, ◌≤◌, option_map, IfOk, IfSome, OnOk};
 ghost use Rattle.moos_play.specs.Lawful.{heard_of, helm_number, MayStart, IsLawful, iterations, names_with, steering_with};
-ghost use Rattle.moos_play.specs.Plays.{left_in, MayGoOn, StaysSeated};
-ghost use Rattle.moos_play.specs.Steered.{GoesOnWith, IsAtPlay, told_in};
+ghost use Rattle.moos_play.specs.Plays.{left_in};
+ghost use Rattle.moos_play.specs.Runs.{IsAtPlay, KeepsRun, KeepsSeats, MayGoOn, shown_by};
+ghost use Rattle.moos_play.specs.Steered.{told_in};
 ghost use Rattle.script_reader.specs.Validity.{IsValid};
 
 use crate::playing::Play;
+use crate::stage::Stage;
 use crate::steersman::Iterations;
 use helm_core::Helm;
 use moos_db::Db;
@@ -62,9 +64,10 @@ pub fn play<R: Threads + Wait + Sync, G: Gate>(
     ensures iterations { let helm = option_map (steering_with script.now) helm in
         IfOk result (λ ran. ran.iterations ≡ iterations helm script.now.stop (heard_of ran.db.names (helm_number script.now) ran.db.history)) }
 {
-    let mut play = Play::make(rt, alloc, script, helm, List::new(alloc), order, gate)?;
-    let played = play_out(rt, alloc, &mut play, workers, gate);
-    let ran = play.close(alloc);
+    let play = Play::make(rt, alloc, script, helm, List::new(alloc), order, gate)?;
+    let Play { mut run, whole: _ } = play;
+    let played = play_out(rt, alloc, &mut run, workers, gate);
+    let ran = run.close(alloc);
     played?;
     Ok(ran)
 }
@@ -73,17 +76,17 @@ pub fn play<R: Threads + Wait + Sync, G: Gate>(
 fn play_out<R: Threads + Wait + Sync, G: Gate>(
     rt: &R,
     alloc: Global,
-    play: &mut Play,
+    run: &mut Stage,
     workers: u32,
     gate: &G,
 ) -> Result<(), NoMemory>
-    requires { MayGoOn play.old workers }
-    ensures seated { StaysSeated play.old play.new }
-    ensures at_play { OnOk result (IsAtPlay play.old.script.now play.new) }
-    ensures same { OnOk result (GoesOnWith play.old play.new) }
-    ensures told { OnOk result (told_in play.new.steersman ≡ told_in play.old.steersman) }
-    ensures over { OnOk result (left_in play.new ≡ 0) }
+    requires { MayGoOn run.old workers }
+    ensures seated { KeepsSeats run.old run.new }
+    ensures at_play { OnOk result (IsAtPlay run.old.script.now run.new) }
+    ensures same { OnOk result (KeepsRun run.old run.new) }
+    ensures told { OnOk result (told_in run.new.steersman ≡ told_in run.old.steersman) }
+    ensures over { OnOk result (left_in (shown_by run.new) ≡ 0) }
 {
-    while play.go_on(rt, alloc, workers, gate)? {}
+    while run.go_on(rt, alloc, workers, gate)? {}
     Ok(())
 }

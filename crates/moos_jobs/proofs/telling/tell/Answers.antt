@@ -4,14 +4,12 @@ use Rattle.std.specs.Prelude.{IfNone, IfSome}
 use Rattle.moos_io.specs.Pieces.{Took, TookFront}
 use Rattle.moos_io.proofs.Writing.{fares_further}
 use Rattle.moos_play.specs.declared.playing.Play.{Play}
-use Rattle.moos_play.specs.Plays.{clients_in, HasCompletion, history_in, IsBetween, IsPlayedOut, iterations_made}
-use Rattle.moos_play.specs.Steered.{GoesOnWith}
-use Rattle.moos_play.proofs.Handing.{goes_on_twice}
+use Rattle.moos_play.specs.Plays.{clients_in, GoesOnWith, HasCompletion, history_in, IsBetween, IsPlayedOut, iterations_made}
 use Rattle.moos_report.specs.Parts.{front_text}
 use Rattle.command_line.specs.Endings.{sinking}
 use Rattle.moos_jobs.specs.Telling.{IsToldSoFar, Tells}
 use Rattle.moos_jobs.proofs.Fetching.{IsNamed, named_on}
-use Rattle.moos_jobs.proofs.Rounds.{end_told, few_made, none_made, run_as, told_front}
+use Rattle.moos_jobs.proofs.Rounds.{end_told, goes_on_twice, none_made, run_as, told_front}
 use Rattle.moos_jobs.proofs.telling.tell.Goals as goal
 
 pub returns-in-Err : goal.returns-in-Err
@@ -19,9 +17,10 @@ returns-in-Err g c =
     let play = c.args.play.now in
     let before = g.K.Sink.taken c.args.out.now in
     let after = g.K.Sink.taken c.tell_opening.new.out in
-    let none = none_made play c.requires.between c.requires.named c.requires.begun in
+    let well = record { valid = c.front_law.ensures.valid; helm = c.front_law.ensures.helm; steered = c.front_law.ensures.steered } in
+    let none = none_made play well c.requires.named c.requires.begun in
     let front = subst (λ made. TookFront before after (front_text c.args.setup.now (clients_in play) (history_in play) made)) (sym none) c.in-Err.ensures.front in
-    (told_front c.args.setup.now play c.parts_law.ensures.fronts c.requires.between c.requires.named c.front_law.ensures.front before after _ _ front, c.in-Err.ensures.rose)
+    (told_front c.args.setup.now play c.parts_law.ensures.fronts well c.requires.named c.front_law.ensures.front before after _ _ front, c.in-Err.ensures.rose)
 
 pub loop-more-init : goal.loop-more-init
 loop-more-init g c =
@@ -29,13 +28,14 @@ loop-more-init g c =
     let before = g.K.Sink.taken c.args.out.now in
     let after = g.K.Sink.taken c.tell_opening.new.out in
     let same = sym c.tell_opening.ensures.same in
-    let none = none_made play c.requires.between c.requires.named c.requires.begun in
+    let well = record { valid = c.front_law.ensures.valid; helm = c.front_law.ensures.helm; steered = c.front_law.ensures.steered } in
+    let none = none_made play well c.requires.named c.requires.begun in
     record {
       empty = c.new-buffer.ensures;
       between = subst IsBetween same c.requires.between;
       named = subst IsNamed same c.requires.named;
       on = subst HasCompletion same c.front_law.ensures.front;
-      same = subst (GoesOnWith play) same (record { script = refl; lock = refl; order = refl; helm = refl });
+      same = subst (GoesOnWith play) same (record { script = refl; order = refl; names = refl; helm = refl });
       made = sym (ap length none) ∙ ap (λ (play : Play). length (iterations_made play)) same;
       told = subst (IsToldSoFar c.args.setup.now before after) same
           (subst (λ made. Took before after (front_text c.args.setup.now (clients_in play) (history_in play) made)) (sym none) c.in_default.ensures.ok);
@@ -44,8 +44,8 @@ loop-more-init g c =
 
 pub overflow_add-made : goal.overflow_add-made
 overflow_add-made g c =
-    let made = subst (λ more. IfSome more (λ more. length (iterations_made c.tell_round.new.play) ≡ c.loop-more.made + more)) c.in-Ok-Some.field-0-is c.in-Ok-Some.ensures.made in
-    omega (arith, few_made c.tell_round.new.play c.in-Ok-Some.ensures.between, made)
+    let few = subst (λ more. IfSome more (λ more. c.loop-more.made + more < 2 ^ 64)) c.in-Ok-Some.field-0-is c.in-Ok-Some.ensures.few in
+    omega (arith, few)
 
 pub loop-more-preserved : goal.loop-more-preserved
 loop-more-preserved g c =

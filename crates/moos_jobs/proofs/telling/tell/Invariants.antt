@@ -1,8 +1,7 @@
 -- What is printed of the run so far was written, and the run goes on from where it began.
 use Rattle.std.proofs.Common.{◌≡◌, [], length}
 use Rattle.moos_io.specs.Faults.{FaresOn}
-use Rattle.moos_play.specs.Plays.{HasCompletion, IsBetween, iterations_made, left_in}
-use Rattle.moos_play.specs.Steered.{GoesOnWith}
+use Rattle.moos_play.specs.Plays.{GoesOnWith, HasCompletion, IsBetween, iterations_made, left_in}
 use Rattle.moos_jobs.specs.Telling.{IsToldSoFar}
 use Rattle.moos_jobs.proofs.Fetching.{IsNamed}
 use Rattle.moos_jobs.proofs.telling.tell.Given as goal

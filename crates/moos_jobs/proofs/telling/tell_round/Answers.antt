@@ -1,22 +1,22 @@
 -- What the round brought was told, or a front of it; or what was told before is a front.
-use Rattle.std.proofs.Common.{◌∙◌, inr, subst, sym}
+use Rattle.std.proofs.Common.{◌∙◌, ap, arith, inr, length, length-append, subst, sym}
 use Rattle.std.specs.Prelude.{IfSome}
 use Rattle.moos_io.proofs.Writing.{fell_later}
-use Rattle.moos_play.specs.Plays.{IsRound}
+use Rattle.moos_play.specs.Plays.{IsRound, iterations_made}
 use Rattle.command_line.specs.Endings.{sinking}
 use Rattle.moos_jobs.specs.Telling.{IsToldSoFar, ToldFront}
 use Rattle.moos_jobs.proofs.Fetching.{named_on}
-use Rattle.moos_jobs.proofs.Rounds.{fetched_before, part_front, part_told, run_as, told_front, told_so_far}
+use Rattle.moos_jobs.proofs.Rounds.{few_made, fetched_before, part_front, part_told, run_as, told_front, told_so_far}
 use Rattle.moos_jobs.proofs.telling.tell_round.Goals as goal
 
 pub returns-in_default-clause-stopped : goal.returns-in_default-clause-stopped
 returns-in_default-clause-stopped g c = λ before faults later on told.
-    inr (told_so_far c.args.setup.now c.args.play.now c.parts_law.ensures.fronts c.requires.between c.requires.named on before _ faults _ told)
+    inr (told_so_far c.args.setup.now c.args.play.now c.parts_law.ensures.fronts (record { valid = c.front_law.ensures.valid; helm = c.front_law.ensures.helm; steered = c.front_law.ensures.steered }) c.requires.named on before _ faults _ told)
 
 pub tell_part-requires-clause-fetched : goal.tell_part-requires-clause-fetched
 tell_part-requires-clause-fetched g c =
     let made = subst (λ round. IfSome round (IsRound c.args.play.now c.round.new.self)) c.in-Some.is c.in-Ok.ensures.round in
-    fetched_before c.args.setup.now c.args.play.now c.round.new.self c.in-Some.round c.parts_law.ensures.parts c.requires.between c.in-Ok.ensures.between c.requires.named c.in-Ok.ensures.same
+    fetched_before c.args.setup.now c.args.play.now c.round.new.self c.in-Some.round c.parts_law.ensures.parts (record { valid = c.front_law.ensures.valid; helm = c.front_law.ensures.helm; steered = c.front_law.ensures.steered }) (record { valid = c.front_law-2.ensures.valid; helm = c.front_law-2.ensures.helm; steered = c.front_law-2.ensures.steered }) c.requires.named c.in-Ok.ensures.same
     c.round.ensures.seated made
     ∙ sym c.requires.made
 
@@ -26,9 +26,9 @@ returns-in-Err-clause-stopped g c = λ before faults later on told.
     let new = c.round.new.self in
     let on = c.in-Ok.ensures.same in
     let made = subst (λ round. IfSome round (IsRound old new)) c.in-Some.is c.in-Ok.ensures.round in
-    let front = part_front c.args.setup.now old new c.in-Some.round c.parts_law.ensures.parts c.requires.between c.in-Ok.ensures.between c.requires.named on c.round.ensures.seated made before _ _ c.args.made c.requires.made told c.in-Err.ensures.front in (
+    let front = part_front c.args.setup.now old new c.in-Some.round c.parts_law.ensures.parts (record { valid = c.front_law.ensures.valid; helm = c.front_law.ensures.helm; steered = c.front_law.ensures.steered }) (record { valid = c.front_law-2.ensures.valid; helm = c.front_law-2.ensures.helm; steered = c.front_law-2.ensures.steered }) c.requires.named on c.round.ensures.seated made before _ _ c.args.made c.requires.made told c.in-Err.ensures.front in (
       run_as (λ order script helm. ToldFront order script helm c.args.setup.now (sinking before (g.K.Sink.taken c.tell_part.new.out) faults (g.K.Sink.faults c.tell_part.new.out))) on.order on.script on.helm
-          (told_front c.args.setup.now new c.parts_law.ensures.fronts c.in-Ok.ensures.between (named_on old new on c.requires.named) c.front_law.ensures.front before _ faults _ front),
+          (told_front c.args.setup.now new c.parts_law.ensures.fronts (record { valid = c.front_law-2.ensures.valid; helm = c.front_law-2.ensures.helm; steered = c.front_law-2.ensures.steered }) (named_on old new on c.requires.named) c.front_law-2.ensures.front before _ faults _ front),
       fell_later faults _ _ _ later c.in-Err.ensures.rose,
     )
 
@@ -38,5 +38,11 @@ returns-clause-told g c = λ before told.
     let new = c.round.new.self in
     let made = subst (λ round. IfSome round (IsRound old new)) c.in-Some.is c.in-Ok.ensures.round in
     subst (IsToldSoFar c.args.setup.now before (g.K.Sink.taken c.tell_part.new.out)) (sym c.in_default-tell_part.ensures.same)
-    (part_told c.args.setup.now old new c.in-Some.round c.parts_law.ensures.parts c.requires.between c.in-Ok.ensures.between c.requires.named c.in-Ok.ensures.same c.round.ensures.seated made before _ _ c.args.made c.requires.made told
+    (part_told c.args.setup.now old new c.in-Some.round c.parts_law.ensures.parts (record { valid = c.front_law.ensures.valid; helm = c.front_law.ensures.helm; steered = c.front_law.ensures.steered }) (record { valid = c.front_law-2.ensures.valid; helm = c.front_law-2.ensures.helm; steered = c.front_law-2.ensures.steered }) c.requires.named c.in-Ok.ensures.same c.round.ensures.seated made before _ _ c.args.made c.requires.made told
     c.in_default-tell_part.ensures.ok)
+
+pub returns-clause-few : goal.returns-clause-few
+returns-clause-few g c =
+    let made = subst (λ round. IfSome round (IsRound c.args.play.now c.round.new.self)) c.in-Some.is c.in-Ok.ensures.round in
+    let few = few_made c.round.new.self (record { valid = c.front_law-2.ensures.valid; helm = c.front_law-2.ensures.helm; steered = c.front_law-2.ensures.steered }) in
+    omega (arith, few, c.requires.made, ap length made.iterations, length-append (iterations_made c.args.play.now) c.in-Some.round.iterations)

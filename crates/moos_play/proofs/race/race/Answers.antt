@@ -2,9 +2,9 @@ use Rattle.std.proofs.Common.{◌≡◌, ◌∙◌, [], Err, append-nil, ap, ari
 use Rattle.std.specs.List.{list_all}
 use Rattle.moos_post.specs.declared.entry.Entry.{Entry}
 use Rattle.moos_play.specs.Lawful.{Steering}
+use Rattle.moos_play.specs.Steered.{HasOwn, IsSteered, IsStopped, steering_of, Steers}
 use Rattle.moos_client.specs.Calls.{entries_of, SeatState}
 use Rattle.moos_step.specs.Steps.{AreBusy, GoesOn, IsPlayedBeside, times_met}
-use Rattle.moos_play.specs.Steered.{HasOwn, IsSteered, IsStopped, steering_of, Steers}
 use Rattle.moos_step.proofs.Leading.{known_met}
 use Rattle.moos_play.proofs.Leading.{led_steered}
 use Rattle.moos_step.proofs.Played.{ok_part}

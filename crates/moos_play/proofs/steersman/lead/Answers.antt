@@ -1,9 +1,9 @@
 use Rattle.std.proofs.Common.{◌≡◌, ◌∙◌, ap, arith, refl, subst, sym}
 use Rattle.moos_client.specs.Calls.{SeatState}
 use Rattle.moos_play.specs.Lawful.{Steering}
+use Rattle.moos_play.specs.Steered.{steering_of, Steers}
 use Rattle.moos_step.specs.Steps.{IsAlone, times_met}
 use Rattle.moos_play.specs.declared.steersman.Steersman.{Steersman}
-use Rattle.moos_play.specs.Steered.{steering_of, Steers}
 use Rattle.moos_step.proofs.Leading.{alone_idle, alone_made, IsLed, known_first, known_met, led_first, led_gathered, led_on, led_other}
 use Rattle.moos_play.proofs.Leading.{led_steered}
 use Rattle.moos_play.proofs.Stopping.{led_stopped}

@@ -1,7 +1,7 @@
 -- The helm has opened, and stands where its ticks so far have brought it.
 use Rattle.std.proofs.Common.{◌≡◌, ◌≤◌, ◌-◌, true}
 use Rattle.moos_step.specs.Steps.{Anything, Makes}
-use Rattle.moos_play.specs.Steered.{HasOwn, Steers, steering_of}
+use Rattle.moos_play.specs.Steered.{HasOwn, steering_of, Steers}
 use Rattle.moos_play.proofs.steersman.steer.Given as goal
 
 abbrev pub invariant-loop-steersman : goal.invariant-loop-steersman

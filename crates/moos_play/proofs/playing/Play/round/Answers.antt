@@ -1,125 +1,195 @@
-use Rattle.std.proofs.Common.{◌≡◌, ◌∙◌, ◌++◌, ℕ, Bool, drop, Result, ap, rules, subst, sym}
-use Rattle.moos_play.specs.declared.playing.Play.{Play}
+use Rattle.std.proofs.Common.{◌≡◌, ◌∙◌, ◌++◌, true, false, drop, ap, arith, refl, rules, subst, sym}
+use Rattle.moos_play.specs.declared.stage.Stage.{Stage}
 use Rattle.moos_play.specs.declared.round_made.Round.{Round}
-use Rattle.moos_play.specs.Plays.{AddsAt, further_in, handed, HasPlayedOn, HasTurn, history_in, IsBetween, IsCutOff, IsStampOver, iterations_made, known_clients_in, left_in, next_stamp, StaysSeated}
 use Rattle.moos_play.specs.Lawful.{KeepsStamp}
-use Rattle.moos_play.specs.Steered.{GoesOnWith, IsAtPlay}
+use Rattle.moos_play.specs.Plays.{AddsAt, further_in, GoesOnWith, HasTurn, history_in, IsPlayedOut, IsRound, IsStampOver, iterations_made, known_clients_in, left_in, next_stamp, order_played, Playing, StaysSeated}
+use Rattle.moos_play.specs.Runs.{handed, IsAtPlay, IsCutOff, IsPaused, playing_of, shown_by}
 use Rattle.moos_play.proofs.Finishing.{completed, cut_so_far, over_now, ValidLines}
-use Rattle.moos_play.proofs.Handing.{finished_handed, goes_on_handed, handed_between, round_iterations, stays_handed}
-use Rattle.moos_play.proofs.Moving.{turn_here}
+use Rattle.moos_play.proofs.Handing.{finished_handed, goes_on_handed, handed_between, left_handed, round_iterations, stays_handed}
+use Rattle.moos_play.proofs.Moving.{some_period, turn_here}
+use Rattle.moos_play.proofs.Showing.{goes_shown, has_seats, is_ready, shown_same, sound_of, sound_ready, stays_shown}
 use Rattle.moos_play.proofs.Stamping.{all_stamped, none_further}
-use Rattle.moos_play.proofs.Stepped.{stepped_twice}
+use Rattle.moos_play.proofs.Stepped.{stepped_from}
 use Rattle.moos_step.proofs.Lines.{err_any}
 use Rattle.script_reader.specs.Validity.{IsValid}
 use Rattle.moos_play.proofs.playing.Play.round.Goals as goal
 
--- the first step of a round, from where it began
-begun : {E : Type 0} {r : Result Bool E} {play before middle : Play} (stamp : ℕ) → before ≡ play → stamp ≡ next_stamp play → HasPlayedOn (next_stamp before) before middle r → HasPlayedOn stamp play middle r
-begun {r = r} {play = play} {middle = middle} stamp same is first = subst (λ stamp. HasPlayedOn stamp play middle r) (sym is) (subst (λ (before : Play). HasPlayedOn (next_stamp before) before middle r) same first)
+-- ---- the round was played
 
 pub returns-clause-seated : goal.returns-clause-seated
 returns-clause-seated g c =
-    let play = c.args.self.now in
-    let after = c.finish_stamp.new.self in
-    let whole = stepped_twice _ c.next_stamp-stamp.result play c.go_on.new.self after c.requires.between.at_play (begun c.next_stamp-stamp.result c.count_entries-from.ensures.same c.next_stamp-stamp.ensures c.in_ok-go_on.ensures.stepped) c.in_ok-finish_stamp.ensures.stepped in
-    subst (StaysSeated play) (sym c.hand_out-iterations.ensures.told) (stays_handed play after whole.seated)
+    let run = c.self.inside.run in
+    let w = c.self.inside.whole in
+    let after = c.play_stamp.new.self in
+    let on = stepped_from c.count_entries-from.ensures.same c.in_ok-play_stamp.ensures.stepped in
+    subst (λ (old : Playing). StaysSeated old (playing_of c.hand_out-iterations.new.self true)) c.self.view_is
+    (subst (λ last. StaysSeated (playing_of run w) (playing_of last true)) (sym c.hand_out-iterations.ensures.told) (stays_shown run (handed after) w true (stays_handed run after on.seated)))
 
 pub returns-clause-same : goal.returns-clause-same
 returns-clause-same g c =
-    let play = c.args.self.now in
-    let after = c.finish_stamp.new.self in
-    let whole = stepped_twice _ c.next_stamp-stamp.result play c.go_on.new.self after c.requires.between.at_play (begun c.next_stamp-stamp.result c.count_entries-from.ensures.same c.next_stamp-stamp.ensures c.in_ok-go_on.ensures.stepped) c.in_ok-finish_stamp.ensures.stepped in
-    subst (GoesOnWith play) (sym c.hand_out-iterations.ensures.told) (goes_on_handed play after whole.same)
+    let run = c.self.inside.run in
+    let w = c.self.inside.whole in
+    let after = c.play_stamp.new.self in
+    let on = stepped_from c.count_entries-from.ensures.same c.in_ok-play_stamp.ensures.stepped in
+    subst (λ (old : Playing). GoesOnWith old (playing_of c.hand_out-iterations.new.self true)) c.self.view_is
+    (subst (λ last. GoesOnWith (playing_of run w) (playing_of last true)) (sym c.hand_out-iterations.ensures.told) (goes_shown run (handed after) w true (goes_on_handed run after on.same)))
 
 pub returns-clause-between : goal.returns-clause-between
-returns-clause-between g c =
-    let play = c.args.self.now in
-    let after = c.finish_stamp.new.self in
-    let whole = stepped_twice _ c.next_stamp-stamp.result play c.go_on.new.self after c.requires.between.at_play (begun c.next_stamp-stamp.result c.count_entries-from.ensures.same c.next_stamp-stamp.ensures c.in_ok-go_on.ensures.stepped) c.in_ok-finish_stamp.ensures.stepped in
-    let script = sym whole.same.script in
-    subst IsBetween (sym c.hand_out-iterations.ensures.told) (handed_between after (subst IsValid script c.requires.between.valid) (subst (λ script. IsAtPlay script after) script whole.at_play))
+returns-clause-between g c = record { whole = refl; seated = ap (λ run. run.first.seat.turn) c.hand_out-iterations.ensures.told ∙ c.in_ok-play_stamp.ensures.stepped.seated.seated.gathered.may.free }
 
 pub returns-clause-round : goal.returns-clause-round
 returns-clause-round g c =
-    let play = c.args.self.now in
-    let after = c.finish_stamp.new.self in
-    let stamp = c.next_stamp-stamp.result in
+    let run = c.self.inside.run in
+    let w = c.self.inside.whole in
+    let after = c.play_stamp.new.self in
     let last = c.hand_out-iterations.new.self in
+    let stamp = c.next_stamp-stamp.result in
     let told = c.hand_out-iterations.ensures.told in
-    let whole = stepped_twice _ stamp play c.go_on.new.self after c.requires.between.at_play (begun stamp c.count_entries-from.ensures.same c.next_stamp-stamp.ensures c.in_ok-go_on.ensures.stepped) c.in_ok-finish_stamp.ensures.stepped in
-    record {
+    let ready = is_ready run w c.args.self.now c.self.view_is c.self.invariant c.requires.between in
+    let on = stepped_from c.count_entries-from.ensures.same c.in_ok-play_stamp.ensures.stepped in
+    subst (λ (old : Playing). IsRound old (playing_of last true) (record { stamp = stamp; from = c.count_entries-from.result; iterations = c.hand_out-iterations.result })) c.self.view_is (record {
       from = c.count_entries-from.ensures.count;
       stamp = c.next_stamp-stamp.ensures;
-      stamped = subst (λ (last : Play). KeepsStamp play.order stamp (drop c.count_entries-from.result (history_in last))) (sym told) (all_stamped play.order stamp (known_clients_in play) c.count_entries-from.result (history_in play) (history_in after) c.count_entries-from.ensures.count whole.stamped);
-      further = subst (λ (last : Play). further_in last ≡ further_in play) (sym told) (none_further play (handed after) stamp (goes_on_handed play after whole.same) whole.stamped);
-      finished = subst (λ (play : Play). IsStampOver play stamp) (sym told) (finished_handed after stamp c.in_ok-finish_stamp.ensures.all);
+      stamped = subst (λ (last : Stage). KeepsStamp run.order stamp (drop c.count_entries-from.result last.first.seat.seen)) (sym told) (all_stamped run.order stamp (known_clients_in (shown_by run)) c.count_entries-from.result run.first.seat.seen after.first.seat.seen c.count_entries-from.ensures.count on.stamped);
+      further = subst (λ (last : Stage). further_in (shown_by last) ≡ further_in (shown_by run)) (sym told) (none_further run (handed after) stamp (goes_on_handed run after on.same) on.stamped);
+      finished = subst (λ (last : Stage). IsStampOver (shown_by last) stamp) (sym told) (finished_handed after stamp (c.in_ok-play_stamp.ensures.all (search rules)));
       iterations =
-          ap iterations_made told
-          ∙ round_iterations play after c.requires.between (subst (λ script. IsAtPlay script after) (sym whole.same.script) whole.at_play) whole.seated whole.same whole.told
-          ∙ ap (λ done. iterations_made play ++ done) (sym c.hand_out-iterations.ensures.untold);
-    }
+          ap (λ run. iterations_made (shown_by run)) told
+          ∙ round_iterations run after ready (subst (λ script. IsAtPlay script after) (sym on.same.script) on.at_play) on.seated on.same on.told
+          ∙ ap (λ done. iterations_made (shown_by run) ++ done) (sym c.hand_out-iterations.ensures.untold);
+    })
 
 pub returns-clause-turn : goal.returns-clause-turn
 returns-clause-turn g c =
-    let play = c.args.self.now in
-    let after = c.finish_stamp.new.self in
+    let run = c.self.inside.run in
+    let w = c.self.inside.whole in
+    let after = c.play_stamp.new.self in
+    let last = c.hand_out-iterations.new.self in
     let stamp = c.next_stamp-stamp.result in
-    let whole = stepped_twice _ stamp play c.go_on.new.self after c.requires.between.at_play (begun stamp c.count_entries-from.ensures.same c.next_stamp-stamp.ensures c.in_ok-go_on.ensures.stepped) c.in_ok-finish_stamp.ensures.stepped in
-    let made : iterations_made (handed after) ≡ iterations_made play ++ c.hand_out-iterations.result =
-    round_iterations play after c.requires.between (subst (λ script. IsAtPlay script after) (sym whole.same.script) whole.at_play) whole.seated whole.same whole.told
-    ∙ ap (λ done. iterations_made play ++ done) (sym c.hand_out-iterations.ensures.untold) in
+    let ready = is_ready run w c.args.self.now c.self.view_is c.self.invariant c.requires.between in
+    let on = stepped_from c.count_entries-from.ensures.same c.in_ok-play_stamp.ensures.stepped in
+    let made : iterations_made (shown_by (handed after)) ≡ iterations_made (shown_by run) ++ c.hand_out-iterations.result =
+    round_iterations run after ready (subst (λ script. IsAtPlay script after) (sym on.same.script) on.at_play) on.seated on.same on.told
+    ∙ ap (λ done. iterations_made (shown_by run) ++ done) (sym c.hand_out-iterations.ensures.untold) in
     let round : Round = record { stamp = stamp; from = c.count_entries-from.result; iterations = c.hand_out-iterations.result } in
-    subst (λ (last : Play). HasTurn play.order play last round) (sym c.hand_out-iterations.ensures.told)
-    (turn_here play after round c.requires.between whole.same whole.moves c.in_ok-finish_stamp.ensures.all c.next_stamp-stamp.ensures made)
+    subst (λ (old : Playing). HasTurn (order_played old) old (playing_of last true) round) c.self.view_is
+    (subst (λ (last : Stage). HasTurn run.order (playing_of run w) (playing_of last true) round) (sym c.hand_out-iterations.ensures.told)
+    (turn_here run after w true round ready on.same on.moves (c.in_ok-play_stamp.ensures.all (search rules)) c.next_stamp-stamp.ensures made))
+
+pub returns-clause-more : goal.returns-clause-more
+returns-clause-more g c =
+    let after = c.play_stamp.new.self in
+    let less = c.in_ok-play_stamp.ensures.more (search rules) in
+    omega (
+      arith,
+      less,
+      left_handed after.script.now after.from after.steersman,
+      ap (λ run. left_in (shown_by run)) c.hand_out-iterations.ensures.told,
+      ap (λ run. left_in (shown_by run)) c.count_entries-from.ensures.same,
+      ap left_in c.self.view_is,
+    )
+
+pub invariant_of-self-2 : goal.invariant_of-self-2
+invariant_of-self-2 g c =
+    let run = c.self.inside.run in
+    let after = c.play_stamp.new.self in
+    let ready = is_ready run c.self.inside.whole c.args.self.now c.self.view_is c.self.invariant c.requires.between in
+    let on = stepped_from c.count_entries-from.ensures.same c.in_ok-play_stamp.ensures.stepped in
+    let script = sym on.same.script in
+    sound_ready c.hand_out-iterations.new.self true (subst IsPaused (sym c.hand_out-iterations.ensures.told) (handed_between after (subst IsValid script ready.valid) (subst (λ script. IsAtPlay script after) script on.at_play)))
+
+-- ---- nothing was left
+
+pub returns-then-not-branch-clause-seated : goal.returns-then-not-branch-clause-seated
+returns-then-not-branch-clause-seated g c =
+    let on = stepped_from c.count_entries-from.ensures.same c.in_ok-play_stamp.ensures.stepped in
+    subst (λ (old : Playing). StaysSeated old (playing_of c.play_stamp.new.self true)) c.self.view_is (stays_shown c.self.inside.run c.play_stamp.new.self c.self.inside.whole true on.seated)
+
+pub returns-then-not-branch-clause-same : goal.returns-then-not-branch-clause-same
+returns-then-not-branch-clause-same g c =
+    let on = stepped_from c.count_entries-from.ensures.same c.in_ok-play_stamp.ensures.stepped in
+    subst (λ (old : Playing). GoesOnWith old (playing_of c.play_stamp.new.self true)) c.self.view_is (goes_shown c.self.inside.run c.play_stamp.new.self c.self.inside.whole true on.same)
+
+pub returns-then-not-branch-clause-between : goal.returns-then-not-branch-clause-between
+returns-then-not-branch-clause-between g c = record { whole = refl; seated = c.in_ok-play_stamp.ensures.stepped.seated.seated.gathered.may.free }
+
+pub returns-then-not-branch-clause-none : goal.returns-then-not-branch-clause-none
+returns-then-not-branch-clause-none g c =
+    let ended = c.in_ok-play_stamp.ensures.over (search rules) in
+    let same = c.count_entries-from.ensures.same in (
+      ap left_in (sym c.self.view_is) ∙ ap (λ run. left_in (shown_by run)) (sym same) ∙ ended.0,
+      shown_same c.self.inside.run c.play_stamp.new.self c.self.inside.whole c.args.self.now c.self.view_is c.requires.between.whole (ended.1 ∙ same),
+    )
 
 pub returns-then-not-branch-clause-over : goal.returns-then-not-branch-clause-over
 returns-then-not-branch-clause-over g c =
-    let ended = c.in_ok-go_on.ensures.over (search rules) in
+    let run = c.self.inside.run in
+    let ended = c.in_ok-play_stamp.ensures.over (search rules) in
     let same = c.count_entries-from.ensures.same in
-    over_now c.args.self.now c.go_on.new.self c.requires.between (ap left_in (sym same) ∙ ended.0) (ended.1 ∙ same)
+    let ready = is_ready run c.self.inside.whole c.args.self.now c.self.view_is c.self.invariant c.requires.between in
+    subst (λ last. IsPlayedOut (playing_of last true)) (sym (ended.1 ∙ same)) (over_now run true ready (ap (λ run. left_in (shown_by run)) (sym same) ∙ ended.0))
 
-pub returns-in_err-go_on-clause-seated : goal.returns-in_err-go_on-clause-seated
-returns-in_err-go_on-clause-seated g c = (begun _ c.count_entries-from.ensures.same c.next_stamp-stamp.ensures c.in_err-go_on.ensures.stepped).seated
+pub invariant_of-self-then-not-branch : goal.invariant_of-self-then-not-branch
+invariant_of-self-then-not-branch g c =
+    let ended = c.in_ok-play_stamp.ensures.over (search rules) in
+    let ready = is_ready c.self.inside.run c.self.inside.whole c.args.self.now c.self.view_is c.self.invariant c.requires.between in
+    sound_ready c.play_stamp.new.self true (subst IsPaused (sym (ended.1 ∙ c.count_entries-from.ensures.same)) ready)
 
-pub returns-in_err-go_on-clause-same : goal.returns-in_err-go_on-clause-same
-returns-in_err-go_on-clause-same g c = (begun _ c.count_entries-from.ensures.same c.next_stamp-stamp.ensures c.in_err-go_on.ensures.stepped).same
+-- ---- no memory was left
 
-pub returns-in_err-go_on-clause-front : goal.returns-in_err-go_on-clause-front
-returns-in_err-go_on-clause-front g c =
-    let cut = begun _ c.count_entries-from.ensures.same c.next_stamp-stamp.ensures c.in_err-go_on.ensures.stepped in
-    let script = sym cut.same.script in
-    err_any _ (completed c.go_on.new.self (subst ValidLines script c.requires.between.valid.lines) (subst (λ script. IsCutOff script c.go_on.new.self) script cut.front))
+pub returns-in_err-play_stamp-clause-seated : goal.returns-in_err-play_stamp-clause-seated
+returns-in_err-play_stamp-clause-seated g c =
+    let on = stepped_from c.count_entries-from.ensures.same c.in_err-play_stamp.ensures.stepped in
+    subst (λ (old : Playing). StaysSeated old (playing_of c.play_stamp.new.self false)) c.self.view_is (stays_shown c.self.inside.run c.play_stamp.new.self c.self.inside.whole false on.seated)
 
-pub returns-in_err-go_on-clause-so_far : goal.returns-in_err-go_on-clause-so_far
-returns-in_err-go_on-clause-so_far g c =
-    let cut = begun _ c.count_entries-from.ensures.same c.next_stamp-stamp.ensures c.in_err-go_on.ensures.stepped in
-    err_any _ (cut_so_far c.go_on.new.self (subst (λ script. IsCutOff script c.go_on.new.self) (sym cut.same.script) cut.front))
+pub returns-in_err-play_stamp-clause-same : goal.returns-in_err-play_stamp-clause-same
+returns-in_err-play_stamp-clause-same g c =
+    let on = stepped_from c.count_entries-from.ensures.same c.in_err-play_stamp.ensures.stepped in
+    subst (λ (old : Playing). GoesOnWith old (playing_of c.play_stamp.new.self false)) c.self.view_is (goes_shown c.self.inside.run c.play_stamp.new.self c.self.inside.whole false on.same)
 
-pub returns-in_err-go_on-clause-stamped : goal.returns-in_err-go_on-clause-stamped
-returns-in_err-go_on-clause-stamped g c =
-    err_any _ (subst (λ (before : Play). AddsAt before.order (next_stamp before) (known_clients_in before) (history_in before) (history_in c.go_on.new.self)) c.count_entries-from.ensures.same c.in_err-go_on.ensures.stepped.stamped)
+pub returns-in_err-play_stamp-clause-front : goal.returns-in_err-play_stamp-clause-front
+returns-in_err-play_stamp-clause-front g c =
+    let ready = is_ready c.self.inside.run c.self.inside.whole c.args.self.now c.self.view_is c.self.invariant c.requires.between in
+    let on = stepped_from c.count_entries-from.ensures.same c.in_err-play_stamp.ensures.stepped in
+    let script = sym on.same.script in
+    err_any _ (completed c.play_stamp.new.self false (subst ValidLines script ready.valid.lines) (subst (λ script. IsCutOff script c.play_stamp.new.self) script on.front))
 
-pub returns-in_err-finish_stamp-clause-seated : goal.returns-in_err-finish_stamp-clause-seated
-returns-in_err-finish_stamp-clause-seated g c =
-    (stepped_twice _ c.next_stamp-stamp.result c.args.self.now c.go_on.new.self c.finish_stamp.new.self c.requires.between.at_play (begun c.next_stamp-stamp.result c.count_entries-from.ensures.same c.next_stamp-stamp.ensures c.in_ok-go_on.ensures.stepped) c.in_err-finish_stamp.ensures.stepped).seated
+pub returns-in_err-play_stamp-clause-so_far : goal.returns-in_err-play_stamp-clause-so_far
+returns-in_err-play_stamp-clause-so_far g c =
+    let on = stepped_from c.count_entries-from.ensures.same c.in_err-play_stamp.ensures.stepped in
+    err_any _ (cut_so_far c.play_stamp.new.self (subst (λ script. IsCutOff script c.play_stamp.new.self) (sym on.same.script) on.front))
 
-pub returns-in_err-finish_stamp-clause-same : goal.returns-in_err-finish_stamp-clause-same
-returns-in_err-finish_stamp-clause-same g c =
-    (stepped_twice _ c.next_stamp-stamp.result c.args.self.now c.go_on.new.self c.finish_stamp.new.self c.requires.between.at_play (begun c.next_stamp-stamp.result c.count_entries-from.ensures.same c.next_stamp-stamp.ensures c.in_ok-go_on.ensures.stepped) c.in_err-finish_stamp.ensures.stepped).same
+pub returns-in_err-play_stamp-clause-stamped : goal.returns-in_err-play_stamp-clause-stamped
+returns-in_err-play_stamp-clause-stamped g c =
+    let run = c.self.inside.run in
+    let after = c.play_stamp.new.self in
+    let on = stepped_from c.count_entries-from.ensures.same c.in_err-play_stamp.ensures.stepped in
+    err_any _ (subst (λ (old : Playing). AddsAt (order_played old) (next_stamp old) (known_clients_in old) (history_in old) after.first.seat.seen) c.self.view_is
+    (subst (λ stamp. AddsAt run.order stamp (known_clients_in (shown_by run)) run.first.seat.seen after.first.seat.seen) c.next_stamp-stamp.ensures on.stamped))
 
-pub returns-in_err-finish_stamp-clause-front : goal.returns-in_err-finish_stamp-clause-front
-returns-in_err-finish_stamp-clause-front g c =
-    let cut = stepped_twice _ c.next_stamp-stamp.result c.args.self.now c.go_on.new.self c.finish_stamp.new.self c.requires.between.at_play (begun c.next_stamp-stamp.result c.count_entries-from.ensures.same c.next_stamp-stamp.ensures c.in_ok-go_on.ensures.stepped) c.in_err-finish_stamp.ensures.stepped in
-    let script = sym cut.same.script in
-    err_any _ (completed c.finish_stamp.new.self (subst ValidLines script c.requires.between.valid.lines) (subst (λ script. IsCutOff script c.finish_stamp.new.self) script cut.front))
+pub invariant_of-self : goal.invariant_of-self
+invariant_of-self g c = sound_of c.play_stamp.new.self false c.in_err-play_stamp.ensures.stepped.seated.seated (λ e. absurd cc)
 
-pub returns-in_err-finish_stamp-clause-so_far : goal.returns-in_err-finish_stamp-clause-so_far
-returns-in_err-finish_stamp-clause-so_far g c =
-    let cut = stepped_twice _ c.next_stamp-stamp.result c.args.self.now c.go_on.new.self c.finish_stamp.new.self c.requires.between.at_play (begun c.next_stamp-stamp.result c.count_entries-from.ensures.same c.next_stamp-stamp.ensures c.in_ok-go_on.ensures.stepped) c.in_err-finish_stamp.ensures.stepped in
-    err_any _ (cut_so_far c.finish_stamp.new.self (subst (λ script. IsCutOff script c.finish_stamp.new.self) (sym cut.same.script) cut.front))
+-- ---- what is called
 
-pub returns-in_err-finish_stamp-clause-stamped : goal.returns-in_err-finish_stamp-clause-stamped
-returns-in_err-finish_stamp-clause-stamped g c =
-    let play = c.args.self.now in
-    let cut = stepped_twice _ c.next_stamp-stamp.result play c.go_on.new.self c.finish_stamp.new.self c.requires.between.at_play (begun c.next_stamp-stamp.result c.count_entries-from.ensures.same c.next_stamp-stamp.ensures c.in_ok-go_on.ensures.stepped) c.in_err-finish_stamp.ensures.stepped in
-    err_any _ (subst (λ stamp. AddsAt play.order stamp (known_clients_in play) (history_in play) (history_in c.finish_stamp.new.self)) c.next_stamp-stamp.ensures cut.stamped)
+pub next_stamp-stamp-requires : goal.next_stamp-stamp-requires
+next_stamp-stamp-requires g c =
+    let run = c.self.inside.run in
+    let ready = is_ready run c.self.inside.whole c.args.self.now c.self.view_is c.self.invariant c.requires.between in
+    some_period run.script.now.stop run.steersman ready.at_play.period
+
+pub count_entries-from-requires : goal.count_entries-from-requires
+count_entries-from-requires g c = has_seats c.self.inside.run c.self.inside.whole c.args.self.now c.self.view_is c.self.invariant c.requires.between.seated
+
+pub play_stamp-requires-clause-may : goal.play_stamp-requires-clause-may
+play_stamp-requires-clause-may g c κs lives =
+    let ready = is_ready c.self.inside.run c.self.inside.whole c.args.self.now c.self.view_is c.self.invariant c.requires.between in
+    let same = sym c.count_entries-from.ensures.same in
+    record {
+      valid = subst (λ (run : Stage). IsValid run.script.now) same ready.valid;
+      at_play = subst (λ (run : Stage). IsAtPlay run.script.now run) same ready.at_play;
+      few = c.requires.workers;
+    }
+
+pub play_stamp-requires-clause-stamp : goal.play_stamp-requires-clause-stamp
+play_stamp-requires-clause-stamp g c κs lives = c.next_stamp-stamp.ensures ∙ ap (λ run. next_stamp (shown_by run)) (sym c.count_entries-from.ensures.same)

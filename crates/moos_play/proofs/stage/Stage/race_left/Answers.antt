@@ -5,7 +5,8 @@ use Rattle.moos_post.specs.declared.entry.Entry.{Entry}
 use Rattle.moos_step.specs.Steps.{GoesOn, IsPlayedBeside}
 use Rattle.moos_play.specs.declared.steersman.Steersman.{Steersman}
 use Rattle.moos_play.specs.Lawful.{helm_number, known_clients, Steering, ticks_to}
-use Rattle.moos_play.specs.Plays.{AddsAt, IsCutOff, next_stamp}
+use Rattle.moos_play.specs.Plays.{AddsAt, next_stamp}
+use Rattle.moos_play.specs.Runs.{IsCutOff, shown_by}
 use Rattle.moos_play.specs.Steered.{helm_of, StandsAt, steering_of, told_in}
 use Rattle.moos_play.proofs.Stepping.{all_part, lines_clients}
 use Rattle.moos_play.proofs.Coming.{race_over}
@@ -13,7 +14,7 @@ use Rattle.moos_step.proofs.Lines.{err_any}
 use Rattle.moos_play.proofs.Moving.{moves_race}
 use Rattle.moos_play.proofs.Rounding.{as_many, race_stops}
 use Rattle.moos_play.proofs.Stamping.{race_add}
-use Rattle.moos_play.proofs.playing.Play.race_left.Goals as goal
+use Rattle.moos_play.proofs.stage.Stage.race_left.Goals as goal
 
 pub race-requires-clause-lines : goal.race-requires-clause-lines
 race-requires-clause-lines g c κs lives =
@@ -36,8 +37,8 @@ returns-clause-stepped g c =
     record {
       same = record { script = refl; lock = refl; order = refl; helm = ap Some made.same ∙ sym (ap helm_of c.in-Some.is) };
       seated = record { seated = record { gathered = made.gathered; whole = made.goes_on.whole }; lock = refl; later = made.goes_on.later };
-      stamped = subst (λ (s : Option Steersman). AddsAt play.order (next_stamp play) (known_clients script (helm_of s)) play.first.seat.seen after.seen) (sym c.in-Some.is)
-          (race_add play.order script old (next_stamp play) play.from c.len-to.result c.all.result.now play.first.seat after c.requires.race may.valid.lines may.at_play.under.whole number c.all.ensures made.goes_on);
+      stamped = subst (λ (s : Option Steersman). AddsAt play.order (next_stamp (shown_by play)) (known_clients script (helm_of s)) play.first.seat.seen after.seen) (sym c.in-Some.is)
+          (race_add play.order script old (next_stamp (shown_by play)) play.from c.len-to.result c.all.result.now play.first.seat after c.requires.race may.valid.lines may.at_play.under.whole number c.all.ensures made.goes_on);
       front = tt;
       at_play = record {
         under = race_over play.order script play.lock may.valid.lines play.steersman old new play.from _ (Ok c.in_ok-race.field-0) play.first.seat after c.requires.race c.len-to.ensures c.in-Some.is may.at_play.under made.gathered
@@ -47,7 +48,7 @@ returns-clause-stepped g c =
         period = (subst (λ (helm : Steering). 1 ≤ helm.period) (sym made.same) period.0, omega (arith, made.reached.1, ap (λ (helm : Steering). ticks_to script.stop helm) made.same));
       };
       told = made.told ∙ sym (ap told_in c.in-Some.is);
-      moves = moves_race play.order (next_stamp play) play _ c.requires.race;
+      moves = moves_race play.order (next_stamp (shown_by play)) play _ c.requires.race;
     }
 
 pub returns-in_err-race-clause-stepped : goal.returns-in_err-race-clause-stepped
@@ -65,8 +66,8 @@ returns-in_err-race-clause-stepped g c =
     record {
       same = record { script = refl; lock = refl; order = refl; helm = ap Some made.same ∙ sym (ap helm_of c.in-Some.is) };
       seated = record { seated = record { gathered = made.gathered; whole = made.goes_on.whole }; lock = refl; later = made.goes_on.later };
-      stamped = subst (λ (s : Option Steersman). AddsAt play.order (next_stamp play) (known_clients script (helm_of s)) play.first.seat.seen after.seen) (sym c.in-Some.is)
-          (race_add play.order script old (next_stamp play) play.from c.len-to.result c.all.result.now play.first.seat after c.requires.race may.valid.lines may.at_play.under.whole number c.all.ensures made.goes_on);
+      stamped = subst (λ (s : Option Steersman). AddsAt play.order (next_stamp (shown_by play)) (known_clients script (helm_of s)) play.first.seat.seen after.seen) (sym c.in-Some.is)
+          (race_add play.order script old (next_stamp (shown_by play)) play.from c.len-to.result c.all.result.now play.first.seat after c.requires.race may.valid.lines may.at_play.under.whole number c.all.ensures made.goes_on);
       front = err_any _ {P = IsCutOff script _} (record { so_far = cut.0; room = cut.1; heard = cut.2 });
       at_play = search rules;
       told = search rules;

@@ -1,7 +1,8 @@
 use Rattle.std.proofs.Common.{◌≡◌, ◌∙◌, ◌-◌, Ok, ap, arith, drop, length, nat_lt, refl, subst, sym, take, true, rules}
 use Rattle.std.specs.List.{list_all}
 use Rattle.moos_post.specs.declared.entry.Entry.{Entry}
-use Rattle.moos_play.specs.Plays.{IsCutOff, next_stamp}
+use Rattle.moos_play.specs.Plays.{next_stamp}
+use Rattle.moos_play.specs.Runs.{IsCutOff, shown_by}
 use Rattle.moos_step.specs.Steps.{GoesOn, IsPlayed}
 use Rattle.moos_step.proofs.Lines.{err_any}
 use Rattle.moos_play.proofs.Coming.{lines_cut, lines_next, may_come, may_within}
@@ -9,7 +10,7 @@ use Rattle.moos_play.proofs.Moving.{moves_lines}
 use Rattle.moos_play.proofs.Rounding.{as_many, some_client}
 use Rattle.moos_play.proofs.Stamping.{lines_add}
 use Rattle.moos_play.proofs.Stepping.{all_part, lines_clients}
-use Rattle.moos_play.proofs.playing.Play.play_lines.Goals as goal
+use Rattle.moos_play.proofs.stage.Stage.play_lines.Goals as goal
 
 pub play_step-requires-clause-clients : goal.play_step-requires-clause-clients
 play_step-requires-clause-clients g c κs lives =
@@ -46,7 +47,7 @@ returns-clause-stepped g c =
         period = c.requires.at_play.period;
       };
       told = refl;
-      moves = moves_lines play.order (next_stamp play) play _ (omega (arith, c.requires.some)) refl;
+      moves = moves_lines play.order (next_stamp (shown_by play)) play _ (omega (arith, c.requires.some)) refl;
     }
 
 pub returns-in_err-play_step-clause-stepped : goal.returns-in_err-play_step-clause-stepped

@@ -4,7 +4,7 @@ use Rattle.moos_play.proofs.Moving.{moves_tick}
 use Rattle.moos_play.proofs.Rounding.{tick_at_play, tick_stops}
 use Rattle.moos_play.proofs.Stamping.{tick_adds}
 use Rattle.moos_play.proofs.Stepped.{ok_any}
-use Rattle.moos_play.proofs.playing.Play.play_tick.Goals as goal
+use Rattle.moos_play.proofs.stage.Stage.play_tick.Goals as goal
 
 pub returns-clause-stepped : goal.returns-clause-stepped
 returns-clause-stepped g c =

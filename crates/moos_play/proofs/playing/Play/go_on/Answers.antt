@@ -1,6 +1,0 @@
-use Rattle.moos_play.specs.Plays.{next_stamp}
-use Rattle.moos_play.proofs.Stepped.{stepped_none}
-use Rattle.moos_play.proofs.playing.Play.go_on.Goals as goal
-
-pub returns-then-is_none-clause-stepped : goal.returns-then-is_none-clause-stepped
-returns-then-is_none-clause-stepped g c = stepped_none (next_stamp c.args.self.now) c.args.self.now c.requires.may.at_play

@@ -1,0 +1,205 @@
+// A run from one step to the next: the clients' lines and the helm's ticks, in the order that was asked for.
+ghost use Rattle.std.specs.Prelude.{◌≡◌, ◌≢◌, ◌<◌, None, Ok, true, false, drop, length, OnOk};
+ghost use Rattle.moos_play.specs.Plays.{left_in, next_stamp};
+ghost use Rattle.moos_play.specs.Runs.{HasAllSeats, HasPlayedOn, IsAtPlay, MayGoOn, MayPlay, next_tick, shown_by, untold_in};
+ghost use Rattle.moos_play.specs.Steered.{IsBehind, IsDue};
+ghost use Rattle.script_reader.specs.Validity.{IsValid};
+
+use crate::race::race;
+use crate::run::Ran;
+use crate::stamps::{due_end, tick_due};
+use crate::steersman::{Steersman, lead};
+use moos_client::Lock;
+use moos_io::Gate;
+use moos_post::{List, NoMemory};
+use moos_step::{Player, play_step};
+use script_reader::{Order, Script};
+use std::alloc::Global;
+use std::sync::Wait;
+use std::thread::Threads;
+
+/// Where a script is played, and how far it has come. Between two steps the seat of the first client has taken in all others.
+#[derive(Drop)]
+pub(crate) struct Stage<'a> {
+    pub(crate) script: &'a Script,
+    pub(crate) lock: Lock,
+    pub(crate) first: Player,
+    pub(crate) steersman: Option<Steersman>,
+    pub(crate) calls: Vec<u64>,
+    pub(crate) from: usize,
+    pub(crate) order: Order,
+}
+
+impl<'a> Stage<'a> {
+    /// Plays the next step: in order Stamp the lines of the next stamp or the helm's next tick, and in order Race
+    /// everything. It answers false where nothing was left. Also where memory is missing the first seat has all others.
+    pub(crate) fn go_on<R: Threads + Wait + Sync, G: Gate>(
+        &mut self,
+        rt: &R,
+        alloc: Global,
+        workers: u32,
+        gate: &G,
+    ) -> Result<bool, NoMemory>
+        requires may { MayGoOn self.old workers }
+        ensures stepped { HasPlayedOn (next_stamp (shown_by self.old)) self.old self.new result }
+        ensures more { result ≡ Ok true → left_in (shown_by self.new) < left_in (shown_by self.old) }
+        ensures over { result ≡ Ok false → (left_in (shown_by self.old) ≡ 0) × (self.new ≡ self.old) }
+    {
+        let tick = tick_due(&self.steersman, self.script.stop);
+        let lines = self.script.lines.all();
+        let to = due_end(lines, self.from, tick);
+        if self.from == to && tick.is_none() {
+            return Ok(false);
+        }
+        match self.order {
+            Order::Race => self.play_all(rt, alloc, workers, gate)?,
+            Order::Stamp => self.play_next(rt, alloc, to, workers, gate)?,
+        }
+        Ok(true)
+    }
+
+    // Plays the lines before this place, or the next tick where that is the place that the lines have come to.
+    fn play_next<R: Threads + Wait + Sync, G: Gate>(
+        &mut self,
+        rt: &R,
+        alloc: Global,
+        to: usize,
+        workers: u32,
+        gate: &G,
+    ) -> Result<(), NoMemory>
+        requires may { MayGoOn self.old workers }
+        requires due { IsDue self.old.script.now.lines (next_tick self.old) self.old.from to }
+        requires some { (self.old.from ≡ to) → (next_tick self.old ≢ None) }
+        ensures stepped { HasPlayedOn (next_stamp (shown_by self.old)) self.old self.new result }
+        ensures more { OnOk result (left_in (shown_by self.new) < left_in (shown_by self.old)) }
+    {
+        if self.from < to {
+            self.play_lines(rt, alloc, to, gate)
+        } else {
+            self.play_tick(rt, alloc, workers, gate)
+        }
+    }
+
+    // Plays the lines before this place, which in order Stamp have one stamp.
+    fn play_lines<R: Threads + Wait + Sync, G: Gate>(
+        &mut self,
+        rt: &R,
+        alloc: Global,
+        to: usize,
+        gate: &G,
+    ) -> Result<(), NoMemory>
+        requires valid { IsValid self.old.script.now }
+        requires at_play { IsAtPlay self.old.script.now self.old }
+        requires due { MayPlay self.old.order self.old to }
+        requires some { self.old.from < to }
+        ensures stepped { HasPlayedOn (next_stamp (shown_by self.old)) self.old self.new result }
+        ensures more { OnOk result (left_in (shown_by self.new) < left_in (shown_by self.old)) }
+        ensures on { OnOk result (self.new.from ≡ to) }
+        ensures helm { self.new.steersman ≡ self.old.steersman }
+    {
+        let lines = &self.script.lines.all()[self.from..to];
+        let calls = self.calls.as_mut_slice();
+        play_step(rt, alloc, &self.lock, &mut self.first, calls, lines, gate)?;
+        self.from = to;
+        Ok(())
+    }
+
+    // Has the helm make its next tick, where one is left and no line is left of its stamp or before.
+    fn play_tick<R: Threads + Wait + Sync, G: Gate>(
+        &mut self,
+        rt: &R,
+        alloc: Global,
+        workers: u32,
+        gate: &G,
+    ) -> Result<(), NoMemory>
+        requires may { MayGoOn self.old workers }
+        requires some { next_tick self.old ≢ None }
+        requires behind { IsBehind (next_tick self.old) (drop self.old.from self.old.script.now.lines) }
+        ensures stepped { HasPlayedOn (next_stamp (shown_by self.old)) self.old self.new result }
+        ensures more { OnOk result (left_in (shown_by self.new) < left_in (shown_by self.old)) }
+    {
+        let Some(steersman) = &mut self.steersman else {
+            unreachable!()
+        };
+        let ticks = steersman.ticks + 1;
+        let first = &mut self.first.seat;
+        lead(
+            rt, alloc, &self.lock, first, steersman, ticks, workers, gate,
+        )
+    }
+
+    // Has all clients play the lines that are left and the helm, where there is one, make its ticks, all beside each other.
+    fn play_all<R: Threads + Wait + Sync, G: Gate>(
+        &mut self,
+        rt: &R,
+        alloc: Global,
+        workers: u32,
+        gate: &G,
+    ) -> Result<(), NoMemory>
+        requires may { MayGoOn self.old workers }
+        requires race { self.old.order ≡ Order.Race }
+        requires left { (self.old.steersman ≡ None) → self.old.from < length self.old.script.now.lines }
+        ensures stepped { HasPlayedOn (next_stamp (shown_by self.old)) self.old self.new result }
+        ensures over { OnOk result (left_in (shown_by self.new) ≡ 0) }
+    {
+        if self.steersman.is_none() {
+            let to = self.script.lines.len();
+            self.play_lines(rt, alloc, to, gate)
+        } else {
+            self.race_left(rt, alloc, workers, gate)
+        }
+    }
+
+    // Has all clients play the lines that are left beside the helm, which makes its ticks.
+    fn race_left<R: Threads + Wait + Sync, G: Gate>(
+        &mut self,
+        rt: &R,
+        alloc: Global,
+        workers: u32,
+        gate: &G,
+    ) -> Result<(), NoMemory>
+        requires may { MayGoOn self.old workers }
+        requires race { self.old.order ≡ Order.Race }
+        requires some { self.old.steersman ≢ None }
+        ensures stepped { HasPlayedOn (next_stamp (shown_by self.old)) self.old self.new result }
+        ensures over { OnOk result (left_in (shown_by self.new) ≡ 0) }
+    {
+        let Some(steersman) = &mut self.steersman else {
+            unreachable!()
+        };
+        let ticks = self.script.stop / steersman.period + 1;
+        let to = self.script.lines.len();
+        let lines = &self.script.lines.all()[self.from..to];
+        let calls = self.calls.as_mut_slice();
+        let first = &mut self.first;
+        race(
+            rt, alloc, &self.lock, first, steersman, calls, lines, ticks, workers, gate,
+        )?;
+        self.from = to;
+        Ok(())
+    }
+
+    /// Ends the run: its database with the history so far, and those of the helm's iterations that no round has handed out.
+    pub(crate) fn close(self, alloc: Global) -> Ran
+        requires { HasAllSeats self }
+        ensures names { result.db.names ≡ self.entry.lock.base }
+        ensures history { result.db.history ≡ self.entry.first.seat.seen }
+        ensures iterations { result.iterations ≡ untold_in self.entry }
+    {
+        let Stage {
+            script: _,
+            lock,
+            first,
+            steersman,
+            calls: _,
+            from: _,
+            order: _,
+        } = self;
+        let (db, _) = lock.close(first.seat);
+        let iterations = match steersman {
+            Some(steersman) => steersman.iterations,
+            None => List::new(alloc),
+        };
+        Ran { db, iterations }
+    }
+}
