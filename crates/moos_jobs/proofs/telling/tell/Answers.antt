@@ -1,5 +1,5 @@
 -- The run is told from its opening, round by round, to its end.
-use Rattle.std.proofs.Common.{◌≡◌, ◌+◌, ◌∙◌, ap, arith, length, refl, subst, sym, List, ℕ, Option}
+use Rattle.std.proofs.Common.{◌≡◌, ◌+◌, ◌<◌, ◌^◌, ◌∙◌, ap, arith, length, refl, subst, sym, List, ℕ, Option}
 use Rattle.std.specs.Prelude.{IfNone, IfSome}
 use Rattle.moos_io.specs.Pieces.{Took, TookFront}
 use Rattle.moos_io.proofs.Writing.{fares_further}
@@ -8,7 +8,7 @@ use Rattle.moos_play.specs.Plays.{clients_in, GoesOnWith, HasCompletion, history
 use Rattle.moos_report.specs.Parts.{front_text}
 use Rattle.command_line.specs.Endings.{sinking}
 use Rattle.moos_jobs.specs.Telling.{IsToldSoFar, Tells}
-use Rattle.moos_jobs.proofs.Fetching.{IsNamed, named_on}
+use Rattle.moos_jobs.proofs.Fetching.{IsNamed, IsRunWell, named_on}
 use Rattle.moos_jobs.proofs.Rounds.{end_told, goes_on_twice, none_made, run_as, told_front}
 use Rattle.moos_jobs.proofs.telling.tell.Goals as goal
 
@@ -17,7 +17,7 @@ returns-in-Err g c =
     let play = c.args.play.now in
     let before = g.K.Sink.taken c.args.out.now in
     let after = g.K.Sink.taken c.tell_opening.new.out in
-    let well = record { valid = c.front_law.ensures.valid; helm = c.front_law.ensures.helm; steered = c.front_law.ensures.steered } in
+    let well : IsRunWell play = record { valid = c.front_law.ensures.valid; helm = c.front_law.ensures.helm; steered = c.front_law.ensures.steered } in
     let none = none_made play well c.requires.named c.requires.begun in
     let front = subst (λ made. TookFront before after (front_text c.args.setup.now (clients_in play) (history_in play) made)) (sym none) c.in-Err.ensures.front in
     (told_front c.args.setup.now play c.parts_law.ensures.fronts well c.requires.named c.front_law.ensures.front before after _ _ front, c.in-Err.ensures.rose)
@@ -28,7 +28,7 @@ loop-more-init g c =
     let before = g.K.Sink.taken c.args.out.now in
     let after = g.K.Sink.taken c.tell_opening.new.out in
     let same = sym c.tell_opening.ensures.same in
-    let well = record { valid = c.front_law.ensures.valid; helm = c.front_law.ensures.helm; steered = c.front_law.ensures.steered } in
+    let well : IsRunWell play = record { valid = c.front_law.ensures.valid; helm = c.front_law.ensures.helm; steered = c.front_law.ensures.steered } in
     let none = none_made play well c.requires.named c.requires.begun in
     record {
       empty = c.new-buffer.ensures;
