@@ -3,7 +3,8 @@
 //!
 //! The tests of these crates stand here, since a crate with tests of its own is proved once more with them. One module for
 //! each subject: `posts`, `registrations`, `mailboxes`, `turns` of the lock, `database` and `database_parts`, `clients`,
-//! `bridges` between two communities, of the helm `conditions`, `geometry`, `modes` and `lives`, `contacts`, and `vehicles`. What they make of
+//! `bridges` between two communities, `shares` of two scripts with one, of the helm `conditions`, `geometry`, `modes` and `lives`,
+//! `contacts`, and `vehicles`. What they make of
 //! words is `made` in one place.
 #![tactic(auto)]
 
@@ -33,6 +34,8 @@ mod modes;
 mod posts;
 #[cfg(test)]
 mod registrations;
+#[cfg(test)]
+mod shares;
 #[cfg(test)]
 mod turns;
 #[cfg(test)]

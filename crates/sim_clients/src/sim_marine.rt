@@ -60,7 +60,7 @@ impl SimMarine {
         period: u64,
         mail: &Mail,
     ) -> Result<Batch, NoMemory>
-        requires hull { IsHull craft.now self.old.hull }
+        requires known { (mails : List (List Pair)) × IsSimAfter craft.now period mails self.old }
         requires some { 1 ≤ period }
         requires period { period ≤ 10 ^ 6 }
         ensures after { (mails : List (List Pair)) → IsSimAfter craft.now period mails self.old → IsSimAfter craft.now period (mails ++ pairs_in_mail mail.now ∷ []) self.new }
