@@ -123,6 +123,7 @@ fn whole_tree_at_once(rt: HostRuntime) {
     let alloc = rt.alloc();
     let problem = two(&rt, alloc);
     let (best, mut scout) = Best::make(alloc, &problem).expect(&rt, "memory");
+    let mut other = best.split(&mut scout);
     assert_eq!(rt; close_whole(&problem, &best, &mut scout), 4);
-    assert_eq!(rt; key_in(best.known(&mut scout)), key_of(75, 2));
+    assert_eq!(rt; key_in(best.known(&mut other)), key_of(75, 2));
 }
