@@ -1,3 +1,4 @@
+// A node of the tree closed.
 ghost use Rattle.std.specs.Prelude.{◌≡◌, ◌≤◌, Some};
 ghost use Rattle.ivp_domain.specs.Boxes.{has_point};
 ghost use Rattle.ivp_problem.specs.Trees.{IsNode};

@@ -1,3 +1,4 @@
+// A problem solved by several workers.
 ghost use Rattle.std.specs.Prelude.{◌≡◌, ◌≤◌, length, map, IfOk, IsTrue, Some};
 ghost use Rattle.ivp_domain.specs.Domains.{is_point};
 ghost use Rattle.ivp_problem.specs.Sums.{best_of, key_at};

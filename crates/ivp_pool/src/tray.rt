@@ -1,3 +1,4 @@
+// A tray: it takes a node for later, or hands it back.
 ghost use Rattle.std.specs.Prelude.{◌≡◌, List, Option, None};
 ghost use Rattle.ivp_problem.specs.declared.node.Node.{Node};
 ghost use Rattle.ivp_problem.specs.Problems.{WeightedSum};

@@ -1,3 +1,4 @@
+// How much each worker did.
 ghost use Rattle.std.specs.Prelude.{◌≡◌, ◌<◌, ◌++◌, ◌∷◌, [], length, OnOk, OnErr, IfErr, Some, slice_get};
 
 use std::alloc::Global;

@@ -117,7 +117,8 @@ fn every_second_is_taken(rt: HostRuntime) {
     leaves(&rt, rt.alloc(), [false, true], 1, 3, Some(key_of(55, 10)));
 }
 
-/// The whole tree at once: as many nodes as with a tray that takes none, and the key that a search by workers finds.
+/// The whole tree at once: as many nodes as with a tray that takes none, and the key that a search by workers finds. The scout
+/// and every other one know it then.
 #[test]
 fn whole_tree_at_once(rt: HostRuntime) {
     let alloc = rt.alloc();
@@ -125,5 +126,6 @@ fn whole_tree_at_once(rt: HostRuntime) {
     let (best, mut scout) = Best::make(alloc, &problem).expect(&rt, "memory");
     let mut other = best.split(&mut scout);
     assert_eq!(rt; close_whole(&problem, &best, &mut scout), 4);
+    assert_eq!(rt; key_in(best.known(&mut scout)), key_of(75, 2));
     assert_eq!(rt; key_in(best.known(&mut other)), key_of(75, 2));
 }
