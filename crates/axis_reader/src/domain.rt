@@ -1,3 +1,4 @@
+// Axes gathered into a domain, line by line.
 ghost use Rattle.std.specs.Prelude.{◌≡◌, ◌<◌, ◌+◌, [], ◌∷◌, ◌++◌, length, take};
 ghost use Rattle.ivp_domain.specs.Domains.{domain_of};
 

@@ -1,3 +1,4 @@
+// The four fields of an axis, cut at the colons.
 ghost use Rattle.std.specs.Prelude.{◌≡◌, ◌≢◌, ◌==◌, ◌∷◌, [], Some, length, position, MatchOption};
 ghost use Rattle.axis_reader.specs.Fields.{axis_from, axis_with, fields_of};
 

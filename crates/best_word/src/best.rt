@@ -1,3 +1,4 @@
+// The best known key, in one word that all workers share.
 ghost use Rattle.std.specs.Prelude.{◌≡◌, ℕ, ◌≤◌, max, [], Some, IfOk, IsTrue};
 ghost use Rattle.ivp_domain.specs.Domains.{is_point};
 ghost use Rattle.ivp_problem.specs.Problems.{WeightedSum};

@@ -1,3 +1,4 @@
+// The parameters that every behaviour has.
 use crate::decl::Conds;
 use moos_post::{Batch, Copied, Name, NoMemory};
 use std::alloc::Global;

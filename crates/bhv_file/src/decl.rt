@@ -1,3 +1,4 @@
+// A mode's declaration.
 use helm_cond::Cond;
 use moos_post::{List, Name};
 

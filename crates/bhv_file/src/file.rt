@@ -1,3 +1,4 @@
+// A behaviour file: its declarations, its blocks, and what is said of modes and variables that nothing uses.
 use crate::common::Common;
 use crate::decl::Decls;
 use crate::spec::Spec;

@@ -1,3 +1,4 @@
+// The parameters that a behaviour has by its type.
 ghost use Rattle.std.specs.Prelude.{◌≡◌, IfOk};
 
 use helm_geo::Spot;

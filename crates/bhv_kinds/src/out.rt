@@ -1,3 +1,4 @@
+// What a step gives: posts, a function, a fault, or that it is done.
 ghost use Rattle.std.specs.Prelude.{◌≡◌, codes, IfOk, IfSome};
 ghost use Rattle.bhv_file.specs.Params.{axes_of};
 ghost use Rattle.bhv_kinds.specs.Giving.{is_named, out_of};

@@ -1,3 +1,4 @@
+// What a step looks at.
 use helm_geo::Spot;
 
 /// What a step of a behaviour finds: as much of all that came before as any type needs.

@@ -1,3 +1,4 @@
+// What a behaviour wants, before a function is built of it.
 use crate::out::BhvFault;
 use ivp_build::Peak;
 

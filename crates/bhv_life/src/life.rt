@@ -1,3 +1,4 @@
+// What is kept of a behaviour from one iteration to the next, and how its turn begins.
 ghost use Rattle.std.specs.Prelude.{◌≡◌, ◌≤◌, List, []};
 ghost use Rattle.std.specs.List.{list_all};
 ghost use Rattle.bhv_file.specs.declared.common.Common.{Common};
@@ -71,7 +72,7 @@ impl Life {
     }
 
     /// Whether it can run again: it never completed, or is perpetual.
-    fn can_run(&self, common: &Common) -> bool
+    pub fn can_run(&self, common: &Common) -> bool
         ensures { (past : List BhvPast) → Keeps past self.now → result ≡ can_run common.now past }
     {
         common.perpetual || !self.completed

@@ -1,3 +1,5 @@
+// What a behaviour is in an iteration, what it does there, and what comes of it.
+
 /// What a behaviour is in an iteration.
 #[derive(Clone, Copy, Debug, PartialEq, Eq)]
 pub enum BhvState {

@@ -1,3 +1,4 @@
+// A turn that was begun, and how it ends.
 ghost use Rattle.std.specs.Prelude.{◌≡◌, true, false, ◌+◌, ◌≤◌, List, [], ◌++◌, ◌∷◌, if◌then◌else◌, Some, None};
 ghost use Rattle.bhv_file.specs.declared.common.Common.{Common};
 ghost use Rattle.bhv_life.specs.Lives.{Beginning, BhvPast, BhvTurn, latest_stamp, past_of, turn_after};

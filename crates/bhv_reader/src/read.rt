@@ -1,3 +1,4 @@
+// The reader of behaviour files.
 ghost use Rattle.std.specs.Prelude.{◌≡◌, ◌<◌, ◌^◌, length, Ok, IfOk, IfErr, IsTrue};
 ghost use Rattle.moos_text.specs.Refusals.{IsFirst};
 ghost use Rattle.bhv_reader.specs.Behaviors.{behaviors_of};

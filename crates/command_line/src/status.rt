@@ -1,3 +1,4 @@
+// How a run ends: its status, the file that a refusal speaks of, and the code.
 ghost use Rattle.std.specs.Prelude.{◌≡◌};
 ghost use Rattle.command_line.specs.Exit.{code_of};
 

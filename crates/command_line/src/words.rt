@@ -1,3 +1,4 @@
+// The words of a command line.
 ghost use Rattle.std.specs.Prelude.{◌≡◌, string_bytes};
 
 use moos_post::List;

@@ -1,3 +1,4 @@
+// Conditions: what each form of them holds of, what is refused, and the variables that they name.
 use crate::made::{learn, number, text};
 use helm_cond::*;
 use moos_post::Copied;

@@ -1,3 +1,4 @@
+// Steps, distances and directions in the plane, and spots in polygons.
 ghost use Rattle.std.specs.Prelude.{◌≡◌, IsTrue};
 ghost use Rattle.helm_geo.specs.Plane.{is_spot};
 

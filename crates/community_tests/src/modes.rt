@@ -1,3 +1,4 @@
+// The mode that a tree of declarations has by what is known.
 ghost use Rattle.std.specs.Prelude.{◌≡◌, None, Some};
 
 use crate::made::{check, learn, name, text};

@@ -80,6 +80,24 @@ fn pid_turns(rt: HostRuntime) {
     }
 }
 
+// What uSimMarine is mailed at its first turn.
+const ASKED: &[(&str, i64)] = &[
+    ("DESIRED_RUDDER", 90_000),
+    ("DESIRED_THRUST", 100_000),
+    ("DESIRED_DEPTH", 10_000),
+];
+
+#[test]
+fn sim_turn(rt: HostRuntime) {
+    let alloc = rt.alloc();
+    let craft = craft(&rt);
+    let mut sim = SimMarine::make(&craft);
+    let mail = mail(&rt, alloc, ASKED);
+    let batch = sim.turn(alloc, &craft, 250, &mail).expect(&rt, "memory");
+    let wanted = b"NAV_X=0 NAV_Y=0.062 NAV_HEADING=0.562 NAV_SPEED=0.25 NAV_DEPTH=0.125 ";
+    assert_eq!(&rt; shown(&rt, alloc, &batch).as_slice(), wanted.as_slice());
+}
+
 // With ample memory the openings are made.
 #[test]
 fn openings(rt: HostRuntime) {

@@ -1,3 +1,4 @@
+// A contact: where it is, and whether it is inside the range of alerts.
 ghost use Rattle.std.specs.Prelude.{◌≡◌, IfSome, IsTrue};
 ghost use Rattle.helm_geo.specs.Plane.{is_spot};
 ghost use Rattle.contact_avoid.specs.Contacts.{contact_place};

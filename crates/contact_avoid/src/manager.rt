@@ -1,3 +1,4 @@
+// The client pBasicContactMgr: its turn over a mail.
 ghost use Rattle.std.specs.Prelude.{◌≡◌, [], IfOk, OnErr};
 ghost use Rattle.contact_avoid.specs.Standing.{HasHadTurn, Knows};
 

@@ -1,3 +1,4 @@
+// The two ranges that a contacts file may set, by name.
 ghost use Rattle.std.specs.Prelude.{◌≡◌};
 ghost use Rattle.contact_avoid.specs.RangeFiles.{range_distance, range_named};
 

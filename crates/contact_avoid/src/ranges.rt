@@ -1,3 +1,4 @@
+// The ranges of contacts, as a file sets them.
 ghost use Rattle.std.specs.Prelude.{◌≡◌, ◌<◌, ◌^◌, length, Ok, Err, IfOk, IfErr};
 ghost use Rattle.moos_text.specs.Lines.{is_unclosed};
 ghost use Rattle.moos_text.specs.Pairs.{sides_of};

@@ -1,3 +1,4 @@
+// All that the manager knows: the own position and the contacts.
 ghost use Rattle.std.specs.Prelude.{◌≡◌, IfOk, IfSome, IsTrue, OnOk, bytes_eq, if◌then◌else◌, map, Some};
 ghost use Rattle.std.specs.List.{flat_map};
 ghost use Rattle.helm_geo.specs.Plane.{is_spot};

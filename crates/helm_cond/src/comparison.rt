@@ -1,3 +1,4 @@
+// A comparison of a variable with a literal.
 use crate::operator::Operator;
 use moos_post::{Copied, Name, NoMemory, Value};
 use std::alloc::Global;

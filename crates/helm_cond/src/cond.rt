@@ -1,3 +1,4 @@
+// A condition: read, and judged by what is known.
 ghost use Rattle.std.specs.Prelude.{◌≡◌, ◌<◌, ◌^◌, ◌++◌, ◌∷◌, [], length, Some, None, true, is_some, IfOk, OnOk, IsErrOf, option_copied, slice_get};
 ghost use Rattle.helm_cond.specs.Flat.{names_among, bare, only_test, is_parenthesis, behind_parentheses};
 ghost use Rattle.helm_cond.specs.Conditions.{holds};

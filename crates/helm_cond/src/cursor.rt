@@ -1,3 +1,4 @@
+// A place between the symbols of a condition.
 ghost use Rattle.std.specs.Prelude.{◌≡◌, ◌∷◌, [], List, false, MatchOption};
 ghost use Rattle.helm_cond.specs.declared.symbol.Symbol.{Symbol};
 ghost use Rattle.helm_cond.specs.Levels.{accepts};

@@ -1,3 +1,4 @@
+// Why a text is no condition.
 use moos_post::NameFault;
 use moos_text::PairFault;
 use std::alloc::AllocError;

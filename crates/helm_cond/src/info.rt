@@ -1,3 +1,4 @@
+// What a helm knows: the last value of each variable.
 ghost use Rattle.std.specs.Prelude.{◌≡◌, List, ℕ, None, OnOk, OnErr, IfOk, option_copied};
 ghost use Rattle.helm_cond.specs.Infos.{knowledge_of};
 ghost use Rattle.helm_cond.specs.Learnt.{known_with};

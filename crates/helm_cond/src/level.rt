@@ -1,3 +1,4 @@
+// One level of parentheses: what was read of it so far.
 ghost use Rattle.std.specs.Prelude.{◌≡◌};
 ghost use Rattle.helm_cond.specs.Levels.{fresh_level, level_holds, with_operand, with_not, with_or};
 

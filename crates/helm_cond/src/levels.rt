@@ -1,3 +1,4 @@
+// The levels of parentheses that are open, in place.
 ghost use Rattle.std.specs.Prelude.{◌≡◌, ◌<◌, [], ◌∷◌, List, Bool, length, Some};
 ghost use Rattle.helm_cond.specs.declared.symbol.Symbol.{Symbol};
 ghost use Rattle.helm_cond.specs.Conditions.{comparison_holds};

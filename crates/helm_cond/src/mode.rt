@@ -1,3 +1,4 @@
+// Modes and their parts between colons.
 ghost use Rattle.std.specs.Prelude.{◌≡◌, ◌==◌, ◌<◌, [], ◌∷◌, length, position, IfNone, IfSome};
 ghost use Rattle.std.specs.List.{before_first, position_or_len};
 ghost use Rattle.helm_cond.specs.Conditions.{mode_names, mode_parts, begins_with, stands_in};

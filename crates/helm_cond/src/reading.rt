@@ -1,3 +1,4 @@
+// From tokens to symbols of a condition.
 ghost use Rattle.std.specs.Prelude.{◌≡◌, ◌<◌, ◌≤◌, Some, None, [], ◌∷◌, length, MatchOption, IfOk, IfSome, IsErrOf};
 ghost use Rattle.helm_cond.specs.Grammar.{Word, operator_of, literal_of, connective_of, comparison_of, with_symbol, symbols_of, tokens_of};
 ghost use Rattle.helm_cond.specs.Tokens.{token_said};

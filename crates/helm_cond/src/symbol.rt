@@ -1,3 +1,4 @@
+// A condition as it is kept: its symbols, in order.
 use crate::comparison::Comparison;
 use moos_post::{Copied, NoMemory};
 use std::alloc::Global;

@@ -1,9 +1,10 @@
 -- The first step of a behaviour is made in its first running iteration.
-use Rattle.std.proofs.Common.{◌≡◌, ℕ, zero, suc, Bool, true, false, cond, List, [], ◌∷◌, ◌++◌, map, Option, Some, None, refl, ap, sym, ◌∙◌, subst}
+use Rattle.std.proofs.Common.{◌≡◌, ℕ, Bool, true, false, cond, List, [], ◌∷◌, ◌++◌, map, Option, Some, None, refl, ap, sym, ◌∙◌}
 use Rattle.std.specs.Prelude.{fold, if◌then◌else◌, option_map, slice_get, bytes_eq}
-use Rattle.std.specs.List.{find, list_any}
+use Rattle.std.specs.List.{AllByRecursion as Each, find}
 use Rattle.std.specs.Option.{option_eq, option_or}
 use Rattle.std.proofs.lemmas.List.Folds.{find-append}
+use Rattle.moos_io.proofs.Lists.{each_at}
 use Rattle.moos_post.specs.declared.value.Pair.{Pair}
 use Rattle.moos_post.specs.declared.value.Value.{Value}
 use Rattle.moos_post.specs.declared.value.Value.TheVariants.{Num, Text}
@@ -14,10 +15,12 @@ use Rattle.bhv_life.specs.Lives.{BhvPast, can_run, is_stepped, turn_after}
 use Rattle.bhv_life.specs.Runs.{FirstRunIsStepped, NoTimeNoStep, first_stepped}
 use Rattle.bhv_life.proofs.Turning.{past_push}
 use Rattle.ivp_domain.specs.declared.axis.Axis.{Axis}
-use Rattle.helm_core.specs.Behaviors.{BhvSoFar, Judged, all_begun, begun_at, begun_by_step, behaviors_before, beginning_at, bhv_after, has_fault, heard_with, judged_at, judged_with, none_judged, past_so_far, turn_at, unstarted}
+use Rattle.helm_core.specs.Behaviors.{BhvSoFar, Judged, begun_at, begun_by_step, beginning_at, bhv_after, heard_with, judged_at, judged_with, none_judged, past_so_far, turn_at, unstarted}
 use Rattle.helm_core.specs.FirstSteps.{CountsFromFirstRun, NeverSteppedWithoutTime}
+use Rattle.helm_core.specs.Lists.{list_at}
 use Rattle.helm_core.specs.Plans.{Plan}
-use Rattle.helm_core.specs.Ticks.{Seen, Tick, seen_at}
+use Rattle.helm_core.specs.Ticks.{Seen, Tick}
+use Rattle.helm_core.proofs.Listing.{list_keeps}
 
 -- updates are no steps
 judged_first : (spec : Spec) (so_far : Judged) (value : Value) → first_step (judged_with spec so_far value).turns ≡ first_step so_far.turns
@@ -76,32 +79,15 @@ one_first axes seen fault one keeps =
     (all_heard_first one.block.common.updates one.block.spec (none_judged one.turns) letters) keeps
 
 -- all behaviours keep it
-abbrev AllKeep : List BhvSoFar → Type 0
-AllKeep [] = Unit {0}
-AllKeep (one ∷ ones) = KeepsFirst one × AllKeep ones
-
-all_first : (axes : List Axis) (seen : Seen) (fault : Bool) (ones : List BhvSoFar) → AllKeep ones → AllKeep (map (bhv_after seen fault) (map (begun_at axes seen) ones))
-all_first axes seen fault [] keeps = tt
-all_first axes seen fault (one ∷ ones) keeps = (one_first axes seen fault one keeps.0, all_first axes seen fault ones keeps.1)
-
-none_first : (blocks : List Block) → AllKeep (map unstarted blocks)
+none_first : (blocks : List Block) → Each KeepsFirst (map unstarted blocks)
 none_first [] = tt
 none_first (block ∷ blocks) = (refl, none_first blocks)
 
-before_first : (plan : Plan) (ticks : List Tick) (i : ℕ) → AllKeep (behaviors_before plan ticks i)
-before_first plan ticks zero = none_first plan.blocks
-before_first plan ticks (suc i) =
-    let seen = seen_at plan.decls ticks i in
-    let ones = behaviors_before plan ticks i in
-    all_first plan.axes seen (list_any has_fault (all_begun plan.axes seen ones)) ones (before_first plan ticks i)
-
-kept_at : (ones : List BhvSoFar) (place : ℕ) (one : BhvSoFar) → AllKeep ones → slice_get ones place ≡ Some one → KeepsFirst one
-kept_at [] place one keeps at = absurd cc
-kept_at (first ∷ ones) zero one keeps at = let same : first ≡ one = cc in subst KeepsFirst same keeps.0
-kept_at (first ∷ ones) (suc place) one keeps at = kept_at ones place one keeps.1 at
+kept_at : (plan : Plan) (ticks : List Tick) (i place : ℕ) (one : BhvSoFar) → slice_get (list_at plan ticks i) place ≡ Some one → KeepsFirst one
+kept_at plan ticks i place one at = each_at KeepsFirst (list_at plan ticks i) place one (list_keeps KeepsFirst one_first plan ticks i (none_first plan.blocks)) at
 
 pub counts : FirstRunIsStepped → CountsFromFirstRun
-counts law plan ticks i place one at lasts = kept_at (behaviors_before plan ticks i) place one (before_first plan ticks i) at ∙ law one.block.common one.lived lasts
+counts law plan ticks i place one at lasts = kept_at plan ticks i place one at ∙ law one.block.common one.lived lasts
 
 pub never : NoTimeNoStep → NeverSteppedWithoutTime
-never law plan ticks i place one at none = kept_at (behaviors_before plan ticks i) place one (before_first plan ticks i) at ∙ law one.block.common one.lived none
+never law plan ticks i place one at none = kept_at plan ticks i place one at ∙ law one.block.common one.lived none

@@ -1,10 +1,12 @@
 -- An iteration depends on no later tick.
 use Rattle.std.proofs.Common.{◌≡◌, Some, ℕ, zero, suc, ◌<◌, ◌≤◌, List, [], ◌++◌, map, length, refl, ap, ◌∙◌, arith}
+use Rattle.std.specs.List.{filter}
 use Rattle.std.proofs.lemmas.List.{take-append-le, get_or_append_left, map-append, length-map}
 use Rattle.bhv_file.specs.declared.decl.Decl.{Decl}
 use Rattle.helm_core.specs.declared.showing.Showing.{Showing}
 use Rattle.helm_core.specs.Plans.{Plan}
-use Rattle.helm_core.specs.Behaviors.{all_after, all_begun, all_showings, behaviors_before}
+use Rattle.helm_core.specs.Behaviors.{all_after, all_begun, all_showings}
+use Rattle.helm_core.specs.Lists.{list_at, stays}
 use Rattle.helm_core.specs.Moments.{Moment, moment_at, moment_before}
 use Rattle.helm_core.specs.Iterations.{iteration_at, iteration_of}
 use Rattle.helm_core.specs.Ticks.{Seen, Tick, heard_at, heard_in_all, learnt_at, pairs_mailed, seen_at, tick_stamp}
@@ -30,16 +32,16 @@ heard_same ticks later i l =
 pub seen_same : (decls : List Decl) (ticks later : List Tick) (i : ℕ) → i < length ticks → seen_at decls (ticks ++ later) i ≡ seen_at decls ticks i
 seen_same decls ticks later i l = rw (learnt_same ticks later i l, stamp_same ticks later i l, heard_same ticks later i l) refl
 
-pub behaviors_same : (plan : Plan) (ticks later : List Tick) (n : ℕ) → n ≤ length ticks → behaviors_before plan (ticks ++ later) n ≡ behaviors_before plan ticks n
-behaviors_same plan ticks later zero l = refl
-behaviors_same plan ticks later (suc n) l =
-    ap (λ seen. all_after seen (all_begun plan.axes seen (behaviors_before plan (ticks ++ later) n))) (seen_same plan.decls ticks later n (omega arith))
-    ∙ ap (λ ones. all_after (seen_at plan.decls ticks n) (all_begun plan.axes (seen_at plan.decls ticks n) ones)) (behaviors_same plan ticks later n (omega arith))
+pub list_same : (plan : Plan) (ticks later : List Tick) (n : ℕ) → n ≤ length ticks → list_at plan (ticks ++ later) n ≡ list_at plan ticks n
+list_same plan ticks later zero l = refl
+list_same plan ticks later (suc n) l =
+    ap (λ seen. filter stays (all_after seen (all_begun plan.axes seen (list_at plan (ticks ++ later) n)))) (seen_same plan.decls ticks later n (omega arith))
+    ∙ ap (λ ones. filter stays (all_after (seen_at plan.decls ticks n) (all_begun plan.axes (seen_at plan.decls ticks n) ones))) (list_same plan ticks later n (omega arith))
 
 at_same : (plan : Plan) (ticks later : List Tick) (i : ℕ) → i < length ticks → moment_at plan (ticks ++ later) i ≡ moment_at plan ticks i
 at_same plan ticks later i l =
-    ap (λ seen. moment_with seen (all_showings seen (all_begun plan.axes seen (behaviors_before plan (ticks ++ later) i)))) (seen_same plan.decls ticks later i l)
-    ∙ ap (λ ones. moment_with (seen_at plan.decls ticks i) (all_showings (seen_at plan.decls ticks i) (all_begun plan.axes (seen_at plan.decls ticks i) ones))) (behaviors_same plan ticks later i (omega arith))
+    ap (λ seen. moment_with seen (all_showings seen (all_begun plan.axes seen (list_at plan (ticks ++ later) i)))) (seen_same plan.decls ticks later i l)
+    ∙ ap (λ ones. moment_with (seen_at plan.decls ticks i) (all_showings (seen_at plan.decls ticks i) (all_begun plan.axes (seen_at plan.decls ticks i) ones))) (list_same plan ticks later i (omega arith))
 
 pub before_same : (plan : Plan) (ticks later : List Tick) (i : ℕ) → i ≤ length ticks → moment_before plan (ticks ++ later) i ≡ moment_before plan ticks i
 before_same plan ticks later zero l = refl

@@ -4,6 +4,7 @@ pub mod Learning
 pub mod Rooted
 pub mod Ticking
 pub mod Living
+pub mod Listing
 pub mod Turning
 pub mod Readying
 pub mod Deciding

@@ -16,10 +16,9 @@ use Rattle.helm_core.specs.Moments.{Moment}
 use Rattle.helm_core.specs.Plans.{Plan}
 use Rattle.helm_core.specs.Ticks.{Seen}
 use Rattle.helm_core.specs.WellFormed.{names_in_update, names_told}
-use Rattle.helm_core.proofs.Living.{begun_block, block_of}
-use Rattle.helm_core.proofs.Pairing.{HasValidCommon}
+use Rattle.helm_core.proofs.Listing.{begun_same}
 
-abbrev IsNamed : List ℕ → Type 0
+abbrev pub IsNamed : List ℕ → Type 0
 IsNamed name = IsTrue (is_name name)
 
 -- a behaviour that an iteration tells has a name
@@ -62,8 +61,7 @@ all_told plan before now all =
     (each_append IsNamed (flat_map names_in_update (all_updates now.showings)) _ (updates_named now.showings all)
     (each_append IsNamed (map (λ one. one.name) (all_states now.showings)) (map name_in (all_faults now.showings)) (states_named now.showings all) (faults_named now.showings all)))
 
--- the behaviours of valid blocks have names
-pub showings_named : (axes : List Axis) (seen : Seen) (fault : Bool) (ones : List BhvSoFar) → Each HasValidCommon (map block_of ones) → Each HasName (map (showing_of seen fault) (map (begun_at axes seen) ones))
+-- behaviours with names
+pub showings_named : (axes : List Axis) (seen : Seen) (fault : Bool) (ones : List BhvSoFar) → Each (λ one. IsNamed one.name) ones → Each HasName (map (showing_of seen fault) (map (begun_at axes seen) ones))
 showings_named axes seen fault [] all = tt
-showings_named axes seen fault (one ∷ ones) all =
-    ((subst HasValidCommon (sym (begun_block axes seen one)) all.0).name, showings_named axes seen fault ones all.1)
+showings_named axes seen fault (one ∷ ones) all = (subst IsNamed (sym (begun_same axes seen one).0) all.0, showings_named axes seen fault ones all.1)

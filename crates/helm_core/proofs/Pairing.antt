@@ -1,5 +1,5 @@
 -- What a helm of valid files posts in an iteration are pairs, and no more than a call takes.
-use Rattle.std.proofs.Common.{◌≡◌, ℕ, ◌+◌, ◌*◌, ◌≤◌, Bool, true, false, cond, not, List, [], ◌∷◌, ◌++◌, length, length-append, map, Option, Some, None, refl, ap, sym, subst, arith}
+use Rattle.std.proofs.Common.{◌≡◌, ℕ, ◌+◌, ◌*◌, ◌≤◌, Bool, true, false, cond, not, List, [], ◌∷◌, ◌++◌, length, length-append, map, Option, Some, None, refl, sym, subst, arith}
 use Rattle.std.specs.Prelude.{IfSome, IsTrue, bytes_eq, codes, option_map, pos}
 use Rattle.std.specs.List.{list_any, AllByRecursion as Each}
 use Rattle.std.proofs.lemmas.List.Elements.{recursion_from_All}
@@ -16,14 +16,15 @@ use Rattle.bhv_file.specs.Validity.{IsValidCommon, flags_of}
 use Rattle.bhv_life.specs.declared.outcome.Outcome.{Outcome}
 use Rattle.bhv_life.specs.Outcomes.{flags_at, raised}
 use Rattle.helm_core.specs.declared.showing.Showing.{Showing}
-use Rattle.helm_core.specs.Behaviors.{BegunTurn, BhvSoFar, begun_at, behaviors_before, has_fault, outcome_at, showing_of}
+use Rattle.helm_core.specs.Behaviors.{BegunTurn, BhvSoFar, begun_at, has_fault, outcome_at, showing_of}
 use Rattle.helm_core.specs.Decisions.{decision_made, some_active}
+use Rattle.helm_core.specs.Lists.{list_at}
 use Rattle.helm_core.specs.Moments.{Moment, moment_at, moment_before}
 use Rattle.helm_core.specs.Plans.{Plan}
 use Rattle.helm_core.specs.Posts.{allstop_by, allstop_of, are_declared_modes, changed, desired, desired_posts, desired_speed, flags_raised, helm_posts, lacks_decision, mentions_course, mentions_depth, mentions_speed, mode_post, number_pair, on_change, some_fault, state_text, state_word, text_pair}
 use Rattle.helm_core.specs.Ticks.{Seen, Tick, seen_at}
 use Rattle.helm_core.proofs.Bounded.{HasMillis, decided_millis, zero_milli}
-use Rattle.helm_core.proofs.Living.{begun_block, block_of, blocks_kept}
+use Rattle.helm_core.proofs.Listing.{begun_same, blocks_hold, list_few}
 
 -- pairs, so many at most
 pub record ArePairs (most : ℕ) (pairs : List Pair) : Type 0 where
@@ -139,16 +140,16 @@ flags_paired common outcome valid =
     }
 
 -- the flags of these behaviours
-all_flags : (axes : List Axis) (seen : Seen) (fault : Bool) (ones : List BhvSoFar) → Each HasValidCommon (map block_of ones)
-    → ArePairs (32 * length (map block_of ones)) (flags_raised (map (showing_of seen fault) (map (begun_at axes seen) ones)))
+all_flags : (axes : List Axis) (seen : Seen) (fault : Bool) (ones : List BhvSoFar) → Each (λ one. HasValidCommon one.block) ones
+    → ArePairs (32 * length ones) (flags_raised (map (showing_of seen fault) (map (begun_at axes seen) ones)))
 all_flags axes seen fault [] valid = none_paired 0
 all_flags axes seen fault (one ∷ ones) valid =
     let begun : BegunTurn = begun_at axes seen one in
     let outcome : Outcome = outcome_at seen fault begun in
     let first : ArePairs 32 (flags_at begun.standing.block.common outcome)
-    = flags_paired begun.standing.block.common outcome (subst HasValidCommon (sym (begun_block axes seen one)) valid.0) in
+    = flags_paired begun.standing.block.common outcome (subst HasValidCommon (sym (begun_same axes seen one).1) valid.0) in
     let both =
-    pairs_on 32 (32 * length (map block_of ones)) (flags_at begun.standing.block.common outcome) (flags_raised (map (showing_of seen fault) (map (begun_at axes seen) ones))) first
+    pairs_on 32 (32 * length ones) (flags_at begun.standing.block.common outcome) (flags_raised (map (showing_of seen fault) (map (begun_at axes seen) ones))) first
     (all_flags axes seen fault ones valid.1) in
     record { few = omega (arith, both.few); all = both.all }
 
@@ -159,13 +160,12 @@ all_posts plan ticks i lawful valid mode =
     let before = moment_before plan ticks i in
     let now = moment_at plan ticks i in
     let seen = seen_at plan.decls ticks i in
-    let ones = behaviors_before plan ticks i in
-    let blocks : map block_of ones ≡ plan.blocks = blocks_kept plan ticks i in
-    let flags = all_flags plan.axes seen (list_any has_fault (map (begun_at plan.axes seen) ones)) ones (subst (Each HasValidCommon) (sym blocks) valid) in
+    let ones = list_at plan ticks i in
+    let flags = all_flags plan.axes seen (list_any has_fault (map (begun_at plan.axes seen) ones)) ones (blocks_hold HasValidCommon plan ticks i valid) in
     let state = changed_paired (codes "IVPHELM_STATE") (option_map state_text before) (state_text now) refl (state_is_text seen.parked) in
     let allstop = changed_paired (codes "IVPHELM_ALLSTOP") (option_map (allstop_of plan) before) (allstop_of plan now) refl (allstop_is_text plan.axes seen.parked now.showings) in
     let said = pairs_on 1 1 _ _ state (mode_paired plan before now mode) in
-    let raised = pairs_on 2 (32 * length (map block_of ones)) _ _ said flags in
-    let decided = pairs_on (2 + 32 * length (map block_of ones)) 3 _ _ raised (all_desired plan.axes seen.parked now.showings lawful) in
-    let all = pairs_on (2 + 32 * length (map block_of ones) + 3) 1 _ _ decided allstop in
-    record { few = omega (arith, all.few, ap length blocks); all = all.all }
+    let raised = pairs_on 2 (32 * length ones) _ _ said flags in
+    let decided = pairs_on (2 + 32 * length ones) 3 _ _ raised (all_desired plan.axes seen.parked now.showings lawful) in
+    let all = pairs_on (2 + 32 * length ones + 3) 1 _ _ decided allstop in
+    record { few = omega (arith, all.few, list_few plan ticks i); all = all.all }

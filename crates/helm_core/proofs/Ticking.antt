@@ -1,7 +1,7 @@
 -- One tick more of a helm, by what it keeps.
 use Rattle.std.proofs.Common.{◌≡◌, ℕ, suc, ◌≤◌, Bool, if◌then◌else◌, List, [], ◌∷◌, ◌++◌, length, take, Option, Some, None, option_map, refl, ap, sym, subst, ◌∙◌, arith}
 use Rattle.std.specs.Prelude.{codes}
-use Rattle.std.specs.List.{AllZip}
+use Rattle.std.specs.List.{AllZip, filter}
 use Rattle.std.proofs.lemmas.Grind.{flat_map-append, fold-append}
 use Rattle.std.proofs.lemmas.List.{append-nil, take_all}
 use Rattle.moos_post.specs.declared.value.Pair.{Pair}
@@ -19,7 +19,8 @@ use Rattle.helm_core.specs.declared.outlook.Outlook.{Outlook}
 use Rattle.helm_core.specs.declared.showing.Showing.{Showing}
 use Rattle.helm_core.specs.declared.turned.Turned.{Turned}
 use Rattle.helm_core.specs.Plans.{Plan}
-use Rattle.helm_core.specs.Behaviors.{BhvSoFar, all_after, all_begun, behaviors_before}
+use Rattle.helm_core.specs.Behaviors.{BhvSoFar, all_after, all_begun}
+use Rattle.helm_core.specs.Lists.{list_at, stays}
 use Rattle.helm_core.specs.Decisions.{decision_made}
 use Rattle.helm_core.specs.Standings.{IsCrewOf, IsKept, Sees}
 use Rattle.helm_core.specs.Ticks.{Seen, seen_at, Tick, heard_at, heard_in_all, is_parked, learnt_at, pairs_mailed, tick_of, tick_stamp}
@@ -28,8 +29,7 @@ use Rattle.helm_core.specs.Posts.{allstop_by, allstop_of, are_declared_modes, ch
 use Rattle.helm_core.specs.Iterations.{all_faults, all_states, all_updates, iteration_at}
 use Rattle.helm_core.specs.Helms.{allstop_text, clock_of, plan_of, HasLearnt, IsOutlook, IsTicked, StandsFor}
 use Rattle.helm_core.specs.Kept.{HasTurned, IsTurned, helm_after, iteration_by, posts_by, said_before}
-use Rattle.helm_core.proofs.Growing.{before_same, behaviors_same}
-use Rattle.helm_core.proofs.Living.{blocks_kept}
+use Rattle.helm_core.proofs.Growing.{before_same, list_same}
 
 abbrev with_tick : List Tick → ℕ → List Letter → List Tick
 with_tick ticks stamp mail = ticks ++ tick_of stamp mail ∷ []
@@ -138,7 +138,7 @@ module _ (helm : Helm) (stamp : ℕ) (mail : List Letter) (now : Outlook) (turne
   seen' = seen_at helm.modes ticks' (length ticks)
 
   abbrev ones : List BhvSoFar
-  ones = behaviors_before (plan_of helm) ticks' (length ticks)
+  ones = list_at (plan_of helm) ticks' (length ticks)
 
   seen : IsOutlook helm.modes (heard_in_all ticks') now
   seen = subst (λ all. IsOutlook helm.modes all now) (sym (heard_more ticks stamp mail)) (learnt (heard_in_all ticks) stands.outlook)
@@ -157,22 +157,22 @@ module _ (helm : Helm) (stamp : ℕ) (mail : List Letter) (now : Outlook) (turne
 
   crew' : IsCrewOf (clock_of helm) ones helm.crew
   crew' =
-      subst (λ all. IsCrewOf (clock_of helm) all helm.crew) (sym (behaviors_same (plan_of helm) ticks (tick_of stamp mail ∷ []) (length ticks) (omega arith)))
+      subst (λ all. IsCrewOf (clock_of helm) all helm.crew) (sym (list_same (plan_of helm) ticks (tick_of stamp mail ∷ []) (length ticks) (omega arith)))
       stands.crew
 
-  after : IsTurned seen' (all_begun helm.crew.axes seen' ones) turned
+  after : IsTurned helm.crew.blocks seen' (all_begun helm.crew.axes seen' ones) turned
   after = turns (clock_of helm) seen' ones later sees crew'
 
-  kept_after : AllZip (IsKept stamp) (behaviors_before (plan_of helm) ticks' (length ticks')) turned.kept.items
+  kept_after : AllZip (IsKept helm.crew.blocks stamp) (list_at (plan_of helm) ticks' (length ticks')) turned.kept.items
   kept_after =
-      subst (λ n. AllZip (IsKept stamp) (behaviors_before (plan_of helm) ticks' n) turned.kept.items) (sym (length_more ticks (tick_of stamp mail)))
-      (subst (λ clock. AllZip (IsKept clock) (all_after seen' (all_begun helm.crew.axes seen' ones)) turned.kept.items) (stamp_last ticks stamp mail) after.kept)
+      subst (λ n. AllZip (IsKept helm.crew.blocks stamp) (list_at (plan_of helm) ticks' n) turned.kept.items) (sym (length_more ticks (tick_of stamp mail)))
+      (subst (λ clock. AllZip (IsKept helm.crew.blocks clock) (filter stays (all_after seen' (all_begun helm.crew.axes seen' ones))) turned.kept.items) (stamp_last ticks stamp mail) after.kept)
 
   stands_after : StandsFor (helm_after helm stamp now turned.kept.items allstop) ticks'
   stands_after = record {
     clock = sym (fold-append (λ before (tick : Tick). tick.stamp) 0 ticks (tick_of stamp mail ∷ []));
     outlook = seen;
-    crew = record { blocks = blocks_kept (plan_of helm) ticks' (length ticks'); kept = kept_after };
+    crew = kept_after;
     allstop =
         sym (ap (option_map (allstop_of (plan_of helm))) (ap (moment_before (plan_of helm) ticks') (length_more ticks (tick_of stamp mail)))
         ∙ ap (λ one. Some (allstop_by helm.crew.axes one moment'.showings)) parked'

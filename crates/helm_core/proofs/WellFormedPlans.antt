@@ -1,5 +1,5 @@
 -- The plan of a valid mission and a valid behaviour file is well formed.
-use Rattle.std.proofs.Common.{◌≡◌, ℕ, Bool, true, false, cond, ◌&&◌, ◌||◌, nat_le, List, [], ◌∷◌, ◌++◌, length, map, flat_map, Option, Some, None, refl, sym, subst, arith}
+use Rattle.std.proofs.Common.{◌≡◌, ℕ, Bool, true, false, cond, ◌&&◌, ◌||◌, nat_le, List, [], ◌∷◌, ◌++◌, length, map, flat_map, Option, Some, None, refl, arith}
 use Rattle.std.specs.Prelude.{IfSome, IsTrue, bytes_eq, codes, fold}
 use Rattle.std.specs.List.{All, list_all, list_any, AllByRecursion as Each}
 use Rattle.std.specs.Option.{option_to_list}
@@ -8,7 +8,7 @@ use Rattle.std.proofs.lemmas.Bool.Decides.{nat_tests}
 use Rattle.std.proofs.lemmas.List.Elements.{All-from_recursion, recursion_from_All}
 use Rattle.moos_io.proofs.Lists.{each_append, each_true, each_weaker, true_each}
 use Rattle.moos_post.specs.Entries.{IsPair, IsReg}
-use Rattle.moos_post.specs.Words.{begins_name, is_name, is_name_byte, is_pattern, is_pattern_byte}
+use Rattle.moos_post.specs.Words.{begins_name, is_name_byte, is_pattern, is_pattern_byte}
 use Rattle.ivp_domain.specs.declared.axis.Axis.{Axis}
 use Rattle.ivp_cert.specs.declared.claim.Decision.{Decision}
 use Rattle.helm_cond.specs.Conditions.{Condition, HasNames, names_in}
@@ -21,15 +21,16 @@ use Rattle.mission_reader.specs.declared.mission.Mission.{Mission}
 use Rattle.mission_reader.specs.Validity.{HaveAxisNames, IsValidMission}
 use Rattle.mode_tree.proofs.Worded.{mode_is_text}
 use Rattle.helm_core.specs.declared.showing.Showing.{Showing}
-use Rattle.helm_core.specs.Behaviors.{all_begun, behaviors_before, has_fault, showings_at}
+use Rattle.helm_core.specs.Behaviors.{all_begun, has_fault}
+use Rattle.helm_core.specs.Lists.{list_at, showings_at}
 use Rattle.helm_core.specs.Decisions.{active_problem, best_decision, decision_made, some_active}
 use Rattle.helm_core.specs.Iterations.{iteration_at}
 use Rattle.helm_core.specs.Plans.{always_read, block_names, decl_names, names_read, plan_made, reg_wanted, with_wanted}
 use Rattle.helm_core.specs.Moments.{moment_at, moment_before}
 use Rattle.helm_core.specs.Ticks.{Tick, learnt_at, seen_at}
 use Rattle.helm_core.specs.WellFormed.{IsWellFormed, IsWellFormedPlan}
-use Rattle.helm_core.proofs.Living.{blocks_kept}
-use Rattle.helm_core.proofs.NamesTold.{all_told, showings_named}
+use Rattle.helm_core.proofs.Listing.{names_hold}
+use Rattle.helm_core.proofs.NamesTold.{IsNamed, all_told, showings_named}
 use Rattle.helm_core.proofs.Pairing.{HasValidCommon, all_posts}
 
 -- the behaviours of a file
@@ -38,9 +39,6 @@ blocks_valid earlier [] valid = tt
 blocks_valid earlier (block ∷ blocks) valid = (valid.0.common, blocks_valid (earlier ++ block ∷ []) blocks valid.1)
 
 -- the names that are read
-abbrev IsNamed : List ℕ → Type 0
-IsNamed name = IsTrue (is_name name)
-
 each_flat : {X Y : Type 0} (P : Y → Type 0) (f : X → List Y) (xs : List X) → Each (λ x. Each P (f x)) xs → Each P (flat_map f xs)
 each_flat P f [] all = tt
 each_flat P f (x ∷ xs) all = each_append P (f x) (flat_map f xs) all.0 (each_flat P f xs all.1)
@@ -111,8 +109,8 @@ iterations_formed mission file valid read ticks i =
     let blocks = blocks_valid [] file.blocks read.blocks in
     let posts = all_posts plan ticks i valid.domain blocks mode in
     let seen = seen_at file.decls ticks i in
-    let ones = behaviors_before plan ticks i in
-    let named = showings_named mission.domain seen (list_any has_fault (all_begun mission.domain seen ones)) ones (subst (Each HasValidCommon) (sym (blocks_kept plan ticks i)) blocks) in
+    let ones = list_at plan ticks i in
+    let named = showings_named mission.domain seen (list_any has_fault (all_begun mission.domain seen ones)) ones (names_hold IsNamed plan ticks i (each_weaker HasValidCommon (λ block. IsNamed block.common.name) (λ block valid. valid.name) file.blocks blocks)) in
     record {
       names = all_told plan (moment_before plan ticks i) (moment_at plan ticks i) named;
       posts = (omega (arith, posts.few, read.few_blocks), All-from_recursion IsPair _ posts.all);

@@ -18,13 +18,14 @@ use Rattle.bhv_kinds.specs.Utilities.{Utility, worth_at}
 use Rattle.bhv_kinds.specs.Turns.{params_at, step_of}
 use Rattle.bhv_kinds.specs.Worths.{IsWorth, StepsAreWorth}
 use Rattle.bhv_life.specs.Lives.{is_fresh, is_stepped}
-use Rattle.helm_core.specs.Behaviors.{BegunTurn, BhvSoFar, Judged, all_begun, begun_at, begun_by_step, behaviors_before, beginning_at, has_fault, judged_at, past_so_far, showing_of, weight_now}
+use Rattle.helm_core.specs.Behaviors.{BegunTurn, BhvSoFar, Judged, all_begun, begun_at, begun_by_step, beginning_at, has_fault, judged_at, past_so_far, showing_of, weight_now}
 use Rattle.helm_core.specs.Decisions.{active_problem, active_term, best_decision, decision_made, some_active, term_of}
+use Rattle.helm_core.specs.Lists.{list_at}
 use Rattle.helm_core.specs.Plans.{Plan, plan_made}
 use Rattle.helm_core.specs.Standings.{MayStep}
 use Rattle.helm_core.specs.Ticks.{Seen, seen_at}
 use Rattle.helm_core.specs.Worths.{DecidesByWorth, IsByWorth, ValidFilesDecideByWorth, times_worth, wanted_by_step, worth_to, worth_to_all}
-use Rattle.helm_core.proofs.Living.{block_of, blocks_kept}
+use Rattle.helm_core.proofs.Listing.{blocks_hold}
 use Rattle.helm_core.proofs.Turning.{all_may_step}
 
 -- what a turn's function is worth at each point, and its weight
@@ -67,7 +68,7 @@ with_term point None rest = omega arith
 with_term point (Some term) rest = sum_by-cons (weighted_at point) term rest
 
 -- the sum of the active behaviours' terms, where none raised a fault
-all_worth : StepsAreWorth → (axes : List Axis) (seen : Seen) (point : Point) (ones : List BhvSoFar) → is_domain axes ≡ true → is_point axes point ≡ true → Each (MayStep axes) (map block_of ones)
+all_worth : StepsAreWorth → (axes : List Axis) (seen : Seen) (point : Point) (ones : List BhvSoFar) → is_domain axes ≡ true → is_point axes point ≡ true → Each (λ one. MayStep axes one.block) ones
     → sum_by (weighted_at point) (filter_map active_term (map (showing_of seen false) (map (begun_at axes seen) ones))) ≡ sum_by (worth_to axes seen point) ones
 all_worth law axes seen point [] lawful inside may = refl
 all_worth law axes seen point (one ∷ ones) lawful inside may =
@@ -107,7 +108,7 @@ by_worth problem worth lawful same =
           (best_most problem point inside));
     }
 
-decided : StepsAreWorth → (axes : List Axis) (seen : Seen) (ones : List BhvSoFar) (fault : Bool) → is_domain axes ≡ true → Each (MayStep axes) (map block_of ones)
+decided : StepsAreWorth → (axes : List Axis) (seen : Seen) (ones : List BhvSoFar) (fault : Bool) → is_domain axes ≡ true → Each (λ one. MayStep axes one.block) ones
     → IfSome (decision_made axes (map (showing_of seen fault) (all_begun axes seen ones))) (IsByWorth axes (worth_to_all axes seen ones))
 decided law axes seen ones true lawful may =
     subst (λ (b : Bool). IfSome (cond b (Some (best_decision (active_problem axes (map (showing_of seen true) (all_begun axes seen ones))))) None) (IsByWorth axes (worth_to_all axes seen ones)))
@@ -124,9 +125,9 @@ decided law axes seen ones false lawful may =
 pub plan_worth : StepsAreWorth → (plan : Plan) → is_domain plan.axes ≡ true → All (MayStep plan.axes) plan.blocks → DecidesByWorth plan
 plan_worth law plan lawful may ticks i =
     let seen = seen_at plan.decls ticks i in
-    let ones = behaviors_before plan ticks i in
+    let ones = list_at plan ticks i in
     decided law plan.axes seen ones (list_any has_fault (all_begun plan.axes seen ones)) lawful
-    (subst (Each (MayStep plan.axes)) (sym (blocks_kept plan ticks i)) (recursion_from_All (MayStep plan.axes) plan.blocks may))
+    (blocks_hold (MayStep plan.axes) plan ticks i (recursion_from_All (MayStep plan.axes) plan.blocks may))
 
 pub files_worth : StepsAreWorth → ValidFilesDecideByWorth
 files_worth law mission file valid read served = plan_worth law (plan_made mission file) valid.domain (all_may_step mission.domain [] file.blocks read.blocks served)

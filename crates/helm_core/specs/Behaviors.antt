@@ -1,5 +1,5 @@
 -- What happens to each behaviour in each iteration: its updates, its step, and what its turn comes to.
-use Rattle.std.specs.Prelude.{ℕ, zero, suc, nat_lt, Bool, true, false, not, ◌&&◌, if◌then◌else◌, List, [], ◌∷◌, ◌++◌, map, fold, bytes_eq, Option, Some, None, is_some}
+use Rattle.std.specs.Prelude.{ℕ, nat_lt, Bool, true, false, not, ◌&&◌, if◌then◌else◌, List, [], ◌∷◌, ◌++◌, map, fold, bytes_eq, Option, Some, None, is_some}
 use Rattle.std.specs.List.{list_any}
 use Rattle.std.specs.Option.{option_eq}
 use Rattle.moos_post.specs.declared.value.Pair.{Pair}
@@ -17,19 +17,26 @@ use Rattle.bhv_life.specs.declared.outcome.Outcome.{Outcome}
 use Rattle.bhv_life.specs.Lives.{Beginning, BhvPast, BhvTurn, beginning_of, can_run, is_fresh, is_stepped, past_of, turn_after}
 use Rattle.bhv_life.specs.Outcomes.{flags_at}
 use Rattle.helm_core.specs.declared.showing.Showing.{Showing}
-use Rattle.helm_core.specs.Plans.{Plan}
-use Rattle.helm_core.specs.Ticks.{Seen, Tick, seen_at}
+use Rattle.helm_core.specs.Ticks.{Seen}
 
--- a behaviour before an iteration: what the file says of it, its turns so far in order, and its updates and steps so far,
--- the latest first
+-- the letter that made a behaviour: its iteration, and its number among the letters there that may make one
+pub record Birth : Type 0 where
+  pub iteration : ℕ
+  pub letter : ℕ
+
+-- a behaviour of the list before an iteration: its name; what the file says of it, or where it was made of what it was made of;
+-- the letter that made it, which one of the file has none of; its turns so far in order; and its updates and steps so far, the
+-- latest first
 pub record BhvSoFar : Type 0 where
+  pub name : List ℕ
   pub block : Block
+  pub born : Option Birth
   pub lived : List BhvTurn
   pub turns : List KindTurn
 
--- a behaviour before the first iteration
+-- a behaviour of the file before the first iteration
 abbrev pub unstarted : Block → BhvSoFar
-unstarted block = record { block = block; lived = []; turns = [] }
+unstarted block = record { name = block.common.name; block = block; born = None; lived = []; turns = [] }
 
 -- what its turns so far came to
 abbrev pub past_so_far : BhvSoFar → List BhvPast
@@ -117,7 +124,7 @@ outcome_at seen fault one = (turn_after one.standing.block.common (past_so_far o
 -- what an iteration says of a behaviour
 abbrev pub showing_of : Seen → Bool → BegunTurn → Showing
 showing_of seen fault one = record {
-  name = one.standing.block.common.name;
+  name = one.standing.name;
   taken = one.taken;
   out = one.out;
   weight = weight_now one;
@@ -137,12 +144,3 @@ all_after seen all = map (bhv_after seen (list_any has_fault all)) all
 -- what an iteration says of all behaviours
 abbrev pub all_showings : Seen → List BegunTurn → List Showing
 all_showings seen all = map (showing_of seen (list_any has_fault all)) all
-
--- the behaviours before iteration i, in file order
-abbrev pub behaviors_before : Plan → List Tick → ℕ → List BhvSoFar
-behaviors_before plan ticks zero = map unstarted plan.blocks
-behaviors_before plan ticks (suc i) = all_after (seen_at plan.decls ticks i) (all_begun plan.axes (seen_at plan.decls ticks i) (behaviors_before plan ticks i))
-
--- What iteration i says of the behaviours, in file order.
-abbrev pub showings_at : Plan → List Tick → ℕ → List Showing
-showings_at plan ticks i = all_showings (seen_at plan.decls ticks i) (all_begun plan.axes (seen_at plan.decls ticks i) (behaviors_before plan ticks i))

@@ -29,7 +29,7 @@ pub record IsFitTerm (axes : List Axis) (term : Term) : Type 0 where
   pub weight : IsTrue (is_weight term.weight)
   pub over : term.func.axes ≡ axes
 
--- the functions of the active behaviours over a domain, in file order
+-- the functions of the active behaviours over a domain, in the order of the list
 abbrev pub active_problem : List Axis → List Showing → WeightedSum
 active_problem axes showings = record { axes = axes; terms = filter_map active_term showings }
 

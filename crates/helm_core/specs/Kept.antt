@@ -1,8 +1,9 @@
 -- What the helm keeps, and what an iteration comes to by it: this serves `tick` alone.
 use Rattle.std.specs.Prelude.{◌≡◌, ◌≤◌, ℕ, Bool, length, not, if◌then◌else◌, List, [], ◌++◌, fold, map, codes, Option, Some, option_map}
-use Rattle.std.specs.List.{All, AllZip, list_any}
+use Rattle.std.specs.List.{All, AllZip, filter, list_any}
 use Rattle.moos_post.specs.declared.value.Pair.{Pair}
 use Rattle.ivp_domain.specs.declared.axis.Axis.{Axis}
+use Rattle.bhv_file.specs.declared.file.Block.{Block}
 use Rattle.helm_cond.specs.Learnt.{Knowledge, known_with}
 use Rattle.helm_core.specs.declared.allstop.Allstop.{Allstop}
 use Rattle.helm_core.specs.declared.behavior.Behavior.{Behavior}
@@ -13,10 +14,11 @@ use Rattle.helm_core.specs.declared.showing.Showing.{Showing}
 use Rattle.helm_core.specs.declared.turned.Turned.{Turned}
 use Rattle.helm_core.specs.Ticks.{Seen, is_false, is_override}
 use Rattle.helm_core.specs.Behaviors.{BegunTurn, BhvSoFar, all_begun, has_fault, showing_of, bhv_after}
+use Rattle.helm_core.specs.Lists.{stays}
 use Rattle.helm_core.specs.Decisions.{decision_made}
 use Rattle.helm_core.specs.Posts.{allstop_by, are_declared_modes, changed, desired_posts, flags_raised, state_word}
 use Rattle.helm_core.specs.Iterations.{all_faults, all_states, all_updates}
-use Rattle.helm_core.specs.Standings.{HelmCrew, IsCrewOf, IsFit, IsKept, IsReady, Sees}
+use Rattle.helm_core.specs.Standings.{HelmCrew, IsCrewOf, IsFit, IsFitKept, IsKept, Sees}
 use Rattle.helm_core.specs.Helms.{allstop_text}
 
 -- what is known once these pairs were learnt too
@@ -51,25 +53,26 @@ posts_by helm now showings =
     ++ desired_posts helm.crew.axes now.parked showings
     ++ changed (codes "IVPHELM_ALLSTOP") (option_map allstop_text helm.allstop) (allstop_by helm.crew.axes now.parked showings)
 
--- what is kept of the behaviours, and what an iteration says of them, is what these turns came to, by whether there was a fault
-pub record IsTurnedWith (fault : Bool) (seen : Seen) (begun : List BegunTurn) (turned : Turned) : Type 0 where
-  pub kept : AllZip (IsKept seen.stamp) (map (bhv_after seen fault) begun) turned.kept.items
+-- what is kept of the behaviours that stay, and what an iteration says of all, is what these turns came to, by whether there was a
+-- fault
+pub record IsTurnedWith (blocks : List Block) (fault : Bool) (seen : Seen) (begun : List BegunTurn) (turned : Turned) : Type 0 where
+  pub kept : AllZip (IsKept blocks seen.stamp) (filter stays (map (bhv_after seen fault) begun)) turned.kept.items
   pub showings : turned.showings.items ≡ map (showing_of seen fault) begun
 
 -- it is what these turns came to
-abbrev pub IsTurned : Seen → List BegunTurn → Turned → Type 0
-IsTurned seen begun turned = IsTurnedWith (list_any has_fault begun) seen begun turned
+abbrev pub IsTurned : List Block → Seen → List BegunTurn → Turned → Type 0
+IsTurned blocks seen begun turned = IsTurnedWith blocks (list_any has_fault begun) seen begun turned
 
 -- turns at this outlook: of whichever behaviours the crew stood for, these are the turns in an iteration that sees this
 abbrev pub HasTurned : HelmCrew → ℕ → List Pair → Outlook → Turned → Type 0
 HasTurned crew stamp letters now turned =
     (clock : ℕ) (seen : Seen) (ones : List BhvSoFar) → clock ≤ stamp → Sees seen stamp letters now → IsCrewOf clock ones crew
-    → IsTurned seen (all_begun crew.axes seen ones) turned
+    → IsTurned crew.blocks seen (all_begun crew.axes seen ones) turned
 
 -- what holds of so many turns over these axes
-pub record AreFit (axes : List Axis) (count : ℕ) (turned : Turned) : Type 0 where
-  pub kept : length turned.kept.items ≡ count
-  pub ready : All (λ kept. IsReady axes kept.kind) turned.kept.items
+pub record AreFit (axes : List Axis) (blocks : List Block) (count : ℕ) (turned : Turned) : Type 0 where
+  pub few : length turned.kept.items ≤ count
+  pub kept : All (IsFitKept axes blocks) turned.kept.items
   pub showings : length turned.showings.items ≡ count
   pub fit : All (IsFit axes) turned.showings.items
 

@@ -3,9 +3,9 @@ use Rattle.std.specs.Prelude.{ℕ, zero, suc, List, Option, Some, None}
 use Rattle.helm_core.specs.declared.showing.Showing.{Showing}
 use Rattle.helm_core.specs.Plans.{Plan}
 use Rattle.helm_core.specs.Ticks.{Seen, Tick, seen_at}
-use Rattle.helm_core.specs.Behaviors.{showings_at}
+use Rattle.helm_core.specs.Lists.{showings_at}
 
--- an iteration that is over: what it saw, and what it says of the behaviours in file order
+-- an iteration that is over: what it saw, and what it says of the behaviours of its list
 pub record Moment : Type 0 where
   pub seen : Seen
   pub showings : List Showing

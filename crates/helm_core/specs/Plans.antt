@@ -11,7 +11,7 @@ use Rattle.bhv_file.specs.declared.file.BhvFile.{BhvFile}
 use Rattle.bhv_file.specs.declared.file.Block.{Block}
 use Rattle.mission_reader.specs.declared.mission.Mission.{Mission}
 
--- what a helm is made of: its domain, the pairs that it posts at first, its modes, and its behaviours in file order
+-- what a helm is made of: its domain, the pairs that it posts at first, its modes, and what its file says of behaviours, in order
 pub record Plan : Type 0 where
   pub axes : List Axis
   pub opening : List Pair

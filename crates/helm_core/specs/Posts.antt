@@ -97,7 +97,7 @@ desired_posts axes parked showings =
     ++ desired_speed (allstop_by axes parked showings) (mentions_speed showings) (decision_made axes showings)
     ++ desired (codes "DESIRED_DEPTH") (codes "depth") (mentions_depth showings) (decision_made axes showings)
 
--- the flags that behaviours raise, in file order
+-- the flags that behaviours raise, in the order of the list
 abbrev pub flags_raised : List Showing → List Pair
 flags_raised showings = flat_map (λ one. one.flags) showings
 

@@ -14,8 +14,9 @@ use Rattle.bhv_kinds.specs.Utilities.{Utility, worth_at}
 use Rattle.bhv_life.specs.Lives.{is_fresh, is_stepped}
 use Rattle.mission_reader.specs.declared.mission.Mission.{Mission}
 use Rattle.mission_reader.specs.Validity.{IsValidMission}
-use Rattle.helm_core.specs.Behaviors.{BhvSoFar, Judged, behaviors_before, beginning_at, judged_at, past_so_far}
+use Rattle.helm_core.specs.Behaviors.{BhvSoFar, Judged, beginning_at, judged_at, past_so_far}
 use Rattle.helm_core.specs.Iterations.{iteration_at}
+use Rattle.helm_core.specs.Lists.{list_at}
 use Rattle.helm_core.specs.Plans.{Plan, plan_made}
 use Rattle.helm_core.specs.Ticks.{Seen, Tick, seen_at}
 
@@ -43,7 +44,7 @@ worth_to_all axes seen ones point = sum_by (worth_to axes seen point) ones
 
 -- what a point is worth to all behaviours in iteration i
 abbrev pub worth_in : Plan → List Tick → ℕ → Point → ℕ
-worth_in plan ticks i point = worth_to_all plan.axes (seen_at plan.decls ticks i) (behaviors_before plan ticks i) point
+worth_in plan ticks i point = worth_to_all plan.axes (seen_at plan.decls ticks i) (list_at plan ticks i) point
 
 -- The decision is made by worth: its sum at each point is what the point is worth, and its point is the first of those of
 -- greatest worth.

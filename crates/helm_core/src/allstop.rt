@@ -1,3 +1,4 @@
+// The allstop: why a helm asks for no motion.
 ghost use Rattle.std.specs.Prelude.{◌≡◌, IsTrue};
 ghost use Rattle.moos_post.specs.Words.{is_text};
 ghost use Rattle.bhv_file.specs.Params.{has_axis};

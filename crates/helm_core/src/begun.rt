@@ -1,5 +1,6 @@
 // The turn of a behaviour in an iteration.
-ghost use Rattle.std.specs.Prelude.{◌≡◌, ℕ, ◌≤◌, List, ◌++◌, ◌&&◌, not, nat_lt, is_some, IfOk, OnOk};
+ghost use Rattle.std.specs.Prelude.{◌≡◌, ℕ, ◌<◌, ◌≤◌, List, ◌++◌, ◌&&◌, length, not, nat_lt, is_some, IfOk, OnOk};
+ghost use Rattle.bhv_file.specs.declared.file.Block.{Block};
 ghost use Rattle.ivp_domain.specs.declared.axis.Axis.{Axis};
 ghost use Rattle.bhv_life.specs.Outcomes.{flags_at, raised};
 ghost use Rattle.helm_core.specs.Behaviors.{BegunTurn, BhvSoFar};
@@ -17,12 +18,15 @@ use bhv_kinds::Out;
 use bhv_life::{Outcome, Started};
 use ivp_domain::Domain;
 use moos_db::Letter;
-use moos_post::{Batch, Copied, List, NoMemory};
+use moos_post::{Batch, Copied, List, Name, NoMemory};
 use std::alloc::Global;
 
 // A turn of a behaviour after its step: which of its updates were good, and what the step gave.
 #[derive(Drop)]
 pub(crate) struct Begun<'a> {
+    pub name: Name,
+    pub block: usize,
+    pub made: bool,
     pub common: &'a Common,
     pub kind: BoxedKind,
     pub started: Started,
@@ -30,11 +34,12 @@ pub(crate) struct Begun<'a> {
     pub out: Out,
 }
 
-// What the helm keeps of a behaviour after its turn, and what the iteration says of it.
+// What the helm keeps of a behaviour after its turn, what the iteration says of it, and whether it stays in the list.
 #[derive(Drop)]
 pub(crate) struct EndedTurn {
     pub kept: Behavior,
     pub showing: Showing,
+    pub stays: bool,
 }
 
 // Begins the turn of a behaviour: its updates come first, and then its step.
@@ -48,8 +53,8 @@ pub(crate) fn begin<'a>(
     now: &Outlook,
 ) -> Result<Begun<'a>, NoMemory>
     requires ready { IsReady domain.now kept.now.kind }
-    ensures begins { IfOk result (λ begun. (clock : ℕ) (seen : Seen) (one : BhvSoFar) → clock ≤ stamp → Sees seen stamp (pairs_mailed letters.now) now.now → one.block.common ≡ common.now → IsKept clock one kept.now → BeginsTurn domain.now seen one begun) }
-    ensures fit { IfOk result (IsFitBegun domain.now) }
+    ensures begins { IfOk result (λ begun. (blocks : List Block) (clock : ℕ) (seen : Seen) (one : BhvSoFar) → clock ≤ stamp → Sees seen stamp (pairs_mailed letters.now) now.now → one.block.common ≡ common.now → IsKept blocks clock one kept.now → BeginsTurn domain.now blocks seen one begun) }
+    ensures fit { IfOk result (λ begun. (blocks : List Block) → kept.now.block < length blocks → IsFitBegun domain.now blocks begun) }
 {
     let started = kept
         .life
@@ -58,7 +63,11 @@ pub(crate) fn begin<'a>(
     let taken = judge_all(alloc, started.phase, &common.updates, letters, &mut kind)?;
     let out = step_in(alloc, started.phase, domain, &now.info, stamp, &mut kind)?;
     let kind = BoxedKind::of(alloc, kind)?;
+    let name = kept.name.copy(alloc)?;
     Ok(Begun {
+        name,
+        block: kept.block,
+        made: kept.made,
         common,
         kind,
         started,
@@ -77,16 +86,20 @@ impl<'a> Begun<'a> {
 
     // Ends the turn, by whether any behaviour raised a fault.
     pub fn finish(self, alloc: Global, fault: bool) -> Result<EndedTurn, NoMemory>
-        ensures ends { IfOk result (λ ended. (seen : Seen) (one : BegunTurn) → IsBegun seen one self.entry → IsEnded seen fault one ended) }
-        ensures fit { IfOk result (λ ended. (axes : List Axis) → IsFitBegun axes self.entry → IsFitEnded axes ended) }
+        ensures ends { IfOk result (λ ended. (blocks : List Block) (seen : Seen) (one : BegunTurn) → IsBegun blocks seen one self.entry → IsEnded blocks seen fault one ended) }
+        ensures fit { IfOk result (λ ended. (axes : List Axis) (blocks : List Block) → IsFitBegun axes blocks self.entry → IsFitEnded axes blocks ended) }
     {
         let weight = self.kind.lent().weight();
         let active = is_active(&self.out, weight, fault);
         let (life, outcome) = self.started.finish(active, self.out.done);
         let flags = flags_at(alloc, self.common, outcome)?;
-        let name = self.common.name.copy(alloc)?;
+        let name = self.name.copy(alloc)?;
+        let stays = stays(self.made, life.can_run(self.common));
         Ok(EndedTurn {
             kept: Behavior {
+                name: self.name,
+                block: self.block,
+                made: self.made,
                 kind: self.kind,
                 life,
             },
@@ -99,8 +112,16 @@ impl<'a> Begun<'a> {
                 outcome,
                 flags,
             },
+            stays,
         })
     }
+}
+
+// Whether a behaviour stays in the list: one that a letter made leaves it when it can't run again.
+fn stays(made: bool, can_run: bool) -> bool
+    ensures { result ≡ not (made && not can_run) }
+{
+    !made || can_run
 }
 
 // Whether a behaviour with this weight is active: its step gave a function, its weight is above 0, and no behaviour raised

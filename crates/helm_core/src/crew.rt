@@ -1,9 +1,10 @@
 // The behaviours of the helm.
-ghost use Rattle.std.specs.Prelude.{◌≡◌, ◌≤◌, length, map, IfOk};
+ghost use Rattle.std.specs.Prelude.{◌≡◌, ◌<◌, ◌≤◌, List, length, map, slice_get, Some, IfOk};
+ghost use Rattle.bhv_file.specs.declared.file.Block.{Block};
 ghost use Rattle.std.specs.List.{All, AllZip};
 ghost use Rattle.helm_core.specs.Behaviors.{unstarted};
 ghost use Rattle.helm_core.specs.Kept.{AreFit, HasTurned};
-ghost use Rattle.helm_core.specs.Standings.{HasAllBegun, crew_of, IsCrewOf, IsFitBegun, IsKept, IsReady, MayStep};
+ghost use Rattle.helm_core.specs.Standings.{HasAllBegun, crew_of, IsCrewOf, IsFitBegun, IsFitKept, IsKept, MayStep};
 ghost use Rattle.helm_core.specs.Ticks.{pairs_mailed};
 
 use crate::begun::{Begun, begin};
@@ -19,7 +20,8 @@ use moos_post::{Copied, NoMemory};
 use std::alloc::Global;
 use std::marker::Model;
 
-// The behaviours of a file: the domain of their functions, what the file says of each, and what is kept of each.
+// The behaviours of the helm: the domain of their functions, what the file says of behaviours, and what is kept of each of the
+// list.
 #[derive(Drop)]
 pub(crate) struct Crew {
     domain: Domain,
@@ -65,7 +67,7 @@ impl Crew {
         self.domain
     }
 
-    // What the file says of each.
+    // What the file says of behaviours.
     pub fn blocks(&self) -> &[Block]
         ensures { result.now ≡ self.now.blocks }
     {
@@ -81,8 +83,8 @@ impl Crew {
         now: &Outlook,
     ) -> Result<Turned, NoMemory>
         ensures turned { IfOk result (HasTurned self.now stamp (pairs_mailed letters.now) now.now) }
-        ensures fit { IfOk result (AreFit self.now.axes (length self.now.blocks)) }
-        ensures few { length self.now.blocks ≤ 64 }
+        ensures fit { IfOk result (AreFit self.now.axes self.now.blocks (length self.now.kept)) }
+        ensures few { length self.now.kept ≤ 64 }
     {
         let blocks = self.blocks.all();
         let kept = self.kept.as_slice();
@@ -92,8 +94,8 @@ impl Crew {
 
     // Keeps what their last turns came to.
     pub fn go_on(&mut self, kept: Vec<Behavior>)
-        requires one_each { length kept.items ≡ length self.old.blocks }
-        requires ready { All (λ kept. IsReady self.old.axes kept.kind) kept.items }
+        requires few { length kept.items ≤ 64 }
+        requires fit { All (IsFitKept self.old.axes self.old.blocks) kept.items }
         ensures { self.new ≡ record self.old { kept = kept.items } }
     {
         self.kept = kept;
@@ -110,15 +112,14 @@ fn begin_all<'a>(
     letters: &[Letter],
     now: &Outlook,
 ) -> Result<Vec<Begun<'a>>, NoMemory>
-    requires one_each { length kept.now ≡ length blocks.now }
-    requires ready { All (λ one. IsReady domain.now one.kind) kept.now }
+    requires fit { All (IsFitKept domain.now blocks.now) kept.now }
     ensures begun { IfOk result (λ begun. HasAllBegun (crew_of domain.now blocks.now kept.now) stamp (pairs_mailed letters.now) now.now begun.items) }
-    ensures fit { IfOk result (λ begun. All (IsFitBegun domain.now) begun.items) }
-    ensures one_each { IfOk result (λ begun. length begun.items ≡ length blocks.now) }
+    ensures fit { IfOk result (λ begun. All (IsFitBegun domain.now blocks.now) begun.items) }
+    ensures one_each { IfOk result (λ begun. length begun.items ≡ length kept.now) }
 {
-    let mut begun = Vec::with_capacity(alloc, blocks.len())?;
-    for (number, one) in kept.iter().enumerate() {
-        let common = &blocks[number].common;
+    let mut begun = Vec::with_capacity(alloc, kept.len())?;
+    for one in kept {
+        let common = &blocks[one.block].common;
         begun.push(begin(alloc, domain, common, one, stamp, letters, now)?)?;
     }
     Ok(begun)
@@ -127,26 +128,35 @@ fn begin_all<'a>(
 // What is kept of each behaviour at first.
 fn first_kept(alloc: Global, domain: &Domain, blocks: &[Block]) -> Result<Vec<Behavior>, NoMemory>
     requires may_step { All (MayStep domain.now) blocks.now }
-    ensures stands { IfOk result (λ kept. AllZip (IsKept 0) (map unstarted blocks.now) kept.items) }
-    ensures ready { IfOk result (λ kept. All (λ one. IsReady domain.now one.kind) kept.items) }
+    ensures stands { IfOk result (λ kept. AllZip (IsKept blocks.now 0) (map unstarted blocks.now) kept.items) }
+    ensures fit { IfOk result (λ kept. All (IsFitKept domain.now blocks.now) kept.items) }
     ensures one_each { IfOk result (λ kept. length kept.items ≡ length blocks.now) }
 {
     let mut kept = Vec::with_capacity(alloc, blocks.len())?;
-    for block in blocks {
-        kept.push(kept_first(alloc, domain, block)?)?;
+    for (place, block) in blocks.iter().enumerate() {
+        kept.push(kept_first(alloc, domain, place, block)?)?;
     }
     Ok(kept)
 }
 
-// What is kept of a behaviour at first.
-fn kept_first(alloc: Global, domain: &Domain, block: &Block) -> Result<Behavior, NoMemory>
+// What is kept at first of the behaviour whose block stands at this place.
+fn kept_first(
+    alloc: Global,
+    domain: &Domain,
+    place: usize,
+    block: &Block,
+) -> Result<Behavior, NoMemory>
     requires may_step { MayStep domain.now block.now }
-    ensures stands { IfOk result (IsKept 0 (unstarted block.now)) }
-    ensures ready { IfOk result (λ kept. IsReady domain.now kept.kind) }
+    ensures stands { IfOk result (λ kept. (blocks : List Block) → slice_get blocks place ≡ Some block.now → IsKept blocks 0 (unstarted block.now) kept) }
+    ensures fit { IfOk result (λ kept. (blocks : List Block) → place < length blocks → IsFitKept domain.now blocks kept) }
 {
     let spec = block.spec.copy(alloc)?;
     let kind = BoxedKind::of(alloc, Kind::make(spec))?;
+    let name = block.common.name.copy(alloc)?;
     Ok(Behavior {
+        name,
+        block: place,
+        made: false,
         kind,
         life: Life::make(),
     })

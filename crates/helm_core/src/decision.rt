@@ -48,7 +48,7 @@ pub(crate) fn decision_made<R: Threads + Wait + Sync, G: Gate>(
     Ok(Some(decision))
 }
 
-// The functions of the active behaviours with their weights, in file order.
+// The functions of the active behaviours with their weights, in the order of the list.
 fn active_terms(alloc: Global, showings: Vec<Showing>) -> Result<Vec<Term>, NoMemory>
     ensures { IfOk result (λ terms. terms.items ≡ filter_map active_term showings.items) }
 {

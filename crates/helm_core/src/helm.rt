@@ -1,3 +1,4 @@
+// The helm: made of a mission and a behaviour file, it hears a mail and makes an iteration.
 ghost use Rattle.std.specs.Prelude.{◌≡◌, ◌≤◌, ◌++◌, [], codes, fold, length, IfOk, IfSome, OnErr, OnOk, IsTrue, option_copied, option_map, unwrap_or};
 ghost use Rattle.std.specs.List.{All, flat_map};
 ghost use Rattle.bhv_file.specs.Validity.{IsValidFile, serves};
@@ -5,7 +6,7 @@ ghost use Rattle.mission_reader.specs.Validity.{IsValidMission};
 ghost use Rattle.ivp_domain.specs.Domains.{is_point};
 ghost use Rattle.helm_core.specs.Plans.{block_names, decl_names, plan_made, wants_of, with_wanted};
 ghost use Rattle.helm_core.specs.Posts.{allstop_by, changed, desired, desired_speed};
-ghost use Rattle.helm_core.specs.Standings.{IsFit, IsReady};
+ghost use Rattle.helm_core.specs.Standings.{IsFit, IsFitKept};
 ghost use Rattle.helm_core.specs.Helms.{allstop_text, clock_of, plan_of, HasLearnt, IsTicked, StandsFor};
 ghost use Rattle.helm_core.specs.Kept.{first_posts, IsIterationOfTurns, helm_after, iteration_by, said_before};
 ghost use Rattle.helm_core.specs.Ticks.{pairs_mailed};
@@ -159,8 +160,8 @@ impl Helm {
         requires some_worker { 1 ≤ workers }
         requires few_workers { workers ≤ 16 }
         ensures iterated { IfOk result (λ made. IsIterationOfTurns self.now stamp (pairs_mailed letters.now) now.now made.0 made.1.items made.2) }
-        ensures one_each { IfOk result (λ made. length made.1.items ≡ length self.now.crew.blocks) }
-        ensures ready { IfOk result (λ made. All (λ kept. IsReady self.now.crew.axes kept.kind) made.1.items) }
+        ensures few { IfOk result (λ made. length made.1.items ≤ 64) }
+        ensures fit { IfOk result (λ made. All (IsFitKept self.now.crew.axes self.now.crew.blocks) made.1.items) }
     {
         let Turned { kept, showings } = self.crew.turned(alloc, stamp, letters, now)?;
         let allstop = Allstop::of(&self.crew.domain(), now.parked, showings.as_slice());
@@ -191,8 +192,8 @@ impl Helm {
 
     // Keeps what the next iteration asks of this one.
     fn end(&mut self, stamp: u64, fresh: Option<Outlook>, kept: Vec<Behavior>, allstop: Allstop)
-        requires one_each { length kept.items ≡ length self.old.crew.blocks }
-        requires ready { All (λ kept. IsReady self.old.crew.axes kept.kind) kept.items }
+        requires few { length kept.items ≤ 64 }
+        requires fit { All (IsFitKept self.old.crew.axes self.old.crew.blocks) kept.items }
         ensures { self.new ≡ helm_after self.old stamp (unwrap_or fresh self.old.outlook) kept.items allstop }
     {
         self.crew.go_on(kept);

@@ -1,3 +1,4 @@
+// What an iteration tells: updates, behaviours, errors, the decision.
 use bhv_kinds::BhvFault;
 use bhv_life::BhvState;
 use ivp_cert::Decision;
@@ -35,10 +36,10 @@ pub struct BhvError {
 /// The updates of an iteration, in order.
 pub type Updates = List<Update>;
 
-/// What each behaviour is, in file order.
+/// What each behaviour of the list is, in its order.
 pub type States = List<BhvNow>;
 
-/// The faults of an iteration, in file order.
+/// The faults of an iteration, in the order of the list.
 pub type Faults = List<BhvError>;
 
 /// What an iteration of the helm came to.

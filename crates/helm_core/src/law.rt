@@ -1,14 +1,23 @@
+// Laws of iterations, for those who stand on a helm.
 ghost use Rattle.std.specs.Prelude.{◌≡◌, ◌<◌, ◌++◌, ℕ, List, length};
 ghost use Rattle.helm_core.specs.FirstSteps.{CountsFromFirstRun, NeverSteppedWithoutTime};
 ghost use Rattle.helm_core.specs.Plans.{Plan};
 ghost use Rattle.helm_core.specs.Ticks.{Tick};
 ghost use Rattle.helm_core.specs.Iterations.{iteration_at};
+ghost use Rattle.helm_core.specs.Lists.{AlwaysListed};
 ghost use Rattle.helm_core.specs.WellFormed.{ValidFilesPlanWell};
 ghost use Rattle.helm_core.specs.Worths.{ValidFilesDecideByWorth};
 
 /// What holds of the iterations of a helm: none depends on a later mail. It does nothing.
 pub fn iterations_law()
     ensures { (plan : Plan) (ticks later : List Tick) (i : ℕ) → i < length ticks → iteration_at plan (ticks ++ later) i ≡ iteration_at plan ticks i }
+{}
+
+/// What holds of the list of a helm's behaviours in each iteration, whatever it hears: the behaviours of the file come first, in
+/// its order, and none of them leaves; then come those that letters made, each by a later letter than the one before it, so no
+/// letter made two of them; and none of these has completed for good. It does nothing.
+pub fn list_law()
+    ensures { AlwaysListed }
 {}
 
 /// What holds of what a helm of a valid mission and a valid behaviour file says, whatever it hears: its calls are as a call's

@@ -8,8 +8,8 @@
 //! Read `iteration`, `allstop`, `outlook` for what is kept of the mails, `behavior` for what is kept of a behaviour, `judging`,
 //! `stepping` and `begun` for its turn, `turned` and `crew` for the turns of all, `showing` and `telling` for what is said of
 //! them, `decision` for what they decide, `own_names` and `posts` for what is posted, `wanted` for the variables that are registered for, and
-//! `helm` last; `law` says that no iteration depends on a later mail, that what is said is well formed, and that what is decided
-//! is the first point of greatest worth to all behaviours. Of specs/ read `Plans`, `Ticks`, `Behaviors`, `Moments`, `Decisions`,
+//! `helm` last; `law` says that no iteration depends on a later mail, which behaviours the list has, that what is said is well
+//! formed, and that what is decided is the first point of greatest worth to all behaviours. Of specs/ read `Plans`, `Ticks`, `Behaviors`, `Lists`, `Moments`, `Decisions`,
 //! `Posts`, `Iterations`, `WellFormed`, `Worths`, `FirstSteps`, `Standings` and `Helms`; `Kept` serves the files of the crate.
 #![tactic(auto)]
 
@@ -34,4 +34,4 @@ mod wanted;
 pub use decision::decide;
 pub use helm::Helm;
 pub use iteration::{BhvError, BhvNow, Faults, How, Iteration, States, Update, Updates};
-pub use law::{first_step_law, iterations_law, plan_law, worth_law};
+pub use law::{first_step_law, iterations_law, list_law, plan_law, worth_law};

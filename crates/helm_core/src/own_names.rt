@@ -1,3 +1,4 @@
+// The names of the variables that the helm itself posts.
 ghost use Rattle.std.specs.Prelude.{◌≡◌, codes, IfOk, IsTrue};
 ghost use Rattle.moos_post.specs.Words.{is_name};
 

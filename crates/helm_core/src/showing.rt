@@ -1,3 +1,4 @@
+// What an iteration shows of one behaviour.
 use bhv_kinds::Out;
 use bhv_life::Outcome;
 use moos_post::{Batch, List, Name};

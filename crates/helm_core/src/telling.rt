@@ -80,7 +80,7 @@ fn state_of(alloc: Global, showing: &Showing) -> Result<BhvNow, NoMemory>
     })
 }
 
-// The faults that behaviours raised, in file order.
+// The faults that behaviours raised, in the order of the list.
 fn faults_of(alloc: Global, showings: &[Showing]) -> Result<Faults, NoMemory>
     ensures { IfOk result (λ faults. faults ≡ all_faults showings.now) }
 {
@@ -101,7 +101,7 @@ fn add_fault(alloc: Global, faults: &mut Faults, showing: &Showing) -> Result<()
     faults.add(BhvError { name, fault })
 }
 
-// Adds the flags of all behaviours, in file order.
+// Adds the flags of all behaviours, in the order of the list.
 pub(crate) fn add_flags(
     alloc: Global,
     posts: &mut Batch,

@@ -1,5 +1,6 @@
 // How the turns of all behaviours end in an iteration.
-ghost use Rattle.std.specs.Prelude.{◌≡◌, List, length, IfOk};
+ghost use Rattle.std.specs.Prelude.{◌≡◌, ◌++◌, ◌∷◌, [], List, length, if◌then◌else◌, IfOk, OnOk};
+ghost use Rattle.bhv_file.specs.declared.file.Block.{Block};
 ghost use Rattle.std.specs.List.{All, AllZip, list_any};
 ghost use Rattle.ivp_domain.specs.declared.axis.Axis.{Axis};
 ghost use Rattle.helm_core.specs.Behaviors.{BegunTurn};
@@ -13,7 +14,7 @@ use crate::showing::Showing;
 use moos_post::NoMemory;
 use std::alloc::Global;
 
-// What the helm keeps of the behaviours after an iteration, and what the iteration says of each, in file order.
+// What the helm keeps of the behaviours that stay in the list, and what the iteration says of each of the list, in its order.
 #[derive(Drop)]
 pub(crate) struct Turned {
     pub kept: Vec<Behavior>,
@@ -22,8 +23,8 @@ pub(crate) struct Turned {
 
 // Ends the turns: none is active where a behaviour raised a fault.
 pub(crate) fn finish_all(alloc: Global, begun: Vec<Begun<'_>>) -> Result<Turned, NoMemory>
-    ensures turned { IfOk result (λ turned. (seen : Seen) (ones : List BegunTurn) → AllZip (IsBegun seen) ones begun.entry.items → IsTurned seen ones turned) }
-    ensures fit { IfOk result (λ turned. (axes : List Axis) → All (IsFitBegun axes) begun.entry.items → AreFit axes (length begun.entry.items) turned) }
+    ensures turned { IfOk result (λ turned. (blocks : List Block) (seen : Seen) (ones : List BegunTurn) → AllZip (IsBegun blocks seen) ones begun.entry.items → IsTurned blocks seen ones turned) }
+    ensures fit { IfOk result (λ turned. (axes : List Axis) (blocks : List Block) → All (IsFitBegun axes blocks) begun.entry.items → AreFit axes blocks (length begun.entry.items) turned) }
 {
     let fault = some_fault(&begun);
     finish_each(alloc, begun, fault)
@@ -38,15 +39,25 @@ fn some_fault(begun: &[Begun<'_>]) -> bool
 
 // Ends the turns, by whether any behaviour raised a fault.
 fn finish_each(alloc: Global, begun: Vec<Begun<'_>>, fault: bool) -> Result<Turned, NoMemory>
-    ensures turned { IfOk result (λ turned. (seen : Seen) (ones : List BegunTurn) → AllZip (IsBegun seen) ones begun.entry.items → IsTurnedWith fault seen ones turned) }
-    ensures fit { IfOk result (λ turned. (axes : List Axis) → All (IsFitBegun axes) begun.entry.items → AreFit axes (length begun.entry.items) turned) }
+    ensures turned { IfOk result (λ turned. (blocks : List Block) (seen : Seen) (ones : List BegunTurn) → AllZip (IsBegun blocks seen) ones begun.entry.items → IsTurnedWith blocks fault seen ones turned) }
+    ensures fit { IfOk result (λ turned. (axes : List Axis) (blocks : List Block) → All (IsFitBegun axes blocks) begun.entry.items → AreFit axes blocks (length begun.entry.items) turned) }
 {
     let mut kept = Vec::with_capacity(alloc, begun.len())?;
     let mut showings = Vec::with_capacity(alloc, begun.len())?;
     for one in begun {
         let ended = one.finish(alloc, fault)?;
-        kept.push(ended.kept)?;
+        keep(&mut kept, ended.kept, ended.stays)?;
         showings.push(ended.showing)?;
     }
     Ok(Turned { kept, showings })
+}
+
+// Keeps a behaviour, where it stays in the list.
+fn keep(kept: &mut Vec<Behavior>, one: Behavior, stays: bool) -> Result<(), NoMemory>
+    ensures { OnOk result (kept.new.items ≡ kept.old.items ++ (if stays then one ∷ [] else [])) }
+{
+    if stays {
+        kept.push(one)?;
+    }
+    Ok(())
 }

@@ -1,3 +1,4 @@
+// Sines in ten thousandths, and the direction from one spot to another in whole degrees.
 ghost use Rattle.std.specs.Prelude.{◌≡◌, ℕ, ◌*◌, ◌^◌, ◌<◌, ◌≤◌, pos, neg_ℤ, ◌*ℤ◌, ◌<ℤ◌, ◌≤ℤ◌, int_lt, if◌then◌else◌, IfSome};
 ghost use Rattle.helm_geo.specs.Angles.{along, bearing, cos4, half_sine, sin4};
 

@@ -1,3 +1,4 @@
+// Lengths, sides and distances in the plane.
 ghost use Rattle.std.specs.Prelude.{◌≡◌, ◌+◌, ◌*◌, ◌^◌, ◌<◌, ◌≤◌, pos, neg_ℤ, ◌≤ℤ◌, ◌-ℤ◌, ◌*ℤ◌, nat_abs, IsTrue};
 ghost use Rattle.helm_geo.specs.Plane.{distance_squared, is_left_of, is_spot, isqrt, square, within};
 

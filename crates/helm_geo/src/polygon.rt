@@ -1,3 +1,4 @@
+// Convex polygons, and whether a spot is inside one.
 ghost use Rattle.std.specs.Prelude.{◌≡◌, ◌<◌, ◌≤◌, ◌∷◌, [], ◌++◌, length, take, IsTrue, not};
 ghost use Rattle.std.specs.List.{list_all};
 ghost use Rattle.helm_geo.specs.Plane.{is_left_of, is_spot};

@@ -1,3 +1,4 @@
+// Reports of a small community, byte for byte.
 ghost use Rattle.std.specs.Prelude.{◌<◌, length};
 
 use crate::made::{batch, names, number, regs, text};
@@ -6,7 +7,7 @@ use helm_core::{Faults, Iteration, States, Updates};
 use moos_db::Db;
 use moos_io::MemSink;
 use moos_post::Batch;
-use moos_report::{Setup, parts_law, report, report_law};
+use moos_report::{Setup, parts_law, report, report_law, reports_law};
 use std::alloc::Global;
 use std::process::Abort;
 
@@ -105,5 +106,6 @@ fn parts_leave_in_one_put_each(rt: HostRuntime) {
 #[test]
 fn laws_hold(_rt: HostRuntime) {
     report_law();
+    reports_law();
     parts_law();
 }

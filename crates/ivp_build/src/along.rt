@@ -1,3 +1,4 @@
+// Functions that depend on one axis alone, by the pieces along it.
 ghost use Rattle.std.specs.Prelude.{◌≡◌, ◌≤◌, ◌<◌, ◌^◌, length, map, pos, neg_ℤ, ◌*ℤ◌, ◌≤ℤ◌, ◌*◌, slice_index, IfOk, IsTrue, EachIndex};
 ghost use Rattle.ivp_domain.specs.declared.boxes.Point.{Point};
 ghost use Rattle.ivp_domain.specs.Domains.{is_point, size_on};

@@ -1,3 +1,4 @@
+// The boxes that equal runs of places make, by the numbers of their runs.
 ghost use Rattle.std.specs.Prelude.{◌≡◌, ◌-◌, ◌/◌, ◌<◌, ◌≤◌, ◌^◌, [], ◌∷◌, Some, IsTrue, slice_get, slice_index};
 ghost use Rattle.ivp_domain.specs.Boxes.{has_point, is_box, points_in, volume_of};
 ghost use Rattle.ivp_domain.specs.Domains.{is_domain, size_on};

@@ -1,3 +1,4 @@
+// Where a utility is greatest along an axis, and how far a place is from there.
 ghost use Rattle.std.specs.Prelude.{◌≡◌, ◌<◌, ◌≤◌, ◌^◌};
 ghost use Rattle.ivp_build.specs.Shapes.{IsCrestOf, distance_from, is_right};
 

@@ -1,3 +1,4 @@
+// Where the zones of a utility end along an axis.
 ghost use Rattle.std.specs.Prelude.{◌≡◌, ◌<◌, ◌≤◌, ◌^◌, slice_index, EachIndex};
 ghost use Rattle.ivp_build.specs.Shapes.{AreSlopes, IsProfileOf};
 ghost use Rattle.ivp_build.specs.Ends.{cut_ends, falling_ends, nine, rising_ends, round_ends};

@@ -1,3 +1,4 @@
+// Why a function can't be built.
 ghost use Rattle.ivp_build.specs.Faults.{IsMemory};
 
 use ivp_func::FuncFault;

@@ -1,3 +1,4 @@
+// What the functions that are built here are worth at a point, for those who stand on them.
 ghost use Rattle.ivp_build.specs.Places.{NearIsNearest};
 ghost use Rattle.ivp_build.specs.Sums.{TopsLeaveRoom};
 ghost use Rattle.ivp_build.specs.Worths.{ShapesAreWorth};

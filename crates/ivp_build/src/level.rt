@@ -1,3 +1,4 @@
+// The function that is the same everywhere.
 ghost use Rattle.std.specs.Prelude.{◌≡◌, IfOk, IsTrue};
 ghost use Rattle.ivp_domain.specs.declared.boxes.Point.{Point};
 ghost use Rattle.ivp_domain.specs.Domains.{is_point};

@@ -1,3 +1,4 @@
+// Functions that fall beyond a limit.
 ghost use Rattle.std.specs.Prelude.{◌≡◌, ◌<◌, ◌≤◌, ◌^◌, length, pos, nat_abs, slice_index, IfOk, IsTrue};
 ghost use Rattle.ivp_domain.specs.declared.boxes.Point.{Point};
 ghost use Rattle.ivp_domain.specs.Axes.{is_end, is_good_axis};

@@ -1,3 +1,4 @@
+// The place that is nearest to a number, on an axis that may be a circle.
 ghost use Rattle.std.specs.Prelude.{◌≡◌, ◌≤◌, ◌<◌, ◌≤ℤ◌, ◌<ℤ◌, ◌-◌, ◌*◌, ◌*ℤ◌, ◌^◌, ℕ, length, pos, if◌then◌else◌, IsTrue};
 ghost use Rattle.std.specs.Ordering.{int_eq};
 ghost use Rattle.ivp_domain.specs.Axes.{is_end, is_good_axis, value_on};

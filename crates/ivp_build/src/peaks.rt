@@ -1,3 +1,4 @@
+// Functions with one peak along an axis.
 ghost use Rattle.std.specs.Prelude.{◌≡◌, ◌<◌, ◌≤◌, ◌^◌, length, pos, slice_index, if◌then◌else◌, IfOk, IsTrue};
 ghost use Rattle.ivp_domain.specs.declared.boxes.Point.{Point};
 ghost use Rattle.ivp_domain.specs.Axes.{is_end, is_good_axis};

@@ -1,3 +1,4 @@
+// Numbers and the places of an axis.
 ghost use Rattle.std.specs.Prelude.{◌≡◌, ◌≤◌, ◌<◌, ◌*◌, ◌-◌, ◌+◌, ◌/◌, ◌^◌, ℕ, length, pos, nat_abs, nat_lt, int_lt, ◌-ℤ◌, ◌<ℤ◌, ◌≤ℤ◌, IsTrue};
 ghost use Rattle.ivp_domain.specs.Axes.{is_end, is_good_axis, value_on};
 ghost use Rattle.ivp_domain.specs.Domains.{is_domain, size_on};

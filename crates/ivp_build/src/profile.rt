@@ -1,3 +1,4 @@
+// The shape of a utility along an axis, place by place.
 ghost use Rattle.std.specs.Prelude.{◌≡◌, ◌<◌, ◌≤◌, ◌≤ℤ◌, pos, neg_ℤ, ◌^◌};
 ghost use Rattle.ivp_build.specs.Shapes.{IsProfileOf, change_at, utility_along};
 

@@ -1,3 +1,4 @@
+// A function by its values at the ends of runs, straight between them.
 ghost use Rattle.std.specs.Prelude.{◌≡◌, ℕ, ◌-◌, ◌*◌, ◌+◌, ◌<◌, ◌≤◌, ◌^◌, ℤ, pos, List, ◌+ℤ◌, length, IsTrue, IfOk, IfErr, OnOk, int_div, ◌-ℤ◌, slice_index, slice_index_or};
 ghost use Rattle.ivp_domain.specs.declared.axis.Axis.{Axis};
 ghost use Rattle.ivp_domain.specs.declared.boxes.Point.{Point};

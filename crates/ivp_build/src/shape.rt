@@ -1,3 +1,5 @@
+// The shape of a peak, as a mission gives it.
+
 /// A peak along an axis, in thousandths: greatest at the number `summit`, `summitdelta` less at
 /// `peakwidth` from it, and 0 at `basewidth` beyond.
 #[derive(Clone, Copy, Debug, PartialEq, Eq)]

@@ -1,3 +1,4 @@
+// How a utility falls with the distance from where it is greatest.
 ghost use Rattle.std.specs.Prelude.{◌≡◌, ◌≤◌, ◌<◌};
 ghost use Rattle.ivp_build.specs.Shapes.{AreSlopes, fall_in, height_at, shoulder, zone_of};
 

@@ -1,3 +1,4 @@
+// Sums of two functions of different axes.
 ghost use Rattle.std.specs.Prelude.{◌≡◌, ◌+◌, ◌<◌, ◌≤◌, ◌+ℤ◌, ◌++◌, length, IfOk, IfErr, IsTrue, OnOk};
 ghost use Rattle.std.specs.Option.{option_to_list};
 ghost use Rattle.ivp_domain.specs.declared.boxes.Point.{Point};

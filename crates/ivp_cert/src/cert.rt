@@ -1,3 +1,4 @@
+// A line of a certificate.
 use crate::path::Path;
 use moos_post::List;
 

@@ -1,3 +1,4 @@
+// The cut of a problem's tree, which is its certificate.
 ghost use Rattle.std.specs.Prelude.{◌≡◌, ◌++◌, ◌∷◌, [], ◌≤◌, IfOk, OnOk, drop, length};
 ghost use Rattle.ivp_problem.specs.Sums.{best_of, key_at};
 ghost use Rattle.ivp_problem.specs.Trees.{IsNode};

@@ -1,3 +1,4 @@
+// The reader of decisions.
 ghost use Rattle.std.specs.Prelude.{◌≡◌, ◌<◌, ◌^◌, length, Ok, IfOk, IfErr, IsTrue};
 ghost use Rattle.moos_text.specs.Refusals.{IsFirst};
 ghost use Rattle.ivp_domain.specs.Domains.{is_point};

@@ -1,3 +1,4 @@
+// What a certificate that is accepted proves.
 ghost use Rattle.std.specs.Prelude.{◌≡◌, IsTrue, Ok};
 ghost use Rattle.ivp_domain.specs.Domains.{is_point};
 ghost use Rattle.ivp_problem.specs.Sums.{best_of, sum_at};

@@ -1,3 +1,4 @@
+// The line of a node.
 ghost use Rattle.std.specs.Prelude.{◌≡◌, [], Some, IfOk, IfErr, None};
 ghost use Rattle.moos_text.specs.Lines.{words_of};
 ghost use Rattle.moos_text.specs.Refusals.{IsLineFault};

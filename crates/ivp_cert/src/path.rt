@@ -1,3 +1,4 @@
+// The path of a node: the pieces that lead to it from the root.
 ghost use Rattle.std.specs.Prelude.{◌≡◌, ◌<◌, ◌≤◌, ◌++◌, ◌∷◌, [], length, OnOk, OnErr, IfOk, IfErr, slice_get, Some};
 
 use moos_post::NoMemory;

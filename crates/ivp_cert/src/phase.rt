@@ -1,3 +1,4 @@
+// How far a decision has been read.
 ghost use Rattle.std.specs.Prelude.{◌≡◌, Ok, IfOk, IfErr, IfSome, IsTrue};
 ghost use Rattle.moos_text.specs.Lines.{trimmed, words_of};
 ghost use Rattle.ivp_domain.specs.Domains.{is_point};

@@ -1,3 +1,4 @@
+// A piece, read from its line.
 ghost use Rattle.std.specs.Prelude.{◌≡◌, ◌&&◌, IsTrue, IfSome, MatchOption, None, Some};
 ghost use Rattle.moos_text.specs.Lines.{words_of};
 ghost use Rattle.ivp_func.specs.Pieces.{is_base};

@@ -1,3 +1,4 @@
+// The reader of problems.
 ghost use Rattle.std.specs.Prelude.{◌≡◌, ◌<◌, ◌^◌, length, Ok, IfOk, IfErr};
 ghost use Rattle.moos_text.specs.Refusals.{IsFirst};
 ghost use Rattle.ivp_cert.specs.Problems.{problem_of};

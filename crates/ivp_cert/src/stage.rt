@@ -1,3 +1,4 @@
+// How far a problem has been read.
 ghost use Rattle.std.specs.Prelude.{◌≡◌, ◌<◌, ◌∷◌, [], Ok, Err, Some, length, IfOk, IfErr};
 ghost use Rattle.moos_text.specs.Lines.{trimmed, words_of};
 ghost use Rattle.moos_text.specs.Refusals.{IsFirst, IsLineFault, at_line};

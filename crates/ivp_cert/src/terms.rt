@@ -1,3 +1,4 @@
+// The functions of a problem that were read so far.
 ghost use Rattle.std.specs.Prelude.{◌≡◌, ◌<◌, [], ◌∷◌, ◌++◌, length, IsTrue, OnOk};
 ghost use Rattle.ivp_problem.specs.Problems.{is_weight};
 

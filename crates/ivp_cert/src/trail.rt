@@ -1,3 +1,4 @@
+// The path of the node at which a walk over a tree is, in place.
 ghost use Rattle.std.specs.Prelude.{◌≡◌, ◌<◌, ◌≤◌, ◌++◌, ◌-◌, ◌∷◌, [], length, take};
 
 use ivp_problem::MOST_FUNCTIONS;

@@ -1,3 +1,4 @@
+// A function whose pieces are still being read.
 ghost use Rattle.std.specs.Prelude.{◌≡◌, ◌<◌, [], Ok, Some, length, IfOk, IfErr, IsTrue};
 ghost use Rattle.moos_text.specs.Refusals.{IsFirst, IsLineFault};
 ghost use Rattle.ivp_func.specs.Pieces.{is_box_of, is_piece_of};

@@ -1,3 +1,4 @@
+// Numbers and places in a line of a problem.
 ghost use Rattle.std.specs.Prelude.{◌≡◌, ◌≤◌, ◌+◌, ◌^◌, ◌==◌, ◌&&◌, Some, IsTrue, IfSome, min, int_le, neg_ℤ, pos, true};
 ghost use Rattle.std.specs.List.{list_all};
 ghost use Rattle.moos_post.specs.Words.{is_digit};

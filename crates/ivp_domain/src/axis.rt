@@ -1,3 +1,4 @@
+// An axis: its name, its numbers, how many points it has.
 ghost use Rattle.std.specs.Prelude.{◌≡◌, ℕ, ◌-◌, ◌^◌, ◌<◌, ◌≤◌, ◌↔◌, List, ◌++◌, ◌*◌, ◌/◌, ◌-ℤ◌, nat_abs, length, take, replicate, IsTrue, IsSome, IfSome};
 ghost use Rattle.std.specs.List.{list_all};
 ghost use Rattle.ivp_domain.specs.AxisNames.{is_axis_name, is_axis_letter, is_word_byte};

@@ -1,3 +1,4 @@
+// Points and boxes of a domain.
 ghost use Rattle.std.specs.Prelude.{◌≡◌, ℕ, ◌+◌, ◌*◌, ◌^◌, ◌<◌, ◌≤◌, ◌↔◌, length, IsTrue, IsNone, IfSome, false, ◌&&◌, Some, slice_get, slice_index};
 ghost use Rattle.ivp_domain.specs.Boxes.{common, has_point, is_box, meet_of, points_in, side_of, volume_of};
 

@@ -1,3 +1,4 @@
+// A domain: its axes, and the index of each point.
 ghost use Rattle.std.specs.Prelude.{◌≡◌, ◌+◌, ◌*◌, ◌^◌, ◌<◌, ◌≤◌, List, ◌++◌, length, take, replicate, Some, IsTrue, IfSome, min, nat_le, slice_get, ◌-◌};
 ghost use Rattle.std.specs.List.{list_any};
 ghost use Rattle.ivp_domain.specs.Axes.{is_good_axis, no_axis, value_on};

@@ -1,3 +1,4 @@
+// A count of steps for contracts on speed, which takes no bytes.
 ghost use Rattle.std.specs.Prelude.{◌≡◌, ℕ, ◌+◌, ◌<◌};
 
 use std::marker::Model;

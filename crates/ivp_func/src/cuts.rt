@@ -1,3 +1,4 @@
+// The parts into which an axis is cut by a grid.
 ghost use Rattle.std.specs.Prelude.{◌≡◌, ◌+◌, ◌*◌, ◌^◌, ◌<◌, ◌≤◌, IsTrue};
 ghost use Rattle.ivp_domain.specs.Domains.{is_point};
 ghost use Rattle.ivp_func.specs.Cuts.{reciprocal_of};

@@ -1,3 +1,4 @@
+// A function of pieces: made, and asked for its value.
 ghost use Rattle.std.specs.Prelude.{◌≡◌, ℕ, ◌+◌, ◌<◌, ◌≤◌, length, Some, IsTrue, IfSome, IfNone, false, slice_get, IfOk};
 ghost use Rattle.ivp_domain.specs.Domains.{is_point};
 ghost use Rattle.ivp_func.specs.Bodies.{function_in, IsBody};

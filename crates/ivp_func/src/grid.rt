@@ -1,3 +1,4 @@
+// The grid of a function: for each cell the pieces that meet it.
 ghost use Rattle.std.specs.Prelude.{◌≡◌, ℕ, ◌+◌, ◌++◌, ◌<◌, ◌≤◌, length, slice_index, IfOk, IfSome, IfNone, IsTrue, false};
 ghost use Rattle.std.specs.List.{All, filter, slice_range};
 ghost use Rattle.ivp_domain.specs.declared.boxes.Point.{Point};

@@ -1,3 +1,4 @@
+// What the tests over all points of a domain come to.
 ghost use Rattle.std.specs.Prelude.{◌↔◌, IsTrue, List};
 ghost use Rattle.ivp_domain.specs.declared.axis.Axis.{Axis};
 ghost use Rattle.ivp_func.specs.declared.piece.Piece.{Piece};

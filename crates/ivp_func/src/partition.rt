@@ -1,3 +1,4 @@
+// Whether pieces cover a domain, each point once.
 ghost use Rattle.std.specs.Prelude.{◌≡◌, ◌≢◌, ℕ, ◌*◌, ◌^◌, ◌<◌, ◌≤◌, length, IsTrue, IfSome, IfNone, nat_lt, slice_index};
 ghost use Rattle.ivp_domain.specs.Boxes.{has_point, is_box, volume_of};
 ghost use Rattle.ivp_domain.specs.Domains.{is_domain, is_point};

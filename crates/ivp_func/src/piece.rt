@@ -1,3 +1,4 @@
+// A piece: a box and the plane over it.
 ghost use Rattle.std.specs.Prelude.{◌≡◌, ◌<◌, ◌≤ℤ◌, neg_ℤ, pos, ◌*◌, ◌^◌, IsTrue};
 ghost use Rattle.ivp_domain.specs.Boxes.{has_place};
 ghost use Rattle.ivp_func.specs.Pieces.{piece_has, is_slope, is_small, rise_on, slope_on, piece_value};

@@ -1,3 +1,4 @@
+// The value at a point, and the ends of what a piece is worth over its box.
 ghost use Rattle.std.specs.Prelude.{◌≡◌, ℕ, ◌<◌, ◌≤◌, pos, ◌*ℤ◌, ◌≤ℤ◌, slice_index, false, IsTrue, IfSome, IfNone};
 ghost use Rattle.ivp_domain.specs.Boxes.{is_box};
 ghost use Rattle.ivp_domain.specs.Domains.{is_point};

@@ -1,3 +1,4 @@
+// The key of a point: its sum, and of equal sums the lower index first.
 ghost use Rattle.std.specs.Prelude.{◌≡◌, ◌↔◌, ◌^◌, ◌<◌, ◌≤◌, IsTrue};
 ghost use Rattle.ivp_problem.specs.Keys.{AtMost, greater_own, key_of, Reaches};
 

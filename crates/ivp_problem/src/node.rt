@@ -1,3 +1,4 @@
+// A node of the tree of areas, and its children.
 ghost use Rattle.std.specs.Prelude.{◌≡◌, ℕ, ◌+◌, ◌*◌, ◌^◌, ◌<◌, ◌≤◌, ◌↔◌, pos, neg_ℤ, ◌*ℤ◌, ◌≤ℤ◌, length, Some, None, IsTrue, IsNone, IfSome, IfNone, false, ◌&&◌, slice_get, slice_index, take};
 ghost use Rattle.ivp_domain.specs.Boxes.{has_point, is_box};
 ghost use Rattle.ivp_domain.specs.Domains.{is_point};

@@ -1,3 +1,4 @@
+// A problem: a domain and weighted functions over it.
 ghost use Rattle.std.specs.Prelude.{◌≡◌, ℕ, ◌+◌, ◌*◌, ◌^◌, ◌<◌, ◌≤◌, length, Some, IsTrue, IfNone, IfSome, slice_get, drop};
 ghost use Rattle.std.specs.List.{sum_by};
 ghost use Rattle.ivp_domain.specs.Domains.{is_point};

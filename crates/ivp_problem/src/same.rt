@@ -1,3 +1,4 @@
+// Whether two functions are of one domain.
 ghost use Rattle.std.specs.Prelude.{◌≡◌};
 ghost use Rattle.ivp_problem.specs.Problems.{same_axis, same_domain};
 

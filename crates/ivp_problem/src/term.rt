@@ -1,3 +1,4 @@
+// A weighted function of a problem, and why terms make none.
 use ivp_func::Func;
 
 /// A function with its weight, from 1 to 10,000 in a problem.

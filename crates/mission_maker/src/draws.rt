@@ -1,3 +1,4 @@
+// Drawing numbers, each by its own place in the generator.
 ghost use Rattle.std.specs.Prelude.{◌≡◌, ◌<◌};
 ghost use Rattle.mission_maker.specs.Draws.{draw};
 

@@ -1,3 +1,4 @@
+// A mission: its domain and its settings.
 use ivp_domain::Domain;
 use moos_post::Txt;
 

@@ -1,3 +1,4 @@
+// The reader of mission files.
 ghost use Rattle.std.specs.Prelude.{◌≡◌, ◌<◌, ◌^◌, length, Ok, IfOk, IfErr};
 ghost use Rattle.moos_text.specs.Refusals.{IsFirst};
 ghost use Rattle.mission_reader.specs.Missions.{mission_of};

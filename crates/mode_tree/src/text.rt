@@ -1,3 +1,4 @@
+// A mode's text, part by part.
 ghost use Rattle.std.specs.Prelude.{◌≡◌, ◌++◌, true, IfOk, OnOk};
 ghost use Rattle.mode_tree.specs.Modes.{path_text};
 ghost use Rattle.mode_tree.specs.Paths.{parts_by, are_declared, part_bytes};

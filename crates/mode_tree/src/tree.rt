@@ -1,3 +1,4 @@
+// The tree of modes, and the mode that holds.
 ghost use Rattle.std.specs.Prelude.{◌≡◌, ◌<◌, ◌≤◌, ◌^◌, true, length, take, IfOk};
 ghost use Rattle.helm_cond.specs.Infos.{knowledge_of};
 ghost use Rattle.mode_tree.specs.Modes.{mode_of, path_text};

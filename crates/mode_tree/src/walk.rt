@@ -1,3 +1,4 @@
+// The walk down the tree to the mode that holds.
 ghost use Rattle.std.specs.Prelude.{◌≡◌, ◌∷◌, ◌+◌, ◌<◌, ◌^◌, ◌||◌, [], true, List, ℕ, Some, None, length, is_some, slice_set};
 ghost use Rattle.std.specs.List.{list_all};
 ghost use Rattle.bhv_file.specs.declared.decl.Decl.{Decl as Declared};

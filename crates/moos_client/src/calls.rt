@@ -1,3 +1,4 @@
+// A client's calls to the database.
 ghost use Rattle.std.specs.Prelude.{IfOk, OnOk, OnErr};
 ghost use Rattle.moos_post.specs.declared.entry.Call.TheVariants.{Fetch, Register, Unregister, Post};
 ghost use Rattle.moos_client.specs.Calls.{IsCalled, IsFetched, IsUncalled, MayCall};

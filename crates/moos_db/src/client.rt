@@ -1,3 +1,4 @@
+// A client of the database: its registrations and its mailbox.
 ghost use Rattle.std.specs.Prelude.{◌≡◌, ◌<◌, ◌≤◌, ◌+◌, ◌++◌, ◌∷◌, [], false, length, map, true, vec_capacity, vec_len, IfOk, OnErr, OnOk};
 ghost use Rattle.moos_mail.specs.Mailboxes.{is_one_of};
 ghost use Rattle.std.specs.List.{All, list_any};

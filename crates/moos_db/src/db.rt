@@ -1,3 +1,4 @@
+// The database: registrations, posts and mails in one history.
 ghost use Rattle.std.specs.Prelude.{◌≡◌, ◌^◌, ◌<◌, [], length, take, All, IfOk, OnOk, OnErr, Some, option_map, slice_get};
 ghost use Rattle.moos_post.specs.Delivery.{mail_after, mail_at};
 ghost use Rattle.moos_post.specs.History.{posts_of};

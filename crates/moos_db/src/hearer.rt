@@ -1,3 +1,4 @@
+// A registration that hears a variable, and the stamp that it was last mailed.
 ghost use Rattle.std.specs.Prelude.{◌≡◌, None};
 ghost use Rattle.moos_post.specs.Patterns.{matches};
 ghost use Rattle.moos_db.specs.Hearers.{caught_at, after_hearing, hears_due, is_new_at, is_registration};

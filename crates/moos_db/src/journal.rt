@@ -1,3 +1,4 @@
+// The database as the lock sees it: by its history.
 use crate::db::Db;
 use moos_post::{Entry, Names};
 use turn_lock::Journaled;

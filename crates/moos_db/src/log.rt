@@ -1,3 +1,4 @@
+// The posts, in the order in which they came.
 ghost use Rattle.std.specs.Prelude.{◌≡◌, ◌<◌, ◌≤◌, ◌+◌, ◌^◌, ◌-◌, ◌++◌, ◌∷◌, [], map, length, OnOk, OnErr, is_ok, if◌then◌else◌, Some, option_map, slice_get, vec_len, vec_capacity};
 ghost use Rattle.std.specs.List.{range_with_len};
 ghost use Rattle.moos_post.specs.History.{posts_of, posts_of_call, posts_of_entry};

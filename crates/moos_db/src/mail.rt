@@ -1,3 +1,4 @@
+// Letters of a mail.
 use moos_post::{List, Post};
 
 /// When a post was made, in milliseconds, and the number of the client that made it.

@@ -1,3 +1,4 @@
+// A registration and what it hears.
 ghost use Rattle.std.specs.Prelude.{◌≡◌};
 ghost use Rattle.moos_post.specs.Patterns.{matches};
 ghost use Rattle.moos_db.specs.Clients.{is_with_patterns};

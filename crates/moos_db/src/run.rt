@@ -1,3 +1,4 @@
+// Calls made one after another, and the mails that they give.
 ghost use Rattle.std.specs.Prelude.{◌≡◌, ◌^◌, ◌<◌, [], length, All, IfOk, OnOk, Some};
 ghost use Rattle.moos_post.specs.Delivery.{mail_of_entry};
 ghost use Rattle.moos_post.specs.History.{posts_of};

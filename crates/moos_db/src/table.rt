@@ -1,3 +1,4 @@
+// A number for each variable.
 ghost use Rattle.std.specs.Prelude.{◌≡◌, [], map, OnOk, OnErr};
 
 use indexmap::IndexMap;

@@ -1,3 +1,4 @@
+// The variables that were posted, each with those that hear it.
 ghost use Rattle.std.specs.Prelude.{◌≡◌, ◌<◌, ◌≤◌, ◌+◌, ◌^◌, ◌++◌, ◌∷◌, [], ℕ, List, None, Some, false, true, length, map, slice_get, take, IfOk, OnErr, OnOk};
 ghost use Rattle.std.specs.List.{All, list_any};
 ghost use Rattle.moos_post.specs.Patterns.{matches};

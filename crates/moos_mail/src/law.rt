@@ -1,3 +1,4 @@
+// The rule of delivery, entry by entry.
 ghost use Rattle.std.specs.Prelude.{◌≡◌, ◌↔◌, ℕ, ◌<◌, ◌≤◌, Contains, List, length, map, take};
 ghost use Rattle.moos_post.specs.Delivery.{inbox_of, mail_at, mailed_to};
 ghost use Rattle.moos_post.specs.History.{History};

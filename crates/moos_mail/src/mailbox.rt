@@ -1,3 +1,4 @@
+// A mailbox: the places of the posts that wait in it.
 ghost use Rattle.std.specs.Prelude.{◌≡◌, ◌≤◌, ◌+◌, ◌++◌, ◌∷◌, [], false, OnOk, OnErr};
 ghost use Rattle.moos_mail.specs.Mailboxes.{is_one_of, with_number};
 

@@ -1,3 +1,4 @@
+// Numbers that follow one another, kept by their first and last.
 ghost use Rattle.std.specs.Prelude.{◌≡◌, ◌≤◌, ◌<◌, ◌-◌, ◌+◌, false, vec_len, vec_capacity};
 ghost use Rattle.moos_mail.specs.Mailboxes.{AreStretches, is_one_of, IsPlaceAmong, numbers_of_all, with_number};
 

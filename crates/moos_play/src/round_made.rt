@@ -1,3 +1,4 @@
+// What a round was.
 use crate::steersman::Iterations;
 
 /// A round that was played.

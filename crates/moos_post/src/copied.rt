@@ -1,3 +1,4 @@
+// Copies that may find no memory.
 ghost use Rattle.std.specs.Prelude.{◌≡◌, IfOk};
 
 use crate::NoMemory;

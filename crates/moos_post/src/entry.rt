@@ -1,3 +1,4 @@
+// The calls of a client, and an entry of the history.
 use crate::pattern::Pattern;
 use crate::{Batch, Regs};
 

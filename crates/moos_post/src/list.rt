@@ -1,3 +1,4 @@
+// A list that asks for memory by its own word.
 ghost use Rattle.std.specs.Prelude.{◌≡◌, ◌<◌, ◌++◌, ◌∷◌, [], length, OnOk, OnErr, IfOk, IfErr, Some, slice_get};
 
 use crate::NoMemory;

@@ -1,3 +1,4 @@
+// Numbers in thousandths.
 ghost use Rattle.std.specs.Prelude.{◌≡◌, ◌↔◌, IsSome, IfSome};
 ghost use Rattle.moos_post.specs.Words.{IsMilli};
 

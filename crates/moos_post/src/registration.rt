@@ -1,3 +1,4 @@
+// A registration.
 use crate::NoMemory;
 use crate::copied::Copied;
 use crate::pattern::Pattern;

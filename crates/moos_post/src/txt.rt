@@ -1,3 +1,4 @@
+// Texts of a post.
 ghost use Rattle.std.specs.Prelude.{◌≡◌, ◌↔◌, ◌<◌, ◌≤◌, ℕ, IsTrue, Some, IfOk, OnOk, IsErrOf, length};
 ghost use Rattle.moos_post.specs.Words.{is_control, control_place, is_text};
 

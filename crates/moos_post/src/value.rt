@@ -1,3 +1,4 @@
+// Values, pairs and posts.
 use crate::NoMemory;
 use crate::copied::Copied;
 use crate::milli::Milli;

@@ -1,3 +1,4 @@
+// Whether a pattern takes a name.
 ghost use Rattle.std.specs.Prelude.{◌≡◌, ◌==◌, ◌||◌};
 ghost use Rattle.std.specs.List.{list_all};
 ghost use Rattle.moos_post.specs.Patterns.{matches};

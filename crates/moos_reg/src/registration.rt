@@ -1,3 +1,4 @@
+// Whether a registration selects a post, and whether it is due.
 ghost use Rattle.std.specs.Prelude.{◌≡◌, ◌&&◌};
 ghost use Rattle.moos_post.specs.Delivery.{is_past};
 ghost use Rattle.moos_post.specs.Patterns.{matches};

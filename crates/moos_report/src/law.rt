@@ -1,3 +1,4 @@
+// Laws of reports: what one tells can't be told of another history.
 ghost use Rattle.moos_report.specs.Parts.{FrontsStay, PartsAddUp};
 ghost use Rattle.moos_report.specs.Report.{ReportsTellTheirEnd, ReportsTell, TwoReportsTell};
 

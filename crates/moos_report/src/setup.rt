@@ -1,3 +1,4 @@
+// What a report tells of a community's setup.
 use bhv_file::UnusedList;
 
 /// What a report tells of a community's setup, beside its clients.

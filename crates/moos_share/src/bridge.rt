@@ -1,3 +1,4 @@
+// A bridge: it carries posts from one community into another, under other names.
 ghost use Rattle.std.specs.Prelude.{◌≡◌, OnOk, OnErr};
 ghost use Rattle.moos_client.specs.Calls.{IsCalled, IsUncalled};
 ghost use Rattle.moos_post.specs.declared.entry.Call.TheVariants.{Post};

@@ -1,3 +1,4 @@
+// What one carrying posts.
 ghost use Rattle.std.specs.Prelude.{ℕ, List, ◌++◌, ◌∷◌, []};
 ghost use Rattle.moos_post.specs.declared.entry.Entry.{Entry};
 ghost use Rattle.moos_share.specs.Carrying.{CarriesAll, HasCarried, SeatedBridge};

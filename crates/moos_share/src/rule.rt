@@ -1,3 +1,4 @@
+// A rule of a bridge.
 use moos_post::{List, Name, Reg};
 
 /// A line of a bridge file: which posts it selects, and what stands before the names of their variables once they are carried.

@@ -1,3 +1,4 @@
+// Why a line is refused.
 ghost use Rattle.std.specs.Prelude.{◌≡◌};
 ghost use Rattle.moos_text.specs.Causes.{cause_text};
 ghost use Rattle.moos_text.specs.Refusals.{fault_at};

@@ -1,3 +1,4 @@
+// How a text ends.
 ghost use Rattle.std.specs.Prelude.{◌≡◌, ◌≤◌, length, take};
 ghost use Rattle.moos_text.specs.Lines.{ends_with, without_last};
 

@@ -1,3 +1,4 @@
+// Lines of a file, and those that say something.
 ghost use Rattle.std.specs.Prelude.{◌≡◌, ◌+◌, ◌<◌, ◌≤◌, ◌==◌, [], ◌∷◌, IfNone, IfSome, false, length, take, drop, slice_range, position};
 ghost use Rattle.std.specs.List.{position_or_len};
 ghost use Rattle.moos_text.specs.Lines.{raw_lines, first_line, begins_comment, is_quoted_after, uncommented, content_of, is_unclosed, trimmed, without_return};

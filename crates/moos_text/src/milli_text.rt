@@ -1,3 +1,4 @@
+// Numbers in thousandths, printed.
 ghost use Rattle.std.specs.Prelude.{◌≡◌, ◌<◌, ◌≤◌, drop, length, Some};
 ghost use Rattle.moos_post.specs.Words.{IsMilli};
 ghost use Rattle.moos_text.specs.Numbers.{decimals_text, unsigned_text, milli_text, milli_of};

@@ -1,3 +1,4 @@
+// Numbers, read.
 ghost use Rattle.std.specs.Prelude.{◌≡◌, ◌<◌, ◌≤◌, ◌-◌, ◌^◌, ◌++◌, min, take, codes, true, IsTrue, IfSome, IfNone, Some, None, pos, neg_ℤ, if◌then◌else◌};
 ghost use Rattle.std.specs.List.{list_all};
 ghost use Rattle.moos_post.specs.Words.{is_digit};

@@ -1,3 +1,4 @@
+// A pair: a variable, the sign of equality, a value.
 ghost use Rattle.std.specs.Prelude.{◌≡◌, ◌≢◌, true, false, Ok, Err, IfOk, IfErr, MatchOption, None, Some, position};
 ghost use Rattle.moos_post.specs.Words.{is_name};
 ghost use Rattle.moos_text.specs.declared.pair.PairFault.TheVariants.{BadName, NoMemory};

@@ -1,3 +1,4 @@
+// Parts of a line between signs.
 ghost use Rattle.std.specs.Prelude.{◌≡◌, ◌+◌, ◌<◌, ◌≤◌, [], ◌∷◌, length, take, drop, slice_range, MatchOption, IfSome};
 ghost use Rattle.moos_text.specs.Pairs.{parts_of};
 

@@ -1,3 +1,4 @@
+// Texts without the blanks around them.
 ghost use Rattle.std.specs.Prelude.{◌≡◌, reverse};
 ghost use Rattle.moos_text.specs.Lines.{without_front_blanks, trimmed};
 

@@ -1,3 +1,4 @@
+// Words of a line.
 ghost use Rattle.std.specs.Prelude.{◌≡◌, ◌==◌, ◌||◌, [], ◌∷◌, MatchOption, IfNone, IfSome};
 ghost use Rattle.std.specs.List.{position, position_or_len};
 ghost use Rattle.std.specs.Str.{str_eq_ignore_ascii_case};

@@ -1,3 +1,4 @@
+// Folders and sinks: in memory, and the real ones.
 use crate::files::append;
 use moos_io::*;
 use std::alloc::Global;

@@ -1,3 +1,4 @@
+// Words of a line.
 use moos_text::next_word;
 
 // Texts, and of each its first word and what stands behind it.

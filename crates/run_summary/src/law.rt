@@ -1,3 +1,4 @@
+// Scripts that have one history.
 ghost use Rattle.run_summary.specs.SoleHistory.{RisingIsSole};
 
 /// What holds of scripts, whatever they say: where no two lines have one stamp, there is one history in the order of the stamps.

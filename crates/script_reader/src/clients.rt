@@ -1,3 +1,4 @@
+// The clients of a script, numbered as they come.
 ghost use Rattle.std.specs.Prelude.{◌≡◌, [], bytes_eq, OnOk};
 ghost use Rattle.std.specs.List.{position};
 ghost use Rattle.script_reader.specs.Script.{with_client};

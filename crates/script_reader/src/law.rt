@@ -1,3 +1,4 @@
+// What a client of a script has to do.
 ghost use Rattle.std.specs.Prelude.{◌≡◌, ℕ, List, None, Ok, false};
 ghost use Rattle.std.specs.List.{list_any};
 ghost use Rattle.script_reader.specs.declared.script.Script.{Script};

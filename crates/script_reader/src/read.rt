@@ -1,3 +1,4 @@
+// The reader of scripts.
 ghost use Rattle.std.specs.Prelude.{◌≡◌, ◌<◌, ◌^◌, length, Ok, IfOk, IfErr, OnOk};
 ghost use Rattle.moos_text.specs.Refusals.{IsFirst};
 ghost use Rattle.script_reader.specs.Script.{nothing_read, progress, script_of};

@@ -1,3 +1,4 @@
+// A script: its lines and its clients.
 use moos_post::{Entry, List, Names};
 
 /// The lines of a script, in order, each the entry that it asks for.

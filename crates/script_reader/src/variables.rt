@@ -1,3 +1,4 @@
+// The variables of a script, each once.
 ghost use Rattle.std.specs.Prelude.{◌≡◌, [], length, bytes_eq, Ok, IfOk, IfErr, IfSome, OnOk, is_some};
 ghost use Rattle.std.specs.List.{list_any};
 ghost use Rattle.script_reader.specs.Script.{with_variable, with_known};

@@ -1,3 +1,4 @@
+// What every interleaving of the workers of a search leaves true.
 ghost use Rattle.std.specs.Prelude.{ℕ, List};
 ghost use Rattle.ivp_problem.specs.declared.node.Node.{Node};
 ghost use Rattle.ivp_problem.specs.Problems.{IsProblem, WeightedSum};

@@ -1,3 +1,4 @@
+// The client uSimMarine, which moves the vehicle.
 ghost use Rattle.std.specs.Prelude.{◌≡◌, ◌≤◌, ◌^◌, ◌++◌, ◌∷◌, [], codes, IfOk, List, ℕ};
 ghost use Rattle.moos_post.specs.declared.value.Pair.{Pair};
 ghost use Rattle.sim_vehicle.specs.Motion.{IsHull, start_hull};

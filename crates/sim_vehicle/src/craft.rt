@@ -1,3 +1,4 @@
+// A simulated vehicle, as its file describes it.
 ghost use Rattle.std.specs.Prelude.{◌≡◌, ◌≤ℤ◌, IsTrue};
 ghost use Rattle.sim_vehicle.specs.Motion.{IsHull, start_hull};
 ghost use Rattle.sim_vehicle.specs.Settings.{AreAllowed, default_settings, is_allowed, set_to, setting_high, setting_low, setting_value};

@@ -1,3 +1,4 @@
+// The vehicle's position and motion, a step at a time.
 ghost use Rattle.std.specs.Prelude.{◌≡◌, ℤ, pos, neg_ℤ, ◌+ℤ◌, ◌-ℤ◌, ◌*ℤ◌, ◌*◌, ◌^◌, ◌≤◌, ◌<◌, ◌≤ℤ◌, int_div, IfSome};
 ghost use Rattle.std.specs.Int.{int_rem_euclid};
 ghost use Rattle.moos_post.specs.Words.{IsMilli};

@@ -1,3 +1,4 @@
+// The settings of a vehicle file by name, and the range of each.
 ghost use Rattle.std.specs.Prelude.{◌≡◌, find};
 ghost use Rattle.sim_vehicle.specs.Settings.{is_allowed, is_setting_name, setting_high, setting_low, setting_named};
 

@@ -1,3 +1,4 @@
+// The values of all settings.
 ghost use Rattle.std.specs.Prelude.{◌≡◌};
 ghost use Rattle.sim_vehicle.specs.Settings.{default_settings, set_to, setting_value};
 

@@ -1,3 +1,4 @@
+// Decisions with their certificates: solved, printed and checked.
 ghost use Rattle.std.specs.Prelude.{◌≡◌, ◌<◌};
 ghost use Rattle.ivp_problem.specs.Sums.{best_of, key_at};
 
@@ -9,14 +10,15 @@ use ivp_domain::{Point, Steps};
 use ivp_problem::{Key, Problem, sum_of};
 use ivp_search::best_in_one;
 use moos_io::MemSink;
-use moos_text::{Cause, ReadFault};
+use moos_text::ReadFault;
 use std::alloc::Global;
 use std::marker::Brand;
 use std::process::Abort;
 use std::sync::ledger::{Blank, Ledger};
 
 /// One function of one piece.
-const LEVEL: &[u8] = b"ivp 1\ndomain course:0:359:360\nfunction 100\npiece 0 359 7 0\nend\n";
+pub(crate) const LEVEL: &[u8] =
+    b"ivp 1\ndomain course:0:359:360\nfunction 100\npiece 0 359 7 0\nend\n";
 
 /// Three axes and two functions.
 const TWO: &[u8] =
@@ -46,13 +48,15 @@ fn greatest_key(problem: &Problem) -> Key
     greatest_by::<Brand>(problem, Blank::new(1))
 }
 
-fn joined(rt: &impl Abort, alloc: Global, front: &[u8], rest: &[u8]) -> Vec<u8> {
+/// A text, and another one behind it.
+pub(crate) fn joined(rt: &impl Abort, alloc: Global, front: &[u8], rest: &[u8]) -> Vec<u8> {
     let mut text = Vec::from_slice(alloc, front).expect(rt, "memory");
     text.extend_from_slice(rest).expect(rt, "memory");
     text
 }
 
-fn read(rt: &impl Abort, alloc: Global, text: &[u8]) -> Result<Decision, ReadFault> {
+/// What is read of a text.
+pub(crate) fn read(rt: &impl Abort, alloc: Global, text: &[u8]) -> Result<Decision, ReadFault> {
     assert!(rt; text.len() < 4_000_000_000);
     read_decision(alloc, text)
 }
@@ -294,99 +298,6 @@ fn changed_certificates(rt: HostRuntime) {
             "{lines:?}"
         );
     }
-}
-
-// What stands behind a problem of five lines, and the line and the cause of its refusal.
-const REFUSED: &[(&[u8], u32, Cause)] = &[
-    // A decision outside its form, before a point outside the domain.
-    (b"decision\n", 6, Cause::P1),
-    (b"decision x 700\n", 6, Cause::P1),
-    (b"decision 0 +700\n", 6, Cause::P1),
-    (b"decision 360 x\n", 6, Cause::P1),
-    (b"decision 4294967296 700\n", 6, Cause::P1),
-    (b"decision 0 64000000001\n", 6, Cause::P1),
-    (b"cut : 700 0\n", 6, Cause::P1),
-    (b"done\n", 6, Cause::P1),
-    (b"end\n", 6, Cause::P1),
-    // A point that isn't one of the domain.
-    (b"decision 360 700\n", 6, Cause::P10),
-    (b"decision 4294967295 64000000000\n", 6, Cause::P10),
-    (b"decision 700\n", 6, Cause::P10),
-    (b"decision 0 0 700\n", 6, Cause::P10),
-    // A line of the certificate outside its form.
-    (b"decision 0 700\ndecision 0 700\n", 7, Cause::P1),
-    (b"decision 0 700\n\ncut 700 0\n", 8, Cause::P1),
-    (b"decision 0 700\ncut\n", 7, Cause::P1),
-    (b"decision 0 700\ncut :\n", 7, Cause::P1),
-    (b"decision 0 700\ncut : 700\n", 7, Cause::P1),
-    (b"decision 0 700\ncut : 700 0 0\n", 7, Cause::P1),
-    (b"decision 0 700\ncut : : 700 0\n", 7, Cause::P1),
-    (b"decision 0 700\ncut -1 : 700 0\n", 7, Cause::P1),
-    (b"decision 0 700\ncut 4294967296 : 700 0\n", 7, Cause::P1),
-    (b"decision 0 700\ncut : 64000000001 0\n", 7, Cause::P1),
-    (b"decision 0 700\ncut : 700 4294967296\n", 7, Cause::P1),
-    (b"decision 0 700\ndone now\n", 7, Cause::P1),
-    (b"decision 0 700\ndone\n\ndone\n", 9, Cause::P1),
-    // The bytes end too early.
-    (b"", 5, Cause::P9),
-    (b"decision 0 700\n", 6, Cause::P9),
-    (b"decision 0 700\ncut : 700 0\n\n", 8, Cause::P9),
-];
-
-#[test]
-fn refusals(rt: HostRuntime) {
-    let alloc = rt.alloc();
-    for (lines, line, cause) in REFUSED {
-        let text = joined(&rt, alloc, LEVEL, *lines);
-        let fault = read(&rt, alloc, &text).err();
-        let wanted = ReadFault::At {
-            line: *line,
-            cause: *cause,
-        };
-        assert_eq!(rt; fault, Some(wanted), "{lines:?}");
-    }
-    let empty = read(&rt, alloc, b"").err();
-    let at_1 = ReadFault::At {
-        line: 1,
-        cause: Cause::P9,
-    };
-    assert_eq!(rt; empty, Some(at_1));
-}
-
-/// A decision with one line of so many numbers.
-fn long_path(rt: &impl Abort, alloc: Global, numbers: u32) -> Vec<u8> {
-    let mut text = joined(rt, alloc, LEVEL, b"decision 0 700\ncut");
-    for _ in 0..numbers {
-        text.extend_from_slice(b" 4294967295").expect(rt, "memory");
-    }
-    text.extend_from_slice(b" : 0 0\ndone\n")
-        .expect(rt, "memory");
-    text
-}
-
-/// The one line of its certificate has a path of 64 numbers, the last of which is the greatest.
-fn has_long_path(rt: &impl Abort, decision: &Decision) {
-    assert_eq!(rt; decision.cert.len(), 1);
-    assert!(rt; 0 < decision.cert.len());
-    let path = &decision.cert.get(0).path;
-    assert_eq!(rt; path.len(), 64);
-    assert!(rt; 63 < path.len());
-    assert_eq!(rt; path.get(63), 4_294_967_295);
-}
-
-#[test]
-fn longest_path(rt: HostRuntime) {
-    let alloc = rt.alloc();
-    let decision = read(&rt, alloc, &long_path(&rt, alloc, 64)).expect(&rt, "a decision");
-    has_long_path(&rt, &decision);
-    let refused = ReadFault::At {
-        line: 7,
-        cause: Cause::P1,
-    };
-    assert_eq!(rt;
-        read(&rt, alloc, &long_path(&rt, alloc, 65)).err(),
-        Some(refused)
-    );
 }
 
 #[test]

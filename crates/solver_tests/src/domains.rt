@@ -1,3 +1,4 @@
+// Axes, domains and boxes: refusals in order, indices, counting.
 ghost use Rattle.std.specs.Prelude.{◌≡◌, ◌<◌};
 
 use crate::made::{axis_from, domain_of};

@@ -1,3 +1,4 @@
+// Functions by their pieces: partitions, values, how many may stand.
 ghost use Rattle.std.specs.Prelude.{◌≡◌, ◌<◌, IsTrue};
 ghost use Rattle.ivp_domain.specs.Domains.{is_point};
 

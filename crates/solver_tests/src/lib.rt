@@ -3,13 +3,16 @@
 //! The tests of all crates of the solver stand here, since a crate with tests of its own is proved once more with them. One
 //! module for each subject, by the layers from the lowest, and `made`, which makes problems for them: `domains`, `functions`,
 //! `problems`, `shared_word`, `search` by one, `closing` of nodes, `whole_searches` by several workers and their `teams`, `shapes`
-//! and `formulas` of the builders and `builders` that are asked for too many pieces, `problem_files` and `decisions` of the texts.
+//! and `formulas` of the builders and `builders` that are asked for too many pieces, `problem_files` and `decision_files` of
+//! the texts, and `decisions` with their certificates.
 #![tactic(auto)]
 
 #[cfg(test)]
 mod builders;
 #[cfg(test)]
 mod closing;
+#[cfg(test)]
+mod decision_files;
 #[cfg(test)]
 mod decisions;
 #[cfg(test)]

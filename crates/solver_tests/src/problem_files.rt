@@ -1,3 +1,4 @@
+// Files of problems: what they give, and what is refused.
 use ivp_cert::read_problem;
 use ivp_domain::{Axis, BoxN};
 use ivp_func::{Func, Piece};

@@ -1,3 +1,4 @@
+// Problems: refusals in order, nodes, bounds, children.
 ghost use Rattle.std.specs.Prelude.{IfSome};
 ghost use Rattle.ivp_problem.specs.Trees.{IsNode};
 

@@ -1,3 +1,4 @@
+// The search by one thread: its best point, and the first of equals.
 ghost use Rattle.std.specs.Prelude.{◌≡◌, ◌<◌};
 
 use crate::made::{levels, listed, problem_of, slab, twelve, two};

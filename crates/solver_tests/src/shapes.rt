@@ -1,3 +1,4 @@
+// The shapes of functions: limits, peaks, sums.
 ghost use Rattle.std.specs.Prelude.{◌≡◌, ◌<◌, IsTrue};
 ghost use Rattle.ivp_domain.specs.Domains.{is_point};
 ghost use Rattle.ivp_build.specs.Shapes.{IsPeak};

@@ -1,3 +1,4 @@
+// The value while a turn lasts.
 ghost use Rattle.std.specs.Prelude.{◌≡◌};
 ghost use Rattle.std.specs.Borrow.{sem};
 

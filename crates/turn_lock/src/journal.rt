@@ -1,3 +1,5 @@
+// A value that tells its history.
+
 /// A value that stands for a base, which no event changes, and for a history of events, each of which names a number.
 pub trait Journaled {
     type Event;

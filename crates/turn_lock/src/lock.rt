@@ -1,3 +1,4 @@
+// A lock that is taken in turns, each with a number.
 ghost use Rattle.std.specs.Prelude.{◌≡◌, ◌+◌, ◌-◌, ◌<◌, ◌≤◌, ◌++◌, ◌∷◌, [], true, false, Some, None, IfOk, IfErr};
 ghost use Rattle.std.specs.List.{list_any};
 ghost use Rattle.turn_lock.specs.Passes.{Begins, beside, WasLent, events_in, first_pass, has_number, HasAll, IsFree, IsOf, KnowsAll, met_with, own, without_number};

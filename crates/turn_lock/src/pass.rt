@@ -1,3 +1,4 @@
+// A place at a lock, of one number.
 ghost use Rattle.std.specs.Prelude.{◌≡◌};
 
 use crate::journal::Journaled;

@@ -1,3 +1,4 @@
+// What contracts know of a lock and its passes; no value of these types is made.
 use std::collections::LinkedList;
 
 /// Where a pass stands with the turns: it waits for none, it waits for the one of its ticket, or it holds one, and the

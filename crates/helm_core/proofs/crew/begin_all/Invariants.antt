@@ -6,10 +6,10 @@ use Rattle.helm_core.specs.Ticks.{Seen, pairs_mailed}
 use Rattle.helm_core.proofs.crew.begin_all.Given as goal
 
 -- the turns so far are those of the first behaviours
-abbrev pub invariant-loop-number : goal.invariant-loop-number
-invariant-loop-number l = record {
+abbrev pub invariant-loop-one : goal.invariant-loop-one
+invariant-loop-one l = record {
   begun : (clock : ℕ) (seen : Seen) (ones : List BhvSoFar) → clock ≤ l.stamp → Sees seen l.stamp (pairs_mailed l.letters) l.now → IsCrewOf clock ones (crew_of l.domain l.blocks l.kept)
-      → AllZip (BeginsTurn l.domain seen) (take l.number ones) l.begun.items;
-  fit : All (IsFitBegun l.domain) l.begun.items;
-  counted : length l.begun.items ≡ l.number;
+      → AllZip (BeginsTurn l.domain l.blocks seen) (take l.one-index ones) l.begun.items;
+  fit : All (IsFitBegun l.domain l.blocks) l.begun.items;
+  counted : length l.begun.items ≡ l.one-index;
 }
