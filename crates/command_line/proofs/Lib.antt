@@ -1,4 +1,5 @@
 pub mod Examples
 pub mod Finding
+pub mod Joining
 pub mod Loading
 pub mod Taking

@@ -30,3 +30,10 @@ WasWanted told (Unfit kind fault) bytes = ⊥
 abbrev pub AreLoaded : {T : Type 0} → Option (List ℕ → Option (List ℕ)) → (List (List ℕ) → FileTurn T) → List (List ℕ) → List (List ℕ) → Type 0
 AreLoaded told turn front [] = Unit {0}
 AreLoaded told turn front (bytes ∷ files) = WasWanted told (turn front) bytes × AreLoaded told turn (front ++ bytes ∷ []) files
+
+-- where a job stands whose tasks are among those of several jobs
+abbrev pub turn_as : {T U : Type 0} → (T → U) → FileTurn T → FileTurn U
+turn_as of (Wanted kind name) = Wanted kind name
+turn_as of (Ready task) = Ready (of task)
+turn_as of (Unfit kind fault) = Unfit kind fault
+
