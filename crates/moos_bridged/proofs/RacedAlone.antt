@@ -13,7 +13,7 @@ use Rattle.moos_bridged.specs.Bridging.{IsBridgedSoFar}
 use Rattle.moos_bridged.specs.Communities.{bridge_in, community_history, community_script, HasPlayedLines, IsResting, left_lines}
 use Rattle.moos_bridged.specs.declared.community.Community.{Community}
 use Rattle.moos_bridged.specs.Racing.{AreRaced, IsFirstReady, stamps_of}
-use Rattle.moos_bridged.specs.Readying.{AreReady}
+use Rattle.moos_bridged.specs.Opening.{AreOpened}
 use Rattle.moos_client.specs.Calls.{entries_of, SeatState}
 use Rattle.moos_post.specs.declared.entry.Entry.{Entry}
 use Rattle.moos_post.specs.History.{name_of}
@@ -51,7 +51,7 @@ alone_may community so none = record {
       ∙ named_last (community_script community).names (codes "pShare");
 }
 
-pub alone_ready : (bridge : BridgeState) (one two : Community) → AreReady bridge one two → 0 < bridge_in one → IsFirstReady bridge one two.first.seat
+pub alone_ready : (bridge : BridgeState) (one two : Community) → AreOpened bridge one two → 0 < bridge_in one → IsFirstReady bridge one two.first.seat
 alone_ready bridge one two ready above = record {
   resting = ready.first;
   clients = above;
@@ -110,7 +110,7 @@ module _ (two : Community) (to seen : SeatState) (so : IsResting two) (none : br
   alone_own = all.whole (bridge_in two) ∙ ap (λ b. cond b to.mine (events_in to.met (bridge_in two))) (eq-eqb to.number (bridge_in two) alone_number)
 
 -- the first has no clients, and those of the second play all their lines
-pub second_raced : (bridge : BridgeState) (one two two' : Community) → AreReady bridge one two → bridge_in one ≡ 0 → IsResting two' → HasPlayedLines (left_lines two) two two' → two'.from ≡ length (community_script two).lines → AreRaced bridge one two'
+pub second_raced : (bridge : BridgeState) (one two two' : Community) → AreOpened bridge one two → bridge_in one ≡ 0 → IsResting two' → HasPlayedLines (left_lines two) two two' → two'.from ≡ length (community_script two).lines → AreRaced bridge one two'
 second_raced bridge one two two' ready none rests played all = record {
   first = ready.first;
   second = rests;

@@ -8,7 +8,7 @@ use Rattle.moos_bridged.specs.Bridging.{IsBridgedSoFar}
 use Rattle.moos_bridged.specs.Communities.{bridge_in, community_history, community_script, IsResting}
 use Rattle.moos_bridged.specs.declared.community.Community.{Community}
 use Rattle.moos_bridged.specs.Racing.{AreRaced, HasCarriedLines, HasRacedFirst, IsFirstReady, stamps_of}
-use Rattle.moos_bridged.specs.Readying.{AreReady}
+use Rattle.moos_bridged.specs.Opening.{AreOpened}
 use Rattle.moos_client.specs.Calls.{entries_of, SeatState}
 use Rattle.moos_share.specs.Bridged.{bridge_opening}
 use Rattle.moos_share.specs.Carrying.{BridgeState, seated}
@@ -51,7 +51,7 @@ module _ (bridge bridge' : BridgeState) (one one' : Community) (number : ℕ) (e
   }
 
 -- both, where the second has just what the bridge's seat there has posted
-pub both_raced : (bridge bridge' : BridgeState) (one one' two two' : Community) (to to' : SeatState) → AreReady bridge one two → HasRacedFirst bridge bridge' one one' to to' → IsResting two' → community_script two' ≡ community_script two
+pub both_raced : (bridge bridge' : BridgeState) (one one' two two' : Community) (to to' : SeatState) → AreOpened bridge one two → HasRacedFirst bridge bridge' one one' to to' → IsResting two' → community_script two' ≡ community_script two
     → two'.from ≡ length (community_script two').lines → to'.number ≡ bridge_in two → entries_of (bridge_in two) (community_history two') ≡ to'.mine → AreRaced bridge' one' two'
 both_raced bridge bridge' one one' two two' to to' ready so rests script all number posts = record {
   first = so.resting;

@@ -1,5 +1,5 @@
 pub mod Bridging
 pub mod Communities
+pub mod Opening
 pub mod Racing
-pub mod Readying
 pub mod Stamping

@@ -4,7 +4,7 @@ ghost use Rattle.std.specs.List.{All, AllZip};
 ghost use Rattle.std.specs.Thread.{IsSync};
 ghost use Rattle.moos_bridged.specs.Communities.{bridge_in, community_history, community_script, IsResting};
 ghost use Rattle.moos_bridged.specs.Racing.{AreRaced, HasCarriedLines, HasRacedFirst, IsFirstReady, MayCarryLines, stamps_of};
-ghost use Rattle.moos_bridged.specs.Readying.{AreReady};
+ghost use Rattle.moos_bridged.specs.Opening.{AreOpened};
 ghost use Rattle.moos_client.specs.Calls.{MayCall};
 ghost use Rattle.moos_share.specs.Bridged.{IsShared};
 ghost use Rattle.moos_share.specs.Carrying.{MayCarry, seated};
@@ -32,7 +32,7 @@ pub(crate) fn share_by_race<R: Threads + Wait + Sync, G: Gate>(
     two: &mut Community,
     gate: &G,
 ) -> Result<(), NoMemory>
-    requires ready { AreReady bridge.old one.old two.old }
+    requires ready { AreOpened bridge.old one.old two.old }
     ensures resting { OnOk result (IsResting one.new × IsResting two.new) }
     ensures shared { OnOk result (IsShared Race (community_script one.old) (community_script two.old) bridge.old.rules (community_history one.new) (community_history two.new)) }
     ensures first { OnOk result (community_script one.new ≡ community_script one.old) }
@@ -53,7 +53,7 @@ fn race<R: Threads + Wait + Sync, G: Gate>(
     two: &mut Community,
     gate: &G,
 ) -> Result<(), NoMemory>
-    requires ready { AreReady bridge.old one.old two.old }
+    requires ready { AreOpened bridge.old one.old two.old }
     ensures raced { OnOk result (AreRaced bridge.new one.new two.new) }
     ensures rules { OnOk result (bridge.new.rules ≡ bridge.old.rules) }
     ensures first { OnOk result (community_script one.new ≡ community_script one.old) }
@@ -78,7 +78,7 @@ fn race_alone<R: Threads + Wait + Sync, G: Gate>(
     two: &mut Community,
     gate: &G,
 ) -> Result<(), NoMemory>
-    requires ready { AreReady bridge.old one.old two.old }
+    requires ready { AreOpened bridge.old one.old two.old }
     requires first { 0 < bridge_in one.old }
     requires second { bridge_in two.old ≡ 0 }
     ensures raced { OnOk result (AreRaced bridge.new one.new two.new) }
@@ -101,7 +101,7 @@ fn race_both<R: Threads + Wait + Sync, G: Gate>(
     two: &mut Community,
     gate: &G,
 ) -> Result<(), NoMemory>
-    requires ready { AreReady bridge.old one.old two.old }
+    requires ready { AreOpened bridge.old one.old two.old }
     requires first { 0 < bridge_in one.old }
     requires second { 0 < bridge_in two.old }
     ensures raced { OnOk result (AreRaced bridge.new one.new two.new) }

@@ -1,7 +1,7 @@
 // Two scripts played at once, with a bridge between their communities.
 ghost use Rattle.std.specs.Prelude.{◌≡◌, IfOk, OnOk};
 ghost use Rattle.moos_bridged.specs.Communities.{community_history, community_script, IsResting};
-ghost use Rattle.moos_bridged.specs.Readying.{AreReady};
+ghost use Rattle.moos_bridged.specs.Opening.{AreOpened};
 ghost use Rattle.moos_share.specs.Bridged.{IsShared, names_bridged, regs_of_rules};
 ghost use Rattle.script_reader.specs.Validity.{IsValid};
 
@@ -74,7 +74,7 @@ fn share_in_order<R: Threads + Wait + Sync, G: Gate>(
     order: Order,
     gate: &G,
 ) -> Result<(), NoMemory>
-    requires ready { AreReady bridge.old one.old two.old }
+    requires ready { AreOpened bridge.old one.old two.old }
     ensures resting { OnOk result (IsResting one.new × IsResting two.new) }
     ensures shared { OnOk result (IsShared order (community_script one.old) (community_script two.old) bridge.old.rules (community_history one.new) (community_history two.new)) }
     ensures first { OnOk result (community_script one.new ≡ community_script one.old) }

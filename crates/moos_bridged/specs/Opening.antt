@@ -6,7 +6,7 @@ use Rattle.moos_share.specs.Bridged.{bridge_opening}
 use Rattle.moos_share.specs.Carrying.{BridgeState}
 
 -- No line is played, and the bridge's registration is the only entry.
-pub record AreReady (bridge : BridgeState) (one two : Community) : Type 0 where
+pub record AreOpened (bridge : BridgeState) (one two : Community) : Type 0 where
   pub first : IsResting one
   pub second : IsResting two
   pub first_unplayed : one.from ≡ 0
