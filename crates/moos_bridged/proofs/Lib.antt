@@ -1,10 +1,17 @@
 pub mod Alone
 pub mod Beginning
+pub mod Beside
 pub mod Bridging
 pub mod Carried
+pub mod CarryingLines
 pub mod Ending
 pub mod Lines
 pub mod Moments
 pub mod NextFetches
 pub mod Playing
+pub mod Raced
+pub mod RacedAlone
+pub mod RacedFirst
+pub mod Racing
 pub mod Stamping
+pub mod Starting

@@ -1,3 +1,5 @@
 pub mod Bridging
 pub mod Communities
+pub mod Opening
+pub mod Racing
 pub mod Stamping

@@ -4,13 +4,15 @@
 //! but the bridge's are the scripts' lines, each client's in order.
 //!
 //! Reading order: `community`, one of the two; `crossing`, one carrying while nobody else calls; `by_stamp`, from one stamp to the
-//! next; `sharing`, the whole.
+//! next; `race`, all lines at once; `sharing`, the whole.
 #![tactic(auto)]
 
 mod by_stamp;
 mod community;
 mod crossing;
+mod race;
 mod seating;
 mod sharing;
 
+pub use seating::bridge_name;
 pub use sharing::{Shared, share};
