@@ -39,7 +39,7 @@ batch_pairs stamp client [] = refl
 batch_pairs stamp client (pair ∷ batch) = ap (λ more. pair ∷ more) (batch_pairs stamp client batch)
 
 -- what posts of fetches post
-pairs_shared : (names : List (List ℕ)) (rules : List Rule) (client : ℕ) (fetches : List MailedFetch) → pairs_posted (map (post_entry names rules client) fetches) ≡ renamed names rules (letters_fetched fetches)
+pub pairs_shared : (names : List (List ℕ)) (rules : List Rule) (client : ℕ) (fetches : List MailedFetch) → pairs_posted (map (post_entry names rules client) fetches) ≡ renamed names rules (letters_fetched fetches)
 pairs_shared names rules client [] = refl
 pairs_shared names rules client (one ∷ fetches) =
     map-append pair_posted (map (post_of one.stamp client) (renamed names rules one.mail)) (posts_of (map (post_entry names rules client) fetches))

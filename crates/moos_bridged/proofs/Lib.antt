@@ -17,3 +17,4 @@ pub mod RacedFirst
 pub mod Racing
 pub mod Stamping
 pub mod Starting
+pub mod Wholes

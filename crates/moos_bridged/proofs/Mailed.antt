@@ -13,10 +13,13 @@ use Rattle.moos_mail.proofs.Lists.{filter-none, found-below, slice_get-front}
 use Rattle.moos_mail.proofs.Orderly.{IsSettled, settled-inbox_of}
 use Rattle.moos_post.specs.declared.entry.Entry.{Entry}
 use Rattle.moos_post.specs.declared.value.Post.{Post}
-use Rattle.moos_post.specs.Delivery.{empty_inbox, Inbox, inbox_of, is_due, is_fetch, mail_after, mailed_to, Mailing, mailing, waiting, with_entry}
+use Rattle.moos_post.specs.Delivery.{empty_inbox, Inbox, inbox_of, is_due, is_fetch, mail_after, mailed_to, Mailing, mailing, waiting, with_entry, with_own}
 use Rattle.moos_post.specs.History.{History, posts_of, posts_of_entry}
 use Rattle.moos_share.specs.Fetches.{fetches_in, fetches_of, letters_fetched, MailedFetch}
 use Rattle.moos_bridged.specs.Fronts.{letters_mailed}
+use Rattle.moos_share.specs.Bridged.{bridge_number, bridge_opening}
+use Rattle.moos_share.specs.declared.rule.Rule.{Rule}
+use Rattle.script_reader.specs.declared.script.Script.{Script}
 use Rattle.std.proofs.lemmas.Bool.Decides.{nat_tests}
 
 abbrev numbers : List Mailing → List ℕ
@@ -54,7 +57,7 @@ got_keeps names got = record {
 }
 
 -- what it got after one entry more
-abbrev is_own_fetch : ℕ → Entry → Bool
+abbrev pub is_own_fetch : ℕ → Entry → Bool
 is_own_fetch client entry = entry.client == client && is_fetch entry.call
 
 -- nothing waits behind a fetch
@@ -166,3 +169,17 @@ mailed_is names client history =
     ap (letters_at (posts_of history)) fetched.all
     ∙ flat_map-append (λ number. option_to_list (option_map (letter_of number) (slice_get (posts_of history) number))) fetched.more (mail_after names client history)
     ∙ ap (λ front. front ++ letters_after names client history) (sym fetched.letters)
+
+-- and nothing waits where a fetch of its own ends the history
+pub mailed_all : (names : List (List ℕ)) (client : ℕ) (front : History) (entry : Entry) → is_own_fetch client entry ≡ true → mail_after names client (front ++ entry ∷ []) ≡ []
+mailed_all names client front entry own =
+    ap waiting (fold-append (with_entry names client) empty_inbox front (entry ∷ []) ∙ fetched_entry names client (inbox_of names client front) entry own)
+    ∙ none_waits (inbox_of names client front) (settled-inbox_of names client front)
+
+-- nor where the bridge has registered alone
+pub opened_none : (names : List (List ℕ)) (first : Script) (rules : List Rule) → mail_after names (bridge_number first) (bridge_opening first rules ∷ []) ≡ []
+opened_none names first rules = by (bridge_number first == bridge_number first)
+  where
+    by : (own : Bool) → waiting (record (if own then with_own names empty_inbox (bridge_opening first rules).call else empty_inbox) { entries = 1 }) ≡ []
+    by true = refl
+    by false = refl

@@ -21,3 +21,8 @@ pub record HasCarriedFront (first second : Script) (rules : List Rule) (one fron
   pub letters : List Letter
   pub some : Begins (letters_mailed (names_bridged first) (bridge_number first) one) letters
   pub posted : pairs_posted (entries_of (bridge_number second) front) ≡ renamed (names_bridged first) rules letters
+
+-- in the whole of it: the renaming of all that the first history mails to it
+abbrev pub HasCarriedAll : Script → Script → List Rule → History → History → Type 0
+HasCarriedAll first second rules one two =
+    pairs_posted (entries_of (bridge_number second) two) ≡ renamed (names_bridged first) rules (letters_mailed (names_bridged first) (bridge_number first) one)
