@@ -5,7 +5,9 @@ pub mod Bridging
 pub mod Carried
 pub mod CarryingLines
 pub mod Ending
+pub mod Fronts
 pub mod Lines
+pub mod Mailed
 pub mod Moments
 pub mod NextFetches
 pub mod Playing
