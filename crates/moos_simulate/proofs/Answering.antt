@@ -21,7 +21,7 @@ use Rattle.moos_lawful.proofs.Rising.{end_rises}
 use Rattle.moos_lawful.proofs.Stepping.{turns_rise}
 use Rattle.moos_simulate.proofs.Beside.{all_rise, long, part_widened, short}
 use Rattle.moos_simulate.proofs.Turning.{fetch_on, HasFetched, post_on, stays_turned}
-use Rattle.moos_simulate.specs.Sailing.{HasTurned, hears}
+use Rattle.moos_simulate.specs.Sailing.{HasMadeTurns, hears}
 use Rattle.script_reader.specs.declared.script.Order.TheVariants.{Stamp}
 
 module _ {A : Type 0} (lines : List Entry) (clients stop period : ℕ) (first a b : Answerer A) (names : ℕ) (mailed : Mailed A) (room : clients + 3 ≤ names) (some : 1 ≤ period)
@@ -69,8 +69,8 @@ module _ {A : Type 0} (lines : List Entry) (clients stop period : ℕ) (first a 
 
     -- both have made so many turns
     pub record Stand (count : ℕ) (history : History) (so : IsLawfulSoFar whole history) : Type 0 where
-      pub one : HasTurned whole a number_a period ticks count history so
-      pub other : HasTurned whole b number_b period ticks count history so
+      pub one : HasMadeTurns whole a number_a period ticks count history so
+      pub other : HasMadeTurns whole b number_b period ticks count history so
 
     known_a : number_a < whole.known
     known_a = omega arith
@@ -177,7 +177,7 @@ module _ {A : Type 0} (lines : List Entry) (clients stop period : ℕ) (first a 
     -- the first has fetched
     pub record FirstHeard (count : ℕ) (history : History) (so : IsLawfulSoFar whole history) : Type 0 where
       pub one : HasFetched whole may a number_a period ticks due_a count history so
-      pub other : HasTurned whole b number_b period ticks count history so
+      pub other : HasMadeTurns whole b number_b period ticks count history so
       pub late : IsLate (count * period) so.left
 
     pub first_fetch : (count : ℕ) (history : History) (so : IsLawfulSoFar whole history) → Stand count history so → count < ticks → IsLate (count * period) so.left
@@ -203,8 +203,8 @@ module _ {A : Type 0} (lines : List Entry) (clients stop period : ℕ) (first a 
 
     -- and has posted: it has made one turn more than the other
     pub record FirstSaid (count : ℕ) (history : History) (so : IsLawfulSoFar whole history) : Type 0 where
-      pub one : HasTurned whole a number_a period ticks (suc count) history so
-      pub other : HasTurned whole b number_b period ticks count history so
+      pub one : HasMadeTurns whole a number_a period ticks (suc count) history so
+      pub other : HasMadeTurns whole b number_b period ticks count history so
       pub late : IsLate (count * period) so.left
 
     abbrev pub saying_a : ℕ → History → Entry
@@ -229,12 +229,12 @@ module _ {A : Type 0} (lines : List Entry) (clients stop period : ℕ) (first a 
             (posted_rise a number_a count m (Posts (a.says (hears whole number_a so.rest))) (hears whole number_a so.rest) (so.left number_a) heard.one.left (omega arith))
             (turned_rise b number_b count m (hears whole number_b so.rest) (so.left number_b) heard.other.left (omega arith))
 
-        made : (on : IsLawfulSoFar whole (history ++ saying_a count so.rest ∷ [])) × HasTurned whole a number_a period ticks (suc count) (history ++ saying_a count so.rest ∷ []) on × ((m : ℕ) → m ≢ number_a → on.left m ≡ so.left m)
+        made : (on : IsLawfulSoFar whole (history ++ saying_a count so.rest ∷ [])) × HasMadeTurns whole a number_a period ticks (suc count) (history ++ saying_a count so.rest ∷ []) on × ((m : ℕ) → m ≢ number_a → on.left m ≡ so.left m)
         made = post_on whole may a number_a period ticks due_a count history so known_a heard.one first_is
 
     -- then the other has fetched
     pub record SecondHeard (count : ℕ) (history : History) (so : IsLawfulSoFar whole history) : Type 0 where
-      pub one : HasTurned whole a number_a period ticks (suc count) history so
+      pub one : HasMadeTurns whole a number_a period ticks (suc count) history so
       pub other : HasFetched whole may b number_b period ticks due_b count history so
       pub late : IsLate (count * period) so.left
 
@@ -280,5 +280,5 @@ module _ {A : Type 0} (lines : List Entry) (clients stop period : ℕ) (first a 
         first_is = none_before (count * period) m history so (omega arith) heard.late (turned_rise a number_a (suc count) m (hears whole number_a so.rest) (so.left number_a) heard.one.left (next_turn count))
             (posted_rise b number_b count m (Posts (b.says (hears whole number_b so.rest))) (hears whole number_b so.rest) (so.left number_b) heard.other.left (omega arith))
 
-        made : (on : IsLawfulSoFar whole (history ++ saying_b count so.rest ∷ [])) × HasTurned whole b number_b period ticks (suc count) (history ++ saying_b count so.rest ∷ []) on × ((m : ℕ) → m ≢ number_b → on.left m ≡ so.left m)
+        made : (on : IsLawfulSoFar whole (history ++ saying_b count so.rest ∷ [])) × HasMadeTurns whole b number_b period ticks (suc count) (history ++ saying_b count so.rest ∷ []) on × ((m : ℕ) → m ≢ number_b → on.left m ≡ so.left m)
         made = post_on whole may b number_b period ticks due_b count history so known_b heard.other first_is

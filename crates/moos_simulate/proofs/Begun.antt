@@ -25,7 +25,7 @@ use Rattle.moos_post.specs.Delivery.{is_fetch}
 use Rattle.moos_simulate.proofs.Answering.{due_a, due_b}
 use Rattle.moos_simulate.proofs.Beside.{left_own, wider}
 use Rattle.moos_simulate.proofs.Rounding.{known_alone}
-use Rattle.moos_simulate.specs.Sailing.{HasTurned, hears, IsUnderSail, pid_number, sim_number}
+use Rattle.moos_simulate.specs.Sailing.{HasMadeTurns, hears, IsUnderSail, pid_number, sim_number}
 use Rattle.moos_simulate.specs.Simulated.{mails_said, marine_pid, schedule_simulated, sim_marine, vehicle_clients}
 use Rattle.script_reader.specs.declared.script.Order.TheVariants.{Stamp}
 use Rattle.script_reader.specs.declared.script.Script.{Script}
@@ -114,7 +114,7 @@ module _ (craft : CraftSettings) (helm : Steering) (script : Script) (names : Li
         )
 
         begin_turned : (answerer : Answerer Tick) (n : ℕ) → whole.due n [] ≡ turns_from answerer n helm.period [] 0 (ticks_to script.stop helm)
-            → HasTurned whole answerer n helm.period (ticks_to script.stop helm) 0 whole.start begin.0
+            → HasMadeTurns whole answerer n helm.period (ticks_to script.stop helm) 0 whole.start begin.0
         begin_turned answerer n due = record {
           many = ap (λ rest. length (hears whole n rest)) begin.1;
           few = omega arith;

@@ -29,7 +29,7 @@ use Rattle.moos_simulate.proofs.Going.{beside_on, lawful_on, room_beside}
 use Rattle.moos_simulate.proofs.Rounding.{known_alone, part, with_tick, without_tick}
 use Rattle.moos_simulate.proofs.Turning.{rest_is}
 use Rattle.moos_simulate.specs.declared.vehicle.Vehicle.{Vehicle}
-use Rattle.moos_simulate.specs.Sailing.{HasTurned, hears, IsBeside, IsSailedOut, IsSailing, IsSimulating, IsUnderSail, pid_number, sim_number}
+use Rattle.moos_simulate.specs.Sailing.{HasMadeTurns, hears, IsBeside, IsSailedOut, IsSailing, IsSimulating, IsUnderSail, pid_number, sim_number}
 use Rattle.moos_simulate.specs.Simulated.{IsSimulated, IsSimulatedSoFar, marine_pid, schedule_simulated, sim_marine}
 use Rattle.moos_simulate.specs.Turns.{IsAnswering, IsAwaited}
 use Rattle.script_reader.specs.declared.script.Order.TheVariants.{Stamp}
@@ -370,7 +370,7 @@ module _ (vehicle : Vehicle) (helm : Steering) (play : Playing) (sailing : IsSai
         known : known_clients_in play ≡ length script_out.names + 1
         known = (λ i. known_clients script_out (beside_out.steered i)) ∙ names_more script_out helm
 
-    none_turned : (answerer : Answerer Tick) (n : ℕ) → HasTurned whole_out answerer n helm.period (ticks_to script_out.stop helm) (length (iterations_made play)) (history_in play) sailing.sail.so_far → sailing.sail.so_far.left n ≡ []
+    none_turned : (answerer : Answerer Tick) (n : ℕ) → HasMadeTurns whole_out answerer n helm.period (ticks_to script_out.stop helm) (length (iterations_made play)) (history_in play) sailing.sail.so_far → sailing.sail.so_far.left n ≡ []
     none_turned answerer n has = has.left ∙ ap (turns_from answerer n helm.period (hears whole_out n sailing.sail.so_far.rest) (length (iterations_made play))) all_made
 
     none_whole : (n : ℕ) → n < whole_out.known → sailing.sail.so_far.left n ≡ []

@@ -11,7 +11,7 @@ use Rattle.moos_client.proofs.Hearing.{heard_append, heard_none}
 use Rattle.moos_lawful.specs.Answering.{Answerer, turns_from}
 use Rattle.moos_lawful.specs.Schedules.{due_in, IsLawfulSoFar, IsPlayable, Schedule}
 use Rattle.moos_lawful.proofs.Going.{next_on, NoneBefore}
-use Rattle.moos_simulate.specs.Sailing.{HasTurned, hears}
+use Rattle.moos_simulate.specs.Sailing.{HasMadeTurns, hears}
 
 -- the first turns, and those behind them
 pub turns_split : {A : Type 0} (answerer : Answerer A) (n period : ℕ) (heard : List A) (i count more : ℕ) → turns_from answerer n period heard i (count + more) ≡ turns_from answerer n period heard i count ++ turns_from answerer n period heard (i + count) more
@@ -75,7 +75,7 @@ module _ {A : Type 0} (schedule : Schedule A) (may : IsPlayable schedule) (answe
     heard_by rest = hears schedule n rest
 
     abbrev Turned : (count : ℕ) (history : History) → IsLawfulSoFar schedule history → Type 0
-    Turned count history so = HasTurned schedule answerer n period ticks count history so
+    Turned count history so = HasMadeTurns schedule answerer n period ticks count history so
 
     -- the entries that it has made are those turns
     pub entries_are : (count : ℕ) (history : History) (so : IsLawfulSoFar schedule history) → n < schedule.known → Turned count history so → entries_of n so.rest ≡ turns_from answerer n period (heard_by so.rest) 0 count

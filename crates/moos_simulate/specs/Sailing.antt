@@ -23,7 +23,7 @@ abbrev pub hears : {A : Type 0} → Schedule A → ℕ → History → List A
 hears schedule n rest = heard_in schedule.mailed n schedule.start rest
 
 -- a client that answers has made so many of its turns, and the others are left
-pub record HasTurned {A : Type 0} (schedule : Schedule A) (answerer : Answerer A) (n period ticks count : ℕ) (history : History) (so : IsLawfulSoFar schedule history) : Type 0 where
+pub record HasMadeTurns {A : Type 0} (schedule : Schedule A) (answerer : Answerer A) (n period ticks count : ℕ) (history : History) (so : IsLawfulSoFar schedule history) : Type 0 where
   pub many : length (hears schedule n so.rest) ≡ count
   pub few : count ≤ ticks
   pub left : so.left n ≡ turns_from answerer n period (hears schedule n so.rest) count (ticks - count)
@@ -39,8 +39,8 @@ sim_number script = suc (suc (length script.names))
 -- keep what these come to. Unless nothing is left, it has no entry of the next stamp yet.
 pub record IsUnderSail (craft : CraftSettings) (helm : Steering) (script : Script) (names : List (List ℕ)) (count left next : ℕ) (history : History) (pid : MarinePid) (sim : SimMarine) : Type 0 where
   pub so_far : IsLawfulSoFar (schedule_simulated script (Some helm) craft names) history
-  pub pid_turned : HasTurned (schedule_simulated script (Some helm) craft names) (marine_pid craft) (pid_number script) helm.period (ticks_to script.stop helm) count history so_far
-  pub sim_turned : HasTurned (schedule_simulated script (Some helm) craft names) (sim_marine craft helm.period) (sim_number script) helm.period (ticks_to script.stop helm) count history so_far
+  pub pid_turned : HasMadeTurns (schedule_simulated script (Some helm) craft names) (marine_pid craft) (pid_number script) helm.period (ticks_to script.stop helm) count history so_far
+  pub sim_turned : HasMadeTurns (schedule_simulated script (Some helm) craft names) (sim_marine craft helm.period) (sim_number script) helm.period (ticks_to script.stop helm) count history so_far
   pub pid_after : IsPidAfter craft (mails_said (hears (schedule_simulated script (Some helm) craft names) (pid_number script) so_far.rest)) pid
   pub sim_after : IsSimAfter craft helm.period (mails_said (hears (schedule_simulated script (Some helm) craft names) (sim_number script) so_far.rest)) sim
   pub early : (left ≡ 0) ⊎ IsTrue (list_all (λ entry. nat_lt entry.stamp next) so_far.rest)

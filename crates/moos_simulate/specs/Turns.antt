@@ -9,7 +9,7 @@ use Rattle.moos_post.specs.History.{History}
 use Rattle.moos_play.specs.Lawful.{Steering, ticks_to}
 use Rattle.moos_play.specs.Plays.{clients_in, GoesOnWith, history_in, IsBetween, iterations_made, left_in, next_stamp, Playing, script_played, StaysSeated}
 use Rattle.moos_simulate.specs.declared.vehicle.Vehicle.{Vehicle}
-use Rattle.moos_simulate.specs.Sailing.{HasTurned, hears, IsBeside, pid_number, sim_number}
+use Rattle.moos_simulate.specs.Sailing.{HasMadeTurns, hears, IsBeside, pid_number, sim_number}
 use Rattle.moos_simulate.specs.Simulated.{mails_said, marine_pid, schedule_simulated, sim_marine}
 use Rattle.script_reader.specs.declared.script.Script.{Script}
 use Rattle.sim_clients.specs.declared.marine_pid.MarinePid.{MarinePid}
@@ -38,8 +38,8 @@ HasHeardAtMost client stamp before after = (history_in after ≡ history_in befo
 -- the script's clients and the helm is of this stamp or before, and what stands so far isn't later.
 pub record IsAwaited (craft : CraftSettings) (helm : Steering) (script : Script) (names : List (List ℕ)) (count left next stamp : ℕ) (history : History) (pid : MarinePid) (sim : SimMarine) : Type 0 where
   pub so_far : IsLawfulSoFar (schedule_simulated script (Some helm) craft names) history
-  pub pid_turned : HasTurned (schedule_simulated script (Some helm) craft names) (marine_pid craft) (pid_number script) helm.period (ticks_to script.stop helm) count history so_far
-  pub sim_turned : HasTurned (schedule_simulated script (Some helm) craft names) (sim_marine craft helm.period) (sim_number script) helm.period (ticks_to script.stop helm) count history so_far
+  pub pid_turned : HasMadeTurns (schedule_simulated script (Some helm) craft names) (marine_pid craft) (pid_number script) helm.period (ticks_to script.stop helm) count history so_far
+  pub sim_turned : HasMadeTurns (schedule_simulated script (Some helm) craft names) (sim_marine craft helm.period) (sim_number script) helm.period (ticks_to script.stop helm) count history so_far
   pub pid_after : IsPidAfter craft (mails_said (hears (schedule_simulated script (Some helm) craft names) (pid_number script) so_far.rest)) pid
   pub sim_after : IsSimAfter craft helm.period (mails_said (hears (schedule_simulated script (Some helm) craft names) (sim_number script) so_far.rest)) sim
   pub more : count < ticks_to script.stop helm

@@ -30,7 +30,7 @@ use Rattle.moos_text.specs.Refusals.{and_then, IsFirst}
 use Rattle.script_reader.specs.declared.script.Script.{Script}
 use Rattle.script_reader.specs.Validity.{IsValid}
 use Rattle.sim_vehicle.specs.declared.settings.CraftSettings.{CraftSettings}
-use Rattle.simulate_job.specs.Simulating.{helm_sailed, IsOf, IsVoyage, iterations_sailed, names_sailed, simulate_outcomes, Simulation}
+use Rattle.simulate_job.specs.Simulating.{helm_sailed, IsOfSimulation, IsVoyage, iterations_sailed, names_sailed, simulate_outcomes, Simulation}
 
 -- none of the vehicle's clients has the helm's name
 no_helm : (client : ℕ) → is_helm vehicle_names client ≡ false
@@ -57,8 +57,8 @@ goes_on_twice before middle after one other = record {
 }
 
 -- the same simulation goes on
-pub of_on : (task : Simulation) (setup : Setup) (craft craft' : CraftSettings) (old new : Playing) → GoesOnWith old new → craft' ≡ craft → IsOf task setup craft (script_played old) (helm_in old) (clients_in old)
-    → IsOf task setup craft' (script_played new) (helm_in new) (clients_in new)
+pub of_on : (task : Simulation) (setup : Setup) (craft craft' : CraftSettings) (old new : Playing) → GoesOnWith old new → craft' ≡ craft → IsOfSimulation task setup craft (script_played old) (helm_in old) (clients_in old)
+    → IsOfSimulation task setup craft' (script_played new) (helm_in new) (clients_in new)
 of_on task setup craft craft' old new on same of = record {
   same_script = on.script ∙ of.same_script;
   same_helm = on.helm ∙ of.same_helm;
@@ -71,7 +71,7 @@ of_on task setup craft craft' old new on same of = record {
 
 -- the report of a history that a vehicle leaves beside such a play
 pub may_report : (task : Simulation) (setup : Setup) (craft : CraftSettings) (script : Script) (helm : Option Steering) (names : List (List ℕ)) (history : History) (made : List Iteration)
-    → IsOf task setup craft script helm names → IsSimulated script helm craft names history → iterations helm script.stop (heard_of names (length script.names) history) ≡ made
+    → IsOfSimulation task setup craft script helm names → IsSimulated script helm craft names history → iterations helm script.stop (heard_of names (length script.names) history) ≡ made
     → IsVoyage task (report_text setup names history made)
 may_report task setup craft script helm names history made of simulated is = record {
   history = history;

@@ -54,22 +54,22 @@ vehicle_turn script files vehicle [] = Wanted VehicleFile vehicle
 vehicle_turn script files vehicle (bytes ∷ more) = turn_behind VehicleFile (λ craft. Ready (record { script = script; files = files; craft = craft })) (vehicle_of bytes)
 
 -- behind a script and a mission, by the bytes of the behaviour file and what is behind it
-abbrev pub behaviors_turn : Script → Mission → List ℕ → List (List ℕ) → FileTurn Simulation
-behaviors_turn script mission vehicle [] = Wanted BehaviorsFile mission.behaviors
-behaviors_turn script mission vehicle (bytes ∷ more) =
+abbrev pub behaviors_turn_simulated : Script → Mission → List ℕ → List (List ℕ) → FileTurn Simulation
+behaviors_turn_simulated script mission vehicle [] = Wanted BehaviorsFile mission.behaviors
+behaviors_turn_simulated script mission vehicle (bytes ∷ more) =
     turn_behind BehaviorsFile (λ file. vehicle_turn script (record { mission = mission; file = file }) vehicle more) (behaviors_of mission.domain bytes)
 
 -- behind a script, by the bytes of the mission of this name and what is behind it
-abbrev pub mission_turn : Script → List ℕ → List ℕ → List (List ℕ) → FileTurn Simulation
-mission_turn script mission vehicle [] = Wanted MissionFile mission
-mission_turn script mission vehicle (bytes ∷ more) =
-    turn_behind MissionFile (λ read. behaviors_turn script read vehicle more) (and_then (with_few_ticks script) (mission_of bytes))
+abbrev pub mission_turn_simulated : Script → List ℕ → List ℕ → List (List ℕ) → FileTurn Simulation
+mission_turn_simulated script mission vehicle [] = Wanted MissionFile mission
+mission_turn_simulated script mission vehicle (bytes ∷ more) =
+    turn_behind MissionFile (λ read. behaviors_turn_simulated script read vehicle more) (and_then (with_few_ticks script) (mission_of bytes))
 
 -- Where the job stands, by the bytes of the files that were loaded so far, in order: a script, a mission, the behaviour file that the
 -- mission names, and a vehicle file.
 abbrev pub simulate_turn : List ℕ → List ℕ → List ℕ → List (List ℕ) → FileTurn Simulation
 simulate_turn script mission vehicle [] = Wanted ScriptFile script
-simulate_turn script mission vehicle (bytes ∷ more) = turn_behind ScriptFile (λ read. mission_turn read mission vehicle more) (simulated_script bytes)
+simulate_turn script mission vehicle (bytes ∷ more) = turn_behind ScriptFile (λ read. mission_turn_simulated read mission vehicle more) (simulated_script bytes)
 
 -- ---- what may be written
 
@@ -118,7 +118,7 @@ simulate_outcomes = record { MayWrite = MayReport; IsWrittenAsItComes = λ task.
 
 -- a script, a helm, names of clients, a vehicle and a setup that are those of this simulation, whose vehicle keeps in range and whose helm
 -- decides by worth
-pub record IsOf (task : Simulation) (setup : Setup) (craft : CraftSettings) (script : Script) (helm : Option Steering) (names : List (List ℕ)) : Type 0 where
+pub record IsOfSimulation (task : Simulation) (setup : Setup) (craft : CraftSettings) (script : Script) (helm : Option Steering) (names : List (List ℕ)) : Type 0 where
   pub same_script : script ≡ task.script
   pub same_helm : helm ≡ Some (helm_sailed task)
   pub same_names : names ≡ names_sailed task

@@ -5,7 +5,7 @@ ghost use Rattle.command_line.specs.Endings.{Ended, EndsFrom, sinking, surroundi
 ghost use Rattle.command_line.specs.Turns.{FileTurn, Ready};
 ghost use Rattle.mission_reader.specs.Validity.{IsValidMission};
 ghost use Rattle.script_reader.specs.Validity.{IsValid};
-ghost use Rattle.simulate_job.specs.Simulating.{behaviors_turn, mission_turn, simulate_outcomes, simulate_turn, Simulation, vehicle_turn};
+ghost use Rattle.simulate_job.specs.Simulating.{behaviors_turn_simulated, mission_turn_simulated, simulate_outcomes, simulate_turn, Simulation, vehicle_turn};
 
 use crate::reading::read_simulated;
 use crate::telling::sail;
@@ -71,7 +71,7 @@ fn with_mission<R: Threads + Wait + Sync, F: Folder, K: Sink, G: Gate>(
     requires few { (1 ≤ workers) × (workers ≤ 16) }
     requires valid { IsValid script.now }
     // Wherever the job stood before, by where it stands with its files.
-    ensures ends { (turn : List (List ℕ) → FileTurn Simulation) (front : List (List ℕ)) → ((files : List (List ℕ)) → turn (front ++ files) ≡ mission_turn script.now name.now vehicle.now files)
+    ensures ends { (turn : List (List ℕ) → FileTurn Simulation) (front : List (List ℕ)) → ((files : List (List ℕ)) → turn (front ++ files) ≡ mission_turn_simulated script.now name.now vehicle.now files)
         → EndsFrom simulate_outcomes (surroundings (F.told folder.old) (F.sure folder.old) (F.faults folder.old) (F.faults folder.new)
         (sinking (K.taken out.old) (K.taken out.new) (K.faults out.old) (K.faults out.new))) turn front result }
     ensures same { (F.told folder.new ≡ F.told folder.old) × (F.sure folder.new ≡ F.sure folder.old) }
@@ -104,7 +104,7 @@ fn with_behaviors<R: Threads + Wait + Sync, F: Folder, K: Sink, G: Gate>(
     requires valid { IsValid script.now }
     requires mission { IsValidMission mission.now }
     // Wherever the job stood before, by where it stands with its files.
-    ensures ends { (turn : List (List ℕ) → FileTurn Simulation) (front : List (List ℕ)) → ((files : List (List ℕ)) → turn (front ++ files) ≡ behaviors_turn script.now mission.now vehicle.now files)
+    ensures ends { (turn : List (List ℕ) → FileTurn Simulation) (front : List (List ℕ)) → ((files : List (List ℕ)) → turn (front ++ files) ≡ behaviors_turn_simulated script.now mission.now vehicle.now files)
         → EndsFrom simulate_outcomes (surroundings (F.told folder.old) (F.sure folder.old) (F.faults folder.old) (F.faults folder.new)
         (sinking (K.taken out.old) (K.taken out.new) (K.faults out.old) (K.faults out.new))) turn front result }
     ensures same { (F.told folder.new ≡ F.told folder.old) × (F.sure folder.new ≡ F.sure folder.old) }

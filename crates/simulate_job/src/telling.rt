@@ -9,7 +9,7 @@ ghost use Rattle.moos_simulate.specs.Sailing.{IsSailedOut, IsSimulating};
 ghost use Rattle.moos_simulate.specs.Simulated.{vehicle_names};
 ghost use Rattle.moos_telling.specs.Telling.{IsToldSoFar, Tells};
 ghost use Rattle.script_reader.specs.Validity.{IsValid};
-ghost use Rattle.simulate_job.specs.Simulating.{IsOf, IsVoyage, Simulation};
+ghost use Rattle.simulate_job.specs.Simulating.{IsOfSimulation, IsVoyage, Simulation};
 
 use command_line::{Status, written};
 use moos_io::{Buffer, Gate, Sink};
@@ -41,7 +41,7 @@ pub fn sail<R: Threads + Wait + Sync, K: Sink, G: Gate>(
     requires period { helm.period ≤ 10 ^ 6 }
     requires few { (1 ≤ workers) × (workers ≤ 16) }
     // Whichever simulation this is.
-    ensures { (task : Simulation) → IsOf task setup.now craft script.now (Some (steering_with script.now helm)) (names_with script.now (Some helm) ++ vehicle_names)
+    ensures { (task : Simulation) → IsOfSimulation task setup.now craft script.now (Some (steering_with script.now helm)) (names_with script.now (Some helm) ++ vehicle_names)
         → Tells (IsVoyage task) (sinking (K.taken out.old) (K.taken out.new) (K.faults out.old) (K.faults out.new)) result }
 {
     let period = helm.period;
@@ -81,7 +81,7 @@ fn tell<R: Threads + Wait + Sync, K: Sink, G: Gate>(
     requires simulating { IsSimulating vehicle.old play.old }
     requires begun { iterations_made play.old ≡ [] }
     requires few { (1 ≤ workers) × (workers ≤ 16) }
-    ensures { (task : Simulation) → IsOf task setup.now vehicle.old.craft (script_played play.old) (helm_in play.old) (clients_in play.old)
+    ensures { (task : Simulation) → IsOfSimulation task setup.now vehicle.old.craft (script_played play.old) (helm_in play.old) (clients_in play.old)
         → Tells (IsVoyage task) (sinking (K.taken out.old) (K.taken out.new) (K.faults out.old) (K.faults out.new)) result }
 {
     parts_law();
@@ -143,7 +143,7 @@ fn tell_round<R: Threads + Wait + Sync, K: Sink, G: Gate>(
         → IsToldSoFar setup.now before (K.taken out.old) play.old → IsToldSoFar setup.now before (K.taken out.new) play.new)) }
     ensures over { IfOk result (λ more. IfNone more (IsSailedOut vehicle.old.craft play.new × (play.new ≡ play.old) × (K.taken out.new ≡ K.taken out.old))) }
     ensures stopped { IfErr result (λ status. (task : Simulation) (before : Option (List ℕ)) (faults : Faring)
-        → IsOf task setup.now vehicle.old.craft (script_played play.old) (helm_in play.old) (clients_in play.old)
+        → IsOfSimulation task setup.now vehicle.old.craft (script_played play.old) (helm_in play.old) (clients_in play.old)
         → FaresOn faults (K.faults out.old) → IsToldSoFar setup.now before (K.taken out.old) play.old
         → Tells (IsVoyage task) (sinking before (K.taken out.new) faults (K.faults out.new)) status) }
 {
