@@ -1,17 +1,9 @@
 -- What may be written of a run. This serves `telling` alone.
-use Rattle.std.specs.Prelude.{◌≡◌, ℕ, ◌⊎◌, List, Option}
-use Rattle.moos_io.specs.Faults.{Fell}
-use Rattle.moos_io.specs.Pieces.{Took, TookFront}
-use Rattle.moos_play.specs.declared.playing.Play.{Play}
+use Rattle.std.specs.Prelude.{◌≡◌, ℕ, List, Option}
 use Rattle.moos_play.specs.Lawful.{heard_of, helm_number, IsLawful, iterations, names_with, Steering}
-use Rattle.moos_play.specs.Plays.{clients_in, history_in, iterations_made}
 use Rattle.moos_post.specs.History.{History}
 use Rattle.moos_report.specs.declared.setup.Setup.{Setup}
-use Rattle.moos_report.specs.Parts.{front_text}
 use Rattle.moos_report.specs.Report.{report_text}
-use Rattle.command_line.specs.declared.status.Status.{Status}
-use Rattle.command_line.specs.declared.status.Status.TheVariants.{Done, WriteFault, NoMemory}
-use Rattle.command_line.specs.Endings.{IsUntouched, Sinking}
 use Rattle.script_reader.specs.declared.script.Order.{Order}
 use Rattle.script_reader.specs.declared.script.Script.{Script}
 

@@ -1,12 +1,8 @@
 // A run whose report is written as it comes: how it begins before the first round, and what each round brings before the next.
-ghost use Rattle.std.specs.Prelude.{◌≡◌, ◌+◌, ◌^◌, ◌<◌, ◌≤◌, [], drop, length, option_map, take, IfErr, IfNone, IfOk, IfSome, OnErr, OnOk, Option, List, ℕ};
-ghost use Rattle.moos_io.specs.Faults.{Faring, FaresOn, Fell};
-ghost use Rattle.moos_io.specs.Pieces.{Took, TookFront};
+ghost use Rattle.std.specs.Prelude.{◌≡◌, ◌+◌, ◌^◌, ◌<◌, ◌≤◌, [], length, option_map, IfErr, IfNone, IfOk, IfSome, OnOk, Option, List, ℕ};
+ghost use Rattle.moos_io.specs.Faults.{Faring, FaresOn};
 ghost use Rattle.moos_play.specs.Lawful.{MayStart, names_with, opening, steering_with};
-ghost use Rattle.moos_play.specs.Plays.{clients_in, GoesOnWith, HasCompletion, helm_in, history_in, IsBetween, IsPlayedOut, IsSeated, iterations_made, left_in, order_played, script_played};
-ghost use Rattle.moos_report.specs.IterationLines.{helm_fetches};
-ghost use Rattle.moos_report.specs.Parts.{front_text};
-ghost use Rattle.moos_report.specs.Report.{end_text, entries_text};
+ghost use Rattle.moos_play.specs.Plays.{clients_in, GoesOnWith, HasCompletion, helm_in, history_in, IsBetween, IsPlayedOut, iterations_made, left_in, order_played, script_played};
 ghost use Rattle.command_line.specs.Endings.{sinking};
 ghost use Rattle.moos_jobs.specs.Telling.{IsOfLawful};
 ghost use Rattle.moos_telling.specs.Telling.{IsToldSoFar, Tells};

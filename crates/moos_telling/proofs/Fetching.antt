@@ -18,7 +18,7 @@ use Rattle.moos_post.specs.Delivery.{is_fetch}
 use Rattle.moos_post.specs.History.{History}
 use Rattle.moos_client.specs.Hearing.{heard_in}
 use Rattle.moos_play.specs.Lawful.{heard_of, helm_number, names_with, opening_of, Steering, tick_entries, ticks_of, mailed_in}
-use Rattle.moos_play.specs.Plays.{clients_in, GoesOnWith, HasSteeredSoFar, HasTicked, helm_in, history_in, IsRunFor, iterations_by, iterations_made, Playing, script_played}
+use Rattle.moos_play.specs.Plays.{clients_in, HasSteeredSoFar, HasTicked, helm_in, history_in, IsRunFor, iterations_by, iterations_made, Playing, script_played}
 use Rattle.moos_report.specs.IterationLines.{helm_fetches, is_helm, is_helm_fetch, is_helm_post, is_posting}
 use Rattle.moos_report.specs.Parts.{EndsWithin}
 use Rattle.moos_telling.specs.Telling.{IsHelmNamed}
@@ -233,12 +233,6 @@ none_without play none = ap (λ helm. iterations_by (clients_in play) (history_i
 -- the helm's name stands among those of a play's clients where it is to
 abbrev pub IsNamed : Playing → Type 0
 IsNamed play = IsHelmNamed (clients_in play) (script_played play) (helm_in play)
-
-pub named_on : (before after : Playing) → GoesOnWith before after → IsNamed before → IsNamed after
-named_on before after on named =
-    subst (λ names. IsHelmNamed names (script_played after) (helm_in after)) (sym on.names)
-    (subst (λ script. IsHelmNamed (clients_in before) script (helm_in after)) (sym on.script)
-    (subst (λ helm. IsHelmNamed (clients_in before) (script_played before) helm) (sym on.helm) named))
 
 pub fetched : (play : Playing) → IsRunWell play → IsNamed play → helm_fetches (clients_in play) (history_in play) ≡ length (iterations_made play)
 fetched play well named =
