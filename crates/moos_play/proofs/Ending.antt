@@ -26,7 +26,7 @@ made_over names number stop history (Some s) so ticked =
 -- all of them are kept where none was handed out
 made_kept : (names : List (List ℕ)) (number : ℕ) (history : History) (steersman : Option Steersman) → StandsAt names number steersman history → told_in steersman ≡ 0 → iterations_in steersman ≡ made_by names history steersman
 made_kept names number history None so none = refl
-made_kept names number history (Some s) so none = so.2.same ∙ ap (λ told. drop told (iterations_of (plan_of s.helm) (heard_of names s.number history) s.ticks)) none
+made_kept names number history (Some s) so none = so.1.same ∙ ap (λ told. drop told (iterations_of (plan_of s.helm) (heard_of names s.number history) s.ticks)) none
 
 -- where no tick is left the helm has made all
 pub over_ticks : (script : Script) (play : Stage) (steersman : Option Steersman) → IfSome steersman (λ helm. (1 ≤ helm.period) × (helm.ticks ≤ ticks_to script.stop (steering_of helm))) → ticks_left script.stop steersman ≡ 0 → HasTicked script.stop steersman

@@ -303,8 +303,8 @@ has_steered play w between = at play.steersman between.at_play.under.steered
     at (Some s) stands =
         let many = made_many play.lock.base play.first.seat.seen (Some s) in
         subst (λ n. HasTicked play.lock.base (steering_of s) n play.first.seat.seen) (sym many) (record {
-          own = subst (λ b. entries_of s.number play.first.seat.seen ≡ cond b (opening_of (steering_of s)) [] ++ ticks_of (steering_of s) (heard_of play.lock.base s.number play.first.seat.seen) s.ticks) stands.1 stands.2.own;
-          many = stands.2.many;
+          own = stands.1.own;
+          many = stands.1.many;
         })
 
 -- the helm, where there is one, is run for the script

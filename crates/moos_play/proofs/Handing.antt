@@ -67,7 +67,7 @@ made_on names number None (Some t) history later rest is same told kept stood st
 made_on names number (Some s) None history later rest is same told kept stood stands = absurd cc
 made_on names number (Some s) (Some t) history later rest is same told kept stood stands =
     subst (λ later. made_by names later (Some t) ≡ made_by names history (Some s) ++ t.iterations) (sym is)
-    (told_on names s t history rest (cc) told kept stood.2 (subst (Steers names t) is stands.2))
+    (told_on names s t history rest (cc) told kept stood.1 (subst (Steers names t) is stands.1))
 
 -- a helm whose iterations are handed out stands where it stood
 handed_steers : (names : List (List ℕ)) (s : Steersman) (history : History) → Steers names s history → Steers names (handed_of s) history
@@ -89,7 +89,7 @@ handed_under order script lock (Some s) from first under = record {
   within = under.within;
   seats = under.seats;
   played = record { so_far = under.played.so_far; left = under.played.left };
-  steered = (under.steered.0, under.steered.1, handed_steers lock.base s first.seen under.steered.2);
+  steered = (under.steered.0, handed_steers lock.base s first.seen under.steered.1);
 }
 
 -- so does the run

@@ -211,7 +211,7 @@ moves_race Race stamp before after race = tt
 
 -- a tick that is due
 pub moves_tick : (script : Script) (play after : Stage) (old new : Steersman) (result : Result (Unit {0}) AllocError) → play.steersman ≡ Some old → after.steersman ≡ Some new → after.from ≡ play.from → tick_due script.stop play.steersman ≢ None → IsBehind (tick_due script.stop play.steersman) (drop play.from script.lines)
-    → OnOk result ((new.opened ≡ true) × (new.ticks ≡ old.ticks + 1)) → OnOk result (KeepsMoves play.order (stamp_due script play) play after)
+    → OnOk result (new.ticks ≡ old.ticks + 1) → OnOk result (KeepsMoves play.order (stamp_due script play) play after)
 moves_tick script play after old new (Err _) is is' from due behind reached = tt
 moves_tick script play after old new (Ok _) is is' from due behind reached = by play.order
   where
@@ -228,7 +228,7 @@ moves_tick script play after old new (Ok _) is is' from due behind reached = by 
     by Stamp = record {
       lines = omega (arith, from);
       ticks = inr (
-        ap ticks_in is' ∙ reached.1 ∙ omega arith ∙ sym (ap (λ s. suc (ticks_in s)) is),
+        ap ticks_in is' ∙ reached ∙ omega arith ∙ sym (ap (λ s. suc (ticks_in s)) is),
         stamp ∙ sym (ap (λ s. ticks_in s * period_in s) is),
       );
     }
