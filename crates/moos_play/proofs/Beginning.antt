@@ -170,18 +170,9 @@ none_told play between begun = by play.steersman between.told between.at_play.un
 pub nothing_whole : (first : SeatState) → KnowsNothing first → IsWhole first
 nothing_whole first nothing n = ap (entries_of n) nothing.seen ∙ sym (nothing.known n)
 
--- the opening with pairs to post, and without
-opening_some : (helm : Steering) → 0 < length helm.plan.opening → opening_of helm ≡ entry_of helm.client 0 (Register (wants_of helm.plan)) ∷ entry_of helm.client 0 (Posts helm.plan.opening) ∷ []
-opening_some helm some = ap (λ b. entry_of helm.client 0 (Register (wants_of helm.plan)) ∷ cond b (entry_of helm.client 0 (Posts helm.plan.opening) ∷ []) []) (lt_some (length helm.plan.opening) some)
-  where
-    lt_some : (n : ℕ) → 0 < n → nat_lt 0 n ≡ true
-    lt_some n h = grind (arith, nat_tests)
-
-opening_none : (helm : Steering) → length helm.plan.opening ≤ 0 → opening_of helm ≡ entry_of helm.client 0 (Register (wants_of helm.plan)) ∷ []
-opening_none helm none = ap (λ b. entry_of helm.client 0 (Register (wants_of helm.plan)) ∷ cond b (entry_of helm.client 0 (Posts helm.plan.opening) ∷ []) []) (lt_none (length helm.plan.opening) none)
-  where
-    lt_none : (n : ℕ) → n ≤ 0 → nat_lt 0 n ≡ false
-    lt_none n h = grind (arith, nat_tests)
+-- the opening, by whether there are pairs to post
+opening_is : (helm : Steering) (b : Bool) → nat_lt 0 (length helm.plan.opening) ≡ b → opening_of helm ≡ entry_of helm.client 0 (Register (wants_of helm.plan)) ∷ cond b (entry_of helm.client 0 (Posts helm.plan.opening) ∷ []) []
+opening_is helm b is = ap (λ b. entry_of helm.client 0 (Register (wants_of helm.plan)) ∷ cond b (entry_of helm.client 0 (Posts helm.plan.opening) ∷ []) []) is
 
 -- so the entries of a steersman that registers, and posts where it has pairs, are its opening
 pub opens_posting : (old s : Steersman) (regs : List Reg) (pairs : List Pair) (start between after : History) → s ≡ record old { calls = s.calls } → regs ≡ wants_of (plan_of s.helm) → pairs ≡ (plan_of s.helm).opening → 0 < length pairs
@@ -190,13 +181,19 @@ opens_posting old s regs pairs start between after is regs_is pairs_is some firs
     second ∙ ap (λ front. front ++ entry_of s.number 0 (Posts pairs) ∷ []) first ∙ append_assoc start (entry_of s.number 0 (Register regs) ∷ []) (entry_of s.number 0 (Posts pairs) ∷ [])
     ∙ ap (λ regs. start ++ entry_of s.number 0 (Register regs) ∷ entry_of s.number 0 (Posts pairs) ∷ []) regs_is
     ∙ ap (λ pairs. start ++ entry_of s.number 0 (Register (wants_of (plan_of s.helm))) ∷ entry_of s.number 0 (Posts pairs) ∷ []) pairs_is
-    ∙ ap (λ opening. start ++ opening) (sym (opening_some (steering_of s) (omega (arith, some, ap length pairs_is)))) ∙ ap {A = Steersman} (λ s. start ++ opening_of (steering_of s)) is
+    ∙ ap (λ opening. start ++ opening) (sym (opening_is (steering_of s) true (more (plan_of s.helm).opening pairs_is))) ∙ ap {A = Steersman} (λ s. start ++ opening_of (steering_of s)) is
+  where
+    more : (all : List Pair) → pairs ≡ all → nat_lt 0 (length all) ≡ true
+    more all is = let here : 0 < length all = omega (arith, some, ap length is) in grind (arith, nat_tests)
 
 pub opens_alone : (old s : Steersman) (regs : List Reg) (pairs : List Pair) (start after : History) → s ≡ record old { calls = s.calls } → regs ≡ wants_of (plan_of s.helm) → pairs ≡ (plan_of s.helm).opening → length pairs ≤ 0
     → after ≡ start ++ entry_of s.number 0 (Register regs) ∷ [] → after ≡ start ++ opening_of (steering_of old)
 opens_alone old s regs pairs start after is regs_is pairs_is none first =
     first ∙ ap (λ regs. start ++ entry_of s.number 0 (Register regs) ∷ []) regs_is
-    ∙ ap (λ opening. start ++ opening) (sym (opening_none (steering_of s) (omega (arith, none, ap length pairs_is)))) ∙ ap {A = Steersman} (λ s. start ++ opening_of (steering_of s)) is
+    ∙ ap (λ opening. start ++ opening) (sym (opening_is (steering_of s) false (less (plan_of s.helm).opening pairs_is))) ∙ ap {A = Steersman} (λ s. start ++ opening_of (steering_of s)) is
+  where
+    less : (all : List Pair) → pairs ≡ all → nat_lt 0 (length all) ≡ false
+    less all is = let here : length all ≤ 0 = omega (arith, none, ap length is) in grind (arith, nat_tests)
 
 -- a helm that has made its opening, and nobody else an entry
 pub opened_first : (lock : CommunityLock) (number : ℕ) (old new : Steersman) (first after : SeatState) → KnowsNothing first → IsUnopened number old → new ≡ record old { calls = new.calls } → IsGathered lock after → IsWhole after → after.seen ≡ first.seen ++ opening_of (steering_of old)

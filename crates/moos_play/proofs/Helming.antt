@@ -11,18 +11,15 @@ use Rattle.moos_post.specs.declared.entry.Call.TheVariants.{Post as Posts, Fetch
 use Rattle.moos_post.specs.declared.value.Pair.{Pair}
 use Rattle.moos_play.specs.declared.steersman.Steersman.{Steersman}
 use Rattle.moos_play.specs.Steered.{HasOwn, Steers}
-use Rattle.moos_step.specs.Steps.{Anything, Makes}
 use Rattle.moos_client.proofs.Hearing.{IsNext}
-use Rattle.moos_step.proofs.Lines.{made_more}
-use Rattle.moos_play.proofs.Steering.{anything, called_next, called_of, called_own, mail_heard, ticked_on}
-use Rattle.moos_step.proofs.Calling.{called_made}
+use Rattle.moos_play.proofs.Steering.{called_next, called_of, called_own, mail_heard, ticked_on}
 
 -- a call of the client with a number
-call_next : (client : ℕ) (seat after : SeatState) (stamp : ℕ) (call : Call) → seat.number ≡ client → HasOwn seat → IsCalled seat after stamp call → IsNext client seat.seen after.seen (entry_of client stamp call)
+pub call_next : (client : ℕ) (seat after : SeatState) (stamp : ℕ) (call : Call) → seat.number ≡ client → HasOwn seat → IsCalled seat after stamp call → IsNext client seat.seen after.seen (entry_of client stamp call)
 call_next client seat after stamp call is own called = subst (λ n. IsNext n seat.seen after.seen (entry_of n stamp call)) is (called_next seat after stamp call own called)
 
 -- a fetch of the client with a number, and its mail
-pub fetch_next : (client : ℕ) (seat after : SeatState) (names : List (List ℕ)) (stamp : ℕ) (mail : List Letter) → seat.number ≡ client → HasOwn seat → IsFetched seat after names stamp mail
+fetch_next : (client : ℕ) (seat after : SeatState) (names : List (List ℕ)) (stamp : ℕ) (mail : List Letter) → seat.number ≡ client → HasOwn seat → IsFetched seat after names stamp mail
     → (next : IsNext client seat.seen after.seen (entry_of client stamp Fetch)) × (mail ≡ letters_after names client (seat.seen ++ next.between))
 fetch_next client seat after names stamp mail is own fetched =
     subst (λ n. (next : IsNext n seat.seen after.seen (entry_of n stamp Fetch)) × (mail ≡ letters_after names n (seat.seen ++ next.between))) is
@@ -31,11 +28,6 @@ fetch_next client seat after names stamp mail is own fetched =
 -- the number stays
 number_on : (seat after : SeatState) (stamp : ℕ) (call : Call) → IsCalled seat after stamp call → after.number ≡ seat.number
 number_on seat after stamp call called = ap (λ s. s.number) called.after
-
--- two calls as what the seat makes
-pub two_calls : (seat between after : SeatState) (stamp later : ℕ) (call other : Call) → IsCalled seat between stamp call → IsCalled between after later other → Makes Anything seat after
-two_calls seat between after stamp later call other first second =
-    anything (made_more (entry_of seat.number stamp call ∷ []) (entry_of between.number later other ∷ []) seat between after (called_made seat between stamp call first) (called_made between after later other second))
 
 -- a tick
 pub ticks_once : (names : List (List ℕ)) (s t : Steersman) (helm : Helm) (seat between after : SeatState) (stamp : ℕ) (mail : List Letter) (iteration : Iteration) (posts : List Pair) (done : List Iteration)

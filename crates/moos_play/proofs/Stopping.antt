@@ -4,8 +4,7 @@ use Rattle.std.proofs.lemmas.List.{append_cancel_left}
 use Rattle.std.proofs.lemmas.List.Elements.{filter-append}
 use Rattle.helm_core.specs.Iterations.{iteration_at}
 use Rattle.helm_core.specs.Ticks.{Tick, tick_of}
-use Rattle.moos_client.specs.Calls.{entries_of, entry_of, IsFetched, IsUncalled, SeatState}
-use Rattle.moos_db.specs.declared.mail.Letter.{Letter}
+use Rattle.moos_client.specs.Calls.{entries_of, entry_of, IsCalled, IsUncalled, SeatState}
 use Rattle.moos_db.specs.Database.{letters_after}
 use Rattle.moos_post.specs.declared.entry.Call.TheVariants.{Post as Posts, Fetch}
 use Rattle.moos_post.specs.declared.entry.Entry.{Entry}
@@ -16,8 +15,7 @@ use Rattle.moos_play.specs.Steered.{HasOwn, HasStopped, IsStopped, steering_of, 
 use Rattle.moos_step.specs.Steps.{IsWhole}
 use Rattle.moos_client.proofs.Hearing.{entries_next, heard_fetch, heard_on, IsNext}
 use Rattle.moos_play.proofs.Hearing.{ticks_stay}
-use Rattle.moos_play.proofs.Helming.{fetch_next}
-use Rattle.moos_play.proofs.Steering.{called_of, called_own}
+use Rattle.moos_play.proofs.Helming.{call_next}
 use Rattle.turn_lock.proofs.Fronts.{begins_itself, begins_on}
 use Rattle.turn_lock.specs.Passes.{Begins, known_of}
 
@@ -93,14 +91,10 @@ pub ready_stops : (names : List (List ℕ)) (s : Steersman) (history : History) 
 ready_stops names s history so = steered_stops names s s.ticks (s.ticks + 1) history so (omega arith) (omega arith)
 
 -- the fetch of a tick
-pub tick_fetched : (names : List (List ℕ)) (s : Steersman) (seat between : SeatState) (stamp : ℕ) (mail : List Letter) → Steers names s seat.seen → seat.number ≡ s.number → HasOwn seat → stamp ≡ s.ticks * s.period → IsFetched seat between names stamp mail
+pub tick_fetched : (names : List (List ℕ)) (s : Steersman) (seat between : SeatState) (stamp : ℕ) → Steers names s seat.seen → seat.number ≡ s.number → HasOwn seat → stamp ≡ s.ticks * s.period → IsCalled seat between stamp Fetch
     → IsStopped names (steering_of s) s.ticks (s.ticks + 1) between.seen
-tick_fetched names s seat between stamp mail so number own stamp_is fetched =
-    fetched_stops names s seat.seen between.seen so (subst (λ stamp. IsNext s.number seat.seen between.seen (entry_of s.number stamp Fetch)) stamp_is (fetch_next s.number seat between names stamp mail number own fetched).0)
-
--- the seat has its own entries after a fetch
-pub fetched_own : (seat between : SeatState) (names : List (List ℕ)) (stamp : ℕ) (mail : List Letter) → IsFetched seat between names stamp mail → HasOwn between
-fetched_own seat between names stamp mail fetched = called_own seat between stamp Fetch (called_of seat between names stamp mail fetched)
+tick_fetched names s seat between stamp so number own stamp_is fetched =
+    fetched_stops names s seat.seen between.seen so (subst (λ stamp. IsNext s.number seat.seen between.seen (entry_of s.number stamp Fetch)) stamp_is (call_next s.number seat between stamp Fetch number own fetched))
 
 -- a helm that has stopped behind as many ticks, of at least as many
 pub stops_within : (names : List (List ℕ)) (one other : Steering) (whole made most more : ℕ) (seat : SeatState) → one ≡ other → whole ≡ made → most ≤ more → HasStopped names one whole most seat → HasStopped names other made more seat

@@ -12,7 +12,7 @@ use Rattle.helm_core.specs.declared.iteration.Iteration.{Iteration}
 use Rattle.helm_core.specs.Helms.{clock_of, IsTicked, plan_of, StandsFor}
 use Rattle.moos_lawful.specs.Answering.{turns_from}
 use Rattle.moos_lawful.specs.Schedules.{IsLawfulSoFar}
-use Rattle.moos_play.specs.Plays.{iterations_by, tick_at, ticks_behind}
+use Rattle.moos_play.specs.Plays.{tick_at}
 use Rattle.moos_play.specs.Schedules.{answerers, answering, schedule_with}
 use Rattle.moos_play.specs.declared.run.HelmRun.{HelmRun}
 use Rattle.moos_play.specs.declared.steersman.Steersman.{Steersman}
@@ -45,10 +45,6 @@ pub record HasIterated (names : List (List ℕ)) (before after : SeatState) (old
   pub mail : List Letter
   pub fetched : IsFetched before after names stamp mail
   pub ticked : IsTicked old new stamp mail iteration
-
--- no memory was left for a fetch, or for what comes behind it
-abbrev pub MayHaveFetched : List (List ℕ) → SeatState → SeatState → ℕ → Type 0
-MayHaveFetched names before after stamp = IsUncalled before after ⊎ ((mail : List Letter) × IsFetched before after names stamp mail)
 
 -- no memory was left for a call, or for what comes behind it
 abbrev pub MayHaveCalled : SeatState → SeatState → ℕ → Call → Type 0
@@ -186,19 +182,6 @@ pub record IsDue (lines : List Entry) (tick : Option ℕ) (from to : ℕ) : Type
   pub one : IsTrue (list_all (λ line. line.stamp == stamp) (take (to - from) (drop from lines)))
   pub early : from < to → comes_before tick stamp ≡ false
   pub next : from ≡ to → IsBehind tick (drop from lines)
-
--- the milliseconds from one tick to the next, any without a helm
-abbrev pub period_in : Option Steersman → ℕ
-period_in None = 1
-period_in (Some steersman) = steersman.period
-
--- how many of the helm's ticks up to a stamp are left
-abbrev pub ticks_left : ℕ → Option Steersman → ℕ
-ticks_left stop steersman = ticks_behind stop (helm_of steersman) (ticks_in steersman)
-
--- the helm's iterations so far over what it has heard in a history
-abbrev pub made_by : List (List ℕ) → History → Option Steersman → List Iteration
-made_by names history steersman = iterations_by names history (helm_of steersman) (ticks_in steersman)
 
 -- the iterations so far, none without a helm
 abbrev pub iterations_in : Option Steersman → List Iteration

@@ -3,8 +3,8 @@ ghost use Rattle.std.specs.Prelude.{◌≡◌, ◌≤◌, ◌<◌, ◌+◌, ◌^
 ghost use Rattle.helm_core.specs.Helms.{clock_of};
 ghost use Rattle.moos_client.specs.Calls.{IsCalled, MayCall};
 ghost use Rattle.moos_step.specs.Steps.{IsAlone};
-ghost use Rattle.moos_post.specs.declared.entry.Call.TheVariants.{Post as Posts};
-ghost use Rattle.moos_play.specs.Steered.{HasIterated, HasLed, HasSteered, MayHaveCalled, MayHaveFetched, MayLead, MaySteer};
+ghost use Rattle.moos_post.specs.declared.entry.Call.TheVariants.{Fetch, Post as Posts};
+ghost use Rattle.moos_play.specs.Steered.{HasIterated, HasLed, HasSteered, MayHaveCalled, MayLead, MaySteer};
 
 use helm_core::{Helm, Iteration};
 use moos_client::{Lock, Seat, fetch, post};
@@ -115,7 +115,7 @@ fn iterate<R: Threads + Wait + Sync, G: Gate>(
     requires workers { (1 ≤ workers) × (workers ≤ 16) }
     ensures iterated { IfOk result (HasIterated lock.now.base seat.old seat.new helm.old helm.new stamp) }
     ensures same { OnErr result (helm.new ≡ helm.old) }
-    ensures stopped { OnErr result (MayHaveFetched lock.now.base seat.old seat.new stamp) }
+    ensures stopped { OnErr result (MayHaveCalled seat.old seat.new stamp Fetch) }
 {
     let mail = fetch(rt, alloc, lock, seat, stamp)?;
     helm.tick(rt, alloc, stamp, &mail, workers, gate)

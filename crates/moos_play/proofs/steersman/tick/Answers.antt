@@ -1,11 +1,11 @@
-use Rattle.std.proofs.Common.{◌≡◌, ◌*◌, ◌+◌, ap, refl, rules, subst, sym}
+use Rattle.std.proofs.Common.{◌≡◌, ◌*◌, ◌+◌, ap, inr, refl, rules, subst, sym}
 use Rattle.helm_core.specs.Helms.{plan_of}
 use Rattle.moos_play.specs.declared.steersman.Steersman.{Steersman}
 use Rattle.moos_play.specs.Steered.{HasIterated, HasStopped, steering_of}
-use Rattle.moos_play.proofs.Helming.{ticks_once, two_calls}
+use Rattle.moos_play.proofs.Helming.{ticks_once}
 use Rattle.moos_step.proofs.Lines.{err_any}
 use Rattle.moos_play.proofs.Steering.{called_of, called_own, recounted}
-use Rattle.moos_play.proofs.Ticking.{calling_makes, fetching_makes, fetching_stops, telling_stops, ticked_same}
+use Rattle.moos_play.proofs.Ticking.{calling_makes, fetching_stops, makes_more, telling_stops, ticked_same}
 use Rattle.moos_play.proofs.steersman.tick.Goals as goal
 
 pub returns-in_err-iteration : goal.returns-in_err-iteration
@@ -15,7 +15,7 @@ returns-in_err-iteration g c =
     let t = c.count_call.new.steersman in
     let kept = ticked_same s t (record t { helm = c.iterate.new.helm }) c.iterate.new.helm c.count_call.ensures refl (ap plan_of c.in_err-iteration.ensures.same) in
     record {
-      made = fetching_makes c.args.lock.now.base c.args.seat.now c.iterate.new.seat _ c.in_err-iteration.ensures.stopped;
+      made = calling_makes c.args.seat.now c.iterate.new.seat _ _ c.in_err-iteration.ensures.stopped;
       same = kept.0;
       told = kept.1;
       own = search rules;
@@ -33,7 +33,7 @@ returns-in_err-tell g c =
     let made = c.in_ok-iteration.ensures.iterated in
     let kept = ticked_same s t c.count_call-2.new.steersman c.iterate.new.helm c.count_call.ensures c.count_call-2.ensures made.ticked.plan in
     record {
-      made = calling_makes c.args.seat.now c.iterate.new.seat c.tell.new.seat _ _ _ _ (called_of c.args.seat.now c.iterate.new.seat _ _ _ made.fetched) c.in_err-tell.ensures.stopped;
+      made = makes_more c.args.seat.now c.iterate.new.seat c.tell.new.seat (calling_makes c.args.seat.now c.iterate.new.seat _ _ (inr (called_of c.args.seat.now c.iterate.new.seat _ _ _ made.fetched))) (calling_makes c.iterate.new.seat c.tell.new.seat _ _ c.in_err-tell.ensures.stopped);
       same = kept.0;
       told = kept.1;
       own = search rules;
@@ -53,7 +53,7 @@ returns g c =
     let made = c.in_ok-iteration.ensures.iterated in
     let kept = ticked_same s t c.count_call-2.new.steersman c.iterate.new.helm c.count_call.ensures c.count_call-2.ensures made.ticked.plan in
     record {
-      made = two_calls c.args.seat.now c.iterate.new.seat c.tell.new.seat _ _ _ _ (called_of c.args.seat.now c.iterate.new.seat _ _ _ made.fetched) c.in_ok-tell.ensures.posted;
+      made = makes_more c.args.seat.now c.iterate.new.seat c.tell.new.seat (calling_makes c.args.seat.now c.iterate.new.seat _ _ (inr (called_of c.args.seat.now c.iterate.new.seat _ _ _ made.fetched))) (calling_makes c.iterate.new.seat c.tell.new.seat _ _ (inr c.in_ok-tell.ensures.posted));
       same = kept.0;
       told = kept.1;
       own = called_own c.iterate.new.seat c.tell.new.seat _ _ c.in_ok-tell.ensures.posted;
