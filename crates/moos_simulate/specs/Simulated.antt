@@ -33,10 +33,11 @@ sim_marine craft period = record {
   says = λ heard. hull_pairs (hull_by craft period (mails_said heard));
 }
 
--- the clients of the vehicle, in their order, and their names
+-- the clients of the vehicle, in their order
 abbrev pub vehicle_clients : CraftSettings → ℕ → List (Answerer Tick)
 vehicle_clients craft period = marine_pid craft ∷ sim_marine craft period ∷ []
 
+-- their names
 abbrev pub vehicle_names : List (List ℕ)
 vehicle_names = codes "pMarinePID" ∷ codes "uSimMarine" ∷ []
 
