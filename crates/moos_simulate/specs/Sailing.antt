@@ -28,10 +28,11 @@ pub record HasMadeTurns {A : Type 0} (schedule : Schedule A) (answerer : Answere
   pub few : count ≤ ticks
   pub left : so.left n ≡ turns_from answerer n period (hears schedule n so.rest) count (ticks - count)
 
--- the numbers of the vehicle's clients, behind those of the script's and the helm's
+-- the number of pMarinePID, which follows those of the script's clients and the helm's
 abbrev pub pid_number : Script → ℕ
 pid_number script = suc (length script.names)
 
+-- the number of uSimMarine, the next one
 abbrev pub sim_number : Script → ℕ
 sim_number script = suc (suc (length script.names))
 
