@@ -3,7 +3,7 @@
 //!
 //! The tests of `moos_jobs` stand here, since a crate with tests of its own is proved once more with them. One module for each
 //! subject: `words`, `scripts`, clients `beside` each other, `missions`, `behaviors`, `problems`, `shares` of two scripts with a
-//! bridge, `refusals` of what isn't good, and `devices` that fail. What they share is in `files` and `runs`.
+//! bridge, simulated `vehicles`, `refusals` of what isn't good, and `devices` that fail. What they share is in `files` and `runs`.
 #![tactic(auto)]
 
 #[cfg(test)]
@@ -26,5 +26,7 @@ mod runs;
 mod scripts;
 #[cfg(test)]
 mod shares;
+#[cfg(test)]
+mod vehicles;
 #[cfg(test)]
 mod words;
