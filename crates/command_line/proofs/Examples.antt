@@ -7,7 +7,7 @@ use Rattle.clap.specs.Walk.{walked}
 use Rattle.moos_text.specs.declared.cause.Cause.TheVariants.{P1, P9}
 use Rattle.moos_text.specs.declared.cause.ReadFault.TheVariants.{At, NoMemory as Unread}
 use Rattle.script_reader.specs.declared.script.Order.TheVariants.{Stamp, Race}
-use Rattle.command_line.specs.declared.job.Job.TheVariants.{Play, Solve, Check, Generate}
+use Rattle.command_line.specs.declared.job.Job.TheVariants.{Play, Solve, Check, Generate, Share, Simulate}
 use Rattle.command_line.specs.declared.status.FileKind.TheVariants.{Problem as ProblemFile, Decision as DecisionFile}
 use Rattle.command_line.specs.declared.status.Status.TheVariants.{Done, CheckNo, Usage, LoadFault, WriteFault, Refused, NoMemory}
 use Rattle.command_line.specs.Commands.{bounded, check_command, IsPlain, play_command, race_rule, solve_command, workers_rule}
@@ -96,6 +96,38 @@ no_greater_number = refl
 a_number_is_named : job_named (codes "generate" ∷ []) ≡ None
 unfolding walked walk_passes
 a_number_is_named = refl
+
+shares : job_named (codes "share" ∷ codes "a" ∷ codes "b" ∷ codes "c" ∷ []) ≡ Some (Share (codes "a") (codes "b") (codes "c") Stamp)
+unfolding walked walk_passes
+shares = refl
+
+shares_in_a_race : job_named (codes "share" ∷ codes "a" ∷ codes "--race" ∷ codes "b" ∷ codes "c" ∷ []) ≡ Some (Share (codes "a") (codes "b") (codes "c") Race)
+unfolding walked walk_passes
+shares_in_a_race = refl
+
+a_bridge_is_named : job_named (codes "share" ∷ codes "a" ∷ codes "b" ∷ []) ≡ None
+unfolding walked walk_passes
+a_bridge_is_named = refl
+
+a_bridge_has_no_workers : job_named (codes "share" ∷ codes "a" ∷ codes "b" ∷ codes "c" ∷ codes "--workers" ∷ codes "2" ∷ []) ≡ None
+unfolding walked walk_passes
+a_bridge_has_no_workers = refl
+
+simulates : job_named (codes "simulate" ∷ codes "a" ∷ codes "b" ∷ codes "c" ∷ []) ≡ Some (Simulate (codes "a") (codes "b") (codes "c") 1)
+unfolding walked walk_passes
+simulates = refl
+
+simulates_by_sixteen : job_named (codes "simulate" ∷ codes "a" ∷ codes "b" ∷ codes "c" ∷ codes "--workers" ∷ codes "16" ∷ []) ≡ Some (Simulate (codes "a") (codes "b") (codes "c") 16)
+unfolding walked walk_passes
+simulates_by_sixteen = refl
+
+a_vehicle_is_named : job_named (codes "simulate" ∷ codes "a" ∷ codes "b" ∷ []) ≡ None
+unfolding walked walk_passes
+a_vehicle_is_named = refl
+
+no_race_is_simulated : job_named (codes "simulate" ∷ codes "a" ∷ codes "b" ∷ codes "c" ∷ codes "--race" ∷ []) ≡ None
+unfolding walked walk_passes
+no_race_is_simulated = refl
 
 -- a job has from 1 to 16 workers
 workers : HasFewWorkers (Play (codes "s") None Stamp 16) × HasFewWorkers (Solve (codes "p") 1) × HasFewWorkers (Solve (codes "p") 16) × HasFewWorkers (Check (codes "d"))

@@ -42,6 +42,18 @@ solve_command = with_rule (with_rule (new_app (codes "solve")) (file_rule (codes
 abbrev pub check_command : App
 check_command = with_rule (new_app (codes "check")) (file_rule (codes "decision"))
 
+-- `share FIRST SECOND BRIDGE [--race]`
+abbrev pub share_command : App
+share_command =
+    with_rule (with_rule (with_rule (with_rule (new_app (codes "share")) (file_rule (codes "first"))) (file_rule (codes "second"))) (file_rule (codes "bridge")))
+    race_rule
+
+-- `simulate SCRIPT MISSION VEHICLE [--workers N]`
+abbrev pub simulate_command : App
+simulate_command =
+    with_rule (with_rule (with_rule (with_rule (new_app (codes "simulate")) (file_rule (codes "script"))) (file_rule (codes "mission"))) (file_rule (codes "vehicle")))
+    workers_rule
+
 -- the number of a mission, which must be there
 abbrev pub number_rule : Rule
 number_rule = record (new_rule (codes "number")) { required = true; parser = Some (Unsigned 0 999999999) }

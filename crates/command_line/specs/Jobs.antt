@@ -1,9 +1,9 @@
 -- Which job a command line asks for.
 use Rattle.std.specs.Prelude.{ℕ, ◌≤◌, if◌then◌else◌, List, [], ◌∷◌, codes, bytes_eq, Option, Some, None, option_map, option_and_then, is_none}
 use Rattle.clap.specs.Words.{Row, Text, first_of}
-use Rattle.command_line.specs.Commands.{check_command, file_in, found_in, generate_command, is_set, number_in, play_command, solve_command, workers_in}
+use Rattle.command_line.specs.Commands.{check_command, file_in, found_in, generate_command, is_set, number_in, play_command, share_command, simulate_command, solve_command, workers_in}
 use Rattle.command_line.specs.declared.job.Job.{Job}
-use Rattle.command_line.specs.declared.job.Job.TheVariants.{Play, Solve, Check, Generate}
+use Rattle.command_line.specs.declared.job.Job.TheVariants.{Play, Solve, Check, Generate, Share, Simulate}
 use Rattle.script_reader.specs.declared.script.Order.{Order}
 use Rattle.script_reader.specs.declared.script.Order.TheVariants.{Stamp, Race}
 
@@ -33,6 +33,20 @@ check_of found = option_map Check (file_in (codes "decision") found)
 abbrev pub generate_of : List Row → Job
 generate_of found = Generate (number_in found)
 
+-- the job of what `share` found, likewise
+abbrev pub share_of : List Row → Option Job
+share_of found =
+    option_and_then (λ first. option_and_then (λ second. option_map (λ bridge. Share first second bridge (order_in found)) (file_in (codes "bridge") found))
+    (file_in (codes "second") found))
+    (file_in (codes "first") found)
+
+-- the job of what `simulate` found, likewise
+abbrev pub simulate_of : List Row → Option Job
+simulate_of found =
+    option_and_then (λ script. option_and_then (λ mission. option_map (λ vehicle. Simulate script mission vehicle (workers_in found)) (file_in (codes "vehicle") found))
+    (file_in (codes "mission") found))
+    (file_in (codes "script") found)
+
 -- the job of a line that begins with this word
 abbrev pub job_of : Text → List Text → Option Job
 job_of word line =
@@ -40,6 +54,8 @@ job_of word line =
     else if bytes_eq word (codes "solve") then option_and_then solve_of (found_in solve_command line)
     else if bytes_eq word (codes "check") then option_and_then check_of (found_in check_command line)
     else if bytes_eq word (codes "generate") then option_map generate_of (found_in generate_command line)
+    else if bytes_eq word (codes "share") then option_and_then share_of (found_in share_command line)
+    else if bytes_eq word (codes "simulate") then option_and_then simulate_of (found_in simulate_command line)
     else None
 
 -- the job that a command line asks for: its first word is that of a job, whose command takes the line, and the names of its
@@ -54,3 +70,5 @@ HasFewWorkers (Play script mission order workers) = (1 ≤ workers) × (workers 
 HasFewWorkers (Solve problem workers) = (1 ≤ workers) × (workers ≤ 16)
 HasFewWorkers (Check decision) = Unit {0}
 HasFewWorkers (Generate number) = Unit {0}
+HasFewWorkers (Share first second bridge order) = Unit {0}
+HasFewWorkers (Simulate script mission vehicle workers) = (1 ≤ workers) × (workers ≤ 16)

@@ -36,4 +36,3 @@ abbrev pub turn_as : {T U : Type 0} → (T → U) → FileTurn T → FileTurn U
 turn_as of (Wanted kind name) = Wanted kind name
 turn_as of (Ready task) = Ready (of task)
 turn_as of (Unfit kind fault) = Unfit kind fault
-

@@ -1,7 +1,7 @@
 // The commands of the program's jobs, and what they find in the words of a command line.
 ghost use Rattle.std.specs.Prelude.{◌≡◌, ◌≤◌, IfOk, Some, codes, option_map, false};
 ghost use Rattle.clap.specs.Words.{app_of, found_of, new_app, rows_of, rule_of, with_rule};
-ghost use Rattle.command_line.specs.Commands.{IsPlain, bounded, bounded_in, check_command, file_in, file_rule, found_in, generate_command, is_set, number_in, number_rule, other_file_rule, play_command, race_rule, solve_command, text_of, workers_in, workers_rule};
+ghost use Rattle.command_line.specs.Commands.{IsPlain, bounded, bounded_in, check_command, file_in, file_rule, found_in, generate_command, is_set, number_in, number_rule, other_file_rule, play_command, race_rule, share_command, simulate_command, solve_command, text_of, workers_in, workers_rule};
 
 use crate::words::Word;
 use clap::error::ErrorKind;
@@ -54,6 +54,37 @@ pub fn generate_command<'a>(alloc: Global) -> Result<Command<'a>, NoMemory>
     ensures { IfOk result (λ command. app_of command ≡ generate_command) }
 {
     Command::new(alloc, "generate").arg(number_arg(alloc))
+}
+
+/// `share FIRST SECOND BRIDGE [--race]`
+pub fn share_command<'a>(alloc: Global) -> Result<Command<'a>, NoMemory>
+    ensures { IfOk result (λ command. app_of command ≡ share_command) }
+{
+    three_files_command(alloc, "share", "first", "second", "bridge")?.arg(race_arg(alloc))
+}
+
+/// `simulate SCRIPT MISSION VEHICLE [--workers N]`
+pub fn simulate_command<'a>(alloc: Global) -> Result<Command<'a>, NoMemory>
+    ensures { IfOk result (λ command. app_of command ≡ simulate_command) }
+{
+    three_files_command(alloc, "simulate", "script", "mission", "vehicle")?.arg(workers_arg(alloc))
+}
+
+// A command of this name, with the names of three files that must be there.
+fn three_files_command<'a>(
+    alloc: Global,
+    name: &'a str,
+    first: &'a str,
+    second: &'a str,
+    third: &'a str,
+) -> Result<Command<'a>, NoMemory>
+    ensures { IfOk result (λ command. app_of command
+        ≡ with_rule (with_rule (with_rule (new_app name.entry.now) (file_rule first.entry.now)) (file_rule second.entry.now)) (file_rule third.entry.now)) }
+{
+    Command::new(alloc, name)
+        .arg(file_arg(alloc, first))?
+        .arg(file_arg(alloc, second))?
+        .arg(file_arg(alloc, third))
 }
 
 // The name of a file.

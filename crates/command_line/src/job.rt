@@ -1,12 +1,12 @@
 // The job that a command line asks for.
 ghost use Rattle.std.specs.Prelude.{◌≡◌, IfOk, IfSome, option_and_then, option_map};
-ghost use Rattle.command_line.specs.Commands.{check_command, found_in, generate_command, play_command, solve_command};
-ghost use Rattle.command_line.specs.Jobs.{HasFewWorkers, check_of, generate_of, job_named, mission_in, order_in, play_of, solve_of};
+ghost use Rattle.command_line.specs.Commands.{check_command, found_in, generate_command, play_command, share_command, simulate_command, solve_command};
+ghost use Rattle.command_line.specs.Jobs.{HasFewWorkers, check_of, generate_of, job_named, mission_in, order_in, play_of, share_of, simulate_of, solve_of};
 ghost use Rattle.clap.specs.Words.{found_of, rows_of};
 
 use crate::commands::{
     check_command, file_in, found_in, generate_command, is_set, number_in, play_command,
-    solve_command, workers_in,
+    share_command, simulate_command, solve_command, workers_in,
 };
 use crate::words::{Word, Words};
 use clap::ArgMatches;
@@ -38,6 +38,22 @@ pub enum Job {
     Generate {
         number: u64,
     },
+    /// Plays two scripts, each in a community of its own, and carries posts from the first to the second by the lines of a
+    /// bridge file.
+    Share {
+        first: Txt,
+        second: Txt,
+        bridge: Txt,
+        order: Order,
+    },
+    /// Plays a script in order of its stamps with the helm of a mission, which steers the simulated vehicle of a vehicle file.
+    /// The helm has so many workers, from 1 to 16.
+    Simulate {
+        script: Txt,
+        mission: Txt,
+        vehicle: Txt,
+        workers: u32,
+    },
 }
 
 /// The job that the words name: the first is that of a job, whose command takes them.
@@ -51,6 +67,8 @@ pub fn job_named(alloc: Global, words: &Words) -> Result<Option<Job>, NoMemory>
         [word, ..] if word.bytes() == b"solve".as_slice() => solve_named(alloc, line),
         [word, ..] if word.bytes() == b"check".as_slice() => check_named(alloc, line),
         [word, ..] if word.bytes() == b"generate".as_slice() => generate_named(alloc, line),
+        [word, ..] if word.bytes() == b"share".as_slice() => share_named(alloc, line),
+        [word, ..] if word.bytes() == b"simulate".as_slice() => simulate_named(alloc, line),
         _ => Ok(None),
     }
 }
@@ -164,6 +182,72 @@ fn generate_named(alloc: Global, line: &[Word]) -> Result<Option<Job>, NoMemory>
             let number = number_in(&matches);
             Ok(Some(Job::Generate { number }))
         }
+        None => Ok(None),
+    }
+}
+
+// The job of a line that begins with `share`.
+fn share_named(alloc: Global, line: &[Word]) -> Result<Option<Job>, NoMemory>
+    ensures named { IfOk result (λ job. job ≡ option_and_then share_of (found_in share_command line.now)) }
+    ensures few { IfOk result (λ job. IfSome job HasFewWorkers) }
+{
+    match found_in(share_command(alloc)?, line)? {
+        Some(matches) => share_of(alloc, &matches),
+        None => Ok(None),
+    }
+}
+
+fn share_of(alloc: Global, matches: &ArgMatches) -> Result<Option<Job>, NoMemory>
+    ensures named { IfOk result (λ job. job ≡ share_of (rows_of (found_of matches.now))) }
+    ensures few { IfOk result (λ job. IfSome job HasFewWorkers) }
+{
+    let order = order_in(matches);
+    let Some(first) = file_in(alloc, matches, "first")? else {
+        return Ok(None);
+    };
+    let Some(second) = file_in(alloc, matches, "second")? else {
+        return Ok(None);
+    };
+    match file_in(alloc, matches, "bridge")? {
+        Some(bridge) => Ok(Some(Job::Share {
+            first,
+            second,
+            bridge,
+            order,
+        })),
+        None => Ok(None),
+    }
+}
+
+// The job of a line that begins with `simulate`.
+fn simulate_named(alloc: Global, line: &[Word]) -> Result<Option<Job>, NoMemory>
+    ensures named { IfOk result (λ job. job ≡ option_and_then simulate_of (found_in simulate_command line.now)) }
+    ensures few { IfOk result (λ job. IfSome job HasFewWorkers) }
+{
+    match found_in(simulate_command(alloc)?, line)? {
+        Some(matches) => simulate_of(alloc, &matches),
+        None => Ok(None),
+    }
+}
+
+fn simulate_of(alloc: Global, matches: &ArgMatches) -> Result<Option<Job>, NoMemory>
+    ensures named { IfOk result (λ job. job ≡ simulate_of (rows_of (found_of matches.now))) }
+    ensures few { IfOk result (λ job. IfSome job HasFewWorkers) }
+{
+    let workers = workers_in(matches);
+    let Some(script) = file_in(alloc, matches, "script")? else {
+        return Ok(None);
+    };
+    let Some(mission) = file_in(alloc, matches, "mission")? else {
+        return Ok(None);
+    };
+    match file_in(alloc, matches, "vehicle")? {
+        Some(vehicle) => Ok(Some(Job::Simulate {
+            script,
+            mission,
+            vehicle,
+            workers,
+        })),
         None => Ok(None),
     }
 }

@@ -13,6 +13,9 @@ pub enum FileKind {
     Behaviors,
     Problem,
     Decision,
+    Second,
+    Bridge,
+    Vehicle,
 }
 
 /// The first refusal of a file: its line, counted from 1, and its cause.
@@ -31,6 +34,9 @@ impl fmt::Display for FileKind {
             FileKind::Behaviors => "behaviors",
             FileKind::Problem => "problem",
             FileKind::Decision => "decision",
+            FileKind::Second => "second",
+            FileKind::Bridge => "bridge",
+            FileKind::Vehicle => "vehicle",
         };
         write!(f, "{kind}")
     }

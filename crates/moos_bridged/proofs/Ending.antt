@@ -25,7 +25,7 @@ pub own_lines : (community : Community) → IsResting community → length (left
 own_lines community so none client other = so.own client other ∙ ap (entries_of client) (all_done community none)
 
 -- in order Stamp
-shared_by_stamp : (bridge : BridgeState) (one two : Community) → IsSharedSoFar bridge one two → lines_left one two ≡ 0 → IsShared Stamp (community_script one) (community_script two) bridge.rules (community_history one) (community_history two)
+pub shared_by_stamp : (bridge : BridgeState) (one two : Community) → IsSharedSoFar bridge one two → lines_left one two ≡ 0 → IsShared Stamp (community_script one) (community_script two) bridge.rules (community_history one) (community_history two)
 shared_by_stamp bridge one two so none = record {
   bridged = record {
     rest = so.bridged.rest;
@@ -65,8 +65,3 @@ shared_same order first first' second second' rules rules' one one' two two' f s
     (subst (λ rules. IsShared order first second rules one' two') (sym r)
     (subst (λ one. IsShared order first second rules one two') (sym o)
     (subst (λ two. IsShared order first second rules one two) (sym t) so))))
-
-pub stamps_shared : (bridge : BridgeState) (rules : List Rule) (one two : Community) (first second : Script) (history_one history_two : History) → IsSharedSoFar bridge one two → lines_left one two ≡ 0 → first ≡ community_script one → second ≡ community_script two
-    → rules ≡ bridge.rules → history_one ≡ community_history one → history_two ≡ community_history two → IsShared Stamp first second rules history_one history_two
-stamps_shared bridge rules one two first second history_one history_two so none f s r o t =
-    shared_same Stamp (community_script one) first (community_script two) second bridge.rules rules (community_history one) history_one (community_history two) history_two f s r o t (shared_by_stamp bridge one two so none)

@@ -1,3 +1,6 @@
 pub mod Bridging
 pub mod Communities
+pub mod Fronts
+pub mod Opening
+pub mod Racing
 pub mod Stamping

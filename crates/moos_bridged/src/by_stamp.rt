@@ -2,8 +2,11 @@
 ghost use Rattle.std.specs.Prelude.{◌≡◌, ◌<◌, true, false, IfOk, IsTrue, OnOk, nat_le};
 ghost use Rattle.std.specs.List.{list_all};
 ghost use Rattle.std.specs.Thread.{IsSync};
-ghost use Rattle.moos_bridged.specs.Communities.{community_script, HasPlayedStamp, IsResting, left_lines};
+ghost use Rattle.moos_bridged.specs.Communities.{community_history, community_script, HasPlayedStamp, IsResting, left_lines};
+ghost use Rattle.moos_bridged.specs.Opening.{AreOpened};
 ghost use Rattle.moos_bridged.specs.Stamping.{earlier, IsSharedSoFar, lines_left};
+ghost use Rattle.moos_share.specs.Bridged.{IsShared};
+ghost use Rattle.script_reader.specs.declared.script.Order.TheVariants.{Stamp};
 
 use crate::community::Community;
 use crate::crossing::cross;
@@ -25,10 +28,9 @@ pub(crate) fn share_by_stamp<R: Threads + Wait + Sync, G: Gate>(
     two: &mut Community,
     gate: &G,
 ) -> Result<(), NoMemory>
-    requires so_far { IsSharedSoFar bridge.old one.old two.old }
-    ensures so_far { OnOk result (IsSharedSoFar bridge.new one.new two.new) }
-    ensures over { OnOk result (lines_left one.new two.new ≡ 0) }
-    ensures rules { OnOk result (bridge.new.rules ≡ bridge.old.rules) }
+    requires ready { AreOpened bridge.old one.old two.old }
+    ensures resting { OnOk result (IsResting one.new × IsResting two.new) }
+    ensures shared { OnOk result (IsShared Stamp (community_script one.old) (community_script two.old) bridge.old.rules (community_history one.new) (community_history two.new)) }
     ensures first { OnOk result (community_script one.new ≡ community_script one.old) }
     ensures second { OnOk result (community_script two.new ≡ community_script two.old) }
 {

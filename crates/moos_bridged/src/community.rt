@@ -141,6 +141,25 @@ impl<'a> Community<'a> {
         Ok(())
     }
 
+    /// The clients make all their calls that are left, beside each other.
+    pub(crate) fn play_all<R: Threads + Wait + Sync, G: Gate>(
+        &mut self,
+        rt: &R,
+        alloc: Global,
+        gate: &G,
+    ) -> Result<(), NoMemory>
+        requires resting { IsResting self.old }
+        ensures resting { OnOk result (IsResting self.new) }
+        ensures played { OnOk result (HasPlayedLines (left_lines self.old) self.old self.new) }
+        ensures all { OnOk result (self.new.from ≡ length (community_script self.old).lines) }
+    {
+        let to = self.script.lines.len();
+        if self.from < to {
+            self.play_lines(rt, alloc, to, gate)?;
+        }
+        Ok(())
+    }
+
     /// Ends the run: its database.
     pub(crate) fn close(self) -> Db
         requires { IsResting self }

@@ -43,8 +43,8 @@ fn add_bridge(alloc: Global, script: &Script) -> Result<Names, NoMemory>
     Ok(names)
 }
 
-// The bridge's name among the clients.
-fn bridge_name(alloc: Global) -> Result<Name, NoMemory>
+/// The bridge's name among the clients of a community.
+pub fn bridge_name(alloc: Global) -> Result<Name, NoMemory>
     ensures { IfOk result (λ name. name ≡ codes "pShare") }
 {
     match Name::new(alloc, b"pShare") {

@@ -1,16 +1,18 @@
 // Two scripts played at once, with a bridge between their communities.
-ghost use Rattle.std.specs.Prelude.{◌≡◌, IfOk};
+ghost use Rattle.std.specs.Prelude.{◌≡◌, IfOk, OnOk};
+ghost use Rattle.moos_bridged.specs.Communities.{community_history, community_script, IsResting};
+ghost use Rattle.moos_bridged.specs.Opening.{AreOpened};
 ghost use Rattle.moos_share.specs.Bridged.{IsShared, names_bridged, regs_of_rules};
-ghost use Rattle.script_reader.specs.declared.script.Order.TheVariants.{Stamp};
 ghost use Rattle.script_reader.specs.Validity.{IsValid};
 
 use crate::by_stamp::share_by_stamp;
 use crate::community::Community;
+use crate::race::share_by_race;
 use moos_db::Db;
 use moos_io::Gate;
 use moos_post::{Copied, List, NoMemory, Regs};
 use moos_share::{Bridge, Rules};
-use script_reader::Script;
+use script_reader::{Order, Script};
 use std::alloc::Global;
 use std::sync::Wait;
 use std::thread::Threads;
@@ -30,32 +32,58 @@ pub struct Shared {
 /// is one more client of each, behind those, with the name `pShare`. It first registers in the first community for what its rules
 /// select, in one call at stamp 0.
 ///
-/// The stamps of both scripts are taken upward: at each all clients of both with lines there make their calls, and then the bridge
-/// carries once. The gate is called before each client's nth call, counted from 0, but not before the bridge's.
+/// In order Stamp the stamps of both scripts are taken upward: at each all clients of both with lines there make their calls, and then
+/// the bridge carries once. In order Race each client makes all its calls without waiting for others, and beside them the bridge, on a
+/// thread of its own, carries once for each line of the first script, at its stamp; once all have made their calls it carries a last
+/// time, at the greater of both scripts' last stamps. The gate is called before each client's nth call, counted from 0, but not before
+/// the bridge's.
 pub fn share<R: Threads + Wait + Sync, G: Gate>(
     rt: &R,
     alloc: Global,
     first: &Script,
     second: &Script,
     rules: Rules,
+    order: Order,
     gate: &G,
 ) -> Result<Shared, NoMemory>
     requires first { IsValid first.now }
     requires second { IsValid second.now }
     ensures first { IfOk result (λ shared. shared.first.names ≡ names_bridged first.now) }
     ensures second { IfOk result (λ shared. shared.second.names ≡ names_bridged second.now) }
-    ensures shared { IfOk result (λ shared. IsShared Stamp first.now second.now rules shared.first.history shared.second.history) }
+    ensures shared { IfOk result (λ shared. IsShared order first.now second.now rules shared.first.history shared.second.history) }
 {
     let regs = regs_of(alloc, &rules)?;
     let mut bridge = Bridge::make(rules);
     let mut one = Community::make(alloc, first)?;
     let mut two = Community::make(alloc, second)?;
     one.register(rt, alloc, regs)?;
-    share_by_stamp(rt, alloc, &mut bridge, &mut one, &mut two, gate)?;
+    share_in_order(rt, alloc, &mut bridge, &mut one, &mut two, order, gate)?;
     Ok(Shared {
         first: one.close(),
         second: two.close(),
     })
+}
+
+// Plays both scripts in this order, once the bridge has registered.
+fn share_in_order<R: Threads + Wait + Sync, G: Gate>(
+    rt: &R,
+    alloc: Global,
+    bridge: &mut Bridge,
+    one: &mut Community,
+    two: &mut Community,
+    order: Order,
+    gate: &G,
+) -> Result<(), NoMemory>
+    requires ready { AreOpened bridge.old one.old two.old }
+    ensures resting { OnOk result (IsResting one.new × IsResting two.new) }
+    ensures shared { OnOk result (IsShared order (community_script one.old) (community_script two.old) bridge.old.rules (community_history one.new) (community_history two.new)) }
+    ensures first { OnOk result (community_script one.new ≡ community_script one.old) }
+    ensures second { OnOk result (community_script two.new ≡ community_script two.old) }
+{
+    match order {
+        Order::Stamp => share_by_stamp(rt, alloc, bridge, one, two, gate),
+        Order::Race => share_by_race(rt, alloc, bridge, one, two, gate),
+    }
 }
 
 // What the rules register for.

@@ -32,7 +32,8 @@ use Rattle.helm_core.specs.WellFormed.{IsWellFormedPlan, names_told}
 use Rattle.helm_core.specs.Worths.{DecidesByWorth}
 use Rattle.moos_play.specs.Lawful.{Steering, heard_of, helm_number, iterations, iterations_of, names_with, opening, opening_of, tick_entries, ticks, ticks_of, ticks_to}
 use Rattle.moos_report.specs.Community.{HaveOwnNames, IsCommunity, is_one_line, StandOnLines}
-use Rattle.moos_jobs.specs.Jobs.{HelmFiles, IsLawfulWith, setup_of, steering_by}
+use Rattle.moos_jobs.specs.Jobs.{IsLawfulWith}
+use Rattle.helm_files.specs.HelmFiles.{HelmFiles, setup_of, steering_by}
 use Rattle.script_reader.specs.declared.script.Order.{Order}
 use Rattle.script_reader.specs.declared.script.Script.{Script}
 use Rattle.script_reader.specs.Validity.{are_clients, are_lines, keeps_limits, IsValid}

@@ -1,10 +1,9 @@
 -- Which files a job reads, what is to be done with them, and what it may write.
-use Rattle.std.specs.Prelude.{◌≡◌, ℕ, ◌+◌, ◌/◌, nat_le, false, if◌then◌else◌, List, [], ◌∷◌, codes, Option, Some, None, option_map, IfSome, Result, Ok, Err}
-use Rattle.bhv_file.specs.declared.file.BhvFile.{BhvFile}
+use Rattle.std.specs.Prelude.{◌≡◌, ℕ, List, [], ◌∷◌, codes, Option, Some, None, option_map, IfSome, Ok}
 use Rattle.bhv_reader.specs.Behaviors.{behaviors_of}
 use Rattle.helm_core.specs.Decisions.{best_decision}
+use Rattle.helm_files.specs.HelmFiles.{HelmFiles, setup_of, steering_by, with_few_ticks}
 use Rattle.helm_core.specs.Plans.{plan_made}
-use Rattle.helm_core.specs.Posts.{are_declared_modes}
 use Rattle.helm_core.specs.Worths.{DecidesByWorth}
 use Rattle.ivp_cert.specs.declared.claim.Decision.{Decision}
 use Rattle.ivp_cert.specs.Certificates.{Accepts}
@@ -15,21 +14,17 @@ use Rattle.ivp_problem.specs.Problems.{WeightedSum}
 use Rattle.mission_reader.specs.declared.mission.Mission.{Mission}
 use Rattle.mission_reader.specs.Missions.{mission_of}
 use Rattle.moos_post.specs.History.{History}
-use Rattle.moos_report.specs.declared.setup.Setup.{Setup}
 use Rattle.moos_report.specs.Report.{report_text}
 use Rattle.mission_maker.specs.Generated.{generated_script}
 use Rattle.mission_maker.specs.Survey.{generated_behaviors, generated_mission}
 use Rattle.run_summary.specs.Summary.{summary_text}
 use Rattle.helm_core.specs.declared.iteration.Iteration.{Iteration}
-use Rattle.moos_text.specs.declared.cause.Cause.TheVariants.{M8}
-use Rattle.moos_text.specs.declared.cause.ReadFault.{ReadFault}
-use Rattle.moos_text.specs.declared.cause.ReadFault.TheVariants.{At}
 use Rattle.moos_text.specs.Refusals.{and_then}
-use Rattle.moos_play.specs.Lawful.{IsLawful, Steering, helm_number, heard_of, iterations, names_with}
+use Rattle.moos_play.specs.Lawful.{IsLawful, helm_number, heard_of, iterations, names_with}
 use Rattle.command_line.specs.Endings.{Outcomes}
-use Rattle.command_line.specs.Turns.{FileTurn, Ready, Wanted, turn_behind}
+use Rattle.command_line.specs.Turns.{FileTurn, Ready, Wanted, turn_as, turn_behind}
 use Rattle.command_line.specs.declared.job.Job.{Job}
-use Rattle.command_line.specs.declared.job.Job.TheVariants.{Play, Solve, Check, Generate}
+use Rattle.command_line.specs.declared.job.Job.TheVariants.{Play, Solve, Check, Generate, Share, Simulate}
 use Rattle.script_reader.specs.declared.script.Order.{Order}
 use Rattle.script_reader.specs.declared.script.Order.TheVariants.{Stamp}
 use Rattle.command_line.specs.declared.status.FileKind.TheVariants.{Script as ScriptFile, Mission as MissionFile, Behaviors as BehaviorsFile, Problem as ProblemFile, Decision as DecisionFile}
@@ -37,23 +32,19 @@ use Rattle.command_line.specs.declared.status.Status.{Status}
 use Rattle.command_line.specs.declared.status.Status.TheVariants.{Done, CheckNo}
 use Rattle.script_reader.specs.declared.script.Script.{Script}
 use Rattle.script_reader.specs.Script.{script_of}
-
--- what a helm is made of: a mission, and the behaviour file that it names
-pub record HelmFiles : Type 0 where
-  pub mission : Mission
-  pub file : BhvFile
+use Rattle.share_job.specs.Sharing.{IsSharing, share_turn, ShareTask}
+use Rattle.simulate_job.specs.Simulating.{MayReport, simulate_turn, Simulation}
 
 -- what is to be done: a script is played in an order, with a helm or without; a problem is solved, a decision is checked; a
--- mission is made from a number and summed up
+-- mission is made from a number and summed up; two scripts are played with a bridge between their communities; a script is played beside a
+-- simulated vehicle
 pub data Task : Type 0 where
   Playing : Order → Script → Option HelmFiles → Task
   Solving : WeightedSum → Task
   Checking : Decision → Task
   Generating : ℕ → Task
-
--- the helm would tick at most 20,000 times while the script is played, or else its mission is refused at its last line
-abbrev pub with_few_ticks : Script → Mission → Result Mission ReadFault
-with_few_ticks script mission = if nat_le (script.stop / mission.period + 1) 20000 then Ok mission else Err (At mission.lines M8)
+  Sharing : ShareTask → Task
+  Simulating : Simulation → Task
 
 -- behind a script and a mission, by the bytes of the behaviour file
 abbrev pub behaviors_turn : Order → Script → Mission → List (List ℕ) → FileTurn Task
@@ -83,19 +74,8 @@ turn_of (Solve name workers) (bytes ∷ more) = turn_behind ProblemFile (λ prob
 turn_of (Check name) [] = Wanted DecisionFile name
 turn_of (Check name) (bytes ∷ more) = turn_behind DecisionFile (λ decision. Ready (Checking decision)) (decision_of bytes)
 turn_of (Generate number) files = Ready (Generating number)
-
--- how the helm of these files is run beside a script's clients
-abbrev pub steering_by : Script → HelmFiles → Steering
-steering_by script files = record { client = helm_number script; plan = plan_made files.mission files.file; period = files.mission.period }
-
--- a setup without unused parameters and modes
-abbrev pub no_modes : Setup
-no_modes = record { unused = []; modes = false }
-
--- what a report tells of the behaviour file: its unused parameters, and that its modes are told where it declares any
-abbrev pub setup_of : Option HelmFiles → Setup
-setup_of None = no_modes
-setup_of (Some files) = record { unused = files.file.unused; modes = are_declared_modes files.file.decls }
+turn_of (Share first second bridge order) files = turn_as Sharing (share_turn first second bridge order files)
+turn_of (Simulate script mission vehicle workers) files = turn_as Simulating (simulate_turn script mission vehicle files)
 
 -- the iterations that the helm's own mails in a history come to
 abbrev pub iterations_on : Script → Option HelmFiles → History → List Iteration
@@ -135,18 +115,23 @@ abbrev pub IsAccepted : Decision → Type 0
 IsAccepted decision = Accepts decision.problem decision.claim decision.cert
 
 -- a job may end with this status and write this text: of a script the report of a lawful history, of a problem the decision
--- on it, of a decision whether it is accepted, of a number the summary of its mission; and nothing with another status
+-- on it, of a decision whether it is accepted, of a number the summary of its mission, of two scripts with a bridge the reports of
+-- two histories, of a simulation the report of a history that its vehicle leaves; and nothing with another status
 abbrev pub IsOutput : Task → Status → List ℕ → Type 0
 IsOutput (Playing order script helm) Done text = IsReport order script helm text
 IsOutput (Solving problem) Done text = text ≡ decision_lines [] (best_decision problem)
 IsOutput (Checking decision) Done text = IsAccepted decision × (text ≡ codes "accepted\n")
 IsOutput (Checking decision) CheckNo text = (IsAccepted decision → ⊥) × (text ≡ codes "not accepted\n")
 IsOutput (Generating number) Done text = IsSummary number text
+IsOutput (Sharing task) status text = IsSharing task status text
+IsOutput (Simulating task) status text = MayReport task status text
 IsOutput task status text = ⊥
 
--- the task is to play a script, whose report is written as it comes; every other output is written when all of it is there
+-- the task is to play a script, beside a vehicle or not, whose report is written as it comes; every other output is written when all of it
+-- is there
 abbrev pub IsToPlay : Task → Type 0
 IsToPlay (Playing order script helm) = Unit {0}
+IsToPlay (Simulating task) = Unit {0}
 IsToPlay task = ⊥
 
 -- what may come of each task

@@ -1,11 +1,10 @@
 // The job that plays a script, with the helm of a mission or without one: its files one after another, and its report.
-ghost use Rattle.std.specs.Prelude.{◌≡◌, ◌<◌, ◌≤◌, ◌^◌, ◌++◌, ℕ, [], length, List, None, Some, Ok, IfOk, IsTrue, IfErr};
+ghost use Rattle.std.specs.Prelude.{◌≡◌, ◌<◌, ◌≤◌, ◌++◌, ℕ, [], List, None, Some, Ok, IsTrue};
 ghost use Rattle.bhv_file.specs.Validity.{IsValidFile, serves};
-ghost use Rattle.mission_reader.specs.Missions.{mission_of};
 ghost use Rattle.mission_reader.specs.Validity.{IsValidMission};
-ghost use Rattle.moos_text.specs.Refusals.{IsFirst, and_then};
 ghost use Rattle.command_line.specs.Turns.{FileTurn, Ready};
-ghost use Rattle.moos_jobs.specs.Jobs.{Task, behaviors_turn, mission_turn, no_modes, outcomes, turn_of, with_few_ticks};
+ghost use Rattle.moos_jobs.specs.Jobs.{Task, behaviors_turn, mission_turn, outcomes, turn_of};
+ghost use Rattle.helm_files.specs.HelmFiles.{no_modes};
 ghost use Rattle.moos_jobs.specs.Jobs.Task.{Playing};
 ghost use Rattle.command_line.specs.Endings.{EndsFrom, surroundings, Ended, sinking};
 ghost use Rattle.command_line.specs.declared.job.Job.TheVariants.{Play};
@@ -15,20 +14,17 @@ use crate::telling::play_rounds;
 use bhv_reader::{BhvFile, read_behaviors};
 use command_line::{FileKind, Status, load, refused, unloaded};
 use helm_core::{Helm, plan_law, worth_law};
-use mission_reader::{Mission, read_mission};
+use helm_files::read_for;
+use mission_reader::Mission;
 use moos_io::{Folder, Gate, Sink};
 use moos_play::{HelmRun, Order};
 use moos_post::{List, Txt};
 use moos_report::{Setup, report_law};
-use moos_text::{Cause, ReadFault};
 use script_reader::{Script, read_script};
 use std::alloc::Global;
 use std::mem;
 use std::sync::Wait;
 use std::thread::Threads;
-
-// The most iterations that a helm may have in a run.
-const MOST_TICKS: u64 = 20_000;
 
 /// Loads and reads the script, and plays it: alone, or with the mission of this name. The helm has so many workers.
 pub fn play_files<R: Threads + Wait + Sync, F: Folder, K: Sink, G: Gate>(
@@ -92,25 +88,6 @@ fn play_mission<R: Threads + Wait + Sync, F: Folder, K: Sink, G: Gate>(
             rt, alloc, script, &mission, order, workers, folder, out, gate,
         ),
         Err(fault) => refused(FileKind::Mission, fault),
-    }
-}
-
-// Reads a mission for a script, during which its helm may not have too many iterations.
-fn read_for(alloc: Global, script: &Script, bytes: &[u8]) -> Result<Mission, ReadFault>
-    requires short { length bytes.now < 2 ^ 32 }
-    requires valid { IsValid script.now }
-    ensures read { IfOk result (λ mission. and_then (with_few_ticks script.now) (mission_of bytes.now) ≡ Ok mission) }
-    ensures refused { IfErr result (λ fault. IsFirst fault (and_then (with_few_ticks script.now) (mission_of bytes.now))) }
-    ensures valid { IfOk result IsValidMission }
-{
-    let mission = read_mission(alloc, bytes)?;
-    if script.stop / mission.period + 1 <= MOST_TICKS {
-        Ok(mission)
-    } else {
-        Err(ReadFault::At {
-            line: mission.lines,
-            cause: Cause::M8,
-        })
     }
 }
 

@@ -13,6 +13,8 @@ use helm_core::decide;
 use ivp_cert::{accepts, print_decision, read_decision, read_problem};
 use moos_io::{Folder, Gate, Sink, put_all};
 use moos_post::Txt;
+use share_job::share_files;
+use simulate_job::simulate;
 use std::alloc::Global;
 use std::sync::Wait;
 use std::thread::Threads;
@@ -80,6 +82,20 @@ fn do_job<R: Threads + Wait + Sync, F: Folder, K: Sink, G: Gate>(
         }
         Job::Check { decision } => check_decision(alloc, decision, folder, out),
         Job::Generate { number } => generate(rt, alloc, *number, out, gate),
+        Job::Share {
+            first,
+            second,
+            bridge,
+            order,
+        } => share_files(rt, alloc, first, second, bridge, *order, folder, out, gate),
+        Job::Simulate {
+            script,
+            mission,
+            vehicle,
+            workers,
+        } => simulate(
+            rt, alloc, script, mission, vehicle, *workers, folder, out, gate,
+        ),
     }
 }
 

@@ -1,22 +1,19 @@
 // A run whose report is written as it comes: how it begins before the first round, and what each round brings before the next.
-ghost use Rattle.std.specs.Prelude.{◌≡◌, ◌+◌, ◌^◌, ◌<◌, ◌≤◌, [], drop, length, option_map, take, IfErr, IfNone, IfOk, IfSome, OnErr, OnOk, Option, List, ℕ};
-ghost use Rattle.moos_io.specs.Faults.{Faring, FaresOn, Fell};
-ghost use Rattle.moos_io.specs.Pieces.{Took, TookFront};
+ghost use Rattle.std.specs.Prelude.{◌≡◌, ◌+◌, ◌^◌, ◌<◌, ◌≤◌, [], length, option_map, IfErr, IfNone, IfOk, IfSome, OnOk, Option, List, ℕ};
+ghost use Rattle.moos_io.specs.Faults.{Faring, FaresOn};
 ghost use Rattle.moos_play.specs.Lawful.{MayStart, names_with, opening, steering_with};
-ghost use Rattle.moos_play.specs.Plays.{clients_in, GoesOnWith, HasCompletion, helm_in, history_in, IsBetween, IsPlayedOut, IsSeated, iterations_made, left_in, order_played, script_played};
-ghost use Rattle.moos_report.specs.IterationLines.{helm_fetches};
-ghost use Rattle.moos_report.specs.Parts.{front_text};
-ghost use Rattle.moos_report.specs.Report.{end_text, entries_text};
+ghost use Rattle.moos_play.specs.Plays.{clients_in, GoesOnWith, HasCompletion, helm_in, history_in, IsBetween, IsPlayedOut, iterations_made, left_in, order_played, script_played};
 ghost use Rattle.command_line.specs.Endings.{sinking};
-ghost use Rattle.moos_jobs.specs.Telling.{IsToldSoFar, Tells};
+ghost use Rattle.moos_jobs.specs.Telling.{IsOfLawful};
+ghost use Rattle.moos_telling.specs.Telling.{IsToldSoFar, Tells};
 ghost use Rattle.script_reader.specs.Validity.{IsValid};
 
 use command_line::{Status, written};
-use moos_db::Db;
-use moos_io::{Buffer, Failed, Gate, Sink};
-use moos_play::{HelmRun, Order, Play, Round};
+use moos_io::{Buffer, Gate, Sink};
+use moos_play::{HelmRun, Order, Play};
 use moos_post::List;
-use moos_report::{Setup, parts_law, report_end, report_head, report_part, report_part_through};
+use moos_report::{Setup, parts_law};
+use moos_telling::{tell_end, tell_opening, tell_part};
 use script_reader::Script;
 use std::alloc::Global;
 use std::sync::Wait;
@@ -38,7 +35,7 @@ pub fn play_rounds<R: Threads + Wait + Sync, K: Sink, G: Gate>(
     requires valid { IsValid script.now }
     requires helm { IfSome helm MayStart }
     requires few { (1 ≤ workers) × (workers ≤ 16) }
-    ensures { Tells order script.now (option_map (steering_with script.now) helm) setup.now
+    ensures { Tells (IsOfLawful order script.now (option_map (steering_with script.now) helm) setup.now)
         (sinking (K.taken out.old) (K.taken out.new) (K.faults out.old) (K.faults out.new)) result }
 {
     match Play::make(rt, alloc, script, helm, List::new(alloc), order, gate) {
@@ -61,7 +58,7 @@ fn tell<R: Threads + Wait + Sync, K: Sink, G: Gate>(
     requires named { clients_in play.old ≡ names_with (script_played play.old) (helm_in play.old) }
     requires begun { history_in play.old ≡ opening (helm_in play.old) }
     requires few { (1 ≤ workers) × (workers ≤ 16) }
-    ensures { Tells (order_played play.old) (script_played play.old) (helm_in play.old) setup.now
+    ensures { Tells (IsOfLawful (order_played play.old) (script_played play.old) (helm_in play.old) setup.now)
         (sinking (K.taken out.old) (K.taken out.new) (K.faults out.old) (K.faults out.new)) result }
 {
     play.front_law();
@@ -122,7 +119,7 @@ fn tell_round<R: Threads + Wait + Sync, K: Sink, G: Gate>(
     ensures over { IfOk result (λ more. IfNone more (IsPlayedOut play.new × (play.new ≡ play.old) × (K.taken out.new ≡ K.taken out.old))) }
     ensures stopped { IfErr result (λ status. (before : Option (List ℕ)) (faults : Faring) → FaresOn faults (K.faults out.old) → HasCompletion play.old
         → IsToldSoFar setup.now before (K.taken out.old) play.old
-        → Tells (order_played play.old) (script_played play.old) (helm_in play.old) setup.now (sinking before (K.taken out.new) faults (K.faults out.new)) status) }
+        → Tells (IsOfLawful (order_played play.old) (script_played play.old) (helm_in play.old) setup.now) (sinking before (K.taken out.new) faults (K.faults out.new)) status) }
 {
     parts_law();
     play.front_law();
@@ -137,88 +134,4 @@ fn tell_round<R: Threads + Wait + Sync, K: Sink, G: Gate>(
         return Err(Status::WriteFault);
     }
     Ok(Some(round.iterations.len() as u64))
-}
-
-// Tells how the run begins: its clients, and the entries of the helm's opening.
-fn tell_opening<R: Wait, K: Sink>(
-    rt: &R,
-    play: &mut Play,
-    setup: &Setup,
-    out: &mut K,
-) -> Result<(), Failed>
-    requires { IsSeated play.old }
-    ensures same { play.new ≡ play.old }
-    ensures ok { OnOk result (Took (K.taken out.old) (K.taken out.new) (front_text setup.now (clients_in play.old) (history_in play.old) [])) }
-    ensures front { OnErr result (TookFront (K.taken out.old) (K.taken out.new) (front_text setup.now (clients_in play.old) (history_in play.old) [])) }
-    ensures later { FaresOn (K.faults out.old) (K.faults out.new) }
-    ensures rose { OnErr result (Fell (K.faults out.old) (K.faults out.new) (K.taken out.new)) }
-{
-    let held = play.hold(rt);
-    let told = report_front(setup, held.value(), out);
-    play.put_back(held);
-    told
-}
-
-// Writes how the report of the database begins, and its entries so far, among which there is no iteration.
-fn report_front<K: Sink>(setup: &Setup, db: &Db, out: &mut K) -> Result<(), Failed>
-    ensures ok { OnOk result (Took (K.taken out.old) (K.taken out.new) (front_text setup.now db.now.names db.now.history [])) }
-    ensures front { OnErr result (TookFront (K.taken out.old) (K.taken out.new) (front_text setup.now db.now.names db.now.history [])) }
-    ensures later { FaresOn (K.faults out.old) (K.faults out.new) }
-    ensures rose { OnErr result (Fell (K.faults out.old) (K.faults out.new) (K.taken out.new)) }
-{
-    if let Err(failed) = report_head(setup, db, out) {
-        return Err(failed);
-    }
-    report_part(setup, db, 0, 0, &[], out)
-}
-
-// Tells what a round brought, where the helm has made so many iterations before, through an empty buffer.
-fn tell_part<R: Wait, K: Sink>(
-    rt: &R,
-    play: &mut Play,
-    setup: &Setup,
-    round: &Round,
-    made: u64,
-    buffer: &mut Buffer,
-    out: &mut K,
-) -> Result<(), Failed>
-    requires empty { buffer.old ≡ [] }
-    requires seated { IsSeated play.old }
-    requires fetched { helm_fetches (clients_in play.old) (take round.now.from (history_in play.old)) ≡ made }
-    ensures empty { OnOk result (buffer.new ≡ []) }
-    ensures same { play.new ≡ play.old }
-    ensures ok { OnOk result (Took (K.taken out.old) (K.taken out.new)
-        (entries_text setup.now made round.now.iterations (clients_in play.old) (take round.now.from (history_in play.old)) (drop round.now.from (history_in play.old)))) }
-    ensures front { OnErr result (TookFront (K.taken out.old) (K.taken out.new)
-        (entries_text setup.now made round.now.iterations (clients_in play.old) (take round.now.from (history_in play.old)) (drop round.now.from (history_in play.old)))) }
-    ensures later { FaresOn (K.faults out.old) (K.faults out.new) }
-    ensures rose { OnErr result (Fell (K.faults out.old) (K.faults out.new) (K.taken out.new)) }
-{
-    let held = play.hold(rt);
-    let iterations = round.iterations.all();
-    let told = report_part_through(
-        setup,
-        held.value(),
-        round.from,
-        made,
-        iterations,
-        buffer,
-        out,
-    );
-    play.put_back(held);
-    told
-}
-
-// Tells how the run ends.
-fn tell_end<R: Wait, K: Sink>(rt: &R, play: &mut Play, out: &mut K) -> Result<(), Failed>
-    requires { IsSeated play.old }
-    ensures ok { OnOk result (Took (K.taken out.old) (K.taken out.new) (end_text (history_in play.old))) }
-    ensures front { OnErr result (TookFront (K.taken out.old) (K.taken out.new) (end_text (history_in play.old))) }
-    ensures later { FaresOn (K.faults out.old) (K.faults out.new) }
-    ensures rose { OnErr result (Fell (K.faults out.old) (K.faults out.new) (K.taken out.new)) }
-{
-    let held = play.hold(rt);
-    let told = report_end(held.value(), out);
-    play.put_back(held);
-    told
 }

@@ -1,12 +1,9 @@
 -- How a run begins.
-use Rattle.moos_client.proofs.Histories.{only_own}
-use Rattle.moos_step.proofs.Growing.{grown}
-use Rattle.std.specs.declared.alloc.AllocError.{AllocError}
 use Rattle.script_reader.proofs.Sound.{line_tests}
 use Rattle.script_reader.specs.declared.script.Order.TheVariants.{Stamp, Race}
 use Rattle.script_reader.specs.declared.script.Order.{Order}
-use Rattle.moos_step.specs.Steps.{CommunityLock, GoesOn, IsAlone, IsGathered, IsWhole, KnowsNothing}
-use Rattle.moos_play.proofs.Turns.{helm_part, start_is}
+use Rattle.moos_step.specs.Steps.{CommunityLock, IsGathered, IsWhole, KnowsNothing}
+use Rattle.moos_play.proofs.Turns.{helm_part, opening_deaf, own_opening, start_is}
 use Rattle.moos_play.specs.Lawful.{heard_of, helm_number, iterations_of, mailed_in, names_with, opening, opening_of, Steering, ticks_of, ticks_to}
 use Rattle.moos_play.specs.Plays.{helm_in, history_in}
 use Rattle.moos_play.specs.Runs.{IsAtPlay, IsPaused, shown_by}
@@ -22,19 +19,19 @@ use Rattle.helm_core.specs.Ticks.{Tick}
 use Rattle.std.proofs.Math.Nat.{mul-le-mul}
 use Rattle.std.proofs.lemmas.Bool.Decides.{nat_tests}
 use Rattle.std.proofs.lemmas.Bool.{and_from}
-use Rattle.std.proofs.Common.{◌≡◌, ℕ, ◌+◌, ◌*◌, ◌^◌, ◌<◌, ◌≤◌, Bool, true, false, cond, List, [], ◌∷◌, ◌++◌, drop, length, length-append, Option, None, Some, nat_lt, not, refl, sym, ap, ◌∙◌, subst, arith, suc, ◌/◌, ◌==◌, ◌⊎◌, inl, inr, nat_le, append-nil, ◌-◌, Ok, Err, OnOk, Result}
-use Rattle.std.specs.List.{list_all}
+use Rattle.std.proofs.Common.{◌≡◌, ℕ, ◌+◌, ◌*◌, ◌^◌, ◌<◌, ◌≤◌, Bool, true, false, cond, List, [], ◌∷◌, ◌++◌, drop, length, length-append, Option, None, Some, nat_lt, refl, sym, ap, ◌∙◌, subst, arith, suc, ◌/◌, ◌==◌, ◌⊎◌, inl, inr, nat_le, append-nil, append_assoc, ◌-◌}
 use Rattle.std.proofs.lemmas.List.{drop_all}
 use Rattle.std.specs.Prelude.{IfSome, option_map, map}
 use Rattle.moos_play.specs.declared.stage.Stage.{Stage}
 use Rattle.moos_play.specs.declared.run.HelmRun.{HelmRun}
 use Rattle.moos_play.specs.declared.steersman.Steersman.{Steersman}
-use Rattle.helm_core.specs.Helms.{plan_of}
+use Rattle.helm_core.specs.Helms.{plan_of, StandsFor}
 use Rattle.helm_core.specs.Plans.{wants_of}
 use Rattle.moos_client.specs.Calls.{entry_of, entries_of, SeatState}
 use Rattle.moos_post.specs.declared.entry.Call.TheVariants.{Register, Post as Posts}
-use Rattle.moos_post.specs.Delivery.{is_fetch}
 use Rattle.moos_post.specs.History.{History}
+use Rattle.moos_post.specs.declared.registration.Reg.{Reg}
+use Rattle.moos_post.specs.declared.value.Pair.{Pair}
 use Rattle.moos_play.proofs.Below.{names_more}
 use Rattle.moos_client.proofs.Hearing.{heard_deaf}
 use Rattle.script_reader.specs.declared.script.Script.{Script}
@@ -99,7 +96,7 @@ start_under order script lock steersman first valid seats so = record {
     own (Some t) n below stands ticks (inr e) =
         let same : n ≡ clients = grind (arith, nat_tests, e, below) in
         ap (λ n. due_in (schedule_with order script (Some (steering_of t)) lock.base) n []) same ∙ helm_part order script (steering_of t) lock.base [] stands.0
-        ∙ (λ i. turns_from (answering (steering_of t)) t.number t.period (sym (deaf (omega (arith, stands.2.many, ticks.0))) i) (sym ticks.0 i) (count (sym ticks.0) i))
+        ∙ (λ i. turns_from (answering (steering_of t)) t.number t.period (sym (deaf (omega (arith, stands.1.many, ticks.0))) i) (sym ticks.0 i) (count (sym ticks.0) i))
         ∙ sym (ap (λ b. cond b (entries_of n script.lines) (turns_left script.stop (Some t) lock.base first.seen)) e)
       where
         count : 0 ≡ t.ticks → ticks_to script.stop (steering_of t) ≡ ticks_to script.stop (steering_of t) - t.ticks
@@ -156,48 +153,67 @@ pub few_names : (script : Script) (helm : Option HelmRun) (further : List (List 
 few_names script None further none few = omega (arith, length-append script.names further, ap length none, few)
 few_names script (Some run) further none few = omega (arith, length-append (names_with script (Some run)) further, ap length none, names_more script run, few)
 
--- a helm that has yet to open stands where an empty history has brought it
-pub new_steers : (names : List (List ℕ)) (n : ℕ) (s : Steersman) (seen : History) → IsUnopened n s → seen ≡ [] → Steers names s seen
-new_steers names n s seen is empty = subst (λ (seen : History). Steers names s seen) (sym empty) (record {
-  clock = subst (λ clock. clock ≤ s.ticks * s.period) (sym is.stands.clock) (omega arith);
-  stands = is.stands;
-  many = sym is.ticks;
-  own = sym (ap (λ b. cond b (opening_of (steering_of s)) [] ++ ticks_of (steering_of s) [] s.ticks) is.opened ∙ ap (λ n. ticks_of (steering_of s) [] n) is.ticks);
-  few = omega (arith, is.told);
-  same = is.iterations ∙ sym (ap (drop s.told) (ap (λ n. iterations_of (plan_of s.helm) [] n) is.ticks) ∙ drop_all s.told [] (omega arith));
-})
+-- a helm hears nothing at its opening
+opening_silent : (names : List (List ℕ)) (helm : Steering) → heard_of names helm.client (opening_of helm) ≡ []
+opening_silent names helm = heard_deaf (mailed_in names) helm.client [] (opening_of helm) (opening_deaf helm)
 
 -- a run that has made just its opening has handed out nothing
 pub none_told : (play : Stage) → IsPaused play → history_in (shown_by play) ≡ opening (helm_in (shown_by play)) → told_in play.steersman ≡ 0
 none_told play between begun = by play.steersman between.told between.at_play.under.steered begun
   where
-    deaf : (helm : Steering) → heard_of play.lock.base helm.client (opening_of helm) ≡ []
-    deaf helm = heard_deaf (mailed_in play.lock.base) helm.client [] (opening_of helm) (all (nat_lt 0 (length helm.plan.opening)))
-      where
-        all : (b : Bool) → list_all (λ entry. not (is_fetch entry.call)) (entry_of helm.client 0 (Register (wants_of helm.plan)) ∷ cond b (entry_of helm.client 0 (Posts helm.plan.opening) ∷ []) []) ≡ true
-        all true = refl
-        all false = refl
-
     by : (s : Option Steersman) → IfSome s (λ s. s.told ≡ s.ticks) → StandsAt play.lock.base (helm_number play.script.now) s play.first.seat.seen → play.first.seat.seen ≡ opening (helm_of s) → told_in s ≡ 0
     by None told stands begun = refl
     by (Some s) told stands begun =
-        told ∙ sym stands.2.many ∙ ap (λ history. length (heard_of play.lock.base s.number history)) begun ∙ ap length (deaf (steering_of s))
+        told ∙ sym stands.1.many ∙ ap (λ history. length (heard_of play.lock.base s.number history)) begun ∙ ap length (opening_silent play.lock.base (steering_of s))
 
--- the opening
-pub opened_first : (lock : CommunityLock) (number : ℕ) (result : Result (Unit {0}) AllocError) (old new : Steersman) (first after : SeatState) → KnowsNothing first → IsUnopened number old → IsGathered lock after → GoesOn (IsAlone old.number) first after
-    → steering_of new ≡ steering_of old → new.told ≡ old.told → OnOk result (Steers lock.base new after.seen) → OnOk result ((new.opened ≡ true) × (new.ticks ≡ 0)) → OnOk result (HasOpened lock number (Some new) after)
-opened_first lock number (Err _) old new first after nothing is gathered on steering told steers reached = tt
-opened_first lock number (Ok _) old new first after nothing is gathered on steering told steers reached = record {
-  gathered = gathered;
-  whole = on.whole;
-  opened = on.later.1 ∙ ap (λ front. front ++ on.later.0) nothing.seen ∙ only_own old.number on.later.0 (λ n other. grown (IsAlone old.number) first after whole on n other)
-      ∙ ap (λ (helm : Steering). entries_of helm.client on.later.0) (sym steering) ∙ ap (entries_of new.number) (sym (on.later.1 ∙ ap (λ front. front ++ on.later.0) nothing.seen))
-      ∙ subst (λ b. entries_of new.number after.seen ≡ cond b (opening_of (steering_of new)) [] ++ ticks_of (steering_of new) (heard_of lock.base new.number after.seen) new.ticks) reached.0 steers.own
-      ∙ ap (λ n. opening_of (steering_of new) ++ ticks_of (steering_of new) (heard_of lock.base new.number after.seen) n) reached.1 ∙ append-nil (opening_of (steering_of new));
-  steered = (ap (λ (helm : Steering). helm.client) steering ∙ is.own, reached.0, steers);
-  ticks = (reached.1, subst (λ (helm : Steering). 1 ≤ helm.period) (sym steering) is.period);
-  told = told ∙ is.told;
-}
+-- nothing was seen, as nothing is known
+pub nothing_whole : (first : SeatState) → KnowsNothing first → IsWhole first
+nothing_whole first nothing n = ap (entries_of n) nothing.seen ∙ sym (nothing.known n)
+
+-- the opening, by whether there are pairs to post
+opening_is : (helm : Steering) (b : Bool) → nat_lt 0 (length helm.plan.opening) ≡ b → opening_of helm ≡ entry_of helm.client 0 (Register (wants_of helm.plan)) ∷ cond b (entry_of helm.client 0 (Posts helm.plan.opening) ∷ []) []
+opening_is helm b is = ap (λ b. entry_of helm.client 0 (Register (wants_of helm.plan)) ∷ cond b (entry_of helm.client 0 (Posts helm.plan.opening) ∷ []) []) is
+
+-- so the entries of a steersman that registers, and posts where it has pairs, are its opening
+pub opens_posting : (old s : Steersman) (regs : List Reg) (pairs : List Pair) (start between after : History) → s ≡ record old { calls = s.calls } → regs ≡ wants_of (plan_of s.helm) → pairs ≡ (plan_of s.helm).opening → 0 < length pairs
+    → between ≡ start ++ entry_of s.number 0 (Register regs) ∷ [] → after ≡ between ++ entry_of s.number 0 (Posts pairs) ∷ [] → after ≡ start ++ opening_of (steering_of old)
+opens_posting old s regs pairs start between after is regs_is pairs_is some first second =
+    second ∙ ap (λ front. front ++ entry_of s.number 0 (Posts pairs) ∷ []) first ∙ append_assoc start (entry_of s.number 0 (Register regs) ∷ []) (entry_of s.number 0 (Posts pairs) ∷ [])
+    ∙ ap (λ regs. start ++ entry_of s.number 0 (Register regs) ∷ entry_of s.number 0 (Posts pairs) ∷ []) regs_is
+    ∙ ap (λ pairs. start ++ entry_of s.number 0 (Register (wants_of (plan_of s.helm))) ∷ entry_of s.number 0 (Posts pairs) ∷ []) pairs_is
+    ∙ ap (λ opening. start ++ opening) (sym (opening_is (steering_of s) true (more (plan_of s.helm).opening pairs_is))) ∙ ap {A = Steersman} (λ s. start ++ opening_of (steering_of s)) is
   where
-    whole : IsWhole first
-    whole n = ap (entries_of n) nothing.seen ∙ sym (nothing.known n)
+    more : (all : List Pair) → pairs ≡ all → nat_lt 0 (length all) ≡ true
+    more all is = let here : 0 < length all = omega (arith, some, ap length is) in grind (arith, nat_tests)
+
+pub opens_alone : (old s : Steersman) (regs : List Reg) (pairs : List Pair) (start after : History) → s ≡ record old { calls = s.calls } → regs ≡ wants_of (plan_of s.helm) → pairs ≡ (plan_of s.helm).opening → length pairs ≤ 0
+    → after ≡ start ++ entry_of s.number 0 (Register regs) ∷ [] → after ≡ start ++ opening_of (steering_of old)
+opens_alone old s regs pairs start after is regs_is pairs_is none first =
+    first ∙ ap (λ regs. start ++ entry_of s.number 0 (Register regs) ∷ []) regs_is
+    ∙ ap (λ opening. start ++ opening) (sym (opening_is (steering_of s) false (less (plan_of s.helm).opening pairs_is))) ∙ ap {A = Steersman} (λ s. start ++ opening_of (steering_of s)) is
+  where
+    less : (all : List Pair) → pairs ≡ all → nat_lt 0 (length all) ≡ false
+    less all is = let here : length all ≤ 0 = omega (arith, none, ap length is) in grind (arith, nat_tests)
+
+-- a helm that has made its opening, and nobody else an entry
+pub opened_first : (lock : CommunityLock) (number : ℕ) (old new : Steersman) (first after : SeatState) → KnowsNothing first → IsUnopened number old → new ≡ record old { calls = new.calls } → IsGathered lock after → IsWhole after → after.seen ≡ first.seen ++ opening_of (steering_of old)
+    → HasOpened lock number (Some new) after
+opened_first lock number old new first after nothing is new_is gathered whole seen =
+    subst (λ s. HasOpened lock number (Some s) after) (sym new_is)
+    (record { gathered = gathered; whole = whole; opened = opened; steered = (is.own, steers); ticks = (is.ticks, is.period); told = is.told })
+  where
+    helm : Steering
+    helm = steering_of old
+
+    opened : after.seen ≡ opening_of helm
+    opened = seen ∙ ap (λ front. front ++ opening_of helm) nothing.seen
+
+    steers : Steers lock.base (record old { calls = new.calls }) after.seen
+    steers = subst (λ (seen : History). Steers lock.base (record old { calls = new.calls }) seen) (sym opened) (record {
+      clock = subst (λ clock. clock ≤ old.ticks * old.period) (sym is.stands.clock) (omega arith);
+      stands = subst (StandsFor old.helm) (sym (opening_silent lock.base helm)) is.stands;
+      many = ap length (opening_silent lock.base helm) ∙ sym is.ticks;
+      own = own_opening helm ∙ sym (ap (λ n. opening_of helm ++ ticks_of helm (heard_of lock.base old.number (opening_of helm)) n) is.ticks ∙ append-nil (opening_of helm));
+      few = omega (arith, is.told);
+      same = is.iterations ∙ sym (ap (drop old.told) (ap (λ n. iterations_of (plan_of old.helm) (heard_of lock.base old.number (opening_of helm)) n) is.ticks) ∙ drop_all old.told [] (omega arith));
+    })

@@ -2,10 +2,10 @@
 use Rattle.script_reader.specs.declared.script.Script.{Script}
 use Rattle.script_reader.specs.declared.script.Order.{Order}
 use Rattle.moos_play.specs.Lawful.{helm_number, iterations_of, known_clients, mailed_in}
-use Rattle.moos_play.specs.Plays.{IsFurther, iterations_made}
+use Rattle.moos_play.specs.Plays.{IsFurther, iterations_made, iterations_by}
 use Rattle.moos_play.specs.Runs.{playing_of, IsPaused, shown_by}
 use Rattle.moos_play.specs.Schedules.{schedule_with}
-use Rattle.moos_play.specs.Steered.{HasPlayed, helm_of, IsUnderWay, made_by, parts, StandsAt, turns_left}
+use Rattle.moos_play.specs.Steered.{HasPlayed, helm_of, IsUnderWay, parts, StandsAt, turns_left, ticks_in}
 use Rattle.moos_lawful.proofs.Going.{further_on}
 use Rattle.moos_play.proofs.Finishing.{parts_known, plays}
 use Rattle.moos_play.proofs.Showing.{seated_at}
@@ -46,7 +46,7 @@ helm_stands result play entry (Some s) history past so =
 
 -- and has made the same iterations
 helm_made : {A : Type 0} (result : Result A AllocError) (play : Stage) (entry : Entry) (steersman : Option Steersman) (history : History) → known_clients play.script.now (helm_of steersman) ≤ entry.client → StandsAt play.lock.base (helm_number play.script.now) steersman history
-    → made_by play.lock.base (history ++ added_by result entry) steersman ≡ made_by play.lock.base history steersman
+    → iterations_by play.lock.base (history ++ added_by result entry) (helm_of steersman) (ticks_in steersman) ≡ iterations_by play.lock.base history (helm_of steersman) (ticks_in steersman)
 helm_made result play entry None history past so = refl
 helm_made result play entry (Some s) history past so =
     ap (λ heard. iterations_of (plan_of s.helm) heard s.ticks) (heard_on (mailed_in play.lock.base) s.number history (added_by result entry) (not_helm result s.number entry (omega (arith, past, so.0, known_helm play.script.now s))))
@@ -100,4 +100,4 @@ entered_between result play w entry after between further gathered whole is = re
 pub entered_made : {A : Type 0} (result : Result A AllocError) (play : Stage) (w : Bool) (entry : Entry) (after : SeatState) → IsPaused play → IsFurther (playing_of play w) entry.client → after.seen ≡ play.first.seat.seen ++ added_by result entry
     → iterations_made (shown_by (seated_at play after)) ≡ iterations_made (shown_by play)
 entered_made result play w entry after between further is =
-    ap (λ history. made_by play.lock.base history play.steersman) is ∙ helm_made result play entry play.steersman play.first.seat.seen further.past between.at_play.under.steered
+    ap (λ history. iterations_by play.lock.base history (helm_of play.steersman) (ticks_in play.steersman)) is ∙ helm_made result play entry play.steersman play.first.seat.seen further.past between.at_play.under.steered

@@ -26,7 +26,7 @@ use Rattle.moos_play.specs.declared.steersman.Steersman.{Steersman}
 use Rattle.moos_play.specs.Lawful.{heard_of, helm_number, mailed_in, opening_of, Steering, tick_entries, ticks_of, ticks_to}
 use Rattle.moos_play.specs.Runs.{MayPlay}
 use Rattle.moos_play.specs.Schedules.{answerers, answering, schedule_with}
-use Rattle.moos_play.specs.Steered.{HasHeard, HasPlayed, helm_of, IsBehind, IsStopped, IsUnderWay, left_for, opened_by, StandsAt, steering_of, Steers, turns_left}
+use Rattle.moos_play.specs.Steered.{HasHeard, HasPlayed, helm_of, IsBehind, IsStopped, IsUnderWay, left_for, StandsAt, steering_of, Steers, turns_left}
 use Rattle.moos_play.proofs.Below.{below_raised, beside_pass}
 use Rattle.moos_play.proofs.Hearing.{ticks_stay}
 use Rattle.moos_play.proofs.Steering.{steered_on}
@@ -51,7 +51,7 @@ grown_beside helm lines result before after whole on ok n other = at_ok result _
 pub stands_on : (names : List (List ℕ)) (number : ℕ) (steersman : Option Steersman) (history rest : History) → StandsAt names number steersman history → entries_of number rest ≡ [] → StandsAt names number steersman (history ++ rest)
 stands_on names number None history rest so none = tt
 stands_on names number (Some s) history rest so none =
-    (so.0, so.1, steered_on names (steering_of s) s.helm s.opened s.ticks s.told s.iterations history rest so.2 (subst (λ n. entries_of n rest ≡ []) (sym so.0) none))
+    (so.0, steered_on names s history rest so.1 (subst (λ n. entries_of n rest ≡ []) (sym so.0) none))
 
 pub ends : (lines : List Entry) (from to : ℕ) → from ≤ to → drop from lines ≡ take (to - from) (drop from lines) ++ drop to lines
 ends lines from to below =
@@ -59,16 +59,16 @@ ends lines from to below =
     sym (take-append-drop (to - from) (drop from lines)) ∙ ap (λ end. take (to - from) (drop from lines) ++ end) (drop-drop (to - from) from lines ∙ ap (λ k. drop k lines) n)
 
 -- what the helm adds at one tick
-pub tick_added : (names : List (List ℕ)) (old new : Steersman) (history rest : History) → Steers names old history → Steers names new (history ++ rest) → steering_of new ≡ steering_of old → old.opened ≡ true → new.opened ≡ true → new.ticks ≡ suc old.ticks
+pub tick_added : (names : List (List ℕ)) (old new : Steersman) (history rest : History) → Steers names old history → Steers names new (history ++ rest) → steering_of new ≡ steering_of old → new.ticks ≡ suc old.ticks
     → entries_of old.number rest ≡ tick_entries (steering_of old) (heard_of names old.number (history ++ rest)) old.ticks
-tick_added names old new history rest before after steering opened opened' count =
+tick_added names old new history rest before after steering count =
     own_rest history rest old.number (tick_entries helm now old.ticks)
     (subst (λ (helm : Steering). entries_of helm.client (history ++ rest) ≡ opening_of helm ++ ticks_of helm (heard_of names helm.client (history ++ rest)) (suc old.ticks)) steering
     (subst (λ n. entries_of new.number (history ++ rest) ≡ opening_of (steering_of new) ++ ticks_of (steering_of new) (heard_of names new.number (history ++ rest)) n) count
-    (subst (λ b. entries_of new.number (history ++ rest) ≡ cond b (opening_of (steering_of new)) [] ++ ticks_of (steering_of new) (heard_of names new.number (history ++ rest)) new.ticks) opened' after.own))
+    after.own)
     ∙ sym (append_assoc (opening_of helm) (ticks_of helm now old.ticks) (tick_entries helm now old.ticks))
     ∙ ap (λ front. front ++ tick_entries helm now old.ticks) (ap (λ ticks. opening_of helm ++ ticks) earlier
-    ∙ sym (subst (λ b. entries_of old.number history ≡ cond b (opening_of helm) [] ++ ticks_of helm start old.ticks) opened before.own)))
+    ∙ sym before.own))
   where
     helm : Steering
     helm = steering_of old
@@ -84,10 +84,10 @@ tick_added names old new history rest before after steering opened opened' count
 
 -- where the helm is alone it adds its tick
 pub tick_alone : (order : Order) (script : Script) (lock : CommunityLock) (old new : Steersman) (from : ℕ) (first after : SeatState) → IsUnderWay order script lock (Some old) from first → (on : GoesOn (IsAlone old.number) first after)
-    → steering_of new ≡ steering_of old → new.opened ≡ true → new.ticks ≡ old.ticks + 1 → Steers lock.base new after.seen → on.later.0 ≡ tick_entries (steering_of old) (heard_of lock.base old.number (first.seen ++ on.later.0)) old.ticks
-tick_alone order script lock old new from first after under on steering opened count steers =
+    → steering_of new ≡ steering_of old → new.ticks ≡ old.ticks + 1 → Steers lock.base new after.seen → on.later.0 ≡ tick_entries (steering_of old) (heard_of lock.base old.number (first.seen ++ on.later.0)) old.ticks
+tick_alone order script lock old new from first after under on steering count steers =
     only_own old.number on.later.0 (λ n other. grown (IsAlone old.number) first after under.whole on n other)
-    ∙ tick_added lock.base old new first.seen on.later.0 under.steered.2 (subst (Steers lock.base new) on.later.1 steers) steering under.steered.1 opened (count ∙ omega arith)
+    ∙ tick_added lock.base old new first.seen on.later.0 under.steered.1 (subst (Steers lock.base new) on.later.1 steers) steering (count ∙ omega arith)
 
 -- what the clients of some lines make of them, and the helm beside them whatever it does
 helm_known : (script : Script) (lines later : List Entry) → clients_below (length script.names) lines ≡ true → ((n : ℕ) → n ≢ helm_number script → Begins (entries_of n lines) (entries_of n later)) → clients_below (length script.names + 1) later ≡ true
@@ -122,7 +122,7 @@ HasTicks script steersman = IfSome steersman (λ helm. (1 ≤ helm.period) × (h
 pub has_heard : (names : List (List ℕ)) (number stop : ℕ) (steersman : Option Steersman) (history : History) → StandsAt names number steersman history → IfSome steersman (λ helm. (1 ≤ helm.period) × (helm.ticks ≤ ticks_to stop (steering_of helm)))
     → HasHeard names number stop steersman history
 has_heard names number stop None history so period = tt
-has_heard names number stop (Some s) history so period = (so.0, omega (arith, so.2.many), period.1)
+has_heard names number stop (Some s) history so period = (so.0, omega (arith, so.1.many), period.1)
 
 -- lines that may be played are within the script, and may come next
 pub may_within : (order : Order) (play : Stage) (to : ℕ) → MayPlay order play to → to ≤ length play.script.now.lines
@@ -204,16 +204,16 @@ module _ (order : Order) (script : Script) (lock : CommunityLock) (valid : are_l
 
     -- the helm makes turns where memory is found, and others their lines
     pub helm_next : (old new : Steersman) (from to : ℕ) (lines : List Entry) (first after : SeatState) (under : IsUnderWay order script lock (Some old) from first) → IsGathered lock after → IsWhole after → (later : Begins after.seen first.seen) → ((n : ℕ) → n ≢ helm_number script → entries_of n later.0 ≡ entries_of n lines)
-        → drop from script.lines ≡ lines ++ drop to script.lines → to ≤ length script.lines → clients_below (length script.names) lines ≡ true → steering_of new ≡ steering_of old → new.opened ≡ true → Steers lock.base new after.seen → new.ticks ≤ ticks_to script.stop (steering_of new)
+        → drop from script.lines ≡ lines ++ drop to script.lines → to ≤ length script.lines → clients_below (length script.names) lines ≡ true → steering_of new ≡ steering_of old → Steers lock.base new after.seen → new.ticks ≤ ticks_to script.stop (steering_of new)
         → KeepsMoment script.lines (length script.names) script.stop old.period (answerers (Some (steering_of old))) (length lock.base) (mailed_in lock.base) order under.played.so_far.rest later.0 (left_by (length script.names) (λ n. []) (drop to script.lines) (λ n. turns_left script.stop (Some new) lock.base (first.seen ++ later.0)))
         → IsUnderWay order script lock (Some new) to after
-    helm_next old new from to lines first after under gathered whole later same cut within clients steering opened steers few moment = record {
+    helm_next old new from to lines first after under gathered whole later same cut within clients steering steers few moment = record {
       gathered = gathered;
       whole = whole;
       within = within;
       seats = under.seats;
       played = subst (HasPlayed order script lock.base (Some new) to) (sym later.1) (has_played script lock.base valid order (Some new) to now step.0 (λ n. left) step.1 (λ n past under. refl));
-      steered = (ap (λ (helm : Steering). helm.client) steering ∙ under.steered.0, opened, steers);
+      steered = (ap (λ (helm : Steering). helm.client) steering ∙ under.steered.0, steers);
     }
       where
         now : History
@@ -227,7 +227,7 @@ module _ (order : Order) (script : Script) (lock : CommunityLock) (valid : are_l
 
         due : due_in (schedule_with order script (Some (steering_of old)) lock.base) (length script.names) (under.played.so_far.rest ++ later.0) ≡ entries_of (length script.names) (under.played.so_far.rest ++ later.0) ++ left
         due = subst (λ helm. due_in (schedule_with order script (Some helm) lock.base) (length script.names) (under.played.so_far.rest ++ later.0) ≡ entries_of (length script.names) (under.played.so_far.rest ++ later.0) ++ left) steering
-            (helm_left order script lock.base new (under.played.so_far.rest ++ later.0) now (behind_opening old from first.seen later.0 under.played under.steered.0 ∙ ap (λ helm. opening_of helm ++ (under.played.so_far.rest ++ later.0)) (sym steering)) number opened (subst (Steers lock.base new) later.1 steers) few)
+            (helm_left order script lock.base new (under.played.so_far.rest ++ later.0) now (behind_opening old from first.seen later.0 under.played under.steered.0 ∙ ap (λ helm. opening_of helm ++ (under.played.so_far.rest ++ later.0)) (sym steering)) number (subst (Steers lock.base new) later.1 steers) few)
 
         lines_all : (n : ℕ) → n ≢ helm_number script → ((n : ℕ) → n ≢ helm_number script → entries_of n later.0 ≡ entries_of n lines) → Begins (entries_of n lines) (entries_of n later.0)
         lines_all n other same = ([], sym (same n other) ∙ sym (append-nil (entries_of n later.0)))
@@ -255,11 +255,11 @@ module _ (order : Order) (script : Script) (lock : CommunityLock) (valid : are_l
 
     -- all of a race
     pub race_next : (old new : Steersman) (from : ℕ) (result : Result (Unit {0}) AllocError) (first after : SeatState) → order ≡ Race → (under : IsUnderWay order script lock (Some old) from first) → IsGathered lock after → GoesOn (IsPlayedBeside old.number (drop from script.lines) result) first after → result ≡ Ok tt
-        → steering_of new ≡ steering_of old → new.opened ≡ true → Steers lock.base new after.seen → new.ticks ≤ ticks_to script.stop (steering_of new) → IsUnderWay order script lock (Some new) (length script.lines) after
-    race_next old new from result first after race under gathered on ok steering opened steers few =
+        → steering_of new ≡ steering_of old → Steers lock.base new after.seen → new.ticks ≤ ticks_to script.stop (steering_of new) → IsUnderWay order script lock (Some new) (length script.lines) after
+    race_next old new from result first after race under gathered on ok steering steers few =
         helm_next old new from (length script.lines) (drop from script.lines) first after under gathered on.whole on.later
         (λ n other. grown_beside old.number (drop from script.lines) result first after under.whole on ok n (λ e. other (e ∙ under.steered.0)))
-        (to_last script.lines from) (omega arith) (all_end (λ line. nat_lt line.client (length script.names)) script.lines from (lines_clients (length script.names) 0 script.stop script.lines valid)) steering opened steers few
+        (to_last script.lines from) (omega arith) (all_end (λ line. nat_lt line.client (length script.names)) script.lines from (lines_clients (length script.names) 0 script.stop script.lines valid)) steering steers few
         (race_moment order race)
       where
         race_moment : (order : Order) → order ≡ Race → KeepsMoment script.lines (length script.names) script.stop old.period (answerers (Some (steering_of old))) (length lock.base) (mailed_in lock.base) order under.played.so_far.rest on.later.0 (left_by (length script.names) (λ n. []) (drop (length script.lines) script.lines) (λ n. turns_left script.stop (Some new) lock.base (first.seen ++ on.later.0)))
@@ -296,12 +296,12 @@ module _ (order : Order) (script : Script) (lock : CommunityLock) (valid : are_l
         due : (due : List Entry) × (turns_left script.stop (Some old) lock.base history ≡ entry_of old.number (old.ticks * old.period) Fetch ∷ due)
         due = first_turn (heard_of lock.base old.number history) (ticks_to script.stop (steering_of old) - old.ticks) (omega (arith, more))
 
-    pub tick_next : (old new : Steersman) (from : ℕ) (first after : SeatState) → (under : IsUnderWay order script lock (Some old) from first) → IsGathered lock after → GoesOn (IsAlone old.number) first after → steering_of new ≡ steering_of old → new.opened ≡ true → new.ticks ≡ old.ticks + 1
+    pub tick_next : (old new : Steersman) (from : ℕ) (first after : SeatState) → (under : IsUnderWay order script lock (Some old) from first) → IsGathered lock after → GoesOn (IsAlone old.number) first after → steering_of new ≡ steering_of old → new.ticks ≡ old.ticks + 1
         → Steers lock.base new after.seen → old.ticks < ticks_to script.stop (steering_of old) → IsBehind (Some (old.ticks * old.period)) (drop from script.lines) → IsUnderWay order script lock (Some new) from after
-    tick_next old new from first after under gathered on steering opened count steers more behind =
-        helm_next old new from from [] first after under gathered on.whole on.later alone refl under.within refl steering opened steers (omega (arith, count, more, ap (λ helm. ticks_to script.stop helm) steering))
+    tick_next old new from first after under gathered on steering count steers more behind =
+        helm_next old new from from [] first after under gathered on.whole on.later alone refl under.within refl steering steers (omega (arith, count, more, ap (λ helm. ticks_to script.stop helm) steering))
         (tick_keeps order old from first.seen on.later.0 under.played.so_far (heard_of lock.base old.number (first.seen ++ on.later.0)) (turns_left script.stop (Some new) lock.base (first.seen ++ on.later.0)) under.played.left under.steered.0 more behind
-        (λ n less. alone n (λ is. absurd (omega (arith, is, less)))) ([], sym (append-nil on.later.0 ∙ tick_alone order script lock old new from first after under on steering opened count steers))
+        (λ n less. alone n (λ is. absurd (omega (arith, is, less)))) ([], sym (append-nil on.later.0 ∙ tick_alone order script lock old new from first after under on steering count steers))
         (turns_rise (answering (steering_of new)) (length script.names) 1 new.number new.period (heard_of lock.base new.number (first.seen ++ on.later.0)) new.ticks (ticks_to script.stop (steering_of new) - new.ticks) (2 * (old.ticks * old.period) + (suc old.number - length script.names)) low))
       where
         alone : (n : ℕ) → n ≢ helm_number script → entries_of n on.later.0 ≡ []
@@ -322,7 +322,7 @@ module _ (order : Order) (script : Script) (lock : CommunityLock) (valid : are_l
         (begun_front lock.base (steering_of old) old.ticks first.seen on.later.0 stopped.left begun)
         (subst (λ left. rises (2 * (old.ticks * old.period) + (suc old.number - length script.names)) (map (moment_in Stamp (length script.names) 1) left) ≡ true) (sym is)
         (left_late (length script.names) lock.base (steering_of old) old.ticks new.ticks (ticks_to script.stop (steering_of old) - length (heard_of lock.base old.number (first.seen ++ on.later.0))) first.seen on.later.0 stopped begun
-        (omega (arith, under.steered.2.many, ap length (heard_append (mailed_in lock.base) old.number [] first.seen on.later.0), length-append (heard_of lock.base old.number first.seen) (heard_in (mailed_in lock.base) old.number first.seen on.later.0))))))
+        (omega (arith, under.steered.1.many, ap length (heard_append (mailed_in lock.base) old.number [] first.seen on.later.0), length-append (heard_of lock.base old.number first.seen) (heard_in (mailed_in lock.base) old.number first.seen on.later.0))))))
       where
         alone : (n : ℕ) → n ≢ helm_number script → entries_of n on.later.0 ≡ []
         alone n other = grown (IsAlone old.number) first after under.whole on n (λ e. other (e ∙ under.steered.0))
@@ -331,8 +331,8 @@ module _ (order : Order) (script : Script) (lock : CommunityLock) (valid : are_l
         stopped = subst (IsStopped lock.base (steering_of old) new.ticks (old.ticks + 1)) on.later.1 stops
 
         begun : HasBegun lock.base (steering_of old) old.ticks first.seen on.later.0 stopped.left
-        begun = has_begun lock.base (steering_of old) old.ticks new.ticks first.seen on.later.0 under.steered.2.many
-            (subst (λ b. entries_of old.number first.seen ≡ opened_by b (steering_of old) ++ ticks_of (steering_of old) (heard_of lock.base old.number first.seen) old.ticks) under.steered.1 under.steered.2.own)
+        begun = has_begun lock.base (steering_of old) old.ticks new.ticks first.seen on.later.0 under.steered.1.many
+            under.steered.1.own
             (only_own old.number on.later.0 (λ n other. grown (IsAlone old.number) first after under.whole on n other)) stopped
 
     -- a race that was cut off
@@ -375,9 +375,9 @@ to_end lines from to all = ap (λ to. take (to - from) (drop from lines)) all �
 
 -- all of a race, with the last place and the helm under other names
 pub race_over : (order : Order) (script : Script) (lock : CommunityLock) (valid : are_lines (length script.names) 0 script.stop script.lines ≡ true) (steersman : Option Steersman) (old new : Steersman) (from to : ℕ) (result : Result (Unit {0}) AllocError) (first after : SeatState) → order ≡ Race → to ≡ length script.lines
-    → steersman ≡ Some old → IsUnderWay order script lock steersman from first → IsGathered lock after → GoesOn (IsPlayedBeside old.number (take (to - from) (drop from script.lines)) result) first after → result ≡ Ok tt → steering_of new ≡ steering_of old → new.opened ≡ true → Steers lock.base new after.seen
+    → steersman ≡ Some old → IsUnderWay order script lock steersman from first → IsGathered lock after → GoesOn (IsPlayedBeside old.number (take (to - from) (drop from script.lines)) result) first after → result ≡ Ok tt → steering_of new ≡ steering_of old → Steers lock.base new after.seen
     → new.ticks ≤ ticks_to script.stop (steering_of new) → IsUnderWay order script lock (Some new) to after
-race_over order script lock valid steersman old new from to result first after race all is under gathered on ok steering opened steers few =
+race_over order script lock valid steersman old new from to result first after race all is under gathered on ok steering steers few =
     subst (λ to. IsUnderWay order script lock (Some new) to after) (sym all)
     (race_next order script lock valid old new from result first after race (subst (λ s. IsUnderWay order script lock s from first) is under) gathered
-    (subst (λ lines. GoesOn (IsPlayedBeside old.number lines result) first after) (to_end script.lines from to all) on) ok steering opened steers few)
+    (subst (λ lines. GoesOn (IsPlayedBeside old.number lines result) first after) (to_end script.lines from to all) on) ok steering steers few)

@@ -1,4 +1,5 @@
 -- What makes a run over.
+use Rattle.moos_play.specs.Plays.{ticks_behind, iterations_by}
 use Rattle.std.proofs.Common.{◌≡◌, ℕ, ◌≤◌, List, drop, Option, None, Some, arith, refl, sym, ap, ◌∙◌}
 use Rattle.std.specs.Prelude.{IfSome}
 use Rattle.helm_core.specs.declared.iteration.Iteration.{Iteration}
@@ -8,7 +9,7 @@ use Rattle.moos_play.specs.declared.stage.Stage.{Stage}
 use Rattle.moos_play.specs.declared.steersman.Steersman.{Steersman}
 use Rattle.moos_play.specs.Lawful.{heard_of, helm_number, iterations, iterations_of, Steering, ticks_to}
 use Rattle.moos_play.specs.Runs.{IsAtPlay, left_of}
-use Rattle.moos_play.specs.Steered.{helm_of, iterations_in, made_by, StandsAt, steering_of, ticks_left, told_in}
+use Rattle.moos_play.specs.Steered.{helm_of, iterations_in, StandsAt, steering_of, told_in, ticks_in}
 use Rattle.script_reader.specs.declared.script.Script.{Script}
 
 -- the helm has made all its ticks
@@ -18,18 +19,18 @@ HasTicked stop (Some s) = s.ticks ≡ ticks_to stop (steering_of s)
 
 -- the iterations of a run in which nothing is left
 pub made_over : (names : List (List ℕ)) (number stop : ℕ) (history : History) (steersman : Option Steersman) → StandsAt names number steersman history → HasTicked stop steersman
-    → made_by names history steersman ≡ iterations (helm_of steersman) stop (heard_of names number history)
+    → iterations_by names history (helm_of steersman) (ticks_in steersman) ≡ iterations (helm_of steersman) stop (heard_of names number history)
 made_over names number stop history None so ticked = refl
 made_over names number stop history (Some s) so ticked =
     ap (λ n. iterations_of (plan_of s.helm) (heard_of names s.number history) n) ticked ∙ ap (λ n. iterations_of (plan_of s.helm) (heard_of names n history) (ticks_to stop (steering_of s))) so.0
 
 -- all of them are kept where none was handed out
-made_kept : (names : List (List ℕ)) (number : ℕ) (history : History) (steersman : Option Steersman) → StandsAt names number steersman history → told_in steersman ≡ 0 → iterations_in steersman ≡ made_by names history steersman
+made_kept : (names : List (List ℕ)) (number : ℕ) (history : History) (steersman : Option Steersman) → StandsAt names number steersman history → told_in steersman ≡ 0 → iterations_in steersman ≡ iterations_by names history (helm_of steersman) (ticks_in steersman)
 made_kept names number history None so none = refl
-made_kept names number history (Some s) so none = so.2.same ∙ ap (λ told. drop told (iterations_of (plan_of s.helm) (heard_of names s.number history) s.ticks)) none
+made_kept names number history (Some s) so none = so.1.same ∙ ap (λ told. drop told (iterations_of (plan_of s.helm) (heard_of names s.number history) s.ticks)) none
 
 -- where no tick is left the helm has made all
-pub over_ticks : (script : Script) (play : Stage) (steersman : Option Steersman) → IfSome steersman (λ helm. (1 ≤ helm.period) × (helm.ticks ≤ ticks_to script.stop (steering_of helm))) → ticks_left script.stop steersman ≡ 0 → HasTicked script.stop steersman
+pub over_ticks : (script : Script) (play : Stage) (steersman : Option Steersman) → IfSome steersman (λ helm. (1 ≤ helm.period) × (helm.ticks ≤ ticks_to script.stop (steering_of helm))) → ticks_behind script.stop (helm_of steersman) (ticks_in steersman) ≡ 0 → HasTicked script.stop steersman
 over_ticks script play None period none = tt
 over_ticks script play (Some s) period none = omega (arith, period.1, none)
 

@@ -21,10 +21,10 @@ use Rattle.moos_post.specs.History.{History}
 use Rattle.moos_play.specs.declared.stage.Stage.{Stage}
 use Rattle.moos_play.specs.declared.steersman.Steersman.{Steersman}
 use Rattle.moos_play.specs.Lawful.{heard_of, helm_number, IsLawful, IsLawfulBeside, KeepsOrder, known_clients, mailed_in, moment_of, names_with, never_falls, opening_of, Steering, steering_with, ticks_of, ticks_to}
-use Rattle.moos_play.specs.Plays.{IsRunFor, iterations_made, HasCompletion, HasSteeredSoFar, HasTicked, history_in, IsPlayedOut, left_in, schedule_in}
+use Rattle.moos_play.specs.Plays.{IsRunFor, iterations_made, HasCompletion, HasSteeredSoFar, HasTicked, history_in, IsPlayedOut, left_in, schedule_in, ticks_behind, iterations_by}
 use Rattle.moos_play.specs.Runs.{playing_of, IsAtPlay, IsCutOff, IsPaused, left_of, shown_by}
 use Rattle.moos_play.specs.Schedules.{answerers, answering, schedule_with, tick_period}
-use Rattle.moos_play.specs.Steered.{HasHeard, helm_of, made_by, parts, StandsAt, steering_of, ticks_left, turns_left}
+use Rattle.moos_play.specs.Steered.{HasHeard, helm_of, parts, StandsAt, steering_of, turns_left, ticks_in}
 use Rattle.moos_play.specs.declared.run.HelmRun.{HelmRun}
 use Rattle.moos_play.proofs.Below.{kept_pass, lawful_alone, names_more, none_below, own_below}
 use Rattle.moos_play.proofs.Coming.{has_heard}
@@ -258,7 +258,7 @@ lawful_end script play valid at none =
     no_lines : drop play.from script.lines ≡ []
     no_lines = drop_all play.from script.lines (omega (arith, none))
 
-    no_turns : (s : Option Steersman) → ticks_left script.stop s ≡ 0 → turns_left script.stop s play.lock.base play.first.seat.seen ≡ []
+    no_turns : (s : Option Steersman) → ticks_behind script.stop (helm_of s) (ticks_in s) ≡ 0 → turns_left script.stop s play.lock.base play.first.seat.seen ≡ []
     no_turns None none = refl
     no_turns (Some s) none = ap (turns_from (answering (steering_of s)) s.number s.period (heard_of play.lock.base s.number play.first.seat.seen) s.ticks) none
 
@@ -298,13 +298,13 @@ pub has_steered : (play : Stage) (w : Bool) → IsPaused play → HasSteeredSoFa
 has_steered play w between = at play.steersman between.at_play.under.steered
   where
     at : (s : Option Steersman) → StandsAt play.lock.base (helm_number play.script.now) s play.first.seat.seen
-        → IfSome (helm_of s) (λ helm. HasTicked play.lock.base helm (length (made_by play.lock.base play.first.seat.seen s)) play.first.seat.seen)
+        → IfSome (helm_of s) (λ helm. HasTicked play.lock.base helm (length (iterations_by play.lock.base play.first.seat.seen (helm_of s) (ticks_in s))) play.first.seat.seen)
     at None stands = tt
     at (Some s) stands =
         let many = made_many play.lock.base play.first.seat.seen (Some s) in
         subst (λ n. HasTicked play.lock.base (steering_of s) n play.first.seat.seen) (sym many) (record {
-          own = subst (λ b. entries_of s.number play.first.seat.seen ≡ cond b (opening_of (steering_of s)) [] ++ ticks_of (steering_of s) (heard_of play.lock.base s.number play.first.seat.seen) s.ticks) stands.1 stands.2.own;
-          many = stands.2.many;
+          own = stands.1.own;
+          many = stands.1.many;
         })
 
 -- the helm, where there is one, is run for the script
@@ -312,6 +312,6 @@ pub runs_for : (play : Stage) (w : Bool) → IsPaused play → IfSome (helm_of p
 runs_for play w ready = at play.steersman ready.at_play.under.steered ready.at_play.period
   where
     at : (s : Option Steersman) → StandsAt play.lock.base (helm_number play.script.now) s play.first.seat.seen → IfSome s (λ helm. (1 ≤ helm.period) × (helm.ticks ≤ ticks_to play.script.now.stop (steering_of helm)))
-        → IfSome (helm_of s) (IsRunFor play.script.now (length (made_by play.lock.base play.first.seat.seen s)))
+        → IfSome (helm_of s) (IsRunFor play.script.now (length (iterations_by play.lock.base play.first.seat.seen (helm_of s) (ticks_in s))))
     at None stands period = tt
     at (Some s) stands period = record { client = stands.0; period = period.0; few = omega (arith, made_many play.lock.base play.first.seat.seen (Some s), period.1) }

@@ -15,9 +15,9 @@ use Rattle.moos_play.specs.declared.stage.Stage.{Stage}
 use Rattle.moos_play.specs.declared.steersman.Steersman.{Steersman}
 use Rattle.moos_client.specs.Hearing.{heard_in}
 use Rattle.moos_play.specs.Lawful.{heard_of, helm_number, iterations, iterations_of, mailed_in, Steering, ticks_to}
-use Rattle.moos_play.specs.Plays.{IsStampOver, iterations_made, stamp_next}
-use Rattle.moos_play.specs.Runs.{handed, handed_of, IsAtPlay, IsPaused, KeepsRun, KeepsSeats, shown_by, untold_in}
-use Rattle.moos_play.specs.Steered.{HasHeard, helm_of, IsUnderWay, iterations_in, made_by, StandsAt, steering_of, Steers, tick_due, ticks_left, told_in}
+use Rattle.moos_play.specs.Plays.{IsStampOver, iterations_made, stamp_next, ticks_behind, iterations_by}
+use Rattle.moos_play.specs.Runs.{handed, handed_of, IsAtPlay, IsPaused, KeepsRun, KeepsSeats, shown_by}
+use Rattle.moos_play.specs.Steered.{HasHeard, helm_of, IsUnderWay, iterations_in, StandsAt, steering_of, Steers, tick_due, told_in, ticks_in}
 use Rattle.moos_step.specs.Steps.{CommunityLock}
 use Rattle.moos_client.proofs.Hearing.{heard_append}
 use Rattle.moos_play.proofs.Hearing.{iterations_many, iterations_stay}
@@ -49,7 +49,7 @@ iterations_before names plan client n m history rest below many =
 
 -- the iterations over a history that goes on: those before, and those behind them
 told_on : (names : List (List ℕ)) (s t : Steersman) (history rest : History) → steering_of t ≡ steering_of s → s.told ≡ s.ticks → t.told ≡ s.told → Steers names s history → Steers names t (history ++ rest)
-    → made_by names (history ++ rest) (Some t) ≡ made_by names history (Some s) ++ t.iterations
+    → iterations_by names (history ++ rest) (helm_of (Some t)) (ticks_in (Some t)) ≡ iterations_by names history (helm_of (Some s)) (ticks_in (Some s)) ++ t.iterations
 told_on names s t history rest same told kept before after =
     let done = iterations_of (plan_of s.helm) (heard_of names s.number (history ++ rest)) t.ticks in
     let is : iterations_of (plan_of t.helm) (heard_of names t.number (history ++ rest)) t.ticks ≡ done = ap (λ (helm : Steering). iterations_of helm.plan (heard_of names helm.client (history ++ rest)) t.ticks) same in
@@ -61,13 +61,13 @@ told_on names s t history rest same told kept before after =
 
 -- the same of a run with a helm or without
 pub made_on : (names : List (List ℕ)) (number : ℕ) (before after : Option Steersman) (history later rest : History) → later ≡ history ++ rest → helm_of after ≡ helm_of before → IfSome before (λ s. s.told ≡ s.ticks) → told_in after ≡ told_in before
-    → StandsAt names number before history → StandsAt names number after later → made_by names later after ≡ made_by names history before ++ iterations_in after
+    → StandsAt names number before history → StandsAt names number after later → iterations_by names later (helm_of after) (ticks_in after) ≡ iterations_by names history (helm_of before) (ticks_in before) ++ iterations_in after
 made_on names number None None history later rest is same told kept stood stands = refl
 made_on names number None (Some t) history later rest is same told kept stood stands = absurd cc
 made_on names number (Some s) None history later rest is same told kept stood stands = absurd cc
 made_on names number (Some s) (Some t) history later rest is same told kept stood stands =
-    subst (λ later. made_by names later (Some t) ≡ made_by names history (Some s) ++ t.iterations) (sym is)
-    (told_on names s t history rest (cc) told kept stood.2 (subst (Steers names t) is stands.2))
+    subst (λ later. iterations_by names later (helm_of (Some t)) (ticks_in (Some t)) ≡ iterations_by names history (helm_of (Some s)) (ticks_in (Some s)) ++ t.iterations) (sym is)
+    (told_on names s t history rest (cc) told kept stood.1 (subst (Steers names t) is stands.1))
 
 -- a helm whose iterations are handed out stands where it stood
 handed_steers : (names : List (List ℕ)) (s : Steersman) (history : History) → Steers names s history → Steers names (handed_of s) history
@@ -89,7 +89,7 @@ handed_under order script lock (Some s) from first under = record {
   within = under.within;
   seats = under.seats;
   played = record { so_far = under.played.so_far; left = under.played.left };
-  steered = (under.steered.0, under.steered.1, handed_steers lock.base s first.seen under.steered.2);
+  steered = (under.steered.0, handed_steers lock.base s first.seen under.steered.1);
 }
 
 -- so does the run
@@ -121,7 +121,7 @@ helm_handed None = refl
 helm_handed (Some s) = refl
 
 -- and so are the iterations so far
-made_handed : (names : List (List ℕ)) (history : History) (steersman : Option Steersman) → made_by names history (option_map handed_of steersman) ≡ made_by names history steersman
+made_handed : (names : List (List ℕ)) (history : History) (steersman : Option Steersman) → iterations_by names history (helm_of (option_map handed_of steersman)) (ticks_in (option_map handed_of steersman)) ≡ iterations_by names history (helm_of steersman) (ticks_in steersman)
 made_handed names history None = refl
 made_handed names history (Some s) = refl
 
@@ -152,7 +152,7 @@ stays_handed before after stays = record {
 pub goes_on_handed : (before after : Stage) → KeepsRun before after → KeepsRun before (handed after)
 goes_on_handed before after on = record { script = on.script; lock = on.lock; order = on.order; helm = helm_handed after.steersman ∙ on.helm }
 
-pub left_handed : (script : Script) (from : ℕ) (steersman : Option Steersman) → length script.lines - from + ticks_left script.stop (option_map handed_of steersman) ≡ length script.lines - from + ticks_left script.stop steersman
+pub left_handed : (script : Script) (from : ℕ) (steersman : Option Steersman) → length script.lines - from + ticks_behind script.stop (helm_of (option_map handed_of steersman)) (ticks_in (option_map handed_of steersman)) ≡ length script.lines - from + ticks_behind script.stop (helm_of steersman) (ticks_in steersman)
 left_handed script from None = refl
 left_handed script from (Some s) = refl
 
@@ -171,10 +171,10 @@ handed_between play valid at = record { valid = valid; at_play = handed_at_play 
 
 -- the iterations of a round follow those before
 pub round_iterations : (before after : Stage) → IsPaused before → IsAtPlay after.script.now after → KeepsSeats before after → KeepsRun before after → told_in after.steersman ≡ told_in before.steersman
-    → iterations_made (shown_by (handed after)) ≡ iterations_made (shown_by before) ++ untold_in after
+    → iterations_made (shown_by (handed after)) ≡ iterations_made (shown_by before) ++ iterations_in after.steersman
 round_iterations before after between at stays on told =
     made_handed after.lock.base after.first.seat.seen after.steersman
-    ∙ ap (λ names. made_by names after.first.seat.seen after.steersman) (ap (λ (lock : CommunityLock). lock.base) on.lock)
+    ∙ ap (λ names. iterations_by names after.first.seat.seen (helm_of after.steersman) (ticks_in after.steersman)) (ap (λ (lock : CommunityLock). lock.base) on.lock)
     ∙ made_on before.lock.base (helm_number before.script.now) before.steersman after.steersman before.first.seat.seen after.first.seat.seen stays.later.0 stays.later.1 on.helm between.told told
     between.at_play.under.steered
     (subst (λ (script : Script). StandsAt before.lock.base (helm_number script) after.steersman after.first.seat.seen) on.script
@@ -182,7 +182,7 @@ round_iterations before after between at stays on told =
 
 -- the iterations of a history that goes on begin with those so far
 pub iterations_more : (names : List (List ℕ)) (number stop : ℕ) (steersman : Option Steersman) (history rest : History) → HasHeard names number stop steersman history
-    → (more : List Iteration) × (iterations (helm_of steersman) stop (heard_of names number (history ++ rest)) ≡ made_by names history steersman ++ more)
+    → (more : List Iteration) × (iterations (helm_of steersman) stop (heard_of names number (history ++ rest)) ≡ iterations_by names history (helm_of steersman) (ticks_in steersman) ++ more)
 iterations_more names number stop None history rest heard = ([], refl)
 iterations_more names number stop (Some s) history rest heard =
     let all = iterations_of (plan_of s.helm) (heard_of names s.number (history ++ rest)) (ticks_to stop (steering_of s)) in (

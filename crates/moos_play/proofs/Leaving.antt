@@ -17,10 +17,10 @@ use Rattle.moos_play.proofs.Stamping.{next_line}
 use Rattle.moos_play.specs.declared.stage.Stage.{Stage}
 use Rattle.moos_play.specs.declared.steersman.Steersman.{Steersman}
 use Rattle.moos_play.specs.Lawful.{heard_of, known_clients, ticks_to}
-use Rattle.moos_play.specs.Plays.{earliest, history_in, IsLeft, KeepsLeft, known_clients_in, schedule_in, stamp_next}
+use Rattle.moos_play.specs.Plays.{earliest, history_in, IsLeft, KeepsLeft, known_clients_in, schedule_in, stamp_next, ticks_behind}
 use Rattle.moos_play.specs.Runs.{IsPaused, playing_of}
 use Rattle.moos_play.specs.Schedules.{answering}
-use Rattle.moos_play.specs.Steered.{helm_of, IsBehind, left_for, parts, steering_of, tick_due, ticks_left, turns_left}
+use Rattle.moos_play.specs.Steered.{helm_of, IsBehind, left_for, parts, steering_of, tick_due, turns_left, ticks_in}
 use Rattle.moos_post.specs.declared.entry.Entry.{Entry}
 use Rattle.moos_post.specs.History.{History}
 use Rattle.script_reader.specs.declared.script.Order.{Order}
@@ -96,7 +96,7 @@ all_late script names from s history n valid = by (nat_lt n (length script.names
     by false = helm_late script names from s history
 
 -- where nothing is left of a run nothing is left for a client
-none_left : (script : Script) (names : List (List ℕ)) (from : ℕ) (s : Option Steersman) (history : History) (n : ℕ) → length script.lines - from + ticks_left script.stop s ≡ 0 → left_for script s names from history n ≡ []
+none_left : (script : Script) (names : List (List ℕ)) (from : ℕ) (s : Option Steersman) (history : History) (n : ℕ) → length script.lines - from + ticks_behind script.stop (helm_of s) (ticks_in s) ≡ 0 → left_for script s names from history n ≡ []
 none_left script names from s history n none = by (nat_lt n (length script.names))
   where
     empty : (left : List Entry) → length left ≡ 0 → left ≡ []
@@ -106,7 +106,7 @@ none_left script names from s history n none = by (nat_lt n (length script.names
     lines : drop from script.lines ≡ []
     lines = empty (drop from script.lines) (omega (arith, length-drop from script.lines, none))
 
-    turns : (s : Option Steersman) → ticks_left script.stop s ≡ 0 → turns_left script.stop s names history ≡ []
+    turns : (s : Option Steersman) → ticks_behind script.stop (helm_of s) (ticks_in s) ≡ 0 → turns_left script.stop s names history ≡ []
     turns None over = refl
     turns (Some s) over = ap (turns_from (answering (steering_of s)) s.number s.period (heard_of names s.number history) s.ticks) over
 

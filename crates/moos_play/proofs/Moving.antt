@@ -1,4 +1,5 @@
 -- How a run moves on in order Stamp: its stamps don't go back, and the helm makes one tick a stamp.
+use Rattle.moos_play.specs.Schedules.{tick_period}
 use Rattle.std.proofs.Common.{◌≡◌, ◌≢◌, ◌⊎◌, ℕ, zero, suc, ◌+◌, ◌-◌, ◌*◌, ◌/◌, ◌<◌, ◌≤◌, Bool, true, false, cond, inl, inr, List, [], ◌∷◌, ◌++◌, length, length-append, drop, Option, None, Some, Ok, Err, OnOk, Result, nat_le, nat_lt, refl, sym, ap, ◌∙◌, subst, arith}
 use Rattle.std.specs.Prelude.{IfSome, option_map, slice_get}
 use Rattle.std.specs.declared.alloc.AllocError.{AllocError}
@@ -12,9 +13,9 @@ use Rattle.moos_play.specs.declared.stage.Stage.{Stage}
 use Rattle.moos_play.specs.declared.round_made.Round.{Round}
 use Rattle.moos_play.specs.declared.steersman.Steersman.{Steersman}
 use Rattle.moos_play.specs.Lawful.{heard_of, Steering, ticks_to}
-use Rattle.moos_play.specs.Plays.{earliest, HasNoTick, HasTick, HasTurn, IsStampOver, iterations_made, left_in, next_stamp, stamp_next}
+use Rattle.moos_play.specs.Plays.{earliest, HasNoTick, HasTick, HasTurn, IsStampOver, iterations_made, left_in, next_stamp, stamp_next, ticks_behind, iterations_by}
 use Rattle.moos_play.specs.Runs.{playing_of, handed, IsPaused, KeepsMoves, KeepsRun, left_of, MovesAt, shown_by, stamp_due}
-use Rattle.moos_play.specs.Steered.{helm_of, IsBehind, made_by, period_in, steering_of, tick_due, ticks_in, ticks_left}
+use Rattle.moos_play.specs.Steered.{helm_of, IsBehind, steering_of, tick_due, ticks_in}
 use Rattle.moos_play.proofs.Handing.{left_handed, next_handed}
 use Rattle.moos_play.proofs.Hearing.{iterations_many}
 use Rattle.moos_play.proofs.Rounding.{due_is}
@@ -95,7 +96,7 @@ least_on stop tick line (Some t) (Some l) ticks lines = inr (by (nat_lt t l))
     by false = below_line l (lines l refl)
 
 -- how the helm is run stays the same: so does its period
-period_same : (before after : Option Steersman) → helm_of after ≡ helm_of before → period_in after ≡ period_in before
+period_same : (before after : Option Steersman) → helm_of after ≡ helm_of before → tick_period (helm_of after) ≡ tick_period (helm_of before)
 period_same None None same = refl
 period_same None (Some t) same = absurd cc
 period_same (Some s) None same = absurd cc
@@ -140,14 +141,14 @@ past (x ∷ xs) zero is = absurd cc
 past (x ∷ xs) (suc i) is = omega (arith, past xs i is)
 
 -- where neither a tick nor a line is next nothing is left
-none_next : (script : Script) (from : ℕ) (s : Option Steersman) → tick_due script.stop s ≡ None → option_map (λ (line : Entry). line.stamp) (slice_get script.lines from) ≡ None → length script.lines - from + ticks_left script.stop s ≡ 0
+none_next : (script : Script) (from : ℕ) (s : Option Steersman) → tick_due script.stop s ≡ None → option_map (λ (line : Entry). line.stamp) (slice_get script.lines from) ≡ None → length script.lines - from + ticks_behind script.stop (helm_of s) (ticks_in s) ≡ 0
 none_next script from s tick line = omega (arith, lines (slice_get script.lines from) refl line, ticks s tick)
   where
     lines : (next : Option Entry) → slice_get script.lines from ≡ next → option_map (λ (line : Entry). line.stamp) next ≡ None → length script.lines - from ≡ 0
     lines None is none = past script.lines from is
     lines (Some l) is none = absurd cc
 
-    ticks : (s : Option Steersman) → tick_due script.stop s ≡ None → ticks_left script.stop s ≡ 0
+    ticks : (s : Option Steersman) → tick_due script.stop s ≡ None → ticks_behind script.stop (helm_of s) (ticks_in s) ≡ 0
     ticks None none = refl
     ticks (Some t) none = by (nat_le t.ticks (script.stop / t.period)) refl none
       where
@@ -173,7 +174,7 @@ stamps_on script before after stamp valid on moves order =
     line' : Option ℕ
     line' = option_map (λ (line : Entry). line.stamp) (slice_get script.lines after.from)
 
-    more : (ticks_in after.steersman ≡ ticks_in before.steersman) ⊎ ((ticks_in after.steersman ≡ suc (ticks_in before.steersman)) × (stamp ≡ ticks_in before.steersman * period_in before.steersman)) → ticks_in before.steersman ≤ ticks_in after.steersman
+    more : (ticks_in after.steersman ≡ ticks_in before.steersman) ⊎ ((ticks_in after.steersman ≡ suc (ticks_in before.steersman)) × (stamp ≡ ticks_in before.steersman * tick_period (helm_of before.steersman))) → ticks_in before.steersman ≤ ticks_in after.steersman
     more (inl same) = omega (arith, same)
     more (inr next) = omega (arith, next.0)
 
@@ -211,7 +212,7 @@ moves_race Race stamp before after race = tt
 
 -- a tick that is due
 pub moves_tick : (script : Script) (play after : Stage) (old new : Steersman) (result : Result (Unit {0}) AllocError) → play.steersman ≡ Some old → after.steersman ≡ Some new → after.from ≡ play.from → tick_due script.stop play.steersman ≢ None → IsBehind (tick_due script.stop play.steersman) (drop play.from script.lines)
-    → OnOk result ((new.opened ≡ true) × (new.ticks ≡ old.ticks + 1)) → OnOk result (KeepsMoves play.order (stamp_due script play) play after)
+    → OnOk result (new.ticks ≡ old.ticks + 1) → OnOk result (KeepsMoves play.order (stamp_due script play) play after)
 moves_tick script play after old new (Err _) is is' from due behind reached = tt
 moves_tick script play after old new (Ok _) is is' from due behind reached = by play.order
   where
@@ -228,8 +229,8 @@ moves_tick script play after old new (Ok _) is is' from due behind reached = by 
     by Stamp = record {
       lines = omega (arith, from);
       ticks = inr (
-        ap ticks_in is' ∙ reached.1 ∙ omega arith ∙ sym (ap (λ s. suc (ticks_in s)) is),
-        stamp ∙ sym (ap (λ s. ticks_in s * period_in s) is),
+        ap ticks_in is' ∙ reached ∙ omega arith ∙ sym (ap (λ s. suc (ticks_in s)) is),
+        stamp ∙ sym (ap (λ s. ticks_in s * tick_period (helm_of s)) is),
       );
     }
     by Race = tt
@@ -239,13 +240,13 @@ pub moves_twice : (order : Order) (stamp : ℕ) (before middle after : Stage) �
 moves_twice Race stamp before middle after on period one other = tt
 moves_twice Stamp stamp before middle after on period one other = record { lines = omega (arith, one.lines, other.lines); ticks = by one.ticks other.ticks }
   where
-    same : period_in middle.steersman ≡ period_in before.steersman
+    same : tick_period (helm_of middle.steersman) ≡ tick_period (helm_of before.steersman)
     same = period_same before.steersman middle.steersman on.helm
 
-    some : 1 ≤ period_in before.steersman
+    some : 1 ≤ tick_period (helm_of before.steersman)
     some = at before.steersman period
       where
-        at : (s : Option Steersman) → IfSome s (λ helm. 1 ≤ helm.period) → 1 ≤ period_in s
+        at : (s : Option Steersman) → IfSome s (λ helm. 1 ≤ helm.period) → 1 ≤ tick_period (helm_of s)
         at None so = omega arith
         at (Some s) so = so
 
@@ -253,18 +254,18 @@ moves_twice Stamp stamp before middle after on period one other = record { lines
     once : (a p : ℕ) → 1 ≤ p → a * p ≡ suc a * p → ⊥
     once a p some is = omega (arith, some, is)
 
-    by : (ticks_in middle.steersman ≡ ticks_in before.steersman) ⊎ ((ticks_in middle.steersman ≡ suc (ticks_in before.steersman)) × (stamp ≡ ticks_in before.steersman * period_in before.steersman))
-        → (ticks_in after.steersman ≡ ticks_in middle.steersman) ⊎ ((ticks_in after.steersman ≡ suc (ticks_in middle.steersman)) × (stamp ≡ ticks_in middle.steersman * period_in middle.steersman))
-        → (ticks_in after.steersman ≡ ticks_in before.steersman) ⊎ ((ticks_in after.steersman ≡ suc (ticks_in before.steersman)) × (stamp ≡ ticks_in before.steersman * period_in before.steersman))
+    by : (ticks_in middle.steersman ≡ ticks_in before.steersman) ⊎ ((ticks_in middle.steersman ≡ suc (ticks_in before.steersman)) × (stamp ≡ ticks_in before.steersman * tick_period (helm_of before.steersman)))
+        → (ticks_in after.steersman ≡ ticks_in middle.steersman) ⊎ ((ticks_in after.steersman ≡ suc (ticks_in middle.steersman)) × (stamp ≡ ticks_in middle.steersman * tick_period (helm_of middle.steersman)))
+        → (ticks_in after.steersman ≡ ticks_in before.steersman) ⊎ ((ticks_in after.steersman ≡ suc (ticks_in before.steersman)) × (stamp ≡ ticks_in before.steersman * tick_period (helm_of before.steersman)))
     by (inl one) (inl other) = inl (other ∙ one)
     by (inl one) (inr other) = inr (other.0 ∙ ap suc one, other.1 ∙ (λ i. one i * same i))
     by (inr one) (inl other) = inr (other ∙ one.0, one.1)
-    by (inr one) (inr other) = absurd (once (ticks_in before.steersman) (period_in before.steersman) some (sym one.1 ∙ other.1 ∙ (λ i. one.0 i * same i)))
+    by (inr one) (inr other) = absurd (once (ticks_in before.steersman) (tick_period (helm_of before.steersman)) some (sym one.1 ∙ other.1 ∙ (λ i. one.0 i * same i)))
 
 -- ---- the turn of a round
 
 -- there is an iteration a tick
-pub made_many : (names : List (List ℕ)) (history : History) (s : Option Steersman) → length (made_by names history s) ≡ ticks_in s
+pub made_many : (names : List (List ℕ)) (history : History) (s : Option Steersman) → length (iterations_by names history (helm_of s) (ticks_in s)) ≡ ticks_in s
 made_many names history None = refl
 made_many names history (Some s) = iterations_many (plan_of s.helm) (heard_of names s.number history) s.ticks
 
@@ -321,11 +322,11 @@ turn_of before after round stamp moves is later same script order many = at befo
 
             from : (left_in (shown_by after) ≡ 0) ⊎ (round.stamp < next_stamp (shown_by after)) → round.stamp < s.ticks * s.period
             from (inl none) =
-                let ticks : ticks_left after.script.now.stop (Some t) ≡ 0 = omega (arith, none, ap (ticks_left after.script.now.stop) a) in
+                let ticks : ticks_behind after.script.now.stop (helm_of (Some t)) (ticks_in (Some t)) ≡ 0 = omega (arith, none, ap (λ s. ticks_behind after.script.now.stop (helm_of s) (ticks_in s)) a) in
                 absurd (omega (arith, ticks, due_left))
             from (inr sooner) = omega (arith, sooner, next, stamp_same)
 
-        by : (ticks_in after.steersman ≡ ticks_in before.steersman) ⊎ ((ticks_in after.steersman ≡ suc (ticks_in before.steersman)) × (stamp ≡ ticks_in before.steersman * period_in before.steersman))
+        by : (ticks_in after.steersman ≡ ticks_in before.steersman) ⊎ ((ticks_in after.steersman ≡ suc (ticks_in before.steersman)) × (stamp ≡ ticks_in before.steersman * tick_period (helm_of before.steersman)))
             → HasNoTick (steering_of s) before.script.now.stop (length (iterations_made (shown_by before))) round ⊎ HasTick (steering_of s) (length (iterations_made (shown_by before))) round
         by (inl stays) = inl (record {
           none = nothing round.iterations (omega (arith, many, stays));
@@ -337,7 +338,7 @@ turn_of before after round stamp moves is later same script order many = at befo
             nothing (x ∷ xs) none = absurd cc
         by (inr next) = inr (record {
           one = omega (arith, many, next.0);
-          at = is ∙ next.1 ∙ ap (λ t. ticks_in t * period_in t) b ∙ ap (λ n. n * s.period) (sym made_is);
+          at = is ∙ next.1 ∙ ap (λ t. ticks_in t * tick_period (helm_of t)) b ∙ ap (λ n. n * s.period) (sym made_is);
         })
 
 -- a helm, where there is one, has a period

@@ -1,17 +1,18 @@
 -- The helm as one more player beside the clients.
-use Rattle.std.proofs.Common.{◌≡◌, ℕ, ◌<◌, ◌≤◌, ◌*◌, ◌+◌, ◌^◌, true, false, cond, ne_eqb, List, [], ◌∷◌, ◌++◌, length, map, Ok, OnOk, Result, refl, sym, ap, ◌∙◌, subst, arith, nat_lt}
+use Rattle.std.proofs.Common.{◌≡◌, ℕ, ◌<◌, ◌+◌, true, List, [], ◌∷◌, ◌++◌, length, map, Ok, OnOk, Result, refl, sym, ap, ◌∙◌, subst, arith, nat_lt}
 use Rattle.std.specs.List.{All, AllZip, list_all}
 use Rattle.std.specs.declared.alloc.AllocError.{AllocError}
 use Rattle.moos_client.specs.Calls.{SeatState, entries_of}
 use Rattle.moos_post.specs.declared.entry.Entry.{Entry}
-use Rattle.moos_play.specs.Steered.{MaySteer, Steers}
+use Rattle.moos_play.proofs.Leading.{seat_steers}
+use Rattle.moos_play.specs.Steered.{MayLead, MaySteer}
 use Rattle.moos_play.specs.declared.steersman.Steersman.{Steersman}
 use Rattle.moos_step.specs.declared.player.Player.{Player}
-use Rattle.moos_step.specs.Steps.{Anything, AreBusy, AreParted, CommunityLock, GoesOn, HasEnded, HasMade, HasTaken, IsAlone, IsGathered, IsPlayed, IsPlayedBeside, IsWhole, Makes, met_of, times_met}
-use Rattle.moos_step.proofs.Leading.{player_of}
+use Rattle.moos_step.specs.Steps.{Anything, AreBusy, AreParted, CommunityLock, GoesOn, HasEnded, HasMade, HasTaken, IsAlone, IsGathered, IsPlayed, IsPlayedBeside, Makes, met_of, times_met}
+use Rattle.moos_step.proofs.Leading.{IsLed, player_of}
 use Rattle.moos_step.proofs.Played.{all_make, idle_lines, makes_with, nothing_played, ok_part}
 use Rattle.moos_step.proofs.Steps.{is_with, parted_more}
-use Rattle.moos_step.proofs.Taking.{at_ok, HaveMade, made_times, taken_more, IsStep}
+use Rattle.moos_step.proofs.Taking.{at_ok, HaveMade, made_times, taken_more}
 use Rattle.turn_lock.proofs.Mets.{count_gone, count_more, events_front}
 use Rattle.turn_lock.specs.Passes.{Begins, beside, events_in, met_with, without_number}
 use Rattle.std.proofs.lemmas.List.{map-append}
@@ -46,16 +47,22 @@ pub race_step : (lock : CommunityLock) (lines : List Entry) (helm : ℕ) (result
     → apart ≡ record parted { met = without_number helm parted.met } → seat ≡ beside parted helm (events_in parted.met helm)
     → Makes (IsPlayed lines ended) apart played → AllZip (HasEnded lines) befores afters → Makes Anything seat sailed → HasTaken played taken afters → after ≡ met_with taken sailed → Begins after.seen taken.seen
     → OnOk others (All (λ player. player.ended ≡ Ok tt) afters) → OnOk result ((ended ≡ Ok tt) × (others ≡ Ok tt))
-    → IsStep lock (IsPlayedBeside helm lines result) before apart played after (befores ++ player_of seat ∷ []) (afters ++ player_of sailed ∷ [])
+    → IsLed lock (IsPlayedBeside helm lines result) before after
 race_step lock lines helm result ended others before parted apart played taken after seat sailed befores afters gathered are busy all above below apart_is seat_is makes zip sails taken' after_is later ok both = record {
-  gathered = gathered;
-  apart = parted_more lock helm before parted apart seat befores (player_of seat) gathered are (busy.fresh helm (omega arith)) above below apart_is seat_is;
-  first = makes_beside helm lines result apart played (makes_with lines result ended apart played (ok_part result both (λ b. b.0)) makes);
-  others = all_more (IsPlayedBeside helm lines result) befores afters (player_of seat) (player_of sailed)
-      (all_beside helm lines result befores afters (all_make lines result befores afters (ok_part result both (λ b. at_ok others (All (λ player. player.ended ≡ Ok tt) afters) b.1 ok)) zip))
-      (record { added = sails.added; made = sails.made; allowed = λ other. absurd (other (ap (λ s. s.number) seat_is)) });
-  taken = taken_more played taken after sailed afters (player_of sailed) taken' refl (ap (λ s. s.met) sails.made.same ∙ ap (λ s. s.met) seat_is) after_is later;
-  idle = λ n zero' absent other. nothing_played lines result n (idle_lines lines helm befores busy all n zero' (fewer n absent));
+  parted = apart;
+  played = played;
+  players = befores ++ player_of seat ∷ [];
+  ended = afters ++ player_of sailed ∷ [];
+  step = record {
+    gathered = gathered;
+    apart = parted_more lock helm before parted apart seat befores (player_of seat) gathered are (busy.fresh helm (omega arith)) above below apart_is seat_is;
+    first = makes_beside helm lines result apart played (makes_with lines result ended apart played (ok_part result both (λ b. b.0)) makes);
+    others = all_more (IsPlayedBeside helm lines result) befores afters (player_of seat) (player_of sailed)
+        (all_beside helm lines result befores afters (all_make lines result befores afters (ok_part result both (λ b. at_ok others (All (λ player. player.ended ≡ Ok tt) afters) b.1 ok)) zip))
+        (record { added = sails.added; made = sails.made; allowed = λ other. absurd (other (ap (λ s. s.number) seat_is)) });
+    taken = taken_more played taken after sailed afters (player_of sailed) taken' refl (ap (λ s. s.met) sails.made.same ∙ ap (λ s. s.met) seat_is) after_is later;
+    idle = λ n zero' absent other. nothing_played lines result n (idle_lines lines helm befores busy all n zero' (fewer n absent));
+  };
 }
   where
     fewer : (n : ℕ) → times_met n (map met_of (befores ++ player_of seat ∷ [])) ≡ 0 → times_met n (map met_of befores) ≡ 0
@@ -66,22 +73,12 @@ pub helm_with : (lock : CommunityLock) (lines : List Entry) (helm : ℕ) (before
     → times_met helm parted.met ≡ 1
 helm_with lock lines helm before parted players gathered are busy above below = is_with lock helm before parted players gathered are (busy.fresh helm (omega arith)) above below
 
--- the helm's seat may steer once it is parted
-pub may_steer : (lock : CommunityLock) (lines : List Entry) (s : Steersman) (ticks workers : ℕ) (before parted seat : SeatState) (players : List Player) → IsGathered lock before → IsWhole before → AreParted lock before parted players
-    → AreBusy lines s.number players → 0 < s.number → s.number < length lock.base → seat ≡ beside parted s.number (events_in parted.met s.number) → Steers lock.base s before.seen → (s.opened ≡ false → s.ticks ≡ 0) → s.ticks ≤ ticks
-    → ticks * s.period < 2 ^ 64 + s.period → (1 ≤ workers) × (workers ≤ 16) → MaySteer lock seat s ticks workers
-may_steer lock lines s ticks workers before parted seat players gathered whole are busy above below seat_is steers opened count early few =
-    subst (λ seat. MaySteer lock seat s ticks workers) (sym (seat_is ∙ ap {A = SeatState} (λ p. beside p s.number (events_in parted.met s.number)) are.same)) (record {
-      may = record { of_lock = record { same = gathered.may.of_lock.same; live = gathered.may.of_lock.live; base = gathered.may.of_lock.base }; free = refl; client = below };
-      number = refl;
-      own = whole s.number ∙ ap (λ b. cond b before.mine (events_in before.met s.number)) (ne_eqb before.number s.number (λ e. omega (arith, e, gathered.number, above)))
-          ∙ sym (are.known s.number) ∙ events_front parted.met (map met_of players) s.number (omega (arith, helm_with lock lines s.number before parted players gathered are busy above below));
-      steered = steers;
-      opened = opened;
-      count = count;
-      early = early;
-      few = few;
-    })
+-- the helm may steer at its seat beside the clients with lines
+pub race_steers : (lock : CommunityLock) (lines : List Entry) (s : Steersman) (ticks workers : ℕ) (before parted seat : SeatState) (players : List Player) → MayLead lock before s ticks workers → AreParted lock before parted players → AreBusy lines s.number players → 0 < s.number
+    → seat ≡ beside parted s.number (events_in parted.met s.number) → MaySteer lock seat s ticks workers
+race_steers lock lines s ticks workers before parted seat players may are busy above seat_is =
+    seat_steers lock s ticks workers before parted seat may above are.same
+    (sym (are.known s.number) ∙ events_front parted.met (map met_of players) s.number (omega (arith, helm_with lock lines s.number before parted players may.gathered are busy above may.client))) seat_is
 
 -- the helm is not among those that the first seat has when it takes the helm in
 pub helm_absent : (lines : List Entry) (helm : ℕ) (parted apart played taken : SeatState) (added : List Entry) (befores afters : List Player) → AreBusy lines helm befores → apart ≡ record parted { met = without_number helm parted.met }

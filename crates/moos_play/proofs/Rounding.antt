@@ -6,7 +6,7 @@ use Rattle.moos_lawful.specs.Schedules.{IsLawfulSoFar}
 use Rattle.moos_play.specs.Lawful.{heard_of, helm_number, Steering, ticks_to}
 use Rattle.moos_play.specs.Runs.{IsAtPlay, IsCutOff}
 use Rattle.moos_play.specs.Schedules.{schedule_with}
-use Rattle.moos_play.specs.Steered.{HasHeard, IsBehind, IsStopped, IsUnderWay, parts, steering_of, Steers, tick_due}
+use Rattle.moos_play.specs.Steered.{HasHeard, HasLed, IsBehind, IsStopped, IsUnderWay, parts, steering_of, tick_due}
 use Rattle.std.proofs.Common.{◌≡◌, ◌≢◌, ℕ, suc, ◌+◌, ◌*◌, ◌/◌, ◌<◌, ◌≤◌, Bool, true, false, cond, List, [], ◌∷◌, ◌++◌, length, length-append, take, drop, Option, None, Some, Ok, Err, OnOk, Result, nat_le, nat_lt, refl, sym, ap, subst, arith, ◌∙◌, ◌-◌}
 use Rattle.std.specs.Prelude.{IfSome, OnErr}
 use Rattle.std.specs.List.{list_all}
@@ -14,11 +14,12 @@ use Rattle.std.specs.declared.alloc.AllocError.{AllocError}
 use Rattle.std.proofs.lemmas.Bool.{and_parts}
 use Rattle.std.proofs.lemmas.Bool.Decides.{nat_tests}
 use Rattle.std.proofs.lemmas.List.{length-take}
+use Rattle.std.proofs.Math.Nat.{mul-le-mul}
 use Rattle.moos_post.specs.declared.entry.Entry.{Entry}
 use Rattle.moos_step.specs.declared.player.Player.{Player}
 use Rattle.moos_play.specs.declared.stage.Stage.{Stage}
 use Rattle.moos_play.specs.declared.steersman.Steersman.{Steersman}
-use Rattle.moos_step.specs.Steps.{GoesOn, IsAlone, IsGathered, IsPlayedBeside}
+use Rattle.moos_step.specs.Steps.{GoesOn, IsAlone, IsPlayedBeside}
 use Rattle.moos_play.proofs.Coming.{race_cut, tick_cut, tick_next}
 use Rattle.script_reader.specs.declared.script.Script.{Script}
 use Rattle.script_reader.specs.Validity.{are_lines}
@@ -37,6 +38,19 @@ due_is stop s some = let left = due_left stop s some in ap (λ b. cond b (Some (
     le_left : s.ticks < suc (stop / s.period) → nat_le s.ticks (stop / s.period) ≡ true
     le_left h = grind (arith, nat_tests)
 
+-- so its stamp is below what is above the last stamp
+pub tick_early : (stop ticks period limit : ℕ) → 1 ≤ period → ticks < suc (stop / period) → stop < limit → (ticks + 1) * period < limit + period
+tick_early stop ticks period limit some left below = subst (λ n. n * period < limit + period) next (omega (arith, some, below, mul-le-mul enough same))
+  where
+    next : suc ticks ≡ ticks + 1
+    next = omega arith
+
+    enough : ticks ≤ stop / period
+    enough = omega (arith, left)
+
+    same : period ≤ period
+    same = omega arith
+
 -- where there is a line there is a client
 pub some_client : (clients : ℕ) (lines : List Entry) (from : ℕ) → list_all (λ line. nat_lt line.client clients) lines ≡ true → from < length lines → 0 < clients
 some_client clients [] from all some = absurd (omega (arith, some))
@@ -44,20 +58,20 @@ some_client clients (line ∷ lines) from all some = let here = (and_parts (nat_
 
 -- the run after a tick
 pub tick_at_play : (script : Script) (play : Stage) (first : Player) (old new : Steersman) (result : Result (Unit {0}) AllocError) → are_lines (length script.names) 0 script.stop script.lines ≡ true → IsAtPlay script play → play.steersman ≡ Some old
-    → tick_due script.stop play.steersman ≢ None → IsBehind (tick_due script.stop play.steersman) (drop play.from script.lines) → IsGathered play.lock first.seat → GoesOn (IsAlone old.number) play.first.seat first.seat
-    → steering_of new ≡ steering_of old → OnOk result (Steers play.lock.base new first.seat.seen) → OnOk result ((new.opened ≡ true) × (new.ticks ≡ old.ticks + 1)) → OnOk result (IsAtPlay script (record play { first = first; steersman = Some new }))
-tick_at_play script play first old new (Err _) valid at is due behind gathered on steering steers reached = tt
-tick_at_play script play first old new (Ok _) valid at is due behind gathered on steering steers reached =
+    → tick_due script.stop play.steersman ≢ None → IsBehind (tick_due script.stop play.steersman) (drop play.from script.lines) → HasLed play.lock (IsAlone old.number) (old.ticks + 1) play.first.seat first.seat old new result
+    → OnOk result (IsAtPlay script (record play { first = first; steersman = Some new }))
+tick_at_play script play first old new (Err _) valid at is due behind led = tt
+tick_at_play script play first old new (Ok _) valid at is due behind led =
     let some = subst (λ (s : Option Steersman). tick_due script.stop s ≢ None) is due in
     let left = due_left script.stop old some in
     let period = subst (λ s. IfSome s (λ helm. (1 ≤ helm.period) × (helm.ticks ≤ ticks_to script.stop (steering_of helm)))) is at.period in
     record {
-      under = tick_next play.order script play.lock valid old new play.from play.first.seat first.seat (subst (λ s. IsUnderWay play.order script play.lock s play.from play.first.seat) is at.under) gathered on steering reached.0 reached.1 steers left
+      under = tick_next play.order script play.lock valid old new play.from play.first.seat first.seat (subst (λ s. IsUnderWay play.order script play.lock s play.from play.first.seat) is at.under) led.gathered led.goes_on led.same led.reached led.steered left
           (subst (λ tick. IsBehind tick (drop play.from script.lines)) (due_is script.stop old some) (subst (λ s. IsBehind (tick_due script.stop s) (drop play.from script.lines)) is behind));
       calls = at.calls;
       period = (
-        subst (λ (helm : Steering). 1 ≤ helm.period) (sym steering) period.0,
-        omega (arith, reached.1, left, ap (λ (helm : Steering). ticks_to script.stop helm) steering),
+        subst (λ (helm : Steering). 1 ≤ helm.period) (sym led.same) period.0,
+        omega (arith, led.reached, left, ap (λ (helm : Steering). ticks_to script.stop helm) led.same),
       );
     }
 
@@ -72,28 +86,27 @@ stopped_heard names number stop most old new history steering is stopped few = (
 
 -- the run after a tick that was cut off
 pub tick_stops : (script : Script) (play : Stage) (first : Player) (old new : Steersman) (result : Result (Unit {0}) AllocError) → are_lines (length script.names) 0 script.stop script.lines ≡ true → IsAtPlay script play → play.steersman ≡ Some old
-    → tick_due script.stop play.steersman ≢ None → IsBehind (tick_due script.stop play.steersman) (drop play.from script.lines) → GoesOn (IsAlone old.number) play.first.seat first.seat → steering_of new ≡ steering_of old
-    → (old.opened ≡ true → OnErr result (IsStopped play.lock.base (steering_of old) new.ticks (old.ticks + 1) first.seat.seen)) → OnErr result (IsCutOff script (record play { first = first; steersman = Some new }))
-tick_stops script play first old new (Ok _) valid at is due behind on steering stops = tt
-tick_stops script play first old new (Err _) valid at is due behind on steering stops =
+    → tick_due script.stop play.steersman ≢ None → IsBehind (tick_due script.stop play.steersman) (drop play.from script.lines) → HasLed play.lock (IsAlone old.number) (old.ticks + 1) play.first.seat first.seat old new result
+    → OnErr result (IsCutOff script (record play { first = first; steersman = Some new }))
+tick_stops script play first old new (Ok _) valid at is due behind led = tt
+tick_stops script play first old new (Err _) valid at is due behind led =
     let under = subst (λ s. IsUnderWay play.order script play.lock s play.from play.first.seat) is at.under in
     let some = subst (λ (s : Option Steersman). tick_due script.stop s ≢ None) is due in
     let left = due_left script.stop old some in
-    let stopped = stops under.steered.1 in
     record {
-      so_far = subst (λ helm. IsLawfulSoFar (schedule_with play.order script (Some helm) play.lock.base) first.seat.seen) (sym steering)
-          (tick_cut play.order script play.lock valid old new play.from play.first.seat first.seat under on stopped left
+      so_far = subst (λ helm. IsLawfulSoFar (schedule_with play.order script (Some helm) play.lock.base) first.seat.seen) (sym led.same)
+          (tick_cut play.order script play.lock valid old new play.from play.first.seat first.seat under led.goes_on led.stopped left
           (subst (λ tick. IsBehind tick (drop play.from script.lines)) (due_is script.stop old some) (subst (λ s. IsBehind (tick_due script.stop s) (drop play.from script.lines)) is behind)));
       room = under.seats;
-      heard = stopped_heard play.lock.base (helm_number script) script.stop (old.ticks + 1) old new first.seat.seen steering under.steered.0 stopped (omega (arith, left));
+      heard = stopped_heard play.lock.base (helm_number script) script.stop (old.ticks + 1) old new first.seat.seen led.same under.steered.0 led.stopped (omega (arith, left));
     }
 
 -- and after a race
 pub race_stops : {E : Type 0} {result : Result (Unit {0}) E} (script : Script) (play : Stage) (after : SeatState) (old new : Steersman) (to most : ℕ) (all : List Entry) → play.order ≡ Race → are_lines (length script.names) 0 script.stop script.lines ≡ true → IsAtPlay script play
     → play.steersman ≡ Some old → all ≡ script.lines → play.from ≤ to → GoesOn (IsPlayedBeside old.number (take (to - play.from) (drop play.from all)) result) play.first.seat after → steering_of new ≡ steering_of old
-    → (old.opened ≡ true → IsStopped play.lock.base (steering_of old) new.ticks most after.seen) → most ≤ ticks_to script.stop (steering_of old)
+    → IsStopped play.lock.base (steering_of old) new.ticks most after.seen → most ≤ ticks_to script.stop (steering_of old)
     → IsLawfulSoFar (schedule_with play.order script (Some (steering_of new)) play.lock.base) after.seen × (parts script (Some new) ≤ length play.lock.base) × HasHeard play.lock.base (helm_number script) script.stop (Some new) after.seen
-race_stops script play after old new to most all race valid at is same more went steering stops few = (
+race_stops script play after old new to most all race valid at is same more went steering stopped few = (
   subst (λ helm. IsLawfulSoFar (schedule_with play.order script (Some helm) play.lock.base) after.seen) (sym steering)
       (race_cut play.order script play.lock valid old play.from to new.ticks most all play.first.seat after race under same more went stopped few),
   under.seats,
@@ -102,9 +115,6 @@ race_stops script play after old new to most all race valid at is same more went
   where
     under : IsUnderWay play.order script play.lock (Some old) play.from play.first.seat
     under = subst (λ s. IsUnderWay play.order script play.lock s play.from play.first.seat) is at.under
-
-    stopped : IsStopped play.lock.base (steering_of old) new.ticks most after.seen
-    stopped = stops under.steered.1
 
 -- as many counts of calls as before
 pub as_many : (n : ℕ) (before after : List ℕ) → length after ≡ length before → n ≡ length before → length (take n (after ++ drop (length after) before)) ≡ n

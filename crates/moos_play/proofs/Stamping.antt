@@ -16,10 +16,10 @@ use Rattle.moos_post.specs.History.{History}
 use Rattle.moos_play.specs.declared.stage.Stage.{Stage}
 use Rattle.moos_play.specs.declared.steersman.Steersman.{Steersman}
 use Rattle.moos_lawful.specs.Schedules.{clients_below}
-use Rattle.moos_play.specs.Lawful.{entries_from, heard_of, helm_number, KeepsStamp, known_clients, Steering, tick_entries, ticks_of}
+use Rattle.moos_play.specs.Lawful.{entries_from, heard_of, helm_number, KeepsStamp, known_clients, Steering, tick_entries}
 use Rattle.moos_play.specs.Plays.{AddsAt, earliest, further_in, helm_in, history_in, known_clients_in, next_stamp, stamp_next}
 use Rattle.moos_play.specs.Runs.{KeepsRun, MayPlay, next_tick, shown_by, stamp_due}
-use Rattle.moos_play.specs.Steered.{comes_before, helm_of, IsBehind, IsDue, IsStopped, IsUnderWay, opened_by, steering_of, Steers, tick_due}
+use Rattle.moos_play.specs.Steered.{comes_before, HasLed, helm_of, IsBehind, IsDue, IsStopped, IsUnderWay, steering_of, Steers, tick_due}
 use Rattle.moos_step.specs.Steps.{GoesOn, IsAlone, IsPlayed, IsPlayedBeside, IsWhole}
 use Rattle.moos_play.proofs.Below.{below_raised, both_below, from_more, known_helm, known_more, tick_below, beside_pass}
 use Rattle.moos_play.proofs.Stepping.{all_part, lines_clients}
@@ -170,16 +170,18 @@ tick_begins script play old after tick under due is behind later begins one know
 
 -- the tick that is due is made, or a front of it
 pub tick_adds : (script : Script) (play : Stage) (old new : Steersman) (after : SeatState) (result : Result (Unit {0}) AllocError) → IsUnderWay play.order script play.lock play.steersman play.from play.first.seat → play.steersman ≡ Some old
-    → tick_due script.stop play.steersman ≢ None → IsBehind (tick_due script.stop play.steersman) (drop play.from script.lines) → GoesOn (IsAlone old.number) play.first.seat after → steering_of new ≡ steering_of old
-    → OnOk result (Steers play.lock.base new after.seen) → OnOk result ((new.opened ≡ true) × (new.ticks ≡ old.ticks + 1)) → (old.opened ≡ true → OnErr result (IsStopped play.lock.base (steering_of old) new.ticks (old.ticks + 1) after.seen))
+    → tick_due script.stop play.steersman ≢ None → IsBehind (tick_due script.stop play.steersman) (drop play.from script.lines) → HasLed play.lock (IsAlone old.number) (old.ticks + 1) play.first.seat after old new result
     → AddsAt play.order (stamp_due script play) (known_clients script (helm_in (shown_by play))) play.first.seat.seen after.seen
-tick_adds script play old new after result under is due behind on steering steers reached stops =
-    tick_begins script play old after.seen (tick_entries helm heard old.ticks) here tick is (subst (λ tick. IsBehind tick (drop play.from script.lines)) tick behind) on.later (begins result steers reached stops)
+tick_adds script play old new after result under is due behind led =
+    tick_begins script play old after.seen (tick_entries helm heard old.ticks) here tick is (subst (λ tick. IsBehind tick (drop play.from script.lines)) tick behind) on.later (begins result led.steered led.reached led.stopped)
     (and_from (old.ticks * old.period == old.ticks * old.period) ((old.ticks * old.period == old.ticks * old.period) && true) same (and_from (old.ticks * old.period == old.ticks * old.period) true same refl))
     (tick_below helm (known_clients script (Some old)) heard old.ticks (omega (arith, here.steered.0, known_helm script old)))
   where
     helm : Steering
     helm = steering_of old
+
+    on : GoesOn (IsAlone old.number) play.first.seat after
+    on = led.goes_on
 
     here : IsUnderWay play.order script play.lock (Some old) play.from play.first.seat
     here = subst (λ s. IsUnderWay play.order script play.lock s play.from play.first.seat) is under
@@ -196,14 +198,12 @@ tick_adds script play old new after result under is due behind on steering steer
     alone : on.later.0 ≡ entries_of old.number on.later.0
     alone = only_own old.number on.later.0 (λ n other. grown (IsAlone old.number) play.first.seat after under.whole on n other)
 
-    begins : (r : Result (Unit {0}) AllocError) → OnOk r (Steers play.lock.base new after.seen) → OnOk r ((new.opened ≡ true) × (new.ticks ≡ old.ticks + 1))
-        → (old.opened ≡ true → OnErr r (IsStopped play.lock.base helm new.ticks (old.ticks + 1) after.seen)) → Begins (tick_entries helm heard old.ticks) on.later.0
-    begins (Ok _) steers reached stops = ([], sym (append-nil on.later.0 ∙ tick_alone play.order script play.lock old new play.from play.first.seat after here on steering reached.0 reached.1 steers))
+    begins : (r : Result (Unit {0}) AllocError) → OnOk r (Steers play.lock.base new after.seen) → OnOk r (new.ticks ≡ old.ticks + 1) → OnErr r (IsStopped play.lock.base helm new.ticks (old.ticks + 1) after.seen) → Begins (tick_entries helm heard old.ticks) on.later.0
+    begins (Ok _) steers reached stops = ([], sym (append-nil on.later.0 ∙ tick_alone play.order script play.lock old new play.from play.first.seat after here on led.same reached steers))
     begins (Err _) steers reached stops =
-        let stopped : IsStopped play.lock.base helm new.ticks (old.ticks + 1) (play.first.seat.seen ++ on.later.0) = subst (IsStopped play.lock.base helm new.ticks (old.ticks + 1)) on.later.1 (stops here.steered.1) in
+        let stopped : IsStopped play.lock.base helm new.ticks (old.ticks + 1) (play.first.seat.seen ++ on.later.0) = subst (IsStopped play.lock.base helm new.ticks (old.ticks + 1)) on.later.1 stops in
         begun_front play.lock.base helm old.ticks play.first.seat.seen on.later.0 stopped.left
-        (has_begun play.lock.base helm old.ticks new.ticks play.first.seat.seen on.later.0 here.steered.2.many
-        (subst (λ b. entries_of old.number play.first.seat.seen ≡ opened_by b helm ++ ticks_of helm (heard_of play.lock.base old.number play.first.seat.seen) old.ticks) here.steered.1 here.steered.2.own) alone stopped)
+        (has_begun play.lock.base helm old.ticks new.ticks play.first.seat.seen on.later.0 here.steered.1.many here.steered.1.own alone stopped)
 
 -- steps at one stamp behind others
 pub adds_on : (play before after : Stage) (stamp : ℕ) → KeepsRun play before → AddsAt play.order stamp (known_clients_in (shown_by play)) (history_in (shown_by play)) (history_in (shown_by before))

@@ -1,5 +1,5 @@
 -- The helm's calls at its seat, one after the other.
-use Rattle.std.proofs.Common.{◌≡◌, ℕ, suc, ◌<◌, ◌≤◌, ◌==◌, ◌*◌, Bool, true, false, cond, List, [], ◌∷◌, ◌++◌, length, length-append, drop, nat_lt, refl, sym, ap, ◌∙◌, subst, arith, append-nil, append_assoc}
+use Rattle.std.proofs.Common.{◌≡◌, ℕ, suc, ◌≤◌, ◌==◌, ◌*◌, true, cond, List, [], ◌∷◌, ◌++◌, length, length-append, drop, refl, sym, ap, ◌∙◌, subst, arith, append-nil, append_assoc}
 use Rattle.std.proofs.lemmas.List.{append_cancel_left, drop-append-le}
 use Rattle.std.proofs.lemmas.List.Elements.{filter-append}
 use Rattle.std.proofs.lemmas.Bool.Decides.{nat_tests}
@@ -7,19 +7,20 @@ use Rattle.helm_core.specs.declared.helm.Helm.{Helm}
 use Rattle.helm_core.specs.declared.iteration.Iteration.{Iteration}
 use Rattle.helm_core.specs.Helms.{IsTicked, plan_of, StandsFor}
 use Rattle.helm_core.specs.Iterations.{iteration_at}
-use Rattle.helm_core.specs.Plans.{wants_of}
+use Rattle.helm_core.specs.Plans.{Plan}
 use Rattle.helm_core.specs.Ticks.{Tick, tick_of}
 use Rattle.moos_client.specs.Calls.{entries_of, entry_of, IsCalled, IsFetched, SeatState}
 use Rattle.moos_db.specs.declared.mail.Letter.{Letter}
 use Rattle.moos_db.specs.Database.{letters_after}
 use Rattle.moos_db.proofs.Letters.{letters_are}
 use Rattle.moos_post.specs.declared.entry.Call.{Call}
-use Rattle.moos_post.specs.declared.entry.Call.TheVariants.{Register, Post as Posts, Fetch}
+use Rattle.moos_post.specs.declared.entry.Call.TheVariants.{Post as Posts, Fetch}
 use Rattle.moos_post.specs.declared.entry.Entry.{Entry}
 use Rattle.moos_post.specs.Delivery.{mail_after}
 use Rattle.moos_post.specs.History.{History, posts_of}
 use Rattle.moos_play.specs.Lawful.{heard_of, iterations_of, mailed_in, opening_of, Steering, ticks_of}
-use Rattle.moos_play.specs.Steered.{HasOwn, IsSteered, opened_by}
+use Rattle.moos_play.specs.declared.steersman.Steersman.{Steersman}
+use Rattle.moos_play.specs.Steered.{HasOwn, steering_of, Steers}
 use Rattle.moos_step.specs.Steps.{Anything, HasMade, Makes}
 use Rattle.moos_client.proofs.Hearing.{entries_next, heard_fetch, heard_next, heard_on, IsNext}
 use Rattle.moos_play.proofs.Hearing.{iterations_many, iterations_stay, ticks_stay}
@@ -64,89 +65,73 @@ called_own seat after stamp call called =
     eq_self n = grind (arith, nat_tests)
 
 -- others go on: the helm stands as it did
-pub steered_on : (names : List (List ℕ)) (helm : Steering) (state : Helm) (opened : Bool) (count told : ℕ) (done : List Iteration) (history rest : History) → IsSteered names helm state opened count told done history
-    → entries_of helm.client rest ≡ [] → IsSteered names helm state opened count told done (history ++ rest)
-steered_on names helm state opened count told done history rest so none =
-    let heard : heard_of names helm.client history ≡ heard_of names helm.client (history ++ rest) = sym (heard_on (mailed_in names) helm.client history rest none) in
+pub steered_on : (names : List (List ℕ)) (s : Steersman) (history rest : History) → Steers names s history → entries_of s.number rest ≡ [] → Steers names s (history ++ rest)
+steered_on names s history rest so none =
+    let heard : heard_of names s.number history ≡ heard_of names s.number (history ++ rest) = sym (heard_on (mailed_in names) s.number history rest none) in
     record {
       clock = so.clock;
-      stands = subst (StandsFor state) heard so.stands;
+      stands = subst (StandsFor s.helm) heard so.stands;
       many = ap length (sym heard) ∙ so.many;
-      own = filter-append (λ entry. entry.client == helm.client) history rest ∙ ap (λ end. entries_of helm.client history ++ end) none ∙ append-nil (entries_of helm.client history)
-          ∙ so.own ∙ ap (λ heard. opened_by opened helm ++ ticks_of helm heard count) heard;
+      own = filter-append (λ entry. entry.client == s.number) history rest ∙ ap (λ end. entries_of s.number history ++ end) none ∙ append-nil (entries_of s.number history)
+          ∙ so.own ∙ ap (λ heard. opening_of (steering_of s) ++ ticks_of (steering_of s) heard s.ticks) heard;
       few = so.few;
-      same = so.same ∙ ap (λ heard. drop told (iterations_of helm.plan heard count)) heard;
+      same = so.same ∙ ap (λ heard. drop s.told (iterations_of (plan_of s.helm) heard s.ticks)) heard;
     }
 
--- the opening: its entries come, and nothing is heard
-pub opened_on : (names : List (List ℕ)) (helm : Steering) (state : Helm) (told : ℕ) (done : List Iteration) (old new : History) → IsSteered names helm state false 0 told done old
-    → heard_of names helm.client new ≡ heard_of names helm.client old → entries_of helm.client new ≡ entries_of helm.client old ++ opening_of helm → IsSteered names helm state true 0 told done new
-opened_on names helm state told done old new so heard entries = record {
-  clock = so.clock;
-  stands = subst (StandsFor state) (sym heard) so.stands;
-  many = ap length heard ∙ so.many;
-  own = entries ∙ ap (λ front. front ++ opening_of helm) so.own ∙ sym (append-nil (opening_of helm));
-  few = so.few;
-  same = so.same;
-}
-
--- the opening with pairs to post, and without
-pub opening_some : (helm : Steering) → 0 < length helm.plan.opening → opening_of helm ≡ entry_of helm.client 0 (Register (wants_of helm.plan)) ∷ entry_of helm.client 0 (Posts helm.plan.opening) ∷ []
-opening_some helm some = ap (λ b. entry_of helm.client 0 (Register (wants_of helm.plan)) ∷ cond b (entry_of helm.client 0 (Posts helm.plan.opening) ∷ []) []) (lt_some (length helm.plan.opening) some)
-  where
-    lt_some : (n : ℕ) → 0 < n → nat_lt 0 n ≡ true
-    lt_some n h = grind (arith, nat_tests)
-
-pub opening_none : (helm : Steering) → length helm.plan.opening ≤ 0 → opening_of helm ≡ entry_of helm.client 0 (Register (wants_of helm.plan)) ∷ []
-opening_none helm none = ap (λ b. entry_of helm.client 0 (Register (wants_of helm.plan)) ∷ cond b (entry_of helm.client 0 (Posts helm.plan.opening) ∷ []) []) (lt_none (length helm.plan.opening) none)
-  where
-    lt_none : (n : ℕ) → n ≤ 0 → nat_lt 0 n ≡ false
-    lt_none n h = grind (arith, nat_tests)
+-- the calls that it counts say nothing of that
+pub recounted : (names : List (List ℕ)) (s t : Steersman) (history : History) → t ≡ record s { calls = t.calls } → Steers names s history → Steers names t history
+recounted names s t history is so = subst (λ (t : Steersman). Steers names t history) (sym is) (record { clock = so.clock; stands = so.stands; many = so.many; own = so.own; few = so.few; same = so.same })
 
 -- one tick more
-pub ticked_on : (names : List (List ℕ)) (helm : Steering) (old new : Helm) (opened : Bool) (count told : ℕ) (done : List Iteration) (before between after : History) (mail : List Letter) (iteration : Iteration)
-    → IsSteered names helm old opened count told done before → plan_of old ≡ helm.plan → (fetched : IsNext helm.client before between (entry_of helm.client (count * helm.period) Fetch))
-    → mail ≡ letters_after names helm.client (before ++ fetched.between) → IsTicked old new (count * helm.period) mail iteration
-    → IsNext helm.client between after (entry_of helm.client (count * helm.period) (Posts iteration.posts)) → IsSteered names helm new opened (suc count) told (done ++ iteration ∷ []) after
-ticked_on names helm old new opened count told done before between after mail iteration so plan fetched mail_is ticked posted = record {
-  clock = subst (λ clock. clock ≤ suc count * helm.period) (sym ticked.clock) (omega arith);
+pub ticked_on : (names : List (List ℕ)) (s : Steersman) (new : Helm) (calls : ℕ) (before between after : History) (mail : List Letter) (iteration : Iteration) → Steers names s before
+    → (fetched : IsNext s.number before between (entry_of s.number (s.ticks * s.period) Fetch)) → mail ≡ letters_after names s.number (before ++ fetched.between) → IsTicked s.helm new (s.ticks * s.period) mail iteration
+    → IsNext s.number between after (entry_of s.number (s.ticks * s.period) (Posts iteration.posts)) → Steers names (record s { helm = new; calls = calls; ticks = suc s.ticks; iterations = s.iterations ++ iteration ∷ [] }) after
+ticked_on names s new calls before between after mail iteration so fetched mail_is ticked posted = record {
+  clock = subst (λ clock. clock ≤ suc s.ticks * s.period) (sym ticked.clock) (omega arith);
   stands = subst (StandsFor new) (sym heard) (ticked.stands start so.stands);
   many = ap length heard ∙ length-append start (tick ∷ []) ∙ omega (arith, so.many);
-  own = entries_next helm.client between after posting posted ∙ ap (λ front. front ++ posting ∷ []) (entries_next helm.client before between fetching fetched)
-      ∙ append_assoc (entries_of helm.client before) (fetching ∷ []) (posting ∷ []) ∙ ap (λ front. front ++ fetching ∷ posting ∷ []) so.own
-      ∙ append_assoc (opened_by opened helm) (ticks_of helm start count) (fetching ∷ posting ∷ [])
-      ∙ ap (λ ticks. opened_by opened helm ++ ticks) (ap (λ front. front ++ fetching ∷ posting ∷ []) ticks ∙ ap (λ (iteration : Iteration). ticks_of helm now count ++ fetching ∷ entry_of helm.client (count * helm.period) (Posts iteration.posts) ∷ []) answer);
+  own = subst (λ (plan : Plan). entries_of s.number after ≡ opening_of (run plan) ++ ticks_of (run plan) now (suc s.ticks)) (sym ticked.plan)
+      (entries_next s.number between after posting posted ∙ ap (λ front. front ++ posting ∷ []) (entries_next s.number before between fetching fetched)
+      ∙ append_assoc (entries_of s.number before) (fetching ∷ []) (posting ∷ []) ∙ ap (λ front. front ++ fetching ∷ posting ∷ []) so.own
+      ∙ append_assoc (opening_of helm) (ticks_of helm start s.ticks) (fetching ∷ posting ∷ [])
+      ∙ ap (λ ticks. opening_of helm ++ ticks) (ap (λ front. front ++ fetching ∷ posting ∷ []) ticks ∙ ap (λ (iteration : Iteration). ticks_of helm now s.ticks ++ fetching ∷ entry_of s.number (s.ticks * s.period) (Posts iteration.posts) ∷ []) answer));
   few = omega (arith, so.few);
-  same = ap (λ front. front ++ iteration ∷ []) (so.same ∙ ap (drop told) (sym (ap (λ heard. iterations_of helm.plan heard count) heard ∙ iterations_stay helm.plan start (tick ∷ []) count enough)))
-      ∙ ap (λ iteration. drop told (iterations_of helm.plan now count) ++ iteration ∷ []) answer
-      ∙ sym (drop-append-le told (iterations_of helm.plan now count) (iteration_at helm.plan now count ∷ []) (omega (arith, so.few, iterations_many helm.plan now count)));
+  same = subst (λ (plan : Plan). s.iterations ++ iteration ∷ [] ≡ drop s.told (iterations_of plan now (suc s.ticks))) (sym ticked.plan)
+      (ap (λ front. front ++ iteration ∷ []) (so.same ∙ ap (drop s.told) (sym (ap (λ heard. iterations_of helm.plan heard s.ticks) heard ∙ iterations_stay helm.plan start (tick ∷ []) s.ticks enough)))
+      ∙ ap (λ iteration. drop s.told (iterations_of helm.plan now s.ticks) ++ iteration ∷ []) answer
+      ∙ sym (drop-append-le s.told (iterations_of helm.plan now s.ticks) (iteration_at helm.plan now s.ticks ∷ []) (omega (arith, so.few, iterations_many helm.plan now s.ticks))));
 }
   where
+    helm : Steering
+    helm = steering_of s
+
+    run : Plan → Steering
+    run plan = record { client = s.number; plan = plan; period = s.period }
+
     start : List Tick
-    start = heard_of names helm.client before
+    start = heard_of names s.number before
 
     now : List Tick
-    now = heard_of names helm.client after
+    now = heard_of names s.number after
 
     tick : Tick
-    tick = tick_of (count * helm.period) mail
+    tick = tick_of (s.ticks * s.period) mail
 
     fetching : Entry
-    fetching = entry_of helm.client (count * helm.period) Fetch
+    fetching = entry_of s.number (s.ticks * s.period) Fetch
 
     posting : Entry
-    posting = entry_of helm.client (count * helm.period) (Posts iteration.posts)
+    posting = entry_of s.number (s.ticks * s.period) (Posts iteration.posts)
 
     heard : now ≡ start ++ tick ∷ []
-    heard = heard_next (mailed_in names) helm.client between after posting posted refl ∙ heard_fetch (mailed_in names) helm.client before between (count * helm.period) fetched
-        ∙ ap (λ mail. start ++ tick_of (count * helm.period) mail ∷ []) (sym mail_is)
+    heard = heard_next (mailed_in names) s.number between after posting posted refl ∙ heard_fetch (mailed_in names) s.number before between (s.ticks * s.period) fetched
+        ∙ ap (λ mail. start ++ tick_of (s.ticks * s.period) mail ∷ []) (sym mail_is)
 
-    enough : count ≤ length start
+    enough : s.ticks ≤ length start
     enough = omega (arith, so.many)
 
-    ticks : ticks_of helm start count ≡ ticks_of helm now count
-    ticks = sym (ap (λ heard. ticks_of helm heard count) heard ∙ ticks_stay helm start (tick ∷ []) count enough)
+    ticks : ticks_of helm start s.ticks ≡ ticks_of helm now s.ticks
+    ticks = sym (ap (λ heard. ticks_of helm heard s.ticks) heard ∙ ticks_stay helm start (tick ∷ []) s.ticks enough)
 
-    answer : iteration ≡ iteration_at helm.plan now count
-    answer = ticked.is start so.stands ∙ ap (λ plan. iteration_at plan (start ++ tick ∷ []) (length start)) plan
-        ∙ ap (λ n. iteration_at helm.plan (start ++ tick ∷ []) n) so.many ∙ ap (λ heard. iteration_at helm.plan heard count) (sym heard)
+    answer : iteration ≡ iteration_at helm.plan now s.ticks
+    answer = ticked.is start so.stands ∙ ap (λ n. iteration_at helm.plan (start ++ tick ∷ []) n) so.many ∙ ap (λ heard. iteration_at helm.plan heard s.ticks) (sym heard)

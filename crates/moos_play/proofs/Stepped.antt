@@ -20,6 +20,11 @@ ok_any (Err _) so = tt
 pub stepped_ok : {A B : Type 0} {x : A} {y : B} (stamp : ℕ) (before after : Stage) → HasPlayedOn {E = AllocError} stamp before after (Ok x) → HasPlayedOn {E = AllocError} stamp before after (Ok y)
 stepped_ok stamp before after so = record { same = so.same; seated = so.seated; stamped = so.stamped; front = tt; at_play = so.at_play; told = so.told; moves = so.moves }
 
+-- a step that found no memory, whose answer has another name
+pub stepped_err : {A B : Type 0} {error : AllocError} (result : Result B AllocError) (stamp : ℕ) (before after : Stage) → OnOk result ⊥ → HasPlayedOn {A = A} stamp before after (Err error) → HasPlayedOn stamp before after result
+stepped_err (Ok _) stamp before after none so = absurd none
+stepped_err (Err _) stamp before after none so = record { same = so.same; seated = so.seated; stamped = so.stamped; front = so.front; at_play = tt; told = tt; moves = tt }
+
 -- no step
 pub stepped_none : {A : Type 0} {x : A} (stamp : ℕ) (play : Stage) → IsAtPlay play.script.now play → HasPlayedOn {E = AllocError} stamp play play (Ok x)
 stepped_none stamp play at = record {

@@ -1,56 +1,54 @@
 -- The helm that found no memory on the way: at its seat, and once the first seat has seen the whole history.
-use Rattle.std.proofs.Common.{◌≡◌, ℕ, suc, ◌+◌, ◌*◌, ◌≤◌, ◌==◌, true, cond, List, [], ◌∷◌, ◌++◌, length, length-append, Ok, Err, OnOk, Result, refl, sym, ap, ◌∙◌, subst, arith, append-nil, append_assoc, eq-eqb}
-use Rattle.std.specs.Prelude.{OnErr}
+use Rattle.std.proofs.Common.{◌≡◌, ℕ, suc, ◌+◌, ◌*◌, ◌≤◌, ◌==◌, cond, List, [], ◌∷◌, ◌++◌, length, length-append, refl, sym, ap, ◌∙◌, subst, arith, append-nil, append_assoc, eq-eqb}
 use Rattle.std.proofs.lemmas.List.{append_cancel_left}
 use Rattle.std.proofs.lemmas.List.Elements.{filter-append}
-use Rattle.std.specs.declared.alloc.AllocError.{AllocError}
-use Rattle.helm_core.specs.declared.helm.Helm.{Helm}
-use Rattle.helm_core.specs.declared.iteration.Iteration.{Iteration}
 use Rattle.helm_core.specs.Iterations.{iteration_at}
 use Rattle.helm_core.specs.Ticks.{Tick, tick_of}
-use Rattle.moos_client.specs.Calls.{entries_of, entry_of, IsFetched, IsUncalled, SeatState}
-use Rattle.moos_db.specs.declared.mail.Letter.{Letter}
+use Rattle.moos_client.specs.Calls.{entries_of, entry_of, IsCalled, IsUncalled, SeatState}
 use Rattle.moos_db.specs.Database.{letters_after}
 use Rattle.moos_post.specs.declared.entry.Call.TheVariants.{Post as Posts, Fetch}
 use Rattle.moos_post.specs.declared.entry.Entry.{Entry}
 use Rattle.moos_post.specs.History.{History}
 use Rattle.moos_play.specs.declared.steersman.Steersman.{Steersman}
 use Rattle.moos_play.specs.Lawful.{heard_of, mailed_in, opening_of, Steering, ticks_of}
-use Rattle.moos_play.specs.Steered.{HasOwn, HasStopped, IsSteered, IsStopped, steering_of, Steers}
-use Rattle.moos_step.specs.Steps.{HasSeenAll, IsWhole}
+use Rattle.moos_play.specs.Steered.{HasOwn, HasStopped, IsStopped, steering_of, Steers}
+use Rattle.moos_step.specs.Steps.{IsWhole}
 use Rattle.moos_client.proofs.Hearing.{entries_next, heard_fetch, heard_on, IsNext}
 use Rattle.moos_play.proofs.Hearing.{ticks_stay}
-use Rattle.moos_play.proofs.Helming.{fetch_next}
-use Rattle.moos_play.proofs.Steering.{called_of, called_own}
-use Rattle.moos_step.proofs.Taking.{seen_whole}
+use Rattle.moos_play.proofs.Helming.{call_next}
 use Rattle.turn_lock.proofs.Fronts.{begins_itself, begins_on}
 use Rattle.turn_lock.specs.Passes.{Begins, known_of}
 
 -- a helm between two ticks has left nothing of a tick
-pub steered_stops : (names : List (List ℕ)) (helm : Steering) (state : Helm) (count told whole most : ℕ) (done : List Iteration) (history : History) → IsSteered names helm state true count told done history → whole ≤ count → count ≤ most → IsStopped names helm whole most history
-steered_stops names helm state count told whole most done history so made few = record {
+pub steered_stops : (names : List (List ℕ)) (s : Steersman) (whole most : ℕ) (history : History) → Steers names s history → whole ≤ s.ticks → s.ticks ≤ most → IsStopped names (steering_of s) whole most history
+steered_stops names s whole most history so made few = record {
   left = [];
   deaf = refl;
   mine = refl;
-  own = append-nil (entries_of helm.client history) ∙ so.own ∙ ap (λ n. opening_of helm ++ ticks_of helm (heard_of names helm.client history) n) (sym so.many);
+  own = append-nil (entries_of s.number history) ∙ so.own ∙ ap (λ n. opening_of (steering_of s) ++ ticks_of (steering_of s) (heard_of names s.number history) n) (sym so.many);
   made = omega (arith, made, so.many);
   few = omega (arith, few, so.many);
 }
 
 -- behind a fetch the post of its tick is left
-pub fetched_stops : (names : List (List ℕ)) (helm : Steering) (state : Helm) (count told : ℕ) (done : List Iteration) (old new : History) → IsSteered names helm state true count told done old → IsNext helm.client old new (entry_of helm.client (count * helm.period) Fetch)
-    → IsStopped names helm count (count + 1) new
-fetched_stops names helm state count told done old new so next = record {
+pub fetched_stops : (names : List (List ℕ)) (s : Steersman) (old new : History) → Steers names s old → IsNext s.number old new (entry_of s.number (s.ticks * s.period) Fetch) → IsStopped names (steering_of s) s.ticks (s.ticks + 1) new
+fetched_stops names s old new so next = record {
   left = posting ∷ [];
   deaf = refl;
-  mine = ap (λ b. cond b (posting ∷ []) []) (eq-eqb helm.client helm.client refl);
-  own = ap (λ front. front ++ posting ∷ []) (entries_next helm.client old new fetching next ∙ ap (λ front. front ++ fetching ∷ []) so.own)
+  mine = ap (λ b. cond b (posting ∷ []) []) (eq-eqb s.number s.number refl);
+  own = ap (λ front. front ++ posting ∷ []) (entries_next s.number old new fetching next ∙ ap (λ front. front ++ fetching ∷ []) so.own)
       ∙ append_assoc (opening_of helm ++ ticks_of helm start count) (fetching ∷ []) (posting ∷ []) ∙ append_assoc (opening_of helm) (ticks_of helm start count) (fetching ∷ posting ∷ [])
       ∙ ap (λ ticks. opening_of helm ++ (ticks ++ fetching ∷ posting ∷ [])) ticks ∙ ap (λ n. opening_of helm ++ ticks_of helm now n) (sym many);
   made = omega (arith, many);
   few = omega (arith, many);
 }
   where
+    helm : Steering
+    helm = steering_of s
+
+    count : ℕ
+    count = s.ticks
+
     start : List Tick
     start = heard_of names helm.client old
 
@@ -89,20 +87,14 @@ stops_uncalled names helm whole most seat after own stopped uncalled = record {
 }
 
 -- a helm that may make its next tick, from which nothing was called
-pub ready_stops : (names : List (List ℕ)) (s : Steersman) (history : History) → s.opened ≡ true → Steers names s history → IsStopped names (steering_of s) s.ticks (s.ticks + 1) history
-ready_stops names s history opened so =
-    steered_stops names (steering_of s) s.helm s.ticks s.told s.ticks (s.ticks + 1) s.iterations history (subst (λ b. IsSteered names (steering_of s) s.helm b s.ticks s.told s.iterations history) opened so) (omega arith) (omega arith)
+pub ready_stops : (names : List (List ℕ)) (s : Steersman) (history : History) → Steers names s history → IsStopped names (steering_of s) s.ticks (s.ticks + 1) history
+ready_stops names s history so = steered_stops names s s.ticks (s.ticks + 1) history so (omega arith) (omega arith)
 
 -- the fetch of a tick
-pub tick_fetched : (names : List (List ℕ)) (s : Steersman) (seat between : SeatState) (stamp : ℕ) (mail : List Letter) → s.opened ≡ true → Steers names s seat.seen → seat.number ≡ s.number → HasOwn seat → stamp ≡ s.ticks * s.period → IsFetched seat between names stamp mail
+pub tick_fetched : (names : List (List ℕ)) (s : Steersman) (seat between : SeatState) (stamp : ℕ) → Steers names s seat.seen → seat.number ≡ s.number → HasOwn seat → stamp ≡ s.ticks * s.period → IsCalled seat between stamp Fetch
     → IsStopped names (steering_of s) s.ticks (s.ticks + 1) between.seen
-tick_fetched names s seat between stamp mail opened so number own stamp_is fetched =
-    fetched_stops names (steering_of s) s.helm s.ticks s.told s.iterations seat.seen between.seen (subst (λ b. IsSteered names (steering_of s) s.helm b s.ticks s.told s.iterations seat.seen) opened so)
-    (subst (λ stamp. IsNext s.number seat.seen between.seen (entry_of s.number stamp Fetch)) stamp_is (fetch_next s.number seat between names stamp mail number own fetched).0)
-
--- the seat has its own entries after a fetch
-pub fetched_own : (seat between : SeatState) (names : List (List ℕ)) (stamp : ℕ) (mail : List Letter) → IsFetched seat between names stamp mail → HasOwn between
-fetched_own seat between names stamp mail fetched = called_own seat between stamp Fetch (called_of seat between names stamp mail fetched)
+tick_fetched names s seat between stamp so number own stamp_is fetched =
+    fetched_stops names s seat.seen between.seen so (subst (λ stamp. IsNext s.number seat.seen between.seen (entry_of s.number stamp Fetch)) stamp_is (call_next s.number seat between stamp Fetch number own fetched))
 
 -- a helm that has stopped behind as many ticks, of at least as many
 pub stops_within : (names : List (List ℕ)) (one other : Steering) (whole made most more : ℕ) (seat : SeatState) → one ≡ other → whole ≡ made → most ≤ more → HasStopped names one whole most seat → HasStopped names other made more seat
@@ -131,7 +123,7 @@ stops_on names helm whole most history rest so none = record {
     heard = heard_on (mailed_in names) helm.client history rest none
 
 -- a history that has no more of the helm than its seat has made
-stops_whole : (names : List (List ℕ)) (helm : Steering) (whole most : ℕ) (seat after : SeatState) → HasStopped names helm whole most seat → seat.number ≡ helm.client → Begins after.seen seat.seen → known_of after seat.number ≡ seat.mine → IsWhole after
+pub stops_whole : (names : List (List ℕ)) (helm : Steering) (whole most : ℕ) (seat after : SeatState) → HasStopped names helm whole most seat → seat.number ≡ helm.client → Begins after.seen seat.seen → known_of after seat.number ≡ seat.mine → IsWhole after
     → IsStopped names helm whole most after.seen
 stops_whole names helm whole most seat after so number begins known full =
     subst (IsStopped names helm whole most) (sym later.1) (stops_on names helm whole most so.before later.0 so.stopped (subst (λ n. entries_of n later.0 ≡ []) number none))
@@ -143,32 +135,14 @@ stops_whole names helm whole most seat after so number begins known full =
     none = append_cancel_left (entries_of seat.number so.before) (entries_of seat.number later.0) []
         (sym (filter-append (λ entry. entry.client == seat.number) so.before later.0) ∙ ap (entries_of seat.number) (sym later.1) ∙ full seat.number ∙ known ∙ sym so.own ∙ sym (append-nil (entries_of seat.number so.before)))
 
--- so has the helm stopped when the first seat has seen all
-pub led_stopped : (names : List (List ℕ)) (helm : Steering) (answer result : Result (Unit {0}) AllocError) (whole made most : ℕ) (seat first after final : SeatState) → answer ≡ result → whole ≡ made → first ≡ after → OnErr result (HasStopped names helm made most seat)
-    → seat.number ≡ helm.client → Begins after.seen seat.seen → known_of after seat.number ≡ seat.mine → HasSeenAll first final → OnErr answer (IsStopped names helm whole most final.seen)
-led_stopped names helm answer result whole made most seat first after final answer_is count first_is stopped number begins known seen =
-    subst (λ r. OnErr r (IsStopped names helm whole most final.seen)) (sym answer_is) (by result stopped)
-  where
-    by : (r : Result (Unit {0}) AllocError) → OnErr r (HasStopped names helm made most seat) → OnErr r (IsStopped names helm whole most final.seen)
-    by (Ok _) stopped = tt
-    by (Err _) stopped =
-        subst (λ n. IsStopped names helm n most final.seen) (sym count)
-        (stops_whole names helm made most seat final stopped number (begins_on seat.seen after.seen final.seen begins (subst (λ s. Begins final.seen s.seen) first_is seen.later))
-        (ap (λ s. known_of s seat.number) seen.same ∙ ap (λ s. known_of s seat.number) first_is ∙ known) (seen_whole first final seen))
-
--- a helm beside clients of which one found no memory has made all its ticks or has stopped
-pub beside_stopped : (names : List (List ℕ)) (helm : Steering) (result : Result (Unit {0}) AllocError) (s : Steersman) (most : ℕ) (seat : SeatState) → steering_of s ≡ helm → OnOk result (HasOwn seat) → OnOk result (Steers names s seat.seen)
-    → OnOk result ((s.opened ≡ true) × (s.ticks ≡ most)) → OnErr result (HasStopped names helm s.ticks most seat) → HasStopped names helm s.ticks most seat
-beside_stopped names helm (Err _) s most seat same own steers reached stopped = stopped
-beside_stopped names helm (Ok _) s most seat same own steers reached stopped =
+-- a helm that has made all its ticks stands as one that has stopped behind the last
+pub all_stops : (names : List (List ℕ)) (helm : Steering) (s : Steersman) (most : ℕ) (seat : SeatState) → steering_of s ≡ helm → HasOwn seat → Steers names s seat.seen → s.ticks ≡ most → HasStopped names helm s.ticks most seat
+all_stops names helm s most seat same own steers reached =
     subst (λ helm. HasStopped names helm s.ticks most seat) same
-    (stops_here names (steering_of s) s.ticks most seat own
-    (steered_stops names (steering_of s) s.helm s.ticks s.told s.ticks most s.iterations seat.seen (subst (λ b. IsSteered names (steering_of s) s.helm b s.ticks s.told s.iterations seat.seen) reached.0 steers) (omega arith) (omega (arith, reached.1))))
+    (stops_here names (steering_of s) s.ticks most seat own (steered_stops names s s.ticks most seat.seen steers (omega arith) (omega (arith, reached))))
 
 -- a tick whose calls were all made, but whose iteration found no memory
-pub posted_stops : (names : List (List ℕ)) (s t : Steersman) (seat : SeatState) (done : List Iteration) → steering_of t ≡ steering_of s → t.opened ≡ true → t.ticks ≡ s.ticks → HasOwn seat → IsSteered names (steering_of t) t.helm t.opened (t.ticks + 1) t.told done seat.seen
-    → HasStopped names (steering_of s) s.ticks (s.ticks + 1) seat
-posted_stops names s t seat done same opened ticks own so =
-    stops_within names (steering_of t) (steering_of s) t.ticks s.ticks (t.ticks + 1) (s.ticks + 1) seat same ticks (omega (arith, ticks))
-    (stops_here names (steering_of t) t.ticks (t.ticks + 1) seat own
-    (steered_stops names (steering_of t) t.helm (t.ticks + 1) t.told t.ticks (t.ticks + 1) done seat.seen (subst (λ b. IsSteered names (steering_of t) t.helm b (t.ticks + 1) t.told done seat.seen) opened so) (omega arith) (omega arith)))
+pub posted_stops : (names : List (List ℕ)) (s t : Steersman) (seat : SeatState) → steering_of t ≡ steering_of s → t.ticks ≡ s.ticks + 1 → HasOwn seat → Steers names t seat.seen → HasStopped names (steering_of s) s.ticks (s.ticks + 1) seat
+posted_stops names s t seat same ticks own so =
+    subst (λ helm. HasStopped names helm s.ticks (s.ticks + 1) seat) same
+    (stops_here names (steering_of t) s.ticks (s.ticks + 1) seat own (steered_stops names t s.ticks (s.ticks + 1) seat.seen so (omega (arith, ticks)) (omega (arith, ticks))))

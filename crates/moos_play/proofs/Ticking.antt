@@ -1,22 +1,25 @@
 -- A tick in two parts: the helm has its iteration or found no memory on the way, and then has posted and kept it or hasn't.
-use Rattle.std.proofs.Common.{◌≡◌, ℕ, ◌+◌, ◌*◌, true, inl, inr, List, [], ◌∷◌, ◌++◌, Result, Ok, Err, refl, sym, ap, ◌∙◌, append-nil}
-use Rattle.std.specs.Prelude.{IfOk}
+use Rattle.std.proofs.Common.{◌≡◌, ℕ, ◌+◌, ◌*◌, ◌^◌, ◌<◌, ◌≤◌, inl, inr, List, [], ◌∷◌, ◌++◌, OnOk, Result, Ok, Err, refl, sym, ap, subst, arith, ◌∙◌, append-nil}
+use Rattle.std.proofs.Math.Nat.{mul-le-mul}
+use Rattle.std.specs.Prelude.{IfOk, OnErr}
+use Rattle.std.specs.declared.alloc.AllocError.{AllocError}
 use Rattle.helm_core.specs.declared.helm.Helm.{Helm}
 use Rattle.helm_core.specs.declared.iteration.Iteration.{Iteration}
-use Rattle.helm_core.specs.Helms.{IsTicked}
+use Rattle.helm_core.specs.Helms.{IsTicked, plan_of}
 use Rattle.helm_core.specs.Plans.{Plan}
-use Rattle.moos_client.specs.Calls.{entry_of, IsCalled, IsFetched, IsUncalled, SeatState}
+use Rattle.moos_client.specs.Calls.{IsFetched, IsUncalled, MayCall, SeatState}
 use Rattle.moos_db.specs.declared.mail.Letter.{Letter}
 use Rattle.moos_post.specs.declared.entry.Call.{Call}
 use Rattle.moos_post.specs.declared.entry.Call.TheVariants.{Post as Posts, Fetch}
 use Rattle.moos_play.specs.declared.steersman.Steersman.{Steersman}
-use Rattle.moos_step.specs.Steps.{Anything, HasMade, Makes}
-use Rattle.moos_play.specs.Steered.{HasIterated, HasOwn, HasStopped, MayHaveCalled, MayHaveFetched, steering_of, Steers}
-use Rattle.moos_play.proofs.Helming.{ticks_once, two_calls}
-use Rattle.moos_step.proofs.Lines.{made_more}
+use Rattle.moos_step.specs.Steps.{Anything, CommunityLock, HasMade, Makes}
+use Rattle.moos_play.specs.Lawful.{Steering}
+use Rattle.moos_play.specs.Steered.{HasIterated, HasOwn, HasSteered, HasStopped, MayHaveCalled, MaySteer, steering_of, Steers}
+use Rattle.moos_play.proofs.Helming.{ticks_once}
+use Rattle.moos_step.proofs.Lines.{made_more, made_none}
 use Rattle.moos_play.proofs.Steering.{anything, called_of, called_own}
 use Rattle.moos_step.proofs.Calling.{called_made}
-use Rattle.moos_play.proofs.Stopping.{fetched_own, posted_stops, ready_stops, stops_here, stops_uncalled, tick_fetched}
+use Rattle.moos_play.proofs.Stopping.{posted_stops, ready_stops, stops_here, stops_uncalled, stops_within, tick_fetched}
 
 -- a seat whose call found no memory has made nothing
 uncalled_made : (seat after : SeatState) → IsUncalled seat after → HasMade [] seat after
@@ -25,16 +28,14 @@ uncalled_made seat after uncalled = record {
   same = uncalled.same ∙ ap (λ mine. record seat { seen = after.seen; mine = mine }) (sym (append-nil seat.mine));
 }
 
--- what it has made with the fetch or without it
-pub fetching_makes : (names : List (List ℕ)) (seat after : SeatState) (stamp : ℕ) → MayHaveFetched names seat after stamp → Makes Anything seat after
-fetching_makes names seat after stamp (inl uncalled) = anything (uncalled_made seat after uncalled)
-fetching_makes names seat after stamp (inr fetched) = anything (called_made seat after stamp Fetch (called_of seat after names stamp fetched.0 fetched.1))
+-- what it has made with a call or without it
+pub calling_makes : (seat after : SeatState) (stamp : ℕ) (call : Call) → MayHaveCalled seat after stamp call → Makes Anything seat after
+calling_makes seat after stamp call (inl uncalled) = anything (uncalled_made seat after uncalled)
+calling_makes seat after stamp call (inr called) = anything (called_made seat after stamp call called)
 
--- and behind another call
-pub calling_makes : (seat between after : SeatState) (stamp later : ℕ) (call other : Call) → IsCalled seat between stamp call → MayHaveCalled between after later other → Makes Anything seat after
-calling_makes seat between after stamp later call other first (inl uncalled) =
-    anything (made_more (entry_of seat.number stamp call ∷ []) [] seat between after (called_made seat between stamp call first) (uncalled_made between after uncalled))
-calling_makes seat between after stamp later call other first (inr second) = two_calls seat between after stamp later call other first second
+-- and behind what it has made before
+pub makes_more : (seat between after : SeatState) → Makes Anything seat between → Makes Anything between after → Makes Anything seat after
+makes_more seat between after one other = anything (made_more one.added other.added seat between after one.made other.made)
 
 -- the helm has its iteration, where there is one
 pub iterated : {E : Type 0} (names : List (List ℕ)) (seat after : SeatState) (old new : Helm) (stamp : ℕ) (mail : List Letter) (result : Result Iteration E) → IsFetched seat after names stamp mail → IfOk result (IsTicked old new stamp mail)
@@ -43,18 +44,67 @@ iterated names seat after old new stamp mail (Ok iteration) fetched ticked = rec
 iterated names seat after old new stamp mail (Err _) fetched ticked = tt
 
 -- where it has stopped if there is none
-pub fetching_stops : (names : List (List ℕ)) (s : Steersman) (seat after : SeatState) (stamp : ℕ) → s.opened ≡ true → Steers names s seat.seen → seat.number ≡ s.number → HasOwn seat → stamp ≡ s.ticks * s.period
-    → MayHaveFetched names seat after stamp → HasStopped names (steering_of s) s.ticks (s.ticks + 1) after
-fetching_stops names s seat after stamp opened so number own stamp_is (inl uncalled) = stops_uncalled names (steering_of s) s.ticks (s.ticks + 1) seat after own (ready_stops names s seat.seen opened so) uncalled
-fetching_stops names s seat after stamp opened so number own stamp_is (inr fetched) =
-    stops_here names (steering_of s) s.ticks (s.ticks + 1) after (fetched_own seat after names stamp fetched.0 fetched.1) (tick_fetched names s seat after stamp fetched.0 opened so number own stamp_is fetched.1)
+pub fetching_stops : (names : List (List ℕ)) (s : Steersman) (seat after : SeatState) (stamp : ℕ) → Steers names s seat.seen → seat.number ≡ s.number → HasOwn seat → stamp ≡ s.ticks * s.period
+    → MayHaveCalled seat after stamp Fetch → HasStopped names (steering_of s) s.ticks (s.ticks + 1) after
+fetching_stops names s seat after stamp so number own stamp_is (inl uncalled) = stops_uncalled names (steering_of s) s.ticks (s.ticks + 1) seat after own (ready_stops names s seat.seen so) uncalled
+fetching_stops names s seat after stamp so number own stamp_is (inr fetched) =
+    stops_here names (steering_of s) s.ticks (s.ticks + 1) after (called_own seat after stamp Fetch fetched) (tick_fetched names s seat after stamp so number own stamp_is fetched)
 
 -- and where, if it couldn't be posted or kept
-pub telling_stops : (names : List (List ℕ)) (s : Steersman) (helm : Helm) (seat between after : SeatState) (stamp : ℕ) (iteration : Iteration) → s.opened ≡ true → Steers names s seat.seen → seat.number ≡ s.number → HasOwn seat → stamp ≡ s.ticks * s.period
+pub telling_stops : (names : List (List ℕ)) (s : Steersman) (helm : Helm) (seat between after : SeatState) (stamp : ℕ) (iteration : Iteration) → Steers names s seat.seen → seat.number ≡ s.number → HasOwn seat → stamp ≡ s.ticks * s.period
     → HasIterated names seat between s.helm helm stamp iteration → MayHaveCalled between after stamp (Posts iteration.posts) → HasStopped names (steering_of s) s.ticks (s.ticks + 1) after
-telling_stops names s helm seat between after stamp iteration opened so number own stamp_is made (inl uncalled) =
-    stops_uncalled names (steering_of s) s.ticks (s.ticks + 1) between after (fetched_own seat between names stamp made.mail made.fetched) (tick_fetched names s seat between stamp made.mail opened so number own stamp_is made.fetched) uncalled
-telling_stops names s helm seat between after stamp iteration opened so number own stamp_is made (inr posted) =
-    posted_stops names s (record s { helm = helm }) after (s.iterations ++ iteration ∷ []) (ap {A = Plan} (λ plan. record { client = s.number; plan = plan; period = s.period }) made.ticked.plan) opened refl
+telling_stops names s helm seat between after stamp iteration so number own stamp_is made (inl uncalled) =
+    let fetched = called_of seat between names stamp made.mail made.fetched in
+    stops_uncalled names (steering_of s) s.ticks (s.ticks + 1) between after (called_own seat between stamp Fetch fetched) (tick_fetched names s seat between stamp so number own stamp_is fetched) uncalled
+telling_stops names s helm seat between after stamp iteration so number own stamp_is made (inr posted) =
+    posted_stops names s (record s { helm = helm; ticks = s.ticks + 1; iterations = s.iterations ++ iteration ∷ [] }) after (ap {A = Plan} (λ plan. record { client = s.number; plan = plan; period = s.period }) made.ticked.plan) refl
     (called_own between after stamp (Posts iteration.posts) posted)
     (ticks_once names s (record s { helm = helm }) helm seat between after stamp made.mail iteration iteration.posts (s.iterations ++ iteration ∷ []) refl refl stamp_is so number own made.fetched made.ticked posted refl)
+
+-- no tick, as many as the helm has made
+pub steered_none : (lock : CommunityLock) (seat : SeatState) (s : Steersman) (ticks workers : ℕ) → MaySteer lock seat s ticks workers → HasSteered {E = AllocError} lock s.ticks seat seat s s (Ok tt)
+steered_none lock seat s ticks workers may = record { made = anything (made_none seat); same = refl; told = refl; own = may.own; steered = may.tick.steered; reached = refl; stopped = tt }
+
+-- the next tick may be made behind others
+pub steers_next : (lock : CommunityLock) (before seat : SeatState) (old s : Steersman) (ticks workers : ℕ) → MaySteer lock before old ticks workers → HasSteered {E = AllocError} lock s.ticks before seat old s (Ok tt) → s.ticks < ticks → MaySteer lock seat s (s.ticks + 1) workers
+steers_next lock before seat old s ticks workers may so more = record {
+  may = subst (MayCall lock) (sym so.made.made.same) (record { of_lock = record { same = may.may.of_lock.same; live = may.may.of_lock.live; base = may.may.of_lock.base }; free = may.may.free; client = may.may.client });
+  number = ap (λ seat. seat.number) so.made.made.same ∙ may.number ∙ ap (λ (helm : Steering). helm.client) (sym so.same);
+  own = so.own;
+  tick = record {
+    steered = so.steered;
+    count = omega arith;
+    early = subst (λ period. (s.ticks + 1) * period < 2 ^ 64 + period) (ap (λ (helm : Steering). helm.period) (sym so.same))
+        (let below : s.ticks + 1 ≤ ticks = omega (arith, more) in let period : old.period ≤ old.period = omega arith in omega (arith, may.tick.early, mul-le-mul below period));
+    few = may.tick.few;
+  };
+}
+
+-- one tick more, or the stop within it
+pub steered_more : (lock : CommunityLock) (before seat after : SeatState) (old s t : Steersman) (ticks most : ℕ) (result : Result (Unit {0}) AllocError) → HasSteered {E = AllocError} lock s.ticks before seat old s (Ok tt)
+    → HasSteered lock ticks seat after s t result → OnOk result (ticks ≡ most) → ticks ≤ most → HasSteered lock most before after old t result
+steered_more lock before seat after old s t ticks most result one other last within = record {
+  made = makes_more before seat after one.made other.made;
+  same = other.same ∙ one.same;
+  told = other.told ∙ one.told;
+  own = other.own;
+  steered = other.steered;
+  reached = reached result other.reached last;
+  stopped = stopped result other.stopped;
+}
+  where
+    reached : (r : Result (Unit {0}) AllocError) → OnOk r (t.ticks ≡ ticks) → OnOk r (ticks ≡ most) → OnOk r (t.ticks ≡ most)
+    reached (Ok _) so last = so ∙ last
+    reached (Err _) so last = tt
+
+    stopped : (r : Result (Unit {0}) AllocError) → OnErr r (HasStopped lock.base (steering_of s) t.ticks ticks after) → OnErr r (HasStopped lock.base (steering_of old) t.ticks most after)
+    stopped (Ok _) so = tt
+    stopped (Err _) so = stops_within lock.base (steering_of s) (steering_of old) t.ticks t.ticks ticks most after one.same refl within so
+
+-- how the helm is run stays the same, and what was handed out and the count of ticks until it is raised
+pub ticked_same : (s t u : Steersman) (helm : Helm) → t ≡ record s { calls = t.calls } → u ≡ record t { helm = helm; calls = u.calls } → plan_of helm ≡ plan_of t.helm → (steering_of u ≡ steering_of s) × (u.told ≡ s.told) × (u.ticks ≡ s.ticks)
+ticked_same s t u helm first second plan = (
+  ap {A = Steersman} steering_of second ∙ ap {A = Plan} (λ plan. record { client = t.number; plan = plan; period = t.period }) plan ∙ ap {A = Steersman} steering_of first,
+  ap (λ (s : Steersman). s.told) second ∙ ap (λ (s : Steersman). s.told) first,
+  ap (λ (s : Steersman). s.ticks) second ∙ ap (λ (s : Steersman). s.ticks) first,
+)

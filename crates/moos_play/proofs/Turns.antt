@@ -32,7 +32,7 @@ use Rattle.moos_post.specs.History.{History}
 use Rattle.moos_play.specs.declared.steersman.Steersman.{Steersman}
 use Rattle.moos_play.specs.Lawful.{heard_of, mailed_in, opening_of, Steering, tick_entries, ticks_of, ticks_to}
 use Rattle.moos_play.specs.Schedules.{answering, schedule_with}
-use Rattle.moos_play.specs.Steered.{IsStopped, opened_by, steering_of, Steers, turns_left}
+use Rattle.moos_play.specs.Steered.{IsStopped, steering_of, Steers, turns_left}
 use Rattle.script_reader.specs.declared.script.Order.{Order}
 use Rattle.script_reader.specs.declared.script.Script.{Script}
 
@@ -81,7 +81,7 @@ start_is n helm is = append-nil (map (entry_of n 0) (answering helm).opening) �
     by false = refl
 
 -- the helm hears nothing at its opening
-opening_deaf : (helm : Steering) → list_all (λ entry. not (is_fetch entry.call)) (opening_of helm) ≡ true
+pub opening_deaf : (helm : Steering) → list_all (λ entry. not (is_fetch entry.call)) (opening_of helm) ≡ true
 opening_deaf helm = by (nat_lt 0 (length helm.plan.opening))
   where
     by : (b : Bool) → list_all (λ entry. not (is_fetch entry.call)) (entry_of helm.client 0 (Register (wants_of helm.plan)) ∷ cond b (entry_of helm.client 0 (Posts helm.plan.opening) ∷ []) []) ≡ true
@@ -93,10 +93,10 @@ heard_rest names helm rest =
     sym (heard_append (mailed_in names) helm.client [] (opening_of helm) rest ∙ ap (λ heard. heard ++ heard_in (mailed_in names) helm.client (opening_of helm) rest) (heard_deaf (mailed_in names) helm.client [] (opening_of helm) (opening_deaf helm)))
 
 -- what is known of the helm at its seat, and what is left of its turns
-helm_due : (names : List (List ℕ)) (s : Steersman) (stop : ℕ) (rest history : History) → history ≡ opening_of (steering_of s) ++ rest → s.opened ≡ true → Steers names s history → s.ticks ≤ ticks_to stop (steering_of s)
+helm_due : (names : List (List ℕ)) (s : Steersman) (stop : ℕ) (rest history : History) → history ≡ opening_of (steering_of s) ++ rest → Steers names s history → s.ticks ≤ ticks_to stop (steering_of s)
     → turns_from (answering (steering_of s)) s.number s.period (heard_in (mailed_in names) s.number (opening_of (steering_of s)) rest) 0 (suc (stop / s.period))
     ≡ entries_of s.number rest ++ turns_from (answering (steering_of s)) s.number s.period (heard_of names s.number history) s.ticks (suc (stop / s.period) - s.ticks)
-helm_due names s stop rest history is opened steers few =
+helm_due names s stop rest history is steers few =
     (λ j. turns_from (answering helm) s.number s.period (heard_is j) 0 (count j))
     ∙ turns_are helm heard s.ticks (suc (stop / s.period) - s.ticks) (omega (arith, steers.many))
     ∙ ap (λ front. front ++ turns_from (answering helm) s.number s.period heard s.ticks (suc (stop / s.period) - s.ticks)) (sym own)
@@ -113,11 +113,8 @@ helm_due names s stop rest history is opened steers few =
     count : suc (stop / s.period) ≡ s.ticks + (suc (stop / s.period) - s.ticks)
     count = omega (arith, few)
 
-    all : entries_of s.number history ≡ opening_of helm ++ ticks_of helm heard s.ticks
-    all = subst (λ b. entries_of s.number history ≡ opened_by b helm ++ ticks_of helm heard s.ticks) opened steers.own
-
     own : entries_of s.number rest ≡ ticks_of helm heard s.ticks
-    own = own_rest (opening_of helm) rest s.number (ticks_of helm heard s.ticks) (ap (entries_of s.number) (sym is) ∙ all ∙ ap (λ front. front ++ ticks_of helm heard s.ticks) (sym (own_opening helm)))
+    own = own_rest (opening_of helm) rest s.number (ticks_of helm heard s.ticks) (ap (entries_of s.number) (sym is) ∙ steers.own ∙ ap (λ front. front ++ ticks_of helm heard s.ticks) (sym (own_opening helm)))
 
 -- A helm that has stopped, between two ticks or within one, has made the first of what it is due to make: what is left of its tick, and the
 -- ticks behind that, are left.
@@ -169,10 +166,10 @@ helm_part order script helm names rest number =
     past = grind (arith, nat_tests)
 
 -- a helm between two ticks has its next turns left
-pub helm_left : (order : Order) (script : Script) (names : List (List ℕ)) (s : Steersman) (rest history : History) → history ≡ opening_of (steering_of s) ++ rest → s.number ≡ length script.names → s.opened ≡ true → Steers names s history → s.ticks ≤ ticks_to script.stop (steering_of s)
+pub helm_left : (order : Order) (script : Script) (names : List (List ℕ)) (s : Steersman) (rest history : History) → history ≡ opening_of (steering_of s) ++ rest → s.number ≡ length script.names → Steers names s history → s.ticks ≤ ticks_to script.stop (steering_of s)
     → due_in (schedule_with order script (Some (steering_of s)) names) (length script.names) rest ≡ entries_of (length script.names) rest ++ turns_left script.stop (Some s) names history
-helm_left order script names s rest history is number opened steers few =
-    helm_part order script (steering_of s) names rest number ∙ helm_due names s script.stop rest history is opened steers few ∙ (λ i. entries_of (number i) rest ++ turns_left script.stop (Some s) names history)
+helm_left order script names s rest history is number steers few =
+    helm_part order script (steering_of s) names rest number ∙ helm_due names s script.stop rest history is steers few ∙ (λ i. entries_of (number i) rest ++ turns_left script.stop (Some s) names history)
 
 -- what a helm that has stopped has left: what is left of its tick, and the turns behind that
 abbrev pub stopped_left : (script : Script) (names : List (List ℕ)) (helm : Steering) (whole most : ℕ) (history : History) → IsStopped names helm whole most history → List Entry

@@ -1,13 +1,12 @@
 -- A run from one step to the next, with the lock and the seats behind it.
-use Rattle.std.specs.Prelude.{◌≡◌, ◌⊎◌, ℕ, ◌+◌, ◌-◌, ◌*◌, ◌≤◌, Bool, true, suc, List, [], length, Option, None, IfSome, OnErr, OnOk, option_map, Result, slice_get}
-use Rattle.helm_core.specs.declared.iteration.Iteration.{Iteration}
+use Rattle.std.specs.Prelude.{◌≡◌, ◌⊎◌, ℕ, ◌+◌, ◌-◌, ◌*◌, ◌≤◌, Bool, true, suc, [], length, Option, None, IfSome, OnErr, OnOk, option_map, Result, slice_get}
 use Rattle.moos_lawful.specs.Schedules.{IsLawfulSoFar}
 use Rattle.moos_play.specs.declared.stage.Stage.{Stage}
 use Rattle.moos_play.specs.declared.steersman.Steersman.{Steersman}
 use Rattle.moos_play.specs.Lawful.{helm_number, known_clients, ticks_to}
-use Rattle.moos_play.specs.Plays.{AddsAt, Playing, stamp_next}
-use Rattle.moos_play.specs.Schedules.{schedule_with}
-use Rattle.moos_play.specs.Steered.{HasHeard, helm_of, IsDue, IsUnderWay, iterations_in, parts, period_in, steering_of, tick_due, ticks_in, ticks_left, told_in}
+use Rattle.moos_play.specs.Plays.{AddsAt, Playing, stamp_next, ticks_behind}
+use Rattle.moos_play.specs.Schedules.{schedule_with, tick_period}
+use Rattle.moos_play.specs.Steered.{HasHeard, helm_of, IsDue, IsUnderWay, parts, steering_of, tick_due, ticks_in, told_in}
 use Rattle.moos_step.specs.Steps.{IsGathered, IsWhole}
 use Rattle.script_reader.specs.declared.script.Order.{Order}
 use Rattle.script_reader.specs.declared.script.Order.TheVariants.{Stamp, Race}
@@ -35,7 +34,7 @@ shown_by run = playing_of run true
 
 -- how many lines and ticks are left of a run, where this is its script
 abbrev pub left_of : Script → Stage → ℕ
-left_of script run = length script.lines - run.from + ticks_left script.stop run.steersman
+left_of script run = length script.lines - run.from + ticks_behind script.stop (helm_of run.steersman) (ticks_in run.steersman)
 
 -- the stamp of its next round, where this is its script
 abbrev pub stamp_due : Script → Stage → ℕ
@@ -44,10 +43,6 @@ stamp_due script run = stamp_next run.order script.stop (tick_due script.stop ru
 -- the stamp of the helm's next tick, where one is left
 abbrev pub next_tick : Stage → Option ℕ
 next_tick run = tick_due run.script.now.stop run.steersman
-
--- those of the helm's iterations that no round has handed out
-abbrev pub untold_in : Stage → List Iteration
-untold_in run = iterations_in run.steersman
 
 -- a helm whose iterations so far are handed out
 abbrev pub handed_of : Steersman → Steersman
@@ -101,7 +96,7 @@ pub record KeepsRun (before after : Stage) : Type 0 where
 pub record MovesAt (stamp : ℕ) (before after : Stage) : Type 0 where
   pub lines : before.from ≤ after.from
   pub ticks : (ticks_in after.steersman ≡ ticks_in before.steersman)
-      ⊎ ((ticks_in after.steersman ≡ suc (ticks_in before.steersman)) × (stamp ≡ ticks_in before.steersman * period_in before.steersman))
+      ⊎ ((ticks_in after.steersman ≡ suc (ticks_in before.steersman)) × (stamp ≡ ticks_in before.steersman * tick_period (helm_of before.steersman)))
 
 -- the same in order Stamp
 abbrev pub KeepsMoves : Order → ℕ → Stage → Stage → Type 0

@@ -1,5 +1,5 @@
 -- The helm at its seat, and where a run stands between two rounds.
-use Rattle.std.specs.Prelude.{◌≡◌, ◌⊎◌, ℕ, ◌+◌, ◌-◌, ◌*◌, ◌^◌, ◌==◌, ◌≤◌, ◌<◌, Bool, true, false, not, nat_lt, if◌then◌else◌, List, [], ◌∷◌, ◌++◌, length, drop, take, Option, None, Some, option_map, IfSome, IsTrue, OnErr, OnOk, Result}
+use Rattle.std.specs.Prelude.{◌≡◌, ◌⊎◌, ℕ, ◌+◌, ◌-◌, ◌*◌, ◌^◌, ◌==◌, ◌≤◌, ◌<◌, Bool, false, not, nat_lt, if◌then◌else◌, List, [], ◌∷◌, ◌++◌, length, drop, take, Option, None, Some, option_map, IfSome, IsTrue, OnErr, OnOk, Result}
 use Rattle.std.specs.List.{list_all}
 use Rattle.moos_post.specs.Delivery.{is_fetch}
 use Rattle.moos_post.specs.History.{History}
@@ -12,12 +12,12 @@ use Rattle.helm_core.specs.declared.iteration.Iteration.{Iteration}
 use Rattle.helm_core.specs.Helms.{clock_of, IsTicked, plan_of, StandsFor}
 use Rattle.moos_lawful.specs.Answering.{turns_from}
 use Rattle.moos_lawful.specs.Schedules.{IsLawfulSoFar}
-use Rattle.moos_play.specs.Plays.{iterations_by, tick_at, ticks_behind}
+use Rattle.moos_play.specs.Plays.{tick_at}
 use Rattle.moos_play.specs.Schedules.{answerers, answering, schedule_with}
 use Rattle.moos_play.specs.declared.run.HelmRun.{HelmRun}
 use Rattle.moos_play.specs.declared.steersman.Steersman.{Steersman}
 use Rattle.moos_play.specs.Lawful.{Steering, heard_of, helm_number, iterations_of, opening, opening_of, ticks_of, ticks_to}
-use Rattle.moos_step.specs.Steps.{Anything, CommunityLock, IsGathered, IsWhole, Makes}
+use Rattle.moos_step.specs.Steps.{Anything, CommunityLock, GoesOn, IsGathered, IsWhole, Makes}
 use Rattle.script_reader.specs.declared.script.Order.{Order}
 use Rattle.script_reader.specs.declared.script.Script.{Script}
 use Rattle.turn_lock.specs.Passes.{Begins}
@@ -26,24 +26,15 @@ use Rattle.turn_lock.specs.Passes.{Begins}
 abbrev pub steering_of : Steersman → Steering
 steering_of steersman = record { client = steersman.number; plan = plan_of steersman.helm; period = steersman.period }
 
--- the helm's entries before its first tick, by whether it has made them
-abbrev pub opened_by : Bool → Steering → List Entry
-opened_by opened helm = if opened then opening_of helm else []
-
--- After so many ticks a helm stands for what it has heard in a history, its entries there are its opening and those of
--- the ticks, and these are the iterations behind those that were handed out.
-pub record IsSteered (names : List (List ℕ)) (helm : Steering) (state : Helm) (opened : Bool) (count told : ℕ) (done : List Iteration) (history : History) : Type 0 where
-  pub clock : clock_of state ≤ count * helm.period
-  pub stands : StandsFor state (heard_of names helm.client history)
-  pub many : length (heard_of names helm.client history) ≡ count
-  pub own : entries_of helm.client history ≡ opened_by opened helm ++ ticks_of helm (heard_of names helm.client history) count
-  pub few : told ≤ count
-  pub same : done ≡ drop told (iterations_of helm.plan (heard_of names helm.client history) count)
-
--- the same of a steersman
-abbrev pub Steers : List (List ℕ) → Steersman → History → Type 0
-Steers names steersman history =
-    IsSteered names (steering_of steersman) steersman.helm steersman.opened steersman.ticks steersman.told steersman.iterations history
+-- After its ticks so far a helm stands for what it has heard in a history, its entries there are its opening and those of
+-- the ticks, and its iterations are those behind the ones that were handed out.
+pub record Steers (names : List (List ℕ)) (s : Steersman) (history : History) : Type 0 where
+  pub clock : clock_of s.helm ≤ s.ticks * s.period
+  pub stands : StandsFor s.helm (heard_of names s.number history)
+  pub many : length (heard_of names s.number history) ≡ s.ticks
+  pub own : entries_of s.number history ≡ opening_of (steering_of s) ++ ticks_of (steering_of s) (heard_of names s.number history) s.ticks
+  pub few : s.told ≤ s.ticks
+  pub same : s.iterations ≡ drop s.told (iterations_of (plan_of s.helm) (heard_of names s.number history) s.ticks)
 
 -- the history of the seat has of its own number just the seat's entries
 abbrev pub HasOwn : SeatState → Type 0
@@ -55,24 +46,30 @@ pub record HasIterated (names : List (List ℕ)) (before after : SeatState) (old
   pub fetched : IsFetched before after names stamp mail
   pub ticked : IsTicked old new stamp mail iteration
 
--- no memory was left for a fetch, or for what comes behind it
-abbrev pub MayHaveFetched : List (List ℕ) → SeatState → SeatState → ℕ → Type 0
-MayHaveFetched names before after stamp = IsUncalled before after ⊎ ((mail : List Letter) × IsFetched before after names stamp mail)
-
 -- no memory was left for a call, or for what comes behind it
 abbrev pub MayHaveCalled : SeatState → SeatState → ℕ → Call → Type 0
 MayHaveCalled before after stamp call = IsUncalled before after ⊎ IsCalled before after stamp call
 
--- the helm may make its ticks at the seat up to so many
-pub record MaySteer (lock : CommunityLock) (seat : SeatState) (steersman : Steersman) (ticks workers : ℕ) : Type 0 where
-  pub may : MayCall lock seat
-  pub number : seat.number ≡ steersman.number
-  pub own : HasOwn seat
-  pub steered : Steers lock.base steersman seat.seen
-  pub opened : steersman.opened ≡ false → steersman.ticks ≡ 0
-  pub count : steersman.ticks ≤ ticks
-  pub early : ticks * steersman.period < 2 ^ 64 + steersman.period
+-- the helm may make its ticks up to so many behind a history, with 1 to 16 workers for what it solves
+pub record MayTick (names : List (List ℕ)) (s : Steersman) (history : History) (ticks workers : ℕ) : Type 0 where
+  pub steered : Steers names s history
+  pub count : s.ticks ≤ ticks
+  pub early : ticks * s.period < 2 ^ 64 + s.period
   pub few : (1 ≤ workers) × (workers ≤ 16)
+
+-- the same at its seat
+pub record MaySteer (lock : CommunityLock) (seat : SeatState) (s : Steersman) (ticks workers : ℕ) : Type 0 where
+  pub may : MayCall lock seat
+  pub number : seat.number ≡ s.number
+  pub own : HasOwn seat
+  pub tick : MayTick lock.base s seat.seen ticks workers
+
+-- the same where the first seat has taken in all others, the helm's too
+pub record MayLead (lock : CommunityLock) (first : SeatState) (s : Steersman) (ticks workers : ℕ) : Type 0 where
+  pub gathered : IsGathered lock first
+  pub whole : IsWhole first
+  pub client : s.number < length lock.base
+  pub tick : MayTick lock.base s first.seen ticks workers
 
 -- A helm that found no memory behind so many whole ticks, between two ticks or within one. With what is left of that tick,
 -- which isn't a fetch, its entries in a history are its opening and those of as many ticks as it has heard there, which are
@@ -99,18 +96,27 @@ pub record HasSteered {E : Type 0} (lock : CommunityLock) (ticks : ℕ) (before 
   pub told : new.told ≡ old.told
   pub own : OnOk result (HasOwn after)
   pub steered : OnOk result (Steers lock.base new after.seen)
-  pub reached : OnOk result ((new.opened ≡ true) × (new.ticks ≡ ticks))
-  pub stopped : old.opened ≡ true → OnErr result (HasStopped lock.base (steering_of old) new.ticks ticks after)
+  pub reached : OnOk result (new.ticks ≡ ticks)
+  pub stopped : OnErr result (HasStopped lock.base (steering_of old) new.ticks ticks after)
+
+-- the same in what the first seat has seen once it has all others again, where the clients may make some entries too
+pub record HasLed {E : Type 0} (lock : CommunityLock) (may : ℕ → List Entry → Type 0) (ticks : ℕ) (before after : SeatState) (old new : Steersman) (result : Result (Unit {0}) E) : Type 0 where
+  pub gathered : IsGathered lock after
+  pub goes_on : GoesOn may before after
+  pub same : steering_of new ≡ steering_of old
+  pub told : new.told ≡ old.told
+  pub steered : OnOk result (Steers lock.base new after.seen)
+  pub reached : OnOk result (new.ticks ≡ ticks)
+  pub stopped : OnErr result (IsStopped lock.base (steering_of old) new.ticks ticks after.seen)
 
 -- the helm that is run, where one is
 abbrev pub helm_of : Option Steersman → Option Steering
 helm_of steersman = option_map steering_of steersman
 
--- a helm, where there is one, has this number, has opened, and stands where the history has brought it
+-- a helm, where there is one, has this number, and stands where the history has brought it
 abbrev pub StandsAt : List (List ℕ) → ℕ → Option Steersman → History → Type 0
 StandsAt names number None history = Unit {0}
-StandsAt names number (Some steersman) history =
-    (steersman.number ≡ number) × (steersman.opened ≡ true) × Steers names steersman history
+StandsAt names number (Some steersman) history = (steersman.number ≡ number) × Steers names steersman history
 
 -- the turns that are left for the helm, where there is one, over what it has heard
 abbrev pub turns_left : ℕ → Option Steersman → List (List ℕ) → History → List Entry
@@ -177,19 +183,6 @@ pub record IsDue (lines : List Entry) (tick : Option ℕ) (from to : ℕ) : Type
   pub early : from < to → comes_before tick stamp ≡ false
   pub next : from ≡ to → IsBehind tick (drop from lines)
 
--- the milliseconds from one tick to the next, any without a helm
-abbrev pub period_in : Option Steersman → ℕ
-period_in None = 1
-period_in (Some steersman) = steersman.period
-
--- how many of the helm's ticks up to a stamp are left
-abbrev pub ticks_left : ℕ → Option Steersman → ℕ
-ticks_left stop steersman = ticks_behind stop (helm_of steersman) (ticks_in steersman)
-
--- the helm's iterations so far over what it has heard in a history
-abbrev pub made_by : List (List ℕ) → History → Option Steersman → List Iteration
-made_by names history steersman = iterations_by names history (helm_of steersman) (ticks_in steersman)
-
 -- the iterations so far, none without a helm
 abbrev pub iterations_in : Option Steersman → List Iteration
 iterations_in None = []
@@ -202,7 +195,6 @@ run_as number run = record { client = number; plan = plan_of run.helm; period = 
 -- a helm of this number that has yet to open
 pub record IsUnopened (number : ℕ) (steersman : Steersman) : Type 0 where
   pub own : steersman.number ≡ number
-  pub opened : steersman.opened ≡ false
   pub ticks : steersman.ticks ≡ 0
   pub told : steersman.told ≡ 0
   pub iterations : steersman.iterations ≡ []

@@ -1,7 +1,8 @@
 // The steps of a round: those of its stamp, and what the helm made in them.
 ghost use Rattle.std.specs.Prelude.{◌≡◌, ◌<◌, ◌≤◌, Ok, true, false, length, option_map, slice_get, IfSome, OnOk};
 ghost use Rattle.moos_play.specs.Plays.{earliest, IsStampOver, left_in, next_stamp};
-ghost use Rattle.moos_play.specs.Runs.{handed, HasAllSeats, HasPlayedOn, MayGoOn, shown_by, untold_in};
+ghost use Rattle.moos_play.specs.Steered.{iterations_in};
+ghost use Rattle.moos_play.specs.Runs.{handed, HasAllSeats, HasPlayedOn, MayGoOn, shown_by};
 
 use crate::stage::Stage;
 use crate::stamps::tick_due;
@@ -90,7 +91,7 @@ impl<'a> Stage<'a> {
 
     /// The helm's iterations since the last round.
     pub(crate) fn hand_out(&mut self, alloc: Global) -> Iterations
-        ensures untold { result ≡ untold_in self.old }
+        ensures untold { result ≡ iterations_in self.old.steersman }
         ensures told { self.new ≡ handed self.old }
     {
         match &mut self.steersman {

@@ -1,10 +1,10 @@
 // A race: the clients play all their lines, and the helm makes all its ticks on a thread of its own beside them.
-ghost use Rattle.std.specs.Prelude.{◌≡◌, ◌≤◌, ◌<◌, ◌+◌, ◌*◌, ◌^◌, true, false, length, nat_lt, IsTrue, OnErr, OnOk};
+ghost use Rattle.std.specs.Prelude.{◌≡◌, ◌<◌, ◌^◌, length, nat_lt, IsTrue};
 ghost use Rattle.std.specs.List.{All, AllZip, list_all};
 ghost use Rattle.std.specs.Thread.{IsSync};
 ghost use Rattle.moos_client.specs.Calls.{MayCall};
-ghost use Rattle.moos_step.specs.Steps.{GoesOn, HasEnded, IsApart, IsGathered, IsPlayedBeside, IsWhole};
-ghost use Rattle.moos_play.specs.Steered.{HasSteered, IsStopped, MaySteer, Steers, steering_of};
+ghost use Rattle.moos_step.specs.Steps.{HasEnded, IsApart, IsPlayedBeside};
+ghost use Rattle.moos_play.specs.Steered.{HasLed, HasSteered, MayLead, MaySteer};
 
 use crate::steersman::{Steersman, lead, steer};
 use moos_client::{Lock, Seat};
@@ -29,24 +29,12 @@ pub(crate) fn race<R: Threads + Wait + Sync, G: Gate>(
     workers: u32,
     gate: &G,
 ) -> Result<(), NoMemory>
-    requires gathered { IsGathered lock.now first.old.seat }
-    requires whole { IsWhole first.old.seat }
-    requires clients { (length calls.old < length lock.now.base) × (length calls.old < 2 ^ 32) }
+    requires lead { MayLead lock.now first.old.seat steersman.old ticks workers }
     requires number { steersman.old.number ≡ length calls.old }
-    requires steered { Steers lock.now.base steersman.old first.old.seat.seen }
-    requires opened { steersman.old.opened ≡ false → steersman.old.ticks ≡ 0 }
-    requires ticks { steersman.old.ticks ≤ ticks }
-    requires early { ticks * steersman.old.period < 2 ^ 64 + steersman.old.period }
-    requires workers { (1 ≤ workers) × (workers ≤ 16) }
+    requires few { length calls.old < 2 ^ 32 }
     requires lines { IsTrue (list_all (λ line. nat_lt line.client (length calls.old)) lines.now) }
-    ensures gathered { IsGathered lock.now first.new.seat }
-    ensures goes_on { GoesOn (IsPlayedBeside steersman.old.number lines.now result) first.old.seat first.new.seat }
+    ensures led { HasLed lock.now (IsPlayedBeside steersman.old.number lines.now result) ticks first.old.seat first.new.seat steersman.old steersman.new result }
     ensures calls { length calls.new ≡ length calls.old }
-    ensures same { steering_of steersman.new ≡ steering_of steersman.old }
-    ensures told { steersman.new.told ≡ steersman.old.told }
-    ensures steered { OnOk result (Steers lock.now.base steersman.new first.new.seat.seen) }
-    ensures reached { OnOk result ((steersman.new.opened ≡ true) × (steersman.new.ticks ≡ ticks)) }
-    ensures stopped { steersman.old.opened ≡ true → OnErr result (IsStopped lock.now.base (steering_of steersman.old) steersman.new.ticks ticks first.new.seat.seen) }
 {
     if steersman.number == 0 {
         let seat = &mut first.seat;

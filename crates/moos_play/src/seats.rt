@@ -1,20 +1,19 @@
 // How a run begins: its names, a seat for each client, and the helm with its opening.
 ghost use Rattle.std.specs.Prelude.{◌≡◌, ◌<◌, ◌≤◌, ◌++◌, ◌^◌, codes, length, option_map, IfOk, OnOk, IfSome};
-ghost use Rattle.moos_play.specs.Lawful.{names_with, MayStart};
-ghost use Rattle.moos_step.specs.Steps.{IsGathered, KnowsNothing};
-ghost use Rattle.moos_play.specs.Steered.{HasOpened, helm_of, IsUnopened, run_as};
+ghost use Rattle.moos_play.specs.Lawful.{MayStart, names_with, opening_of};
+ghost use Rattle.moos_step.specs.Steps.{IsGathered, IsWhole, KnowsNothing};
+ghost use Rattle.moos_play.specs.Steered.{HasOpened, helm_of, IsUnopened, run_as, steering_of};
 
 use crate::run::HelmRun;
-use crate::steersman::{Steersman, lead};
+use crate::steersman::{Steersman, count_call};
 use moos_client::{Lock, Seat};
 use moos_db::Db;
 use moos_io::Gate;
-use moos_post::{Copied, List, Name, NameFault, Names, NoMemory};
-use moos_step::seat_all;
+use moos_post::{Call, Copied, List, Name, NameFault, Names, NoMemory};
+use moos_step::{call_alone, seat_all};
 use script_reader::Script;
 use std::alloc::{AllocError, Global};
 use std::sync::Wait;
-use std::thread::Threads;
 use turn_lock::TurnLock;
 
 /// The lock over a new database, the seat of the first client, which has taken in all others, and a count of calls for this
@@ -111,7 +110,6 @@ pub(crate) fn steersman_for(alloc: Global, clients: u32, helm: Option<HelmRun>) 
         helm,
         number: clients,
         period,
-        opened: false,
         ticks: 0,
         calls: 0,
         told: 0,
@@ -131,7 +129,7 @@ fn no_calls(alloc: Global, clients: u32) -> Result<Vec<u64>, NoMemory>
 }
 
 /// Has the helm, where there is one, make its opening.
-pub(crate) fn open_all<R: Threads + Wait + Sync, G: Gate>(
+pub(crate) fn open_all<R: Wait, G: Gate>(
     rt: &R,
     alloc: Global,
     lock: &Lock,
@@ -146,8 +144,37 @@ pub(crate) fn open_all<R: Threads + Wait + Sync, G: Gate>(
     ensures same { OnOk result (helm_of steersman.new ≡ helm_of steersman.old) }
     ensures opened { OnOk result (HasOpened lock.now clients steersman.new first.new) }
 {
-    match steersman {
-        None => Ok(()),
-        Some(steersman) => lead(rt, alloc, lock, first, steersman, 0, 1, gate),
+    if let Some(steersman) = steersman {
+        open(rt, alloc, lock, first, steersman, gate)?;
     }
+    Ok(())
+}
+
+// The helm registers for what it wants, and posts the pairs to begin with, where there are any, both at stamp 0.
+fn open<R: Wait, G: Gate>(
+    rt: &R,
+    alloc: Global,
+    lock: &Lock,
+    first: &mut Seat,
+    steersman: &mut Steersman,
+    gate: &G,
+) -> Result<(), NoMemory>
+    requires gathered { IsGathered lock.now first.old }
+    requires whole { IsWhole first.old }
+    requires client { steersman.old.number < length lock.now.base }
+    ensures gathered { IsGathered lock.now first.new }
+    ensures whole { IsWhole first.new }
+    ensures same { steersman.new ≡ record steersman.old { calls = steersman.new.calls } }
+    ensures opened { OnOk result (first.new.seen ≡ first.old.seen ++ opening_of (steering_of steersman.old)) }
+{
+    count_call(steersman, gate);
+    let wants = steersman.helm.wants(alloc)?;
+    let number = steersman.number;
+    call_alone(rt, alloc, lock, first, number, 0, Call::Register(wants))?;
+    let pairs = steersman.helm.opening(alloc)?;
+    if pairs.len() > 0 {
+        count_call(steersman, gate);
+        call_alone(rt, alloc, lock, first, number, 0, Call::Post(pairs))?;
+    }
+    Ok(())
 }

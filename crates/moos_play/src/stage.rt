@@ -1,8 +1,8 @@
 // A run from one step to the next: the clients' lines and the helm's ticks, in the order that was asked for.
 ghost use Rattle.std.specs.Prelude.{◌≡◌, ◌≢◌, ◌<◌, None, Ok, true, false, drop, length, OnOk};
 ghost use Rattle.moos_play.specs.Plays.{left_in, next_stamp};
-ghost use Rattle.moos_play.specs.Runs.{HasAllSeats, HasPlayedOn, IsAtPlay, MayGoOn, MayPlay, next_tick, shown_by, untold_in};
-ghost use Rattle.moos_play.specs.Steered.{IsBehind, IsDue};
+ghost use Rattle.moos_play.specs.Runs.{HasAllSeats, HasPlayedOn, IsAtPlay, MayGoOn, MayPlay, next_tick, shown_by};
+ghost use Rattle.moos_play.specs.Steered.{IsBehind, IsDue, iterations_in};
 ghost use Rattle.script_reader.specs.Validity.{IsValid};
 
 use crate::race::race;
@@ -184,7 +184,7 @@ impl<'a> Stage<'a> {
         requires { HasAllSeats self }
         ensures names { result.db.names ≡ self.entry.lock.base }
         ensures history { result.db.history ≡ self.entry.first.seat.seen }
-        ensures iterations { result.iterations ≡ untold_in self.entry }
+        ensures iterations { result.iterations ≡ iterations_in self.entry.steersman }
     {
         let Stage {
             script: _,

@@ -2,8 +2,8 @@
 //! what was worked by hand; how every other run ends; and that clients and workers of a run act beside each other.
 //!
 //! The tests of `moos_jobs` stand here, since a crate with tests of its own is proved once more with them. One module for each
-//! subject: `words`, `scripts`, clients `beside` each other, `missions`, `behaviors`, `problems`, `refusals` of what isn't good,
-//! and `devices` that fail. What they share is in `files` and `runs`.
+//! subject: `words`, `scripts`, clients `beside` each other, `missions`, `behaviors`, `problems`, `shares` of two scripts with a
+//! bridge, simulated `vehicles`, `refusals` of what isn't good, and `devices` that fail. What they share is in `files` and `runs`.
 #![tactic(auto)]
 
 #[cfg(test)]
@@ -24,5 +24,9 @@ mod refusals;
 mod runs;
 #[cfg(test)]
 mod scripts;
+#[cfg(test)]
+mod shares;
+#[cfg(test)]
+mod vehicles;
 #[cfg(test)]
 mod words;

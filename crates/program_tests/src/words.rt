@@ -66,6 +66,8 @@ const OTHER_WORDS: &[&[&str]] = &[
     &["solve", "p.txt", "--workers=2", "--workers=2"],
     &["check"],
     &["check", "d.txt", "--workers", "2"],
+    &["simulate", "s.txt", "m.moos"],
+    &["simulate", "s.txt", "m.moos", "v.txt", "--race"],
     &["--help"],
 ];
 

@@ -5,7 +5,8 @@ use Rattle.mission_reader.specs.Missions.{mission_of}
 use Rattle.std.specs.Prelude.{Ok}
 use Rattle.moos_text.specs.Refusals.{IsFirst, and_then}
 use Rattle.command_line.specs.Turns.{FileTurn, turn_behind}
-use Rattle.moos_jobs.specs.Jobs.{Task, behaviors_turn, outcomes, with_few_ticks}
+use Rattle.moos_jobs.specs.Jobs.{Task, behaviors_turn, outcomes}
+use Rattle.helm_files.specs.HelmFiles.{with_few_ticks}
 use Rattle.command_line.specs.Endings.{surroundings}
 use Rattle.command_line.specs.declared.status.FileKind.TheVariants.{Mission as MissionFile}
 use Rattle.command_line.proofs.Loading.{last_ends, load_ends, refusal_ends, went_on}

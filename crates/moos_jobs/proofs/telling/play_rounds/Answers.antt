@@ -2,7 +2,8 @@
 use Rattle.std.proofs.Common.{◌∙◌, ◌++◌, ap, append-nil, inl, refl, sym}
 use Rattle.moos_play.specs.Lawful.{names_with, steering_with}
 use Rattle.command_line.specs.Endings.{sinking}
-use Rattle.moos_jobs.specs.Telling.{Tells}
+use Rattle.moos_jobs.specs.Telling.{IsOfLawful}
+use Rattle.moos_telling.specs.Telling.{Tells}
 use Rattle.moos_jobs.proofs.Rounds.{named_with, run_as}
 use Rattle.moos_jobs.proofs.telling.play_rounds.Goals as goal
 
@@ -16,7 +17,7 @@ pub returns-in-Ok : goal.returns-in-Ok
 returns-in-Ok g c =
     let made = c.in-Ok.ensures in
     let sink = sinking (g.K.Sink.taken c.args.out.now) (g.K.Sink.taken c.tell.new.out) (g.K.Sink.faults c.args.out.now) (g.K.Sink.faults c.tell.new.out) in
-    run_as (λ order script helm. Tells order script helm c.args.setup.now sink c.tell.result) made.order made.script made.helm c.tell.ensures
+    run_as (λ order script helm. Tells (IsOfLawful order script helm c.args.setup.now) sink c.tell.result) made.order made.script made.helm c.tell.ensures
 
 pub returns-in-Err : goal.returns-in-Err
 returns-in-Err g c = inl (record { taken = refl; faults = refl })

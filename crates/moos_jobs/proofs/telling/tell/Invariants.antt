@@ -2,15 +2,15 @@
 use Rattle.std.proofs.Common.{◌≡◌, [], length}
 use Rattle.moos_io.specs.Faults.{FaresOn}
 use Rattle.moos_play.specs.Plays.{GoesOnWith, HasCompletion, IsBetween, iterations_made, left_in}
-use Rattle.moos_jobs.specs.Telling.{IsToldSoFar}
-use Rattle.moos_jobs.proofs.Fetching.{IsNamed}
+use Rattle.moos_telling.specs.Telling.{IsToldSoFar}
+use Rattle.moos_jobs.proofs.Rounds.{IsAlone}
 use Rattle.moos_jobs.proofs.telling.tell.Given as goal
 
 abbrev pub invariant-loop-more : goal.invariant-loop-more
 invariant-loop-more g l = record {
   empty : l.buffer ≡ [];
   between : IsBetween l.play;
-  named : IsNamed l.play;
+  named : IsAlone l.play;
   on : HasCompletion l.play;
   same : GoesOnWith l.fn.play l.play;
   made : l.made ≡ length (iterations_made l.play);

@@ -1,15 +1,32 @@
-use Rattle.std.proofs.Common.{◌∙◌, ◌+◌, arith, sym}
-use Rattle.std.proofs.lemmas.Bool.{false≢true}
-use Rattle.moos_play.specs.Steered.{steering_of}
+use Rattle.std.proofs.Common.{◌≡◌, ◌≤◌, ◌+◌, Ok, arith, rules, subst, sym}
+use Rattle.std.specs.declared.alloc.AllocError.{AllocError}
+use Rattle.moos_play.specs.Steered.{HasSteered}
 use Rattle.moos_step.proofs.Lines.{err_any}
-use Rattle.moos_play.proofs.Stopping.{stops_within}
+use Rattle.moos_play.proofs.Ticking.{steered_more, steered_none, steers_next}
 use Rattle.moos_play.proofs.steersman.steer.Goals as goal
 
-pub returns-in_err-open-clause-stopped : goal.returns-in_err-open-clause-stopped
-returns-in_err-open-clause-stopped g c = λ opened. absurd (false≢true (sym c.in_err-open.ensures.unopened ∙ opened))
+pub loop-steersman-init : goal.loop-steersman-init
+loop-steersman-init g c = record { so_far = steered_none c.args.lock.now c.args.seat.now c.args.steersman.now c.args.ticks c.args.workers c.requires; within = c.requires.tick.count }
 
-pub returns-in_err-tick-clause-stopped : goal.returns-in_err-tick-clause-stopped
-returns-in_err-tick-clause-stopped g c = λ opened.
-    let s = c.loop-steersman.steersman in
-    err_any _ (stops_within c.args.lock.now.base (steering_of s) (steering_of c.args.steersman.now) s.ticks c.tick.new.steersman.ticks (s.ticks + 1) c.args.ticks c.tick.new.seat c.loop-steersman.invariant.same (sym c.in_err-tick.ensures.kept) (omega (arith, c.loop-steersman-test.true))
-    (c.in_err-tick.ensures.stopped c.loop-steersman.invariant.opened))
+pub tick-requires-clause-steer : goal.tick-requires-clause-steer
+tick-requires-clause-steer g c κs lives =
+    steers_next c.args.lock.now c.args.seat.now c.loop-steersman.seat c.args.steersman.now c.loop-steersman.steersman c.args.ticks c.args.workers c.requires c.loop-steersman.invariant.so_far c.loop-steersman-test.true
+
+pub loop-steersman-preserved : goal.loop-steersman-preserved
+loop-steersman-preserved g c = record {
+  so_far = steered_more c.args.lock.now c.args.seat.now c.loop-steersman.seat c.tick.new.seat c.args.steersman.now c.loop-steersman.steersman c.tick.new.steersman (c.loop-steersman.steersman.ticks + 1) c.tick.new.steersman.ticks (Ok tt)
+      c.loop-steersman.invariant.so_far c.in_ok-tick.ensures (sym c.in_ok-tick.ensures.reached) (omega (arith, c.in_ok-tick.ensures.reached));
+  within = omega (arith, c.in_ok-tick.ensures.reached, c.loop-steersman-test.true);
+}
+
+pub returns-in_err-tick : goal.returns-in_err-tick
+returns-in_err-tick g c =
+    let most : c.loop-steersman.steersman.ticks + 1 ≤ c.args.ticks = omega (arith, c.loop-steersman-test.true) in
+    let so = steered_more c.args.lock.now c.args.seat.now c.loop-steersman.seat c.tick.new.seat c.args.steersman.now c.loop-steersman.steersman c.tick.new.steersman (c.loop-steersman.steersman.ticks + 1) c.args.ticks _
+    c.loop-steersman.invariant.so_far c.in_err-tick.ensures tt most in
+    record { made = so.made; same = so.same; told = so.told; own = search rules; steered = search rules; reached = search rules; stopped = err_any _ so.stopped }
+
+pub returns : goal.returns
+returns g c =
+    let all : c.loop-steersman.steersman.ticks ≡ c.args.ticks = omega (arith, c.loop-steersman.invariant.within, c.loop-steersman-test.false) in
+    subst (λ n. HasSteered {E = AllocError} c.args.lock.now n c.args.seat.now c.loop-steersman.seat c.args.steersman.now c.loop-steersman.steersman (Ok tt)) all c.loop-steersman.invariant.so_far

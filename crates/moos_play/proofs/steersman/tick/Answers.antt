@@ -1,40 +1,66 @@
-use Rattle.std.proofs.Common.{◌∙◌, ◌*◌, ap, refl, subst, sym}
+use Rattle.std.proofs.Common.{◌≡◌, ◌*◌, ◌+◌, ap, inr, refl, rules, subst, sym}
+use Rattle.helm_core.specs.Helms.{plan_of}
 use Rattle.moos_play.specs.declared.steersman.Steersman.{Steersman}
-use Rattle.moos_play.specs.Steered.{HasIterated, Steers}
-use Rattle.moos_play.proofs.Helming.{ticks_once, two_calls}
+use Rattle.moos_play.specs.Steered.{HasIterated, HasStopped, steering_of}
+use Rattle.moos_play.proofs.Helming.{ticks_once}
 use Rattle.moos_step.proofs.Lines.{err_any}
-use Rattle.moos_play.proofs.Steering.{called_of, called_own}
-use Rattle.moos_play.proofs.Ticking.{calling_makes, fetching_makes, fetching_stops, telling_stops}
+use Rattle.moos_play.proofs.Steering.{called_of, called_own, recounted}
+use Rattle.moos_play.proofs.Ticking.{calling_makes, fetching_stops, makes_more, telling_stops, ticked_same}
 use Rattle.moos_play.proofs.steersman.tick.Goals as goal
 
-pub returns-in_err-iteration-clause-made : goal.returns-in_err-iteration-clause-made
-returns-in_err-iteration-clause-made g c = fetching_makes c.args.lock.now.base c.args.seat.now c.iterate.new.seat _ c.in_err-iteration.ensures.stopped
-
-pub returns-in_err-iteration-clause-stopped : goal.returns-in_err-iteration-clause-stopped
-returns-in_err-iteration-clause-stopped g c = λ opened.
-    err_any _ (fetching_stops c.args.lock.now.base c.args.steersman.now c.args.seat.now c.iterate.new.seat _ opened c.requires.steered c.requires.number c.requires.own refl c.in_err-iteration.ensures.stopped)
-
-pub returns-in_err-tell-clause-made : goal.returns-in_err-tell-clause-made
-returns-in_err-tell-clause-made g c =
-    calling_makes c.args.seat.now c.iterate.new.seat c.tell.new.seat _ _ _ _ (called_of c.args.seat.now c.iterate.new.seat _ _ _ c.in_ok-iteration.ensures.iterated.fetched) c.in_err-tell.ensures.stopped
-
-pub returns-in_err-tell-clause-stopped : goal.returns-in_err-tell-clause-stopped
-returns-in_err-tell-clause-stopped g c = λ opened.
+pub returns-in_err-iteration : goal.returns-in_err-iteration
+returns-in_err-iteration g c =
     let s = c.args.steersman.now in
-    err_any _ (telling_stops c.args.lock.now.base s c.iterate.new.helm c.args.seat.now c.iterate.new.seat c.tell.new.seat _ c.in_ok-iteration.iteration opened c.requires.steered c.requires.number c.requires.own refl
-    (subst (λ helm. HasIterated c.args.lock.now.base c.args.seat.now c.iterate.new.seat helm c.iterate.new.helm (s.ticks * s.period) c.in_ok-iteration.iteration) (ap (λ (s : Steersman). s.helm) c.count_call.ensures) c.in_ok-iteration.ensures.iterated)
-    c.in_err-tell.ensures.stopped)
+    let may = c.requires.steer in
+    let t = c.count_call.new.steersman in
+    let kept = ticked_same s t (record t { helm = c.iterate.new.helm }) c.iterate.new.helm c.count_call.ensures refl (ap plan_of c.in_err-iteration.ensures.same) in
+    record {
+      made = calling_makes c.args.seat.now c.iterate.new.seat _ _ c.in_err-iteration.ensures.stopped;
+      same = kept.0;
+      told = kept.1;
+      own = search rules;
+      steered = search rules;
+      reached = search rules;
+      stopped = err_any _ (subst (λ n. HasStopped c.args.lock.now.base (steering_of s) n (s.ticks + 1) c.iterate.new.seat) (sym kept.2)
+          (fetching_stops c.args.lock.now.base s c.args.seat.now c.iterate.new.seat _ may.tick.steered may.number may.own refl c.in_err-iteration.ensures.stopped));
+    }
 
-pub returns-clause-made : goal.returns-clause-made
-returns-clause-made g c = two_calls c.args.seat.now c.iterate.new.seat c.tell.new.seat _ _ _ _ (called_of c.args.seat.now c.iterate.new.seat _ _ _ c.in_ok-iteration.ensures.iterated.fetched) c.in_ok-tell.ensures.posted
-
-pub returns-clause-own : goal.returns-clause-own
-returns-clause-own g c = called_own c.iterate.new.seat c.tell.new.seat _ _ c.in_ok-tell.ensures.posted
-
-pub returns-clause-steered : goal.returns-clause-steered
-returns-clause-steered g c =
+pub returns-in_err-tell : goal.returns-in_err-tell
+returns-in_err-tell g c =
+    let s = c.args.steersman.now in
+    let may = c.requires.steer in
+    let t = c.count_call.new.steersman in
     let made = c.in_ok-iteration.ensures.iterated in
-    ticks_once c.args.lock.now.base c.count_call.new.steersman c.count_call-2.new.steersman c.iterate.new.helm c.args.seat.now c.iterate.new.seat c.tell.new.seat _ _ c.in_ok-iteration.iteration _ c.tell.new.iterations
-    c.count_call-2.ensures c.in_ok-tell.ensures.kept (ap (λ (s : Steersman). s.ticks * s.period) (sym c.count_call.ensures))
-    (subst (λ (s : Steersman). Steers c.args.lock.now.base s c.args.seat.now.seen) (sym c.count_call.ensures) c.requires.steered)
-    (c.requires.number ∙ ap (λ (s : Steersman). s.number) (sym c.count_call.ensures)) c.requires.own made.fetched made.ticked c.in_ok-tell.ensures.posted refl
+    let kept = ticked_same s t c.count_call-2.new.steersman c.iterate.new.helm c.count_call.ensures c.count_call-2.ensures made.ticked.plan in
+    record {
+      made = makes_more c.args.seat.now c.iterate.new.seat c.tell.new.seat (calling_makes c.args.seat.now c.iterate.new.seat _ _ (inr (called_of c.args.seat.now c.iterate.new.seat _ _ _ made.fetched))) (calling_makes c.iterate.new.seat c.tell.new.seat _ _ c.in_err-tell.ensures.stopped);
+      same = kept.0;
+      told = kept.1;
+      own = search rules;
+      steered = search rules;
+      reached = search rules;
+      stopped = err_any _ (subst (λ n. HasStopped c.args.lock.now.base (steering_of s) n (s.ticks + 1) c.tell.new.seat) (sym kept.2)
+          (telling_stops c.args.lock.now.base s c.iterate.new.helm c.args.seat.now c.iterate.new.seat c.tell.new.seat _ c.in_ok-iteration.iteration may.tick.steered may.number may.own refl
+          (subst (λ helm. HasIterated c.args.lock.now.base c.args.seat.now c.iterate.new.seat helm c.iterate.new.helm (s.ticks * s.period) c.in_ok-iteration.iteration) (ap (λ (s : Steersman). s.helm) c.count_call.ensures) made)
+          c.in_err-tell.ensures.stopped));
+    }
+
+pub returns : goal.returns
+returns g c =
+    let s = c.args.steersman.now in
+    let may = c.requires.steer in
+    let t = c.count_call.new.steersman in
+    let made = c.in_ok-iteration.ensures.iterated in
+    let kept = ticked_same s t c.count_call-2.new.steersman c.iterate.new.helm c.count_call.ensures c.count_call-2.ensures made.ticked.plan in
+    record {
+      made = makes_more c.args.seat.now c.iterate.new.seat c.tell.new.seat (calling_makes c.args.seat.now c.iterate.new.seat _ _ (inr (called_of c.args.seat.now c.iterate.new.seat _ _ _ made.fetched))) (calling_makes c.iterate.new.seat c.tell.new.seat _ _ (inr c.in_ok-tell.ensures.posted));
+      same = kept.0;
+      told = kept.1;
+      own = called_own c.iterate.new.seat c.tell.new.seat _ _ c.in_ok-tell.ensures.posted;
+      steered = ticks_once c.args.lock.now.base t c.count_call-2.new.steersman c.iterate.new.helm c.args.seat.now c.iterate.new.seat c.tell.new.seat _ _ c.in_ok-iteration.iteration _ c.tell.new.iterations
+          c.count_call-2.ensures c.in_ok-tell.ensures.kept (ap (λ (s : Steersman). s.ticks * s.period) (sym c.count_call.ensures))
+          (recounted c.args.lock.now.base s t c.args.seat.now.seen c.count_call.ensures may.tick.steered)
+          (subst (λ (s : Steersman). c.args.seat.now.number ≡ s.number) (sym c.count_call.ensures) may.number) may.own made.fetched made.ticked c.in_ok-tell.ensures.posted refl;
+      reached = ap (λ n. n + 1) kept.2;
+      stopped = search rules;
+    }

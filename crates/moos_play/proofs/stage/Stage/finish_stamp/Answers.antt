@@ -3,9 +3,8 @@ use Rattle.std.proofs.lemmas.Bool.Decides.{nat_tests}
 use Rattle.std.specs.declared.alloc.AllocError.{AllocError}
 use Rattle.moos_play.specs.declared.stage.Stage.{Stage}
 use Rattle.moos_play.specs.Plays.{next_stamp}
-use Rattle.moos_play.specs.Runs.{HasPlayedOn, IsCutOff, shown_by}
-use Rattle.moos_play.proofs.Stepped.{stepped_at, stepped_none, stepped_ok, stepped_twice}
-use Rattle.moos_step.proofs.Lines.{err_any}
+use Rattle.moos_play.specs.Runs.{HasPlayedOn, shown_by}
+use Rattle.moos_play.proofs.Stepped.{stepped_at, stepped_err, stepped_none, stepped_ok, stepped_twice}
 use Rattle.moos_play.proofs.stage.Stage.finish_stamp.Goals as goal
 
 pub loop-alloc-init : goal.loop-alloc-init
@@ -32,13 +31,4 @@ returns-in_err-go_on-clause-stepped g c =
     let after = c.go_on.new.self in
     let here : c.next_stamp.result ≡ c.args.stamp = grind (arith, nat_tests, c.loop-alloc-test.true) in
     let is : next_stamp (shown_by before) ≡ c.args.stamp = sym c.next_stamp.ensures ∙ here in
-    let whole = stepped_twice _ c.args.stamp c.args.self.now before after c.requires.at_play c.loop-alloc.invariant.stepped (stepped_at is c.in_err-go_on.ensures.stepped) in
-    record {
-      same = whole.same;
-      seated = whole.seated;
-      stamped = whole.stamped;
-      front = err_any _ {P = IsCutOff c.args.self.now.script.now after} whole.front;
-      at_play = search rules;
-      told = search rules;
-      moves = search rules;
-    }
+    stepped_err _ c.args.stamp c.args.self.now after (search rules) (stepped_twice _ c.args.stamp c.args.self.now before after c.requires.at_play c.loop-alloc.invariant.stepped (stepped_at is c.in_err-go_on.ensures.stepped))

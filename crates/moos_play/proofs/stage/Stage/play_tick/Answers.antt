@@ -1,10 +1,29 @@
-use Rattle.std.proofs.Common.{◌∙◌, Some, ap, refl, sym}
-use Rattle.moos_play.specs.Steered.{helm_of, told_in}
+use Rattle.std.proofs.Common.{◌≢◌, ◌≤◌, ◌<◌, ◌^◌, ◌∙◌, None, Option, Some, ap, arith, refl, rules, subst, sym}
+use Rattle.moos_play.specs.Lawful.{helm_number, ticks_to}
+use Rattle.moos_play.specs.declared.steersman.Steersman.{Steersman}
+use Rattle.std.specs.Prelude.{IfSome}
+use Rattle.moos_play.specs.Steered.{helm_of, StandsAt, steering_of, tick_due, told_in}
 use Rattle.moos_play.proofs.Moving.{moves_tick}
-use Rattle.moos_play.proofs.Rounding.{tick_at_play, tick_stops}
+use Rattle.moos_play.proofs.Rounding.{due_left, tick_at_play, tick_early, tick_stops}
 use Rattle.moos_play.proofs.Stamping.{tick_adds}
 use Rattle.moos_play.proofs.Stepped.{ok_any}
 use Rattle.moos_play.proofs.stage.Stage.play_tick.Goals as goal
+
+pub lead-requires-after_bounds : goal.lead-requires-after_bounds
+lead-requires-after_bounds g c κs within =
+    let script = c.args.self.now.script.now in
+    let s = c.in-Some.steersman in
+    let under = c.requires.may.at_play.under in
+    let stands = subst (λ s. StandsAt c.args.self.now.lock.base (helm_number script) s c.args.self.now.first.seat.seen) c.in-Some.is under.steered in
+    let period = subst (λ s. IfSome s (λ helm. (1 ≤ helm.period) × (helm.ticks ≤ ticks_to script.stop (steering_of helm)))) c.in-Some.is c.requires.may.at_play.period in
+    let below : script.stop < 2 ^ 64 = omega arith in
+    let left = due_left script.stop s (subst (λ (s : Option Steersman). tick_due script.stop s ≢ None) c.in-Some.is c.requires.some) in
+    record {
+      gathered = under.gathered;
+      whole = under.whole;
+      client = search rules;
+      tick = record { steered = stands.1; count = omega arith; early = tick_early script.stop s.ticks s.period (2 ^ 64) period.0 left below; few = c.requires.may.few };
+    }
 
 pub returns-clause-stepped : goal.returns-clause-stepped
 returns-clause-stepped g c =
@@ -18,9 +37,9 @@ returns-clause-stepped g c =
     record {
       same = record { script = refl; lock = refl; order = refl; helm = ap Some made.same ∙ sym (ap helm_of c.in-Some.is) };
       seated = record { seated = record { gathered = made.gathered; whole = made.goes_on.whole }; lock = refl; later = made.goes_on.later };
-      stamped = tick_adds script play old new c.lead.new.first c.lead.result may.at_play.under c.in-Some.is c.requires.some c.requires.behind made.goes_on made.same made.steered made.reached made.stopped;
-      front = tick_stops script play first old new c.lead.result may.valid.lines may.at_play c.in-Some.is c.requires.some c.requires.behind made.goes_on made.same made.stopped;
-      at_play = tick_at_play script play first old new c.lead.result may.valid.lines may.at_play c.in-Some.is c.requires.some c.requires.behind made.gathered made.goes_on made.same made.steered made.reached;
+      stamped = tick_adds script play old new c.lead.new.first c.lead.result may.at_play.under c.in-Some.is c.requires.some c.requires.behind made;
+      front = tick_stops script play first old new c.lead.result may.valid.lines may.at_play c.in-Some.is c.requires.some c.requires.behind made;
+      at_play = tick_at_play script play first old new c.lead.result may.valid.lines may.at_play c.in-Some.is c.requires.some c.requires.behind made;
       told = ok_any c.lead.result (made.told ∙ sym (ap told_in c.in-Some.is));
       moves = moves_tick script play (record play { first = first; steersman = Some new }) old new c.lead.result c.in-Some.is refl refl c.requires.some c.requires.behind made.reached;
     }

@@ -30,7 +30,7 @@ returns-clause-stepped g c =
     let old = c.in-Some.steersman in
     let new = c.race.new.steersman in
     let after = c.race.new.first.seat in
-    let made = c.in_ok-race.ensures in
+    let made = c.in_ok-race.ensures.led in
     let may = c.requires.may in
     let number = (subst (λ s. StandsAt play.lock.base (helm_number script) s play.first.seat.seen) c.in-Some.is may.at_play.under.steered).0 in
     let period = subst (λ s. IfSome s (λ helm. (1 ≤ helm.period) × (helm.ticks ≤ ticks_to script.stop (steering_of helm)))) c.in-Some.is may.at_play.period in
@@ -43,9 +43,9 @@ returns-clause-stepped g c =
       at_play = record {
         under = race_over play.order script play.lock may.valid.lines play.steersman old new play.from _ (Ok c.in_ok-race.field-0) play.first.seat after c.requires.race c.len-to.ensures c.in-Some.is may.at_play.under made.gathered
             (subst (λ lines. GoesOn (IsPlayedBeside old.number (take (c.len-to.result - play.from) (drop play.from lines)) (Ok c.in_ok-race.field-0)) play.first.seat after) c.all.ensures made.goes_on) refl
-            made.same made.reached.0 made.steered (omega (arith, made.reached.1, ap (λ (helm : Steering). ticks_to script.stop helm) made.same));
+            made.same made.steered (omega (arith, made.reached, ap (λ (helm : Steering). ticks_to script.stop helm) made.same));
         calls = as_many play.calls.len play.calls.items c.race.new.calls (c.race.auto.calls ∙ ap length c.as_mut_slice-calls.ensures.value) (search rules) ∙ (search rules);
-        period = (subst (λ (helm : Steering). 1 ≤ helm.period) (sym made.same) period.0, omega (arith, made.reached.1, ap (λ (helm : Steering). ticks_to script.stop helm) made.same));
+        period = (subst (λ (helm : Steering). 1 ≤ helm.period) (sym made.same) period.0, omega (arith, made.reached, ap (λ (helm : Steering). ticks_to script.stop helm) made.same));
       };
       told = made.told ∙ sym (ap told_in c.in-Some.is);
       moves = moves_race play.order (next_stamp (shown_by play)) play _ c.requires.race;
@@ -58,7 +58,7 @@ returns-in_err-race-clause-stepped g c =
     let old = c.in-Some.steersman in
     let new = c.race.new.steersman in
     let after = c.race.new.first.seat in
-    let made = c.in_err-race.ensures in
+    let made = c.in_err-race.ensures.led in
     let may = c.requires.may in
     let number = (subst (λ s. StandsAt play.lock.base (helm_number script) s play.first.seat.seen) c.in-Some.is may.at_play.under.steered).0 in
     let cut =

@@ -1,0 +1,18 @@
+// What a bridge has posted at every moment.
+ghost use Rattle.std.specs.Prelude.{List};
+ghost use Rattle.moos_bridged.specs.Fronts.{HasCarriedAll, HasCarriedFront};
+ghost use Rattle.moos_post.specs.History.{History};
+ghost use Rattle.moos_share.specs.Bridged.{IsBridged, IsShared};
+ghost use Rattle.moos_share.specs.declared.rule.Rule.{Rule};
+ghost use Rattle.script_reader.specs.declared.script.Order.{Order};
+ghost use Rattle.script_reader.specs.declared.script.Script.{Script};
+ghost use Rattle.turn_lock.specs.Passes.{Begins};
+
+/// What holds of two bridged histories, in either order: at every place of the second, what the bridge has posted there by then is the
+/// renaming of a front of all that the first mails to it, in the order of mailing. If the scripts' lines are all else that stands
+/// there, it has posted the renaming of all of that in the end. It does nothing.
+pub fn bridged_law()
+    ensures fronts { (order : Order) (first second : Script) (rules : List Rule) (one two front : History) → IsBridged order first second rules one two → Begins two front
+        → HasCarriedFront first second rules one front }
+    ensures all { (order : Order) (first second : Script) (rules : List Rule) (one two : History) → IsShared order first second rules one two → HasCarriedAll first second rules one two }
+{}

@@ -1,0 +1,11 @@
+pub mod Turning
+pub mod Beside
+pub mod Answering
+pub mod Sailing
+pub mod Rounding
+pub mod Going
+pub mod Voyage
+pub mod Played
+pub mod Begun
+pub mod Opening
+pub mod Arriving

@@ -1,0 +1,3 @@
+pub mod Simulated
+pub mod Sailing
+pub mod Turns

@@ -1,0 +1,57 @@
+-- Which histories a simulated vehicle leaves: those of a script's lines beside three clients that answer each tick, the helm, then
+-- pMarinePID, then uSimMarine.
+use Rattle.std.specs.Prelude.{ℕ, List, [], ◌∷◌, ◌++◌, codes, length, map, Option}
+use Rattle.moos_post.specs.declared.entry.Call.TheVariants.{Register, Post as Posts}
+use Rattle.moos_post.specs.declared.value.Pair.{Pair}
+use Rattle.moos_post.specs.History.{History}
+use Rattle.helm_core.specs.Ticks.{pairs_mailed, Tick}
+use Rattle.moos_lawful.specs.Answering.{Answerer, schedule_of}
+use Rattle.moos_lawful.specs.Schedules.{IsLawfulFor, IsLawfulSoFar, Schedule}
+use Rattle.moos_play.specs.Lawful.{mailed_in, Steering}
+use Rattle.moos_play.specs.Schedules.{answerers, tick_period}
+use Rattle.script_reader.specs.declared.script.Order.TheVariants.{Stamp}
+use Rattle.script_reader.specs.declared.script.Script.{Script}
+use Rattle.sim_clients.specs.Clients.{drive_by, drive_pairs, hull_by, hull_pairs, marine_pid_regs, sim_marine_regs}
+use Rattle.sim_vehicle.specs.declared.settings.CraftSettings.{CraftSettings}
+use Rattle.sim_vehicle.specs.Motion.{start_hull}
+
+-- what the mails that a client has heard say, one by one
+abbrev pub mails_said : List Tick → List (List Pair)
+mails_said heard = map (λ tick. pairs_mailed tick.mail) heard
+
+-- pMarinePID: it registers, and posts at each turn what the controller asks for by all its mails so far
+abbrev pub marine_pid : CraftSettings → Answerer Tick
+marine_pid craft = record {
+  opening = Register marine_pid_regs ∷ [];
+  says = λ heard. drive_pairs (drive_by craft (mails_said heard));
+}
+
+-- uSimMarine: it registers, and posts the vehicle at its start, and at each turn as it is by all its mails so far
+abbrev pub sim_marine : CraftSettings → ℕ → Answerer Tick
+sim_marine craft period = record {
+  opening = Register sim_marine_regs ∷ Posts (hull_pairs (start_hull craft)) ∷ [];
+  says = λ heard. hull_pairs (hull_by craft period (mails_said heard));
+}
+
+-- the clients of the vehicle, in their order
+abbrev pub vehicle_clients : CraftSettings → ℕ → List (Answerer Tick)
+vehicle_clients craft period = marine_pid craft ∷ sim_marine craft period ∷ []
+
+-- their names
+abbrev pub vehicle_names : List (List ℕ)
+vehicle_names = codes "pMarinePID" ∷ codes "uSimMarine" ∷ []
+
+-- the schedule of a script with a helm and this vehicle, under these names of the clients
+abbrev pub schedule_simulated : Script → Option Steering → CraftSettings → List (List ℕ) → Schedule Tick
+schedule_simulated script helm craft names =
+    schedule_of Stamp script.lines (length script.names) script.stop (tick_period helm) (answerers helm ++ vehicle_clients craft (tick_period helm)) (length names) (mailed_in names)
+
+-- A history that a simulated vehicle leaves: The openings of the helm and of the vehicle's clients stand first. Behind them each client
+-- of the script has its lines, and the three others fetch and post at each tick, over what they have heard by then. At a stamp the
+-- script's clients come first, and then those three in their order. Nobody else has an entry.
+abbrev pub IsSimulated : Script → Option Steering → CraftSettings → List (List ℕ) → History → Type 0
+IsSimulated script helm craft names history = IsLawfulFor (schedule_simulated script helm craft names) history
+
+-- such a history as far as it goes
+abbrev pub IsSimulatedSoFar : Script → Option Steering → CraftSettings → List (List ℕ) → History → Type 0
+IsSimulatedSoFar script helm craft names history = IsLawfulSoFar (schedule_simulated script helm craft names) history

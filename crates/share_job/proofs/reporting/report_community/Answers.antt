@@ -1,0 +1,15 @@
+-- The report is that of no helm.
+use Rattle.std.proofs.Common.{[], OnOk, subst}
+use Rattle.std.specs.Prelude.{OnErr}
+use Rattle.moos_io.specs.Pieces.{Took, TookFront}
+use Rattle.moos_report.specs.declared.setup.Setup.{Setup}
+use Rattle.moos_report.specs.Report.{report_text}
+use Rattle.share_job.proofs.reporting.report_community.Goals as goal
+
+pub returns-clause-ok : goal.returns-clause-ok
+returns-clause-ok g c =
+    subst (λ (setup : Setup). OnOk c.report.result (Took (g.K.Sink.taken c.args.out.now) (g.K.Sink.taken c.report.new.out) (report_text setup c.args.db.now.names c.args.db.now.history []))) c.helmless_setup-setup.ensures c.report.ensures.ok
+
+pub returns-clause-front : goal.returns-clause-front
+returns-clause-front g c =
+    subst (λ (setup : Setup). OnErr c.report.result (TookFront (g.K.Sink.taken c.args.out.now) (g.K.Sink.taken c.report.new.out) (report_text setup c.args.db.now.names c.args.db.now.history []))) c.helmless_setup-setup.ensures c.report.ensures.front

@@ -1,0 +1,58 @@
+// The files of the job: scripts without a client of the bridge's name, and rules that make no name too long.
+ghost use Rattle.std.specs.Prelude.{◌≡◌, ◌∷◌, ◌<◌, ◌^◌, [], codes, length, IfErr, IfOk, Ok};
+ghost use Rattle.moos_text.specs.Refusals.{IsFirst};
+ghost use Rattle.script_reader.specs.Validity.{IsValid};
+ghost use Rattle.share_job.specs.Sharing.{community_of, fitting_of};
+
+use moos_bridged::bridge_name;
+use moos_post::{List, Names, NoMemory};
+use moos_share::{Rules, read_bridge, too_long};
+use moos_text::{Cause, ReadFault};
+use script_reader::{Script, line_of_client, read_script};
+use std::alloc::Global;
+
+/// Reads a script of which no line is of a client with the bridge's name: the script, or its first refusal.
+pub(crate) fn read_community(alloc: Global, bytes: &[u8]) -> Result<Script, ReadFault>
+    requires { length bytes.now < 2 ^ 32 }
+    ensures read { IfOk result (λ script. community_of bytes.now ≡ Ok script) }
+    ensures refused { IfErr result (λ fault. IsFirst fault (community_of bytes.now)) }
+    ensures valid { IfOk result IsValid }
+{
+    let script = read_script(alloc, bytes)?;
+    let Ok(names) = bridge_alone(alloc) else {
+        return Err(ReadFault::NoMemory);
+    };
+    match line_of_client(bytes, &names) {
+        Some(line) => Err(ReadFault::At {
+            line,
+            cause: Cause::S10,
+        }),
+        None => Ok(script),
+    }
+}
+
+// The name of the bridge, as a list.
+fn bridge_alone(alloc: Global) -> Result<Names, NoMemory>
+    ensures { IfOk result (λ names. names ≡ codes "pShare" ∷ []) }
+{
+    let mut names = List::new(alloc);
+    names.add(bridge_name(alloc)?)?;
+    Ok(names)
+}
+
+/// Reads the rules of a bridge that carries from the community of this script, none of which makes the name of a variable that the
+/// script posts too long: the rules, or their first refusal.
+pub(crate) fn read_fitting(alloc: Global, first: &Script, bytes: &[u8]) -> Result<Rules, ReadFault>
+    requires { length bytes.now < 2 ^ 32 }
+    ensures read { IfOk result (λ rules. fitting_of first.now bytes.now ≡ Ok rules) }
+    ensures refused { IfErr result (λ fault. IsFirst fault (fitting_of first.now bytes.now)) }
+{
+    let rules = read_bridge(alloc, bytes)?;
+    match too_long(&rules, first) {
+        Some(line) => Err(ReadFault::At {
+            line,
+            cause: Cause::G4,
+        }),
+        None => Ok(rules),
+    }
+}

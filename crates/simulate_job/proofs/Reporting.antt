@@ -1,0 +1,121 @@
+-- A play of a simulation: what is told of it is what the job may write.
+use Rattle.std.proofs.Common.{◌≡◌, ℕ, zero, suc, List, [], ◌∷◌, length, false, Option, None, Some, inl, inr, refl, ap, sym, ◌∙◌, subst, arith}
+use Rattle.std.specs.Prelude.{nat_lt, Result, Err}
+use Rattle.std.proofs.lemmas.Bool.{lt-ltb}
+use Rattle.bhv_file.specs.declared.decl.Decl.{Decl}
+use Rattle.command_line.specs.declared.status.Status.{Status}
+use Rattle.command_line.specs.declared.status.Status.TheVariants.{Done, CheckNo, Usage, LoadFault, WriteFault, Refused, NoMemory}
+use Rattle.command_line.specs.Endings.{Ended, Sinking, WroteFront}
+use Rattle.command_line.specs.Turns.{Ready}
+use Rattle.helm_core.specs.declared.iteration.Iteration.{Iteration}
+use Rattle.helm_core.specs.Helms.{plan_of}
+use Rattle.helm_core.specs.Plans.{plan_made}
+use Rattle.helm_core.specs.Posts.{are_declared_modes}
+use Rattle.helm_files.specs.HelmFiles.{HelmFiles, steering_by}
+use Rattle.moos_play.specs.declared.run.HelmRun.{HelmRun}
+use Rattle.moos_play.specs.Lawful.{heard_of, helm_number, iterations, Steering, steering_with}
+use Rattle.moos_play.specs.Plays.{clients_in, GoesOnWith, helm_in, Playing, script_played}
+use Rattle.moos_post.specs.History.{History}
+use Rattle.moos_report.specs.declared.setup.Setup.{Setup}
+use Rattle.moos_report.specs.IterationLines.{is_helm}
+use Rattle.moos_report.specs.Report.{report_text}
+use Rattle.moos_simulate.specs.declared.vehicle.Vehicle.{Vehicle}
+use Rattle.moos_simulate.specs.Sailing.{IsSimulating}
+use Rattle.moos_simulate.specs.Simulated.{IsSimulated, vehicle_names}
+use Rattle.moos_telling.proofs.Fetching.{IsNamed, named_beside}
+use Rattle.moos_telling.specs.Telling.{IsHelmNamed, Tells, ToldFront}
+use Rattle.moos_text.specs.declared.cause.ReadFault.{ReadFault}
+use Rattle.moos_text.specs.declared.cause.ReadFault.TheVariants.{At, NoMemory as Unread}
+use Rattle.moos_text.specs.Refusals.{and_then, IsFirst}
+use Rattle.script_reader.specs.declared.script.Script.{Script}
+use Rattle.script_reader.specs.Validity.{IsValid}
+use Rattle.sim_vehicle.specs.declared.settings.CraftSettings.{CraftSettings}
+use Rattle.simulate_job.specs.Simulating.{helm_sailed, IsOfSimulation, IsVoyage, iterations_sailed, names_sailed, simulate_outcomes, Simulation}
+
+-- none of the vehicle's clients has the helm's name
+no_helm : (client : ℕ) → is_helm vehicle_names client ≡ false
+no_helm zero = refl
+no_helm (suc zero) = refl
+no_helm (suc (suc client)) = refl
+
+-- a play beside a vehicle has the helm's name where it is to stand
+pub named_sailing : (vehicle : Vehicle) (play : Playing) → IsSimulating vehicle play → IsValid (script_played play) → IsNamed play
+named_sailing vehicle play (helm, sailing) valid =
+    subst (λ helm. IsHelmNamed (clients_in play) (script_played play) helm) (sym sailing.beside.steered)
+    (subst (λ names. IsHelmNamed names (script_played play) (Some helm)) (sym sailing.beside.named) (named_beside (script_played play) (Some helm) vehicle_names valid no_helm alone))
+  where
+    alone : Some helm ≡ None → vehicle_names ≡ []
+    alone none = cc
+
+-- a play that goes on twice
+pub goes_on_twice : (before middle after : Playing) → GoesOnWith before middle → GoesOnWith middle after → GoesOnWith before after
+goes_on_twice before middle after one other = record {
+  script = other.script ∙ one.script;
+  order = other.order ∙ one.order;
+  names = other.names ∙ one.names;
+  helm = other.helm ∙ one.helm;
+}
+
+-- the same simulation goes on
+pub of_on : (task : Simulation) (setup : Setup) (craft craft' : CraftSettings) (old new : Playing) → GoesOnWith old new → craft' ≡ craft → IsOfSimulation task setup craft (script_played old) (helm_in old) (clients_in old)
+    → IsOfSimulation task setup craft' (script_played new) (helm_in new) (clients_in new)
+of_on task setup craft craft' old new on same of = record {
+  same_script = on.script ∙ of.same_script;
+  same_helm = on.helm ∙ of.same_helm;
+  same_names = on.names ∙ of.same_names;
+  same_craft = same ∙ of.same_craft;
+  same_setup = of.same_setup;
+  ranges = of.ranges;
+  worth = of.worth;
+}
+
+-- the report of a history that a vehicle leaves beside such a play
+pub may_report : (task : Simulation) (setup : Setup) (craft : CraftSettings) (script : Script) (helm : Option Steering) (names : List (List ℕ)) (history : History) (made : List Iteration)
+    → IsOfSimulation task setup craft script helm names → IsSimulated script helm craft names history → iterations helm script.stop (heard_of names (length script.names) history) ≡ made
+    → IsVoyage task (report_text setup names history made)
+may_report task setup craft script helm names history made of simulated is = record {
+  history = history;
+  sailed = subst (λ craft. IsSimulated task.script (Some (helm_sailed task)) craft (names_sailed task) history) of.same_craft
+      (subst (λ names. IsSimulated task.script (Some (helm_sailed task)) craft names history) of.same_names
+      (subst (λ helm. IsSimulated task.script helm craft names history) of.same_helm (subst (λ script. IsSimulated script helm craft names history) of.same_script simulated)));
+  printed = λ i. report_text (of.same_setup i) (of.same_names i) history (made_is i);
+  ranges = of.ranges;
+  worth = of.worth;
+}
+  where
+    made_is : made ≡ iterations_sailed task history
+    made_is = sym is ∙ (λ i. iterations (of.same_helm i) (of.same_script i).stop (heard_of (of.same_names i) (length (of.same_script i).names) history))
+
+-- a helm that was made of these files is run as they say
+pub steered_by : (script : Script) (files : HelmFiles) (run : HelmRun) → plan_of run.helm ≡ plan_made files.mission files.file → run.period ≡ files.mission.period → steering_with script run ≡ steering_by script files
+steered_by script files run plan period = λ i. record { client = helm_number script; plan = plan i; period = period i }
+
+-- what was told is what the job may write
+module _ (task : Simulation) (sink : Sinking) where
+  front_told : ToldFront (IsVoyage task) sink → WroteFront simulate_outcomes (Ready task) sink
+  front_told front = record { task = task; good = refl; status = Done; text = front.text; output = front.may; took = front.took }
+
+  pub told_ended : (status : Status) → Tells (IsVoyage task) sink status → Ended simulate_outcomes (Ready task) sink status
+  told_ended Done tells = record { task = task; good = refl; text = tells.text; output = tells.may; took = tells.took }
+  told_ended CheckNo tells = absurd tells
+  told_ended Usage tells = absurd tells
+  told_ended LoadFault tells = absurd tells
+  told_ended WriteFault tells = (front_told tells.0, tells.1)
+  told_ended (Refused refusal) tells = absurd tells
+  told_ended NoMemory (inl untouched) = inl untouched
+  told_ended NoMemory (inr front) = inr (front_told front, tt)
+
+-- the one refusal is the first
+pub the_first : {A : Type 0} (fault : ReadFault) (read : Result A ReadFault) → read ≡ Err fault → IsFirst fault read
+the_first (At line cause) read is = is
+the_first Unread read is = tt
+
+-- modes are declared where there is a declaration
+pub declared : (decls : List Decl) → nat_lt 0 (length decls) ≡ are_declared_modes decls
+declared [] = refl
+declared (decl ∷ decls) = lt-ltb 0 (length (decl ∷ decls)) (omega arith)
+
+-- a refusal stands before whatever else is judged
+pub refused_first : {A B : Type 0} (next : A → Result B ReadFault) (fault : ReadFault) (read : Result A ReadFault) → IsFirst fault read → IsFirst fault (and_then next read)
+refused_first next (At line cause) read is = ap (and_then next) is
+refused_first next Unread read is = tt

@@ -1,0 +1,21 @@
+-- What is printed of the play so far was written, and it goes on from where it began, beside the same vehicle.
+use Rattle.std.proofs.Common.{◌≡◌, [], length}
+use Rattle.moos_io.specs.Faults.{FaresOn}
+use Rattle.moos_play.specs.Plays.{GoesOnWith, iterations_made, left_in}
+use Rattle.moos_simulate.specs.Sailing.{IsSimulating}
+use Rattle.moos_telling.specs.Telling.{IsToldSoFar}
+use Rattle.simulate_job.proofs.telling.tell.Given as goal
+
+abbrev pub invariant-loop-more : goal.invariant-loop-more
+invariant-loop-more g l = record {
+  empty : l.buffer ≡ [];
+  simulating : IsSimulating l.vehicle l.play;
+  craft : l.vehicle.craft ≡ l.fn.vehicle.craft;
+  same : GoesOnWith l.fn.play l.play;
+  made : l.made ≡ length (iterations_made l.play);
+  told : IsToldSoFar l.setup (g.K.Sink.taken l.fn.out) (g.K.Sink.taken l.out) l.play;
+  later : FaresOn (g.K.Sink.faults l.fn.out) (g.K.Sink.faults l.out);
+}
+
+abbrev pub decreases-loop-more : goal.decreases-loop-more
+decreases-loop-more g l = left_in l.play

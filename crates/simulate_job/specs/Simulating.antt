@@ -1,0 +1,128 @@
+-- Which files the job reads, what is to be simulated, and what may be written of it.
+use Rattle.std.specs.Prelude.{◌≡◌, ℕ, neg_ℤ, pos, List, [], ◌∷◌, ◌++◌, Option, Some, None, Result, Ok, Err}
+use Rattle.bhv_reader.specs.Behaviors.{behaviors_of}
+use Rattle.command_line.specs.Endings.{Outcomes}
+use Rattle.command_line.specs.Turns.{FileTurn, Ready, Wanted, turn_behind}
+use Rattle.command_line.specs.declared.status.FileKind.TheVariants.{Script as ScriptFile, Mission as MissionFile, Behaviors as BehaviorsFile, Vehicle as VehicleFile}
+use Rattle.command_line.specs.declared.status.Status.{Status}
+use Rattle.command_line.specs.declared.status.Status.TheVariants.{Done}
+use Rattle.helm_core.specs.declared.iteration.Iteration.{Iteration}
+use Rattle.helm_core.specs.Plans.{plan_made}
+use Rattle.helm_core.specs.Worths.{DecidesByWorth}
+use Rattle.helm_files.specs.HelmFiles.{HelmFiles, setup_of, steering_by, with_few_ticks}
+use Rattle.mission_reader.specs.declared.mission.Mission.{Mission}
+use Rattle.mission_reader.specs.Missions.{mission_of}
+use Rattle.moos_play.specs.Lawful.{Steering, heard_of, helm_number, iterations, names_with}
+use Rattle.moos_post.specs.declared.value.Pair.{Pair}
+use Rattle.moos_post.specs.History.{History}
+use Rattle.moos_report.specs.declared.setup.Setup.{Setup}
+use Rattle.moos_report.specs.Report.{report_text}
+use Rattle.moos_simulate.specs.Simulated.{IsSimulated, vehicle_names}
+use Rattle.moos_text.specs.declared.cause.Cause.TheVariants.{S11}
+use Rattle.moos_text.specs.declared.cause.ReadFault.{ReadFault}
+use Rattle.moos_text.specs.declared.cause.ReadFault.TheVariants.{At}
+use Rattle.moos_text.specs.Refusals.{and_then}
+use Rattle.script_reader.specs.declared.script.Script.{Script}
+use Rattle.script_reader.specs.Named.{line_of_client}
+use Rattle.script_reader.specs.Script.{script_of}
+use Rattle.sim_clients.specs.Clients.{drive_by, hull_by}
+use Rattle.sim_vehicle.specs.declared.settings.CraftSettings.{CraftSettings}
+use Rattle.sim_vehicle.specs.Motion.{IsHull}
+use Rattle.sim_vehicle.specs.Steering.{Lies}
+use Rattle.sim_vehicle.specs.Vehicles.{vehicle_of}
+
+-- ---- the files
+
+-- what is to be simulated: a script, beside a helm of these files, which steers this vehicle
+pub record Simulation : Type 0 where
+  pub script : Script
+  pub files : HelmFiles
+  pub craft : CraftSettings
+
+-- a line of a client of the vehicle is refused, the first one where there is one
+abbrev pub without_line : Option ℕ → Script → Result Script ReadFault
+without_line None script = Ok script
+without_line (Some line) script = Err (At line S11)
+
+-- what the bytes of a script stand for that is played beside a vehicle
+abbrev pub simulated_script : List ℕ → Result Script ReadFault
+simulated_script bytes = and_then (without_line (line_of_client vehicle_names bytes)) (script_of bytes)
+
+-- behind a script, a mission and its behaviour file, by the bytes of the vehicle file of this name
+abbrev pub vehicle_turn : Script → HelmFiles → List ℕ → List (List ℕ) → FileTurn Simulation
+vehicle_turn script files vehicle [] = Wanted VehicleFile vehicle
+vehicle_turn script files vehicle (bytes ∷ more) = turn_behind VehicleFile (λ craft. Ready (record { script = script; files = files; craft = craft })) (vehicle_of bytes)
+
+-- behind a script and a mission, by the bytes of the behaviour file and what is behind it
+abbrev pub behaviors_turn_simulated : Script → Mission → List ℕ → List (List ℕ) → FileTurn Simulation
+behaviors_turn_simulated script mission vehicle [] = Wanted BehaviorsFile mission.behaviors
+behaviors_turn_simulated script mission vehicle (bytes ∷ more) =
+    turn_behind BehaviorsFile (λ file. vehicle_turn script (record { mission = mission; file = file }) vehicle more) (behaviors_of mission.domain bytes)
+
+-- behind a script, by the bytes of the mission of this name and what is behind it
+abbrev pub mission_turn_simulated : Script → List ℕ → List ℕ → List (List ℕ) → FileTurn Simulation
+mission_turn_simulated script mission vehicle [] = Wanted MissionFile mission
+mission_turn_simulated script mission vehicle (bytes ∷ more) =
+    turn_behind MissionFile (λ read. behaviors_turn_simulated script read vehicle more) (and_then (with_few_ticks script) (mission_of bytes))
+
+-- Where the job stands, by the bytes of the files that were loaded so far, in order: a script, a mission, the behaviour file that the
+-- mission names, and a vehicle file.
+abbrev pub simulate_turn : List ℕ → List ℕ → List ℕ → List (List ℕ) → FileTurn Simulation
+simulate_turn script mission vehicle [] = Wanted ScriptFile script
+simulate_turn script mission vehicle (bytes ∷ more) = turn_behind ScriptFile (λ read. mission_turn_simulated read mission vehicle more) (simulated_script bytes)
+
+-- ---- what may be written
+
+-- how the helm is run
+abbrev pub helm_sailed : Simulation → Steering
+helm_sailed task = steering_by task.script task.files
+
+-- the names of the clients: the script's, the helm's and the vehicle's
+abbrev pub names_sailed : Simulation → List (List ℕ)
+names_sailed task = names_with task.script (Some (helm_sailed task)) ++ vehicle_names
+
+-- a history that the simulation may leave
+abbrev pub IsSailed : Simulation → History → Type 0
+IsSailed task history = IsSimulated task.script (Some (helm_sailed task)) task.craft (names_sailed task) history
+
+-- the helm's iterations in a history: what its own mails there come to
+abbrev pub iterations_sailed : Simulation → History → List Iteration
+iterations_sailed task history = iterations (Some (helm_sailed task)) task.script.stop (heard_of (names_sailed task) (helm_number task.script) history)
+
+-- Whatever was mailed to the vehicle's clients, what they post is in its range: the rudder within `max_rudder` either way, the thrust from 0
+-- to `max_thrust`, and the vehicle's place, heading, speed and depth.
+pub record KeepsInRange (craft : CraftSettings) : Type 0 where
+  pub rudder : (mails : List (List Pair)) → Lies (neg_ℤ craft.max_rudder) craft.max_rudder (drive_by craft mails).rudder
+  pub thrust : (mails : List (List Pair)) → Lies (pos 0) craft.max_thrust (drive_by craft mails).thrust
+  pub hull : (period : ℕ) (mails : List (List Pair)) → IsHull craft (hull_by craft period mails)
+
+-- The text is the report of a history that the simulation may leave, and of the helm's iterations in it. What the vehicle's clients post in it
+-- is in range, and what the helm decides is decided by worth.
+pub record IsVoyage (task : Simulation) (text : List ℕ) : Type 0 where
+  pub history : History
+  pub sailed : IsSailed task history
+  pub printed : text ≡ report_text (setup_of (Some task.files)) (names_sailed task) history (iterations_sailed task history)
+  pub ranges : KeepsInRange task.craft
+  pub worth : DecidesByWorth (plan_made task.files.mission task.files.file)
+
+-- the job may write this text and end with this status
+abbrev pub MayReport : Simulation → Status → List ℕ → Type 0
+MayReport task Done text = IsVoyage task text
+MayReport task status text = ⊥
+
+-- what may come of a simulation, whose report is written as it comes
+abbrev pub simulate_outcomes : Outcomes Simulation
+simulate_outcomes = record { MayWrite = MayReport; IsWrittenAsItComes = λ task. Unit {0} }
+
+-- ---- a play of a simulation; this serves `telling` alone
+
+-- a script, a helm, names of clients, a vehicle and a setup that are those of this simulation, whose vehicle keeps in range and whose helm
+-- decides by worth
+pub record IsOfSimulation (task : Simulation) (setup : Setup) (craft : CraftSettings) (script : Script) (helm : Option Steering) (names : List (List ℕ)) : Type 0 where
+  pub same_script : script ≡ task.script
+  pub same_helm : helm ≡ Some (helm_sailed task)
+  pub same_names : names ≡ names_sailed task
+  pub same_craft : craft ≡ task.craft
+  pub same_setup : setup ≡ setup_of (Some task.files)
+  pub ranges : KeepsInRange task.craft
+  pub worth : DecidesByWorth (plan_made task.files.mission task.files.file)

@@ -1,0 +1,165 @@
+// A play beside a vehicle whose report is written as it comes: how it begins before the first round, and what each round brings before
+// the next.
+ghost use Rattle.std.specs.Prelude.{◌≡◌, ◌+◌, ◌++◌, ◌^◌, ◌<◌, ◌≤◌, [], length, IfErr, IfNone, IfOk, IfSome, OnOk, Option, List, Some, ℕ};
+ghost use Rattle.command_line.specs.Endings.{sinking};
+ghost use Rattle.moos_io.specs.Faults.{Faring, FaresOn};
+ghost use Rattle.moos_play.specs.Lawful.{MayStart, names_with, steering_with};
+ghost use Rattle.moos_play.specs.Plays.{clients_in, GoesOnWith, helm_in, iterations_made, left_in, script_played};
+ghost use Rattle.moos_simulate.specs.Sailing.{IsSailedOut, IsSimulating};
+ghost use Rattle.moos_simulate.specs.Simulated.{vehicle_names};
+ghost use Rattle.moos_telling.specs.Telling.{IsToldSoFar, Tells};
+ghost use Rattle.script_reader.specs.Validity.{IsValid};
+ghost use Rattle.simulate_job.specs.Simulating.{IsOfSimulation, IsVoyage, Simulation};
+
+use command_line::{Status, written};
+use moos_io::{Buffer, Gate, Sink};
+use moos_play::{HelmRun, Order, Play};
+use moos_report::{Setup, parts_law};
+use moos_simulate::{Vehicle, vehicle_names};
+use moos_telling::{tell_end, tell_opening, tell_part};
+use script_reader::Script;
+use sim_vehicle::Craft;
+use std::alloc::Global;
+use std::sync::Wait;
+use std::thread::Threads;
+
+/// Plays the script with this helm, which steers this vehicle, round by round, and writes the report of each round before the next
+/// one begins.
+pub fn sail<R: Threads + Wait + Sync, K: Sink, G: Gate>(
+    rt: &R,
+    alloc: Global,
+    script: &Script,
+    helm: HelmRun,
+    craft: Craft,
+    setup: &Setup,
+    workers: u32,
+    out: &mut K,
+    gate: &G,
+) -> Status
+    requires valid { IsValid script.now }
+    requires helm { MayStart helm }
+    requires period { helm.period ≤ 10 ^ 6 }
+    requires few { (1 ≤ workers) × (workers ≤ 16) }
+    // Whichever simulation this is.
+    ensures { (task : Simulation) → IsOfSimulation task setup.now craft script.now (Some (steering_with script.now helm)) (names_with script.now (Some helm) ++ vehicle_names)
+        → Tells (IsVoyage task) (sinking (K.taken out.old) (K.taken out.new) (K.faults out.old) (K.faults out.new)) result }
+{
+    let period = helm.period;
+    let pid_client = script.names.len() as u32 + 1;
+    let Ok(names) = vehicle_names(alloc) else {
+        return Status::NoMemory;
+    };
+    let Ok(mut play) = Play::make(rt, alloc, script, Some(helm), names, Order::Stamp, gate) else {
+        return Status::NoMemory;
+    };
+    match Vehicle::launch(rt, alloc, &mut play, craft, period, pid_client) {
+        Ok(mut vehicle) => tell(
+            rt,
+            alloc,
+            &mut play,
+            &mut vehicle,
+            setup,
+            workers,
+            out,
+            gate,
+        ),
+        Err(_) => Status::NoMemory,
+    }
+}
+
+// Tells a play from its openings to its end.
+fn tell<R: Threads + Wait + Sync, K: Sink, G: Gate>(
+    rt: &R,
+    alloc: Global,
+    play: &mut Play,
+    vehicle: &mut Vehicle,
+    setup: &Setup,
+    workers: u32,
+    out: &mut K,
+    gate: &G,
+) -> Status
+    requires simulating { IsSimulating vehicle.old play.old }
+    requires begun { iterations_made play.old ≡ [] }
+    requires few { (1 ≤ workers) × (workers ≤ 16) }
+    ensures { (task : Simulation) → IsOfSimulation task setup.now vehicle.old.craft (script_played play.old) (helm_in play.old) (clients_in play.old)
+        → Tells (IsVoyage task) (sinking (K.taken out.old) (K.taken out.new) (K.faults out.old) (K.faults out.new)) result }
+{
+    parts_law();
+    vehicle.front_law(play);
+    play.front_law();
+    if let Err(_) = tell_opening(rt, play, setup, out) {
+        return Status::WriteFault;
+    }
+    let mut buffer = Buffer::new();
+    let mut made = 0;
+    loop {
+        match tell_round(
+            rt,
+            alloc,
+            play,
+            vehicle,
+            setup,
+            made,
+            workers,
+            &mut buffer,
+            out,
+            gate,
+        ) {
+            Ok(Some(more)) => made += more,
+            Ok(None) => return written(Status::Done, tell_end(rt, play, out)),
+            Err(status) => return status,
+        }
+    }
+}
+
+// Plays the next round and tells it, where the helm has made so many iterations before, and answers how many it made in it.
+// None where no round is left. The buffer is empty before and after.
+fn tell_round<R: Threads + Wait + Sync, K: Sink, G: Gate>(
+    rt: &R,
+    alloc: Global,
+    play: &mut Play,
+    vehicle: &mut Vehicle,
+    setup: &Setup,
+    made: u64,
+    workers: u32,
+    buffer: &mut Buffer,
+    out: &mut K,
+    gate: &G,
+) -> Result<Option<u64>, Status>
+    requires empty { buffer.old ≡ [] }
+    requires simulating { IsSimulating vehicle.old play.old }
+    requires made { made ≡ length (iterations_made play.old) }
+    requires few { (1 ≤ workers) × (workers ≤ 16) }
+    ensures empty { OnOk result (buffer.new ≡ []) }
+    ensures simulating { OnOk result (IsSimulating vehicle.new play.new) }
+    ensures craft { OnOk result (vehicle.new.craft ≡ vehicle.old.craft) }
+    ensures same { OnOk result (GoesOnWith play.old play.new) }
+    ensures later { FaresOn (K.faults out.old) (K.faults out.new) }
+    ensures made { IfOk result (λ more. IfSome more (λ more. length (iterations_made play.new) ≡ made + more)) }
+    ensures few { IfOk result (λ more. IfSome more (λ more. made + more < 2 ^ 64)) }
+    ensures less { IfOk result (λ more. IfSome more (λ _. left_in play.new < left_in play.old)) }
+    // Whatever was told before.
+    ensures told { IfOk result (λ more. IfSome more (λ _. (before : Option (List ℕ))
+        → IsToldSoFar setup.now before (K.taken out.old) play.old → IsToldSoFar setup.now before (K.taken out.new) play.new)) }
+    ensures over { IfOk result (λ more. IfNone more (IsSailedOut vehicle.old.craft play.new × (play.new ≡ play.old) × (K.taken out.new ≡ K.taken out.old))) }
+    ensures stopped { IfErr result (λ status. (task : Simulation) (before : Option (List ℕ)) (faults : Faring)
+        → IsOfSimulation task setup.now vehicle.old.craft (script_played play.old) (helm_in play.old) (clients_in play.old)
+        → FaresOn faults (K.faults out.old) → IsToldSoFar setup.now before (K.taken out.old) play.old
+        → Tells (IsVoyage task) (sinking before (K.taken out.new) faults (K.faults out.new)) status) }
+{
+    parts_law();
+    vehicle.front_law(play);
+    play.front_law();
+    let Ok(next) = vehicle.round(rt, alloc, play, workers, gate) else {
+        return Err(Status::NoMemory);
+    };
+    let Some(round) = next else {
+        return Ok(None);
+    };
+    vehicle.front_law(play);
+    play.front_law();
+    if let Err(_) = tell_part(rt, play, setup, &round, made, buffer, out) {
+        return Err(Status::WriteFault);
+    }
+    Ok(Some(round.iterations.len() as u64))
+}
