@@ -65,7 +65,8 @@ fn share_next<R: Threads + Wait + Sync, G: Gate>(
     Ok(true)
 }
 
-// The clients of both communities make their calls of this stamp, beside each other.
+// The clients of both communities make their calls of this stamp. Where both have lines they do so beside each other; a thread
+// for nothing would cost more than the lines.
 fn play_both<R: Threads + Wait + Sync, G: Gate>(
     rt: &R,
     alloc: Global,
@@ -79,6 +80,10 @@ fn play_both<R: Threads + Wait + Sync, G: Gate>(
     ensures one { OnOk result (IsResting one.new × HasPlayedStamp stamp one.old one.new) }
     ensures two { OnOk result (IsResting two.new × HasPlayedStamp stamp two.old two.new) }
 {
+    if one.next_stamp() != Some(stamp) || two.next_stamp() != Some(stamp) {
+        one.play_stamp(rt, alloc, stamp, gate)?;
+        return two.play_stamp(rt, alloc, stamp, gate);
+    }
     let (first, second) = join_mut(
         rt,
         &mut ||

@@ -23,8 +23,8 @@ pub enum Limit {
 }
 
 /// Why a reader refuses a file: `S` in a script, `M` in a mission, `B` in a behaviour file, `P` in a problem or a
-/// decision, `G` in a bridge file, `V` in a vehicle file and `C` in a contacts file. Nothing gives `S10` and `S11` yet,
-/// which wait for jobs that add clients of their own.
+/// decision, `G` in a bridge file, `V` in a vehicle file and `C` in a contacts file. `S10` and `S11` are given where a job
+/// adds clients of its own.
 #[derive(Clone, Copy, Debug, PartialEq, Eq)]
 pub enum Cause {
     /// A line's first word is no stamp.
