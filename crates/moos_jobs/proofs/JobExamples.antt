@@ -30,7 +30,7 @@ use Rattle.command_line.specs.Turns.{Ready, Unfit, Wanted}
 use Rattle.moos_jobs.specs.Jobs.{IsAccepted, IsOutput, outcomes, turn_of}
 use Rattle.helm_files.specs.HelmFiles.{with_few_ticks}
 use Rattle.command_line.specs.Endings.{Ended, Sinking, sinking}
-use Rattle.moos_jobs.proofs.Communities.{all_entries}
+use Rattle.moos_report.proofs.Communities.{all_entries}
 
 -- one function over two points, of value 5 and 6
 abbrev pub problem : WeightedSum

@@ -1,5 +1,5 @@
 -- Which files the job reads that shares between two communities, what is to be done with them, and what it may write.
-use Rattle.std.specs.Prelude.{◌≡◌, ℕ, false, List, [], ◌∷◌, ◌++◌, codes, Result, Ok, Err}
+use Rattle.std.specs.Prelude.{◌≡◌, ℕ, List, [], ◌∷◌, ◌++◌, codes, Result, Ok, Err}
 use Rattle.std.specs.Option.{option_map_or}
 use Rattle.command_line.specs.Endings.{Outcomes}
 use Rattle.command_line.specs.Turns.{FileTurn, Ready, Wanted, turn_behind}
@@ -8,6 +8,7 @@ use Rattle.command_line.specs.declared.status.Status.{Status}
 use Rattle.command_line.specs.declared.status.Status.TheVariants.{Done}
 use Rattle.moos_post.specs.History.{History}
 use Rattle.moos_report.specs.Report.{report_text}
+use Rattle.moos_report.specs.Setups.{no_modes}
 use Rattle.moos_share.specs.Bridged.{IsShared, names_bridged}
 use Rattle.moos_share.specs.BridgeFiles.{rules_of}
 use Rattle.moos_share.specs.LongNames.{too_long_line}
@@ -65,7 +66,7 @@ share_turn first second bridge order (bytes ∷ more) = turn_behind ScriptFile (
 
 -- the report of a community's history, in which no helm plays
 abbrev pub community_report : List (List ℕ) → History → List ℕ
-community_report names history = report_text (record { unused = []; modes = false }) names history []
+community_report names history = report_text no_modes names history []
 
 -- The text is the report of the first community and behind it that of the second, whose histories are shared as the order asks.
 pub record AreReports (task : ShareTask) (text : List ℕ) : Type 0 where
