@@ -14,7 +14,7 @@ use Rattle.moos_post.specs.declared.entry.Entry.{Entry}
 use Rattle.bhv_reader.specs.Behaviors.{nothing_said}
 use Rattle.bhv_file.specs.declared.file.Block.{Block}
 use Rattle.bhv_file.specs.declared.spec.Shape.TheVariants.{Timer}
-use Rattle.helm_core.specs.Decisions.{best_decision}
+use Rattle.ivp_cert.specs.Certificates.{best_decision}
 use Rattle.mission_reader.specs.declared.mission.Mission.{Mission}
 use Rattle.moos_client.specs.Calls.{entries_of}
 use Rattle.moos_play.specs.Lawful.{IsLawful}
