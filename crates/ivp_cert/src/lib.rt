@@ -1,10 +1,9 @@
 //! Certificates, which show that a point is the best one of a problem, and the texts of problems and decisions.
 //!
 //! The contract for the layer above: `cut` gives the certificate of a problem, and `cut_by_workers` the same by several
-//! workers; `accepts` tells whether a certificate is
-//! accepted for what is claimed, and then the claimed point is the best. `read_problem` and `read_decision` give what
-//! stands in the bytes, or the first refusal with its line and its cause; `print_decision` writes a decision, and what it
-//! writes stands for the decision.
+//! workers; `accepts` tells whether a certificate is accepted for what is claimed, and then the claimed point is the best.
+//! `read_problem` and `read_decision` give what stands in the bytes, or the first refusal with its line and its cause;
+//! `print_decision` writes a decision, and what it writes stands for the decision.
 //!
 //! Reading order: `path`, `cert`, `claim`; `trail`, `cutting`, `subtree`, `share`, `by_workers`, `accept`, `law`; `words`, `piece`,
 //! `terms`, `unfinished`, `stage`, `read`; `line`, `phase`, `decision`; `put`, `put_problem`, `path_text`, `print`, `printed`. Of
