@@ -15,9 +15,9 @@ use moos_post::NoMemory;
 use std::alloc::Global;
 use std::thread::{Threads, map_indices};
 
-/// How many subtrees there are for each worker, where the tree has so many: they are uneven, and the more there are, the more
-/// even are the workers' shares.
-const SUBTREES: usize = 256;
+// How many subtrees there are at least, where the tree has so many. They are uneven, so many of them make the workers' shares even;
+// but one worker alone finds them, and where they are as many as the tree has nodes, nothing is left to share.
+const SUBTREES: usize = 2_048;
 
 /// The same as `cut`, by 1 to 16 workers, each on a thread of its own where one can be started.
 pub fn cut_by_workers<R: Threads + Sync>(
@@ -33,7 +33,7 @@ pub fn cut_by_workers<R: Threads + Sync>(
     ensures { IfOk result (λ cert. cert ≡ certificate_of problem.now) }
 {
     let workers = workers as usize;
-    let subtrees = subtrees_of(alloc, problem, key, workers * SUBTREES)?;
+    let subtrees = subtrees_of(alloc, problem, key, SUBTREES)?;
     let shares = cut_all(rt, alloc, problem, key, subtrees.as_slice(), workers)?;
     let lines = joined(alloc, subtrees.len(), shares)?;
     Ok(Cert::of(lines))
