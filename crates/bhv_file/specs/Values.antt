@@ -39,6 +39,10 @@ weight_of text = option_map (λ number. nat_abs number / 1000) (number_value (po
 abbrev pub flag_of : List ℕ → Option Bool
 flag_of text = if bytes_eq text (codes "true") then Some true else if bytes_eq text (codes "false") then Some false else None
 
+-- `spawn` for a template, or `disallowed`
+abbrev pub templating_of : List ℕ → Option Bool
+templating_of text = if bytes_eq text (codes "spawn") then Some true else if bytes_eq text (codes "disallowed") then Some false else None
+
 -- `reverse` or `reversed`, which turns an order round, or `normal`
 abbrev pub order_of : List ℕ → Option Bool
 order_of text =

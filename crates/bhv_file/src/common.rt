@@ -27,6 +27,8 @@ pub struct Common {
     pub idle_decay: bool,
     /// Whether it begins anew when it was completed.
     pub perpetual: bool,
+    /// Whether it never runs, and letters make behaviours of it.
+    pub template: bool,
 }
 
 impl Copied for Common {
@@ -54,6 +56,7 @@ impl Copied for Common {
             duration: self.duration,
             idle_decay: self.idle_decay,
             perpetual: self.perpetual,
+            template: self.template,
         })
     }
 }

@@ -21,6 +21,6 @@ pub use common::Common;
 pub use decl::{Conds, Decl, Decls};
 pub use file::{BhvFile, Block, Blocks, Unused, UnusedList};
 pub use put::{set_param, set_value};
-pub use setting::{read_duration, read_flag, read_weight};
+pub use setting::{read_duration, read_flag, read_templating, read_weight};
 pub use spec::{Shape, Spec, Spots};
 pub use table::{CommonParameter, Parameter, common_named, is_needed, parameter_named};

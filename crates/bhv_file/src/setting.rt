@@ -1,6 +1,6 @@
 // What the values of parameters say.
 ghost use Rattle.std.specs.Prelude.{◌≡◌, IfOk};
-ghost use Rattle.bhv_file.specs.Values.{flag_of, number_value, order_of, repeat_of, setting_of, time_value, weight_of, duration_of};
+ghost use Rattle.bhv_file.specs.Values.{flag_of, templating_of, number_value, order_of, repeat_of, setting_of, time_value, weight_of, duration_of};
 
 use crate::places::{read_only_place, read_places, read_polygon};
 use crate::spec::Spots;
@@ -87,6 +87,19 @@ pub fn read_flag(text: &[u8]) -> Option<bool>
     if text == b"true".as_slice() {
         Some(true)
     } else if text == b"false".as_slice() {
+        Some(false)
+    } else {
+        None
+    }
+}
+
+/// `spawn` for a template, or `disallowed`.
+pub fn read_templating(text: &[u8]) -> Option<bool>
+    ensures { result ≡ templating_of text.now }
+{
+    if text == b"spawn".as_slice() {
+        Some(true)
+    } else if text == b"disallowed".as_slice() {
         Some(false)
     } else {
         None

@@ -27,6 +27,7 @@ behavior duration idle_decay perpetual = record {
   duration = duration;
   idle_decay = idle_decay;
   perpetual = perpetual;
+  template = false;
 }
 
 abbrev start : Bool → Bool → ℕ → Beginning

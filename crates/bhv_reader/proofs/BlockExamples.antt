@@ -1,5 +1,5 @@
 -- Files of behaviours and refusals worked by hand.
-use Rattle.std.proofs.Common.{◌≡◌, ℕ, ◌*◌, true, false, List, [], ◌∷◌, ◌++◌, map, Some, None, refl}
+use Rattle.std.proofs.Common.{Bool, ◌≡◌, ℕ, ◌*◌, true, false, List, [], ◌∷◌, ◌++◌, map, Some, None, refl}
 use Rattle.std.specs.Prelude.{codes, Ok, Err, neg_ℤ, pos, Result}
 use Rattle.helm_cond.specs.declared.operator.Operator.TheVariants.{Equal}
 use Rattle.helm_cond.specs.Conditions.{Compare, Condition}
@@ -82,6 +82,7 @@ survey_commons : commons_of (behaviors_of domain survey)
       duration = None;
       idle_decay = true;
       perpetual = true;
+      template = false;
     }
     ∷ record {
       name = codes "waypt_return";
@@ -95,6 +96,7 @@ survey_commons : commons_of (behaviors_of domain survey)
       duration = None;
       idle_decay = true;
       perpetual = false;
+      template = false;
     }
     ∷ record {
       name = codes "const_depth";
@@ -108,6 +110,7 @@ survey_commons : commons_of (behaviors_of domain survey)
       duration = None;
       idle_decay = true;
       perpetual = false;
+      template = false;
     } ∷ [])
 survey_commons = refl
 
@@ -171,8 +174,18 @@ long_duration = refl
 word_in_other_letters : behaviors_of domain (codes "Behavior = BHV_Timer {\nperpetual = True\n}") ≡ Err (At 2 B6)
 word_in_other_letters = refl
 
-template : behaviors_of domain (codes "Behavior = BHV_Timer {\ntemplating = spawn\n}") ≡ Err (At 2 B6)
-template = refl
+-- A template without `updates` is B11, at its closing line; the last `templating` counts, and its words are exact.
+template_unheard : behaviors_of domain (codes "Behavior = BHV_Timer {\nname = t\ntemplating = spawn\n}") ≡ Err (At 4 B11)
+template_unheard = refl
+
+template_in_other_letters : behaviors_of domain (codes "Behavior = BHV_Timer {\ntemplating = Spawn\n}") ≡ Err (At 2 B6)
+template_in_other_letters = refl
+
+abbrev are_templates : Result BhvFile ReadFault → Result (List Bool) ReadFault
+are_templates read = and_then (λ file. Ok (map (λ block. block.common.template) file.blocks)) read
+
+a_template : are_templates (behaviors_of domain (codes "Behavior = BHV_Timer {\nname = t\ntemplating = spawn\nupdates = T_UP\n}\nBehavior = BHV_Timer {\nname = u\ntemplating = spawn\ntemplating = disallowed\n}")) ≡ Ok (true ∷ false ∷ [])
+a_template = refl
 
 heading_beyond_360 : behaviors_of domain (codes "Behavior = BHV_ConstantHeading {\nheading = 360.001\n}") ≡ Err (At 2 B6)
 heading_beyond_360 = refl

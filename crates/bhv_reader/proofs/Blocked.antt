@@ -30,11 +30,11 @@ use Rattle.bhv_file.specs.declared.table.CommonParameter.{CommonParameter}
 use Rattle.bhv_file.specs.declared.table.CommonParameter.TheVariants.{Name, Weight, Condition as OfCondition, RunFlag, IdleFlag, ActiveFlag, InactiveFlag, EndFlag, Updates, Duration, IdleDecay, Perpetual, Templating}
 use Rattle.bhv_file.specs.declared.table.Parameter.{Parameter}
 use Rattle.bhv_file.specs.Validity.{is_taken, AreBlocks, IsBlock, IsValidFile, serves}
-use Rattle.bhv_reader.specs.Blocks.{after_known, behavior_closed, behavior_of_type, BehaviorBlock, block_of, flag_value, flag_with_room, flags_in, if_good, is_unfinished, name_value, of_shape, one_flag, when_good, with_behavior_condition, with_behavior_name, with_block, with_common, with_found, with_parameter, with_sides}
+use Rattle.bhv_reader.specs.Blocks.{after_known, behavior_closed, behavior_of_type, BehaviorBlock, block_of, flag_value, flag_with_room, flags_in, if_good, is_unfinished, is_unheard, name_value, of_shape, one_flag, when_good, with_behavior_condition, with_behavior_name, with_block, with_common, with_found, with_parameter, with_sides}
 use Rattle.bhv_file.specs.Params.{has_axes, keeps_relations, lacks_places, with_value_of}
 use Rattle.bhv_file.specs.Ranges.{are_places, are_vertices, InRanges}
 use Rattle.bhv_file.specs.Table.{common_named, defaults_among, defaults_of, is_needed, parameter_of, TypeRow, types}
-use Rattle.bhv_file.specs.Values.{duration_of, flag_of, time_value, weight_of}
+use Rattle.bhv_file.specs.Values.{duration_of, flag_of, templating_of, time_value, weight_of}
 use Rattle.bhv_file.proofs.Ranged.{own_kept, time_within, weight_within}
 
 -- what an unfinished behaviour keeps behind these
@@ -162,7 +162,9 @@ common_drafted blocks b value IdleDecay h =
 common_drafted blocks b value Perpetual h =
     put_good (IsDraft blocks) (λ flag. record b { perpetual = flag }) (flag_of value)
     (anything (λ flag. IsDraft blocks (record b { perpetual = flag })) (flag_of value) (λ flag. record { few_conds = h.few_conds; few_flags = h.few_flags; lasts = h.lasts; weight = h.weight; ranges = h.ranges; named = h.named; updates = h.updates; conds = h.conds; flags = h.flags }))
-common_drafted blocks b value Templating h = cond_good (IsDraft blocks) (bytes_eq value (codes "disallowed")) (Ok b) (Err B6) (λ _. h) (λ _. tt)
+common_drafted blocks b value Templating h =
+    put_good (IsDraft blocks) (λ flag. record b { template = flag }) (templating_of value)
+    (anything (λ flag. IsDraft blocks (record b { template = flag })) (templating_of value) (λ flag. record { few_conds = h.few_conds; few_flags = h.few_flags; lasts = h.lasts; weight = h.weight; ranges = h.ranges; named = h.named; updates = h.updates; conds = h.conds; flags = h.flags }))
 
 -- a parameter of its type more
 parameter_drafted : (blocks : List Block) (b : Behavior) (value : List ℕ) (parameter : Parameter) → IsDraft blocks b → IfSome (with_value_of b.spec.shape parameter value) (InRanges false) → IfOk (with_parameter b value parameter) (IsDraft blocks)
@@ -304,17 +306,18 @@ added_sound domain block (Some name) sound named given relations axes =
       named = free.1;
     }
 
-last_false : (a b c : Bool) → (a || b || c) ≡ false → c ≡ false
-last_false true b c h = absurd cc
-last_false false true c h = absurd cc
-last_false false false c h = h
+last_false : (a b c d : Bool) → (a || b || c || d) ≡ false → d ≡ false
+last_false true b c d h = absurd cc
+last_false false true c d h = absurd cc
+last_false false false true d h = absurd cc
+last_false false false false d h = h
 
 good_sound : (domain : List Axis) (block : BehaviorBlock) (unfinished relations axes : Bool) → IsSoundBehavior domain block → is_unfinished block.behavior ≡ unfinished → keeps_relations block.behavior.spec.shape ≡ relations → has_axes domain block.behavior.spec.shape ≡ axes
     → IfOk (when_good block (cond unfinished (Some B11) (cond (not relations) (Some B6) (cond (not axes) (Some B10) None)))) (IsSoundFile domain)
 good_sound domain block true relations axes sound u r a = tt
 good_sound domain block false false axes sound u r a = tt
 good_sound domain block false true false sound u r a = tt
-good_sound domain block false true true sound u r a = added_sound domain block block.behavior.name sound refl (last_false (is_none block.behavior.name) (not block.behavior.given) (lacks_places block.behavior.spec.shape) u) r a
+good_sound domain block false true true sound u r a = added_sound domain block block.behavior.name sound refl (last_false (is_none block.behavior.name) (not block.behavior.given) (is_unheard block.behavior) (lacks_places block.behavior.spec.shape) u) r a
 
 pub behavior_sound : (domain : List Axis) (block : BehaviorBlock) (behind : List ℕ) → IsSoundBehavior domain block → IfOk (behavior_closed domain block behind) (IsSoundFile domain)
 behavior_sound domain block [] sound = good_sound domain block (is_unfinished block.behavior) (keeps_relations block.behavior.spec.shape) (has_axes domain block.behavior.spec.shape) sound refl refl refl

@@ -1,5 +1,5 @@
 -- The blocks of behaviours: what each line makes of one, and what it comes to at its end.
-use Rattle.std.specs.Prelude.{ℕ, ◌+◌, Bool, true, false, not, ◌||◌, nat_le, if◌then◌else◌, List, [], ◌∷◌, ◌++◌, length, codes, bytes_eq, Option, Some, None, is_none, Result, Ok, Err, ok_or, option_map}
+use Rattle.std.specs.Prelude.{ℕ, ◌+◌, Bool, true, false, not, ◌&&◌, ◌||◌, nat_le, if◌then◌else◌, List, [], ◌∷◌, ◌++◌, length, Option, Some, None, is_none, Result, Ok, Err, ok_or, option_map}
 use Rattle.ivp_domain.specs.declared.axis.Axis.{Axis}
 use Rattle.moos_post.specs.declared.value.Pair.{Pair}
 use Rattle.moos_post.specs.Words.{is_name}
@@ -20,7 +20,7 @@ use Rattle.bhv_file.specs.declared.table.Parameter.{Parameter}
 use Rattle.bhv_file.specs.Params.{has_axes, keeps_relations, lacks_places, with_value_of}
 use Rattle.bhv_file.specs.Table.{common_named, defaults_of, is_needed, needs_number, parameter_of}
 use Rattle.bhv_file.specs.Validity.{is_taken}
-use Rattle.bhv_file.specs.Values.{duration_of, flag_of, weight_of}
+use Rattle.bhv_file.specs.Values.{duration_of, flag_of, templating_of, weight_of}
 
 -- a behaviour whose block isn't closed yet, and the file before it
 pub record BehaviorBlock : Type 0 where
@@ -41,6 +41,7 @@ of_shape shape = record {
   duration = None;
   idle_decay = true;
   perpetual = false;
+  template = false;
   given = not (needs_number shape);
   spec = record { weight = 100; shape = shape };
 }
@@ -97,7 +98,7 @@ with_common blocks behavior value Updates = and_then (λ name. Ok (record behavi
 with_common blocks behavior value Duration = if_good (λ time. record behavior { duration = time }) (duration_of value)
 with_common blocks behavior value IdleDecay = if_good (λ flag. record behavior { idle_decay = flag }) (flag_of value)
 with_common blocks behavior value Perpetual = if_good (λ flag. record behavior { perpetual = flag }) (flag_of value)
-with_common blocks behavior value Templating = if bytes_eq value (codes "disallowed") then Ok behavior else Err B6
+with_common blocks behavior value Templating = if_good (λ flag. record behavior { template = flag }) (templating_of value)
 
 -- a behaviour with a parameter of its type
 abbrev pub with_parameter : Behavior → List ℕ → Parameter → Result Behavior Cause
@@ -124,9 +125,13 @@ with_sides block line (Some sides) =
     then after_known block line sides.name (with_found block.file.blocks block.behavior sides.value (common_named sides.name) (parameter_of block.behavior.spec.shape sides.name))
     else Err B1
 
+-- it is a template, and there is no variable whose letters it hears
+abbrev pub is_unheard : Behavior → Bool
+is_unheard behavior = behavior.template && is_none behavior.updates
+
 -- a required parameter is missing
 abbrev pub is_unfinished : Behavior → Bool
-is_unfinished behavior = is_none behavior.name || not behavior.given || lacks_places behavior.spec.shape
+is_unfinished behavior = is_none behavior.name || not behavior.given || is_unheard behavior || lacks_places behavior.spec.shape
 
 -- why a behaviour is refused at the end of its block, where it is
 abbrev pub closing_fault : List Axis → Behavior → Option Cause
@@ -151,6 +156,7 @@ block_of behavior name = record {
     duration = behavior.duration;
     idle_decay = behavior.idle_decay;
     perpetual = behavior.perpetual;
+    template = behavior.template;
   };
   spec = behavior.spec;
 }

@@ -4,7 +4,7 @@ ghost use Rattle.moos_post.specs.Words.{is_name};
 ghost use Rattle.moos_text.specs.Pairs.{pair_of, sides_of};
 ghost use Rattle.moos_text.specs.Refusals.{and_then, IsLineFault};
 ghost use Rattle.bhv_file.specs.Validity.{is_taken};
-ghost use Rattle.bhv_reader.specs.Blocks.{behavior_closed, block_of, closing_fault, with_block, behavior_of_type, flag_value, flags_in, name_value, one_flag, with_behavior_condition, with_behavior_name, with_common, with_parameter, with_sides};
+ghost use Rattle.bhv_reader.specs.Blocks.{behavior_closed, block_of, closing_fault, with_block, behavior_of_type, flag_value, flags_in, is_unheard, name_value, one_flag, with_behavior_condition, with_behavior_name, with_common, with_parameter, with_sides};
 ghost use Rattle.helm_cond.specs.Grammar.{condition_of};
 ghost use Rattle.bhv_reader.specs.Places.{behavior_block};
 ghost use Rattle.bhv_file.specs.declared.file.BhvFile.{BhvFile};
@@ -15,7 +15,7 @@ use crate::name::is_name;
 use crate::types::{defaults, needs_number};
 use bhv_file::{
     BhvFile, Block, Common, CommonParameter, Conds, Parameter, Spec, Unused, common_named,
-    is_needed, parameter_named, read_duration, read_flag, read_weight, set_value,
+    is_needed, parameter_named, read_duration, read_flag, read_templating, read_weight, set_value,
 };
 use helm_cond::Cond;
 use ivp_domain::Domain;
@@ -45,6 +45,7 @@ pub struct Behavior {
     pub duration: Option<u64>,
     pub idle_decay: bool,
     pub perpetual: bool,
+    pub template: bool,
     /// Whether the number without a default was given, or its type has none.
     pub given: bool,
     pub spec: Spec,
@@ -73,6 +74,7 @@ impl Behavior {
             duration: None,
             idle_decay: true,
             perpetual: false,
+            template: false,
             given: !needs_number(&shape),
             spec: Spec { weight: 100, shape },
         })
@@ -138,7 +140,7 @@ impl Behavior {
         ensures { result ≡ closing_fault domain.now self.now }
     {
         let shape = &self.spec.shape;
-        if self.name.is_none() || !self.given || lacks_places(shape) {
+        if self.name.is_none() || !self.given || self.is_unheard() || lacks_places(shape) {
             return Some(Cause::B11);
         }
         if !keeps_relations(shape) {
@@ -148,6 +150,13 @@ impl Behavior {
             return Some(Cause::B10);
         }
         None
+    }
+
+    // It is a template, and there is no variable whose letters it hears.
+    fn is_unheard(&self) -> bool
+        ensures { result ≡ is_unheard self.now }
+    {
+        self.template && self.updates.is_none()
     }
 
     // One behaviour more of the file.
@@ -183,6 +192,7 @@ impl Behavior {
             duration: self.duration,
             idle_decay: self.idle_decay,
             perpetual: self.perpetual,
+            template: self.template,
         };
         Some(Block {
             common,
@@ -267,9 +277,7 @@ impl Behavior {
                 Ok(())
             },
             CommonParameter::Templating => {
-                if value != b"disallowed".as_slice() {
-                    return Err(LineFault::Refused(Cause::B6));
-                }
+                self.template = good(read_templating(value))?;
                 Ok(())
             },
         }

@@ -97,6 +97,7 @@ fn behavior(rt: &impl Abort, alloc: Global, line: &str) -> Common {
         duration,
         idle_decay,
         perpetual,
+        template: false,
     }
 }
 

@@ -1,6 +1,9 @@
 -- The answer of an iteration, put together.
-use Rattle.std.proofs.Common.{◌≡◌, ℕ, Bool, List, ◌++◌, Option, option_map, ap, ◌∙◌, append_assoc}
-use Rattle.std.specs.Prelude.{codes}
+use Rattle.std.proofs.Common.{◌≡◌, ℕ, ◌+◌, ◌<◌, Bool, List, [], ◌∷◌, ◌++◌, get_or, length, take, if◌then◌else◌, Option, option_map, ap, sym, ◌∙◌, append_assoc}
+use Rattle.std.specs.Prelude.{bytes_eq, codes}
+use Rattle.std.specs.List.{filter}
+use Rattle.std.proofs.lemmas.List.{take_more}
+use Rattle.std.proofs.lemmas.List.Elements.{filter-append}
 use Rattle.moos_post.specs.declared.value.Pair.{Pair}
 use Rattle.ivp_cert.specs.declared.claim.Decision.{Decision}
 use Rattle.helm_core.specs.declared.helm.Helm.{Helm}
@@ -54,12 +57,21 @@ iteration_parts stamp parked mode updates states faults decision posts = record 
   posts = posts;
 }
 
-pub answered : (helm : Helm) (stamp : ℕ) (now : Outlook) (showings : List Showing) (mode : List ℕ) (updates : List Update) (states : List BhvNow) (faults : List BhvError) (decision : Option Decision) (posts : List Pair)
-    → mode ≡ now.mode → updates ≡ all_updates showings → states ≡ all_states showings → faults ≡ all_faults showings → decision ≡ decision_made helm.crew.axes showings → posts ≡ posts_by helm now showings
-    → iteration_parts stamp now.parked mode updates states faults decision posts ≡ iteration_by helm stamp now showings
-answered helm stamp now showings mode updates states faults decision posts a b c d e f =
+pub answered : (helm : Helm) (stamp : ℕ) (now : Outlook) (answers : List Update) (showings : List Showing) (mode : List ℕ) (updates : List Update) (states : List BhvNow) (faults : List BhvError) (decision : Option Decision) (posts : List Pair)
+    → mode ≡ now.mode → updates ≡ all_updates helm.crew.blocks answers showings → states ≡ all_states showings → faults ≡ all_faults showings → decision ≡ decision_made helm.crew.axes showings → posts ≡ posts_by helm now showings
+    → iteration_parts stamp now.parked mode updates states faults decision posts ≡ iteration_by helm stamp now answers showings
+answered helm stamp now answers showings mode updates states faults decision posts a b c d e f =
     ap (λ it. iteration_parts stamp now.parked it updates states faults decision posts) a ∙ ap (λ it. iteration_parts stamp now.parked now.mode it states faults decision posts) b
-    ∙ ap (λ it. iteration_parts stamp now.parked now.mode (all_updates showings) it faults decision posts) c
-    ∙ ap (λ it. iteration_parts stamp now.parked now.mode (all_updates showings) (all_states showings) it decision posts) d
-    ∙ ap (λ it. iteration_parts stamp now.parked now.mode (all_updates showings) (all_states showings) (all_faults showings) it posts) e
-    ∙ ap (iteration_parts stamp now.parked now.mode (all_updates showings) (all_states showings) (all_faults showings) (decision_made helm.crew.axes showings)) f
+    ∙ ap (λ it. iteration_parts stamp now.parked now.mode (all_updates helm.crew.blocks answers showings) it faults decision posts) c
+    ∙ ap (λ it. iteration_parts stamp now.parked now.mode (all_updates helm.crew.blocks answers showings) (all_states showings) it decision posts) d
+    ∙ ap (λ it. iteration_parts stamp now.parked now.mode (all_updates helm.crew.blocks answers showings) (all_states showings) (all_faults showings) it posts) e
+    ∙ ap (iteration_parts stamp now.parked now.mode (all_updates helm.crew.blocks answers showings) (all_states showings) (all_faults showings) (decision_made helm.crew.axes showings)) f
+
+-- one update more of those that are of this name
+pub heard_more : (name : List ℕ) (heard : List Update) (i : ℕ) (update : Update) (before so_far after : List Update) → i < length heard → update ≡ get_or heard i update
+    → so_far ≡ before ++ filter (λ (it : Update). bytes_eq it.name name) (take i heard) → after ≡ so_far ++ (if bytes_eq update.name name then update ∷ [] else [])
+    → after ≡ before ++ filter (λ (it : Update). bytes_eq it.name name) (take (i + 1) heard)
+heard_more name heard i update before so_far after within is was more =
+    let own : Update → Bool = λ it. bytes_eq it.name name in
+    more ∙ ap (λ list. list ++ (if bytes_eq update.name name then update ∷ [] else [])) was ∙ append_assoc before (filter own (take i heard)) (filter own (update ∷ []))
+    ∙ ap (λ rest. before ++ rest) (sym (ap (filter own) (take_more heard i update within ∙ ap (λ (it : Update). take i heard ++ it ∷ []) (sym is)) ∙ filter-append own (take i heard) (update ∷ [])))

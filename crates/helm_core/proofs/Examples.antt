@@ -199,6 +199,7 @@ timer number conds updates perpetual = record {
     duration = Some 500;
     idle_decay = true;
     perpetual = perpetual;
+    template = false;
   };
   spec = record { weight = 100; shape = Timer };
 }

@@ -1,5 +1,5 @@
 -- The first step of a behaviour is made in its first running iteration.
-use Rattle.std.proofs.Common.{◌≡◌, ℕ, Bool, true, false, cond, List, [], ◌∷◌, ◌++◌, map, Option, Some, None, refl, ap, sym, ◌∙◌}
+use Rattle.std.proofs.Common.{◌≡◌, ℕ, Bool, true, false, cond, List, [], ◌∷◌, ◌++◌, Option, Some, None, refl, ap, sym, ◌∙◌}
 use Rattle.std.specs.Prelude.{fold, if◌then◌else◌, option_map, slice_get, bytes_eq}
 use Rattle.std.specs.List.{AllByRecursion as Each, find}
 use Rattle.std.specs.Option.{option_eq, option_or}
@@ -10,17 +10,18 @@ use Rattle.moos_post.specs.declared.value.Value.{Value}
 use Rattle.moos_post.specs.declared.value.Value.TheVariants.{Num, Text}
 use Rattle.bhv_file.specs.declared.file.Block.{Block}
 use Rattle.bhv_file.specs.declared.spec.Spec.{Spec}
-use Rattle.bhv_kinds.specs.Turns.{first_step}
+use Rattle.bhv_kinds.specs.Turns.{KindTurn, first_step}
 use Rattle.bhv_life.specs.Lives.{BhvPast, can_run, is_stepped, turn_after}
 use Rattle.bhv_life.specs.Runs.{FirstRunIsStepped, NoTimeNoStep, first_stepped}
 use Rattle.bhv_life.proofs.Turning.{past_push}
 use Rattle.ivp_domain.specs.declared.axis.Axis.{Axis}
-use Rattle.helm_core.specs.Behaviors.{BhvSoFar, Judged, begun_at, begun_by_step, beginning_at, bhv_after, heard_with, judged_at, judged_with, none_judged, past_so_far, turn_at, unstarted}
+use Rattle.helm_core.specs.Behaviors.{BhvSoFar, Judged, begun_at, begun_by_step, beginning_at, bhv_after, heard_with, judged_at, judged_with, none_judged, own_updates, past_so_far, turn_at, unstarted}
 use Rattle.helm_core.specs.FirstSteps.{CountsFromFirstRun, NeverSteppedWithoutTime}
 use Rattle.helm_core.specs.Lists.{list_at}
 use Rattle.helm_core.specs.Plans.{Plan}
+use Rattle.helm_core.specs.Templates.{with_said}
 use Rattle.helm_core.specs.Ticks.{Seen, Tick}
-use Rattle.helm_core.proofs.Listing.{list_keeps}
+use Rattle.helm_core.proofs.Listing.{Lasts, any_block, each_first, list_keeps}
 
 -- updates are no steps
 judged_first : (spec : Spec) (so_far : Judged) (value : Value) → first_step (judged_with spec so_far value).turns ≡ first_step so_far.turns
@@ -76,15 +77,27 @@ one_first : (axes : List Axis) (seen : Seen) (fault : Bool) (one : BhvSoFar) →
 one_first axes seen fault one keeps =
     let letters = if can_run one.block.common (past_so_far one) then seen.letters else [] in
     turn_first axes seen fault one (judged_at seen one) (is_stepped one.block.common (past_so_far one) (beginning_at seen one.block.common)) refl
-    (all_heard_first one.block.common.updates one.block.spec (none_judged one.turns) letters) keeps
+    (all_heard_first (own_updates one) one.block.spec (none_judged one.turns) letters) keeps
+
+-- pairs are no steps
+pairs_first : (turns : List KindTurn) (pairs : Option (List ℕ)) → first_step (with_said turns pairs) ≡ first_step turns
+pairs_first turns None = refl
+pairs_first turns (Some pairs) = refl
+
+first_lasts : Lasts (λ block. Unit {0}) KeepsFirst
+first_lasts = record {
+  turns = one_first;
+  made = λ template birth said q named. pairs_first [] said.pairs;
+  changed = λ said one keeps. pairs_first one.turns said.pairs ∙ keeps;
+}
 
 -- all behaviours keep it
-none_first : (blocks : List Block) → Each KeepsFirst (map unstarted blocks)
+none_first : (blocks : List Block) → Each (λ block. KeepsFirst (unstarted block)) blocks
 none_first [] = tt
 none_first (block ∷ blocks) = (refl, none_first blocks)
 
 kept_at : (plan : Plan) (ticks : List Tick) (i place : ℕ) (one : BhvSoFar) → slice_get (list_at plan ticks i) place ≡ Some one → KeepsFirst one
-kept_at plan ticks i place one at = each_at KeepsFirst (list_at plan ticks i) place one (list_keeps KeepsFirst one_first plan ticks i (none_first plan.blocks)) at
+kept_at plan ticks i place one at = each_at KeepsFirst (list_at plan ticks i) place one (list_keeps (λ block. Unit {0}) KeepsFirst first_lasts plan ticks (any_block plan.blocks) (each_first KeepsFirst plan.blocks (none_first plan.blocks)) i) at
 
 pub counts : FirstRunIsStepped → CountsFromFirstRun
 counts law plan ticks i place one at lasts = kept_at plan ticks i place one at ∙ law one.block.common one.lived lasts

@@ -3,16 +3,16 @@ use Rattle.std.proofs.Common.{◌≡◌, Some, ℕ, zero, suc, ◌<◌, ◌≤�
 use Rattle.std.specs.List.{filter}
 use Rattle.std.proofs.lemmas.List.{take-append-le, get_or_append_left, map-append, length-map}
 use Rattle.bhv_file.specs.declared.decl.Decl.{Decl}
-use Rattle.helm_core.specs.declared.showing.Showing.{Showing}
 use Rattle.helm_core.specs.Plans.{Plan}
-use Rattle.helm_core.specs.Behaviors.{all_after, all_begun, all_showings}
-use Rattle.helm_core.specs.Lists.{list_at, stays}
+use Rattle.helm_core.specs.Behaviors.{BhvSoFar, all_after, all_begun, all_showings}
+use Rattle.helm_core.specs.Lists.{list_before, spawned_at, stays}
+use Rattle.helm_core.specs.Templates.{Spawning, spawned}
 use Rattle.helm_core.specs.Moments.{Moment, moment_at, moment_before}
 use Rattle.helm_core.specs.Iterations.{iteration_at, iteration_of}
 use Rattle.helm_core.specs.Ticks.{Seen, Tick, heard_at, heard_in_all, learnt_at, pairs_mailed, seen_at, tick_stamp}
 
-abbrev moment_with : Seen → List Showing → Moment
-moment_with seen showings = record { seen = seen; showings = showings }
+abbrev moment_with : Plan → Seen → Spawning → Moment
+moment_with plan seen spawning = record { seen = seen; answers = spawning.answers; showings = all_showings seen (all_begun plan.axes seen spawning.ones) }
 
 learnt_same : (ticks later : List Tick) (i : ℕ) → i < length ticks → learnt_at (ticks ++ later) i ≡ learnt_at ticks i
 learnt_same ticks later i l = ap heard_in_all (take-append-le (suc i) ticks later (omega arith))
@@ -32,16 +32,25 @@ heard_same ticks later i l =
 pub seen_same : (decls : List Decl) (ticks later : List Tick) (i : ℕ) → i < length ticks → seen_at decls (ticks ++ later) i ≡ seen_at decls ticks i
 seen_same decls ticks later i l = rw (learnt_same ticks later i l, stamp_same ticks later i l, heard_same ticks later i l) refl
 
-pub list_same : (plan : Plan) (ticks later : List Tick) (n : ℕ) → n ≤ length ticks → list_at plan (ticks ++ later) n ≡ list_at plan ticks n
+-- what an iteration makes of the list before its letters, by what it sees
+abbrev after_seen : Plan → ℕ → Seen → List BhvSoFar → List BhvSoFar
+after_seen plan at seen ones = filter stays (all_after seen (all_begun plan.axes seen (spawned plan.blocks at seen.letters ones).ones))
+
+pub list_same : (plan : Plan) (ticks later : List Tick) (n : ℕ) → n ≤ length ticks → list_before plan (ticks ++ later) n ≡ list_before plan ticks n
 list_same plan ticks later zero l = refl
 list_same plan ticks later (suc n) l =
-    ap (λ seen. filter stays (all_after seen (all_begun plan.axes seen (list_at plan (ticks ++ later) n)))) (seen_same plan.decls ticks later n (omega arith))
-    ∙ ap (λ ones. filter stays (all_after (seen_at plan.decls ticks n) (all_begun plan.axes (seen_at plan.decls ticks n) ones))) (list_same plan ticks later n (omega arith))
+    ap (λ seen. after_seen plan n seen (list_before plan (ticks ++ later) n)) (seen_same plan.decls ticks later n (omega arith))
+    ∙ ap (after_seen plan n (seen_at plan.decls ticks n)) (list_same plan ticks later n (omega arith))
+
+spawning_same : (plan : Plan) (ticks later : List Tick) (i : ℕ) → i < length ticks → spawned_at plan (ticks ++ later) i ≡ spawned_at plan ticks i
+spawning_same plan ticks later i l =
+    ap (λ seen. spawned plan.blocks i seen.letters (list_before plan (ticks ++ later) i)) (seen_same plan.decls ticks later i l)
+    ∙ ap (spawned plan.blocks i (seen_at plan.decls ticks i).letters) (list_same plan ticks later i (omega arith))
 
 at_same : (plan : Plan) (ticks later : List Tick) (i : ℕ) → i < length ticks → moment_at plan (ticks ++ later) i ≡ moment_at plan ticks i
 at_same plan ticks later i l =
-    ap (λ seen. moment_with seen (all_showings seen (all_begun plan.axes seen (list_at plan (ticks ++ later) i)))) (seen_same plan.decls ticks later i l)
-    ∙ ap (λ ones. moment_with (seen_at plan.decls ticks i) (all_showings (seen_at plan.decls ticks i) (all_begun plan.axes (seen_at plan.decls ticks i) ones))) (list_same plan ticks later i (omega arith))
+    ap (λ seen. moment_with plan seen (spawned_at plan (ticks ++ later) i)) (seen_same plan.decls ticks later i l)
+    ∙ ap (moment_with plan (seen_at plan.decls ticks i)) (spawning_same plan ticks later i l)
 
 pub before_same : (plan : Plan) (ticks later : List Tick) (i : ℕ) → i ≤ length ticks → moment_before plan (ticks ++ later) i ≡ moment_before plan ticks i
 before_same plan ticks later zero l = refl

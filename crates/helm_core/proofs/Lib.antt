@@ -1,10 +1,16 @@
 mod Examples
+mod TemplateExamples
 pub mod Growing
 pub mod Learning
 pub mod Rooted
 pub mod Ticking
+pub mod Texts
+pub mod Zips
 pub mod Living
+pub mod Spawns
+pub mod Letters
 pub mod Listing
+pub mod Births
 pub mod Turning
 pub mod Readying
 pub mod Deciding

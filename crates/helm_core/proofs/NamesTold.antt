@@ -1,41 +1,73 @@
 -- Each name that an iteration tells is a behaviour's.
-use Rattle.std.proofs.Common.{ℕ, Bool, true, false, List, [], ◌∷◌, map, flat_map, Option, Some, None, option_map, sym, subst}
-use Rattle.std.specs.Prelude.{IsTrue}
+use Rattle.std.proofs.Common.{ℕ, Bool, true, false, List, [], ◌∷◌, ◌++◌, map, flat_map, Option, Some, None, option_map, sym, subst}
+use Rattle.std.specs.Prelude.{bytes_eq}
 use Rattle.std.specs.List.{All, AllByRecursion as Each, cons_option}
-use Rattle.std.proofs.lemmas.Grind.{flat_map-append}
 use Rattle.std.proofs.lemmas.List.Elements.{All-from_recursion}
 use Rattle.moos_io.proofs.Lists.{each_append}
-use Rattle.moos_post.specs.Words.{is_name}
 use Rattle.ivp_domain.specs.declared.axis.Axis.{Axis}
+use Rattle.bhv_file.specs.declared.file.Block.{Block}
 use Rattle.bhv_kinds.specs.declared.out.BhvFault.{BhvFault}
 use Rattle.helm_core.specs.declared.iteration.BhvError.{BhvError}
+use Rattle.helm_core.specs.declared.iteration.How.{How}
+use Rattle.helm_core.specs.declared.iteration.How.TheVariants.{Changed, Refused, Spawned}
+use Rattle.helm_core.specs.declared.iteration.Update.{Update}
 use Rattle.helm_core.specs.declared.showing.Showing.{Showing}
 use Rattle.helm_core.specs.Behaviors.{BhvSoFar, begun_at, showing_of}
-use Rattle.helm_core.specs.Iterations.{all_faults, all_states, all_updates, error_of, iteration_of, update_of, updates_of}
+use Rattle.helm_core.specs.Iterations.{all_faults, all_states, all_updates, error_of, heard_by_block, iteration_of, update_of, updates_of}
+use Rattle.helm_core.specs.Lists.{list_before, spawned_at}
 use Rattle.helm_core.specs.Moments.{Moment}
 use Rattle.helm_core.specs.Plans.{Plan}
-use Rattle.helm_core.specs.Ticks.{Seen}
+use Rattle.helm_core.specs.Ticks.{Seen, Tick, seen_at}
 use Rattle.helm_core.specs.WellFormed.{names_in_update, names_told}
-use Rattle.helm_core.proofs.Listing.{begun_same}
-
-abbrev pub IsNamed : List ℕ → Type 0
-IsNamed name = IsTrue (is_name name)
+use Rattle.helm_core.proofs.Letters.{LastsLetters, spawned_last}
+use Rattle.helm_core.proofs.Listing.{IsNamed, begun_same, each_filtered}
 
 -- a behaviour that an iteration tells has a name
 abbrev HasName : Showing → Type 0
 HasName one = IsNamed one.name
 
--- in updates
-taken_named : (name : List ℕ) (taken : List Bool) → IsNamed name → Each IsNamed (flat_map names_in_update (map (update_of name) taken))
-taken_named name [] is = tt
-taken_named name (true ∷ taken) is = (is, taken_named name taken is)
-taken_named name (false ∷ taken) is = (is, taken_named name taken is)
+-- an update in which all names are names
+abbrev pub IsNamedUpdate : Update → Type 0
+IsNamedUpdate update = Each IsNamed (names_in_update update)
 
-updates_named : (showings : List Showing) → Each HasName showings → Each IsNamed (flat_map names_in_update (all_updates showings))
-updates_named [] all = tt
-updates_named (one ∷ showings) all =
-    subst (Each IsNamed) (sym (flat_map-append names_in_update (updates_of one) (all_updates showings)))
-    (each_append IsNamed (flat_map names_in_update (updates_of one)) (flat_map names_in_update (all_updates showings)) (taken_named one.name one.taken all.0) (updates_named showings all.1))
+taken_named : (name : List ℕ) (taken : List Bool) → IsNamed name → Each IsNamedUpdate (map (update_of name) taken)
+taken_named name [] is = tt
+taken_named name (true ∷ taken) is = ((is, tt), taken_named name taken is)
+taken_named name (false ∷ taken) is = ((is, tt), taken_named name taken is)
+
+showings_updated : (showings : List Showing) → Each HasName showings → Each IsNamedUpdate (flat_map updates_of showings)
+showings_updated [] all = tt
+showings_updated (one ∷ showings) all =
+    each_append IsNamedUpdate (updates_of one) (flat_map updates_of showings) (taken_named one.name one.taken all.0) (showings_updated showings all.1)
+
+blocks_updated : (heard : List Update) (blocks : List Block) → Each IsNamedUpdate heard → Each IsNamedUpdate (flat_map (heard_by_block heard) blocks)
+blocks_updated heard [] all = tt
+blocks_updated heard (block ∷ blocks) all =
+    each_append IsNamedUpdate (heard_by_block heard block) (flat_map (heard_by_block heard) blocks) (each_filtered IsNamedUpdate (λ (update : Update). bytes_eq update.name block.common.name) heard all) (blocks_updated heard blocks all)
+
+names_of_updates : (updates : List Update) → Each IsNamedUpdate updates → Each IsNamed (flat_map names_in_update updates)
+names_of_updates [] all = tt
+names_of_updates (update ∷ updates) all = each_append IsNamed (names_in_update update) (flat_map names_in_update updates) all.0 (names_of_updates updates all.1)
+
+updates_named : (blocks : List Block) (answers : List Update) (showings : List Showing) → Each IsNamedUpdate answers → Each HasName showings → Each IsNamed (flat_map names_in_update (all_updates blocks answers showings))
+updates_named blocks answers showings named all =
+    names_of_updates (all_updates blocks answers showings)
+    (blocks_updated (answers ++ flat_map updates_of showings) blocks (each_append IsNamedUpdate answers (flat_map updates_of showings) named (showings_updated showings all)))
+
+abbrev answer : Block → How → Update
+answer template how = record { name = template.common.name; how = how }
+
+-- the answers to letters to templates with names
+answers_last : (blocks : List Block) (at : ℕ) → LastsLetters blocks at (λ block. IsNamed block.common.name) (λ so_far. Each IsNamedUpdate so_far.answers)
+answers_last blocks at = record {
+  refuses = λ template so_far q all. each_append IsNamedUpdate so_far.answers (answer template Refused ∷ []) all ((q, tt), tt);
+  makes = λ template so_far said q named room all. each_append IsNamedUpdate so_far.answers (answer template (Spawned said.name) ∷ []) all ((q, (named, tt)), tt);
+  changes = λ template so_far said place one q there all. each_append IsNamedUpdate so_far.answers (answer template Changed ∷ []) all ((q, tt), tt);
+}
+
+pub answers_named : (plan : Plan) (ticks : List Tick) (i : ℕ) → Each (λ block. IsNamed block.common.name) plan.blocks → Each IsNamedUpdate (spawned_at plan ticks i).answers
+answers_named plan ticks i all =
+    spawned_last plan.blocks i (λ block. IsNamed block.common.name) (λ so_far. Each IsNamedUpdate so_far.answers) (answers_last plan.blocks i) (seen_at plan.decls ticks i).letters (list_before plan ticks i) all tt
 
 states_named : (showings : List Showing) → Each HasName showings → Each IsNamed (map (λ one. one.name) (all_states showings))
 states_named [] all = tt
@@ -55,10 +87,10 @@ faults_named [] all = tt
 faults_named (one ∷ showings) all = fault_named one.name one.out.fault (all_faults showings) all.0 (faults_named showings all.1)
 
 -- what is told of behaviours with names has these
-pub all_told : (plan : Plan) (before : Option Moment) (now : Moment) → Each HasName now.showings → All IsNamed (names_told (iteration_of plan before now))
-all_told plan before now all =
+pub all_told : (plan : Plan) (before : Option Moment) (now : Moment) → Each IsNamedUpdate now.answers → Each HasName now.showings → All IsNamed (names_told (iteration_of plan before now))
+all_told plan before now named all =
     All-from_recursion IsNamed (names_told (iteration_of plan before now))
-    (each_append IsNamed (flat_map names_in_update (all_updates now.showings)) _ (updates_named now.showings all)
+    (each_append IsNamed (flat_map names_in_update (all_updates plan.blocks now.answers now.showings)) _ (updates_named plan.blocks now.answers now.showings named all)
     (each_append IsNamed (map (λ one. one.name) (all_states now.showings)) (map name_in (all_faults now.showings)) (states_named now.showings all) (faults_named now.showings all)))
 
 -- behaviours with names

@@ -154,9 +154,9 @@ all_flags axes seen fault (one ∷ ones) valid =
     record { few = omega (arith, both.few); all = both.all }
 
 -- What is posted in an iteration.
-pub all_posts : (plan : Plan) (ticks : List Tick) (i : ℕ) → is_domain plan.axes ≡ true → Each HasValidCommon plan.blocks → IsTrue (is_text (seen_at plan.decls ticks i).mode)
-    → ArePairs (32 * length plan.blocks + 6) (helm_posts plan ticks i)
-all_posts plan ticks i lawful valid mode =
+pub all_posts : (plan : Plan) (ticks : List Tick) (i : ℕ) → is_domain plan.axes ≡ true → Each HasValidCommon plan.blocks → length plan.blocks ≤ 64 → IsTrue (is_text (seen_at plan.decls ticks i).mode)
+    → ArePairs (32 * 64 + 6) (helm_posts plan ticks i)
+all_posts plan ticks i lawful valid few mode =
     let before = moment_before plan ticks i in
     let now = moment_at plan ticks i in
     let seen = seen_at plan.decls ticks i in
@@ -168,4 +168,4 @@ all_posts plan ticks i lawful valid mode =
     let raised = pairs_on 2 (32 * length ones) _ _ said flags in
     let decided = pairs_on (2 + 32 * length ones) 3 _ _ raised (all_desired plan.axes seen.parked now.showings lawful) in
     let all = pairs_on (2 + 32 * length ones + 3) 1 _ _ decided allstop in
-    record { few = omega (arith, all.few, list_few plan ticks i); all = all.all }
+    record { few = omega (arith, all.few, list_few plan ticks i few); all = all.all }

@@ -15,12 +15,14 @@ use Rattle.mode_tree.specs.Modes.{mode_text}
 use Rattle.helm_core.specs.declared.allstop.Allstop.{Allstop}
 use Rattle.helm_core.specs.declared.helm.Helm.{Helm}
 use Rattle.helm_core.specs.declared.iteration.Iteration.{Iteration}
+use Rattle.helm_core.specs.declared.iteration.Update.{Update}
 use Rattle.helm_core.specs.declared.outlook.Outlook.{Outlook}
 use Rattle.helm_core.specs.declared.showing.Showing.{Showing}
 use Rattle.helm_core.specs.declared.turned.Turned.{Turned}
 use Rattle.helm_core.specs.Plans.{Plan}
 use Rattle.helm_core.specs.Behaviors.{BhvSoFar, all_after, all_begun}
-use Rattle.helm_core.specs.Lists.{list_at, stays}
+use Rattle.helm_core.specs.Lists.{list_before, spawned_at, stays}
+use Rattle.helm_core.specs.Templates.{Spawning, spawned}
 use Rattle.helm_core.specs.Decisions.{decision_made}
 use Rattle.helm_core.specs.Standings.{IsCrewOf, IsKept, Sees}
 use Rattle.helm_core.specs.Ticks.{Seen, seen_at, Tick, heard_at, heard_in_all, is_parked, learnt_at, pairs_mailed, tick_of, tick_stamp}
@@ -28,7 +30,7 @@ use Rattle.helm_core.specs.Moments.{Moment, moment_at, moment_before}
 use Rattle.helm_core.specs.Posts.{allstop_by, allstop_of, are_declared_modes, changed, desired_posts, flags_raised, helm_posts, posts_made, state_text, state_word}
 use Rattle.helm_core.specs.Iterations.{all_faults, all_states, all_updates, iteration_at}
 use Rattle.helm_core.specs.Helms.{allstop_text, clock_of, plan_of, HasLearnt, IsOutlook, IsTicked, StandsFor}
-use Rattle.helm_core.specs.Kept.{HasTurned, IsTurned, helm_after, iteration_by, posts_by, said_before}
+use Rattle.helm_core.specs.Kept.{HasHeardAndTurned, IsHeardAndTurned, helm_after, iteration_by, posts_by, said_before}
 use Rattle.helm_core.proofs.Growing.{before_same, list_same}
 
 abbrev with_tick : List Tick → ℕ → List Letter → List Tick
@@ -115,19 +117,19 @@ same_posts helm now showings before moment recalls parked mode shown =
     ∙ ap (λ one. together (said_before helm (state_word helm.outlook.parked)) (said_before helm helm.outlook.mode) (option_map allstop_text helm.allstop) now.parked one moment.showings) mode
     ∙ ap (together (said_before helm (state_word helm.outlook.parked)) (said_before helm helm.outlook.mode) (option_map allstop_text helm.allstop) now.parked now.mode) shown)
 
-abbrev iteration_with : List Axis → ℕ → Bool → List ℕ → List Showing → List Pair → Iteration
-iteration_with axes stamp parked mode showings posts = record {
+abbrev iteration_with : List Axis → List Block → ℕ → Bool → List ℕ → List Update → List Showing → List Pair → Iteration
+iteration_with axes blocks stamp parked mode answers showings posts = record {
   stamp = stamp;
   parked = parked;
   mode = mode;
-  updates = all_updates showings;
+  updates = all_updates blocks answers showings;
   states = all_states showings;
   faults = all_faults showings;
   decision = decision_made axes showings;
   posts = posts;
 }
 
-module _ (helm : Helm) (stamp : ℕ) (mail : List Letter) (now : Outlook) (turned : Turned) (allstop : Allstop) (learnt : HasLearnt helm.modes mail helm.outlook now) (turns : HasTurned helm.crew stamp (pairs_mailed mail) now turned) (stops : allstop_text allstop ≡ allstop_by helm.crew.axes now.parked turned.showings.items) (later : clock_of helm ≤ stamp) (ticks : List Tick) (stands : StandsFor helm ticks) where
+module _ (helm : Helm) (stamp : ℕ) (mail : List Letter) (now : Outlook) (answers : List Update) (turned : Turned) (allstop : Allstop) (learnt : HasLearnt helm.modes mail helm.outlook now) (turns : HasHeardAndTurned helm.crew stamp (pairs_mailed mail) now answers turned) (stops : allstop_text allstop ≡ allstop_by helm.crew.axes now.parked turned.showings.items) (later : clock_of helm ≤ stamp) (ticks : List Tick) (stands : StandsFor helm ticks) where
   abbrev ticks' : List Tick
   ticks' = with_tick ticks stamp mail
 
@@ -138,7 +140,10 @@ module _ (helm : Helm) (stamp : ℕ) (mail : List Letter) (now : Outlook) (turne
   seen' = seen_at helm.modes ticks' (length ticks)
 
   abbrev ones : List BhvSoFar
-  ones = list_at (plan_of helm) ticks' (length ticks)
+  ones = list_before (plan_of helm) ticks' (length ticks)
+
+  abbrev spawning' : Spawning
+  spawning' = spawned_at (plan_of helm) ticks' (length ticks)
 
   seen : IsOutlook helm.modes (heard_in_all ticks') now
   seen = subst (λ all. IsOutlook helm.modes all now) (sym (heard_more ticks stamp mail)) (learnt (heard_in_all ticks) stands.outlook)
@@ -160,13 +165,15 @@ module _ (helm : Helm) (stamp : ℕ) (mail : List Letter) (now : Outlook) (turne
       subst (λ all. IsCrewOf (clock_of helm) all helm.crew) (sym (list_same (plan_of helm) ticks (tick_of stamp mail ∷ []) (length ticks) (omega arith)))
       stands.crew
 
-  after : IsTurned helm.crew.blocks seen' (all_begun helm.crew.axes seen' ones) turned
-  after = turns (clock_of helm) seen' ones later sees crew'
+  after : IsHeardAndTurned helm.crew.axes helm.crew.blocks seen' spawning' answers turned
+  after =
+      subst (λ letters. IsHeardAndTurned helm.crew.axes helm.crew.blocks seen' (spawned helm.crew.blocks (length ticks) letters ones) answers turned) (sym (mail_last ticks stamp mail))
+      (turns (clock_of helm) (length ticks) seen' ones later sees crew')
 
-  kept_after : AllZip (IsKept helm.crew.blocks stamp) (list_at (plan_of helm) ticks' (length ticks')) turned.kept.items
+  kept_after : AllZip (IsKept helm.crew.blocks stamp) (list_before (plan_of helm) ticks' (length ticks')) turned.kept.items
   kept_after =
-      subst (λ n. AllZip (IsKept helm.crew.blocks stamp) (list_at (plan_of helm) ticks' n) turned.kept.items) (sym (length_more ticks (tick_of stamp mail)))
-      (subst (λ clock. AllZip (IsKept helm.crew.blocks clock) (filter stays (all_after seen' (all_begun helm.crew.axes seen' ones))) turned.kept.items) (stamp_last ticks stamp mail) after.kept)
+      subst (λ n. AllZip (IsKept helm.crew.blocks stamp) (list_before (plan_of helm) ticks' n) turned.kept.items) (sym (length_more ticks (tick_of stamp mail)))
+      (subst (λ clock. AllZip (IsKept helm.crew.blocks clock) (filter stays (all_after seen' (all_begun helm.crew.axes seen' spawning'.ones))) turned.kept.items) (stamp_last ticks stamp mail) after.turns.kept)
 
   stands_after : StandsFor (helm_after helm stamp now turned.kept.items allstop) ticks'
   stands_after = record {
@@ -176,29 +183,32 @@ module _ (helm : Helm) (stamp : ℕ) (mail : List Letter) (now : Outlook) (turne
     allstop =
         sym (ap (option_map (allstop_of (plan_of helm))) (ap (moment_before (plan_of helm) ticks') (length_more ticks (tick_of stamp mail)))
         ∙ ap (λ one. Some (allstop_by helm.crew.axes one moment'.showings)) parked'
-        ∙ ap (λ one. Some (allstop_by helm.crew.axes now.parked one)) (sym after.showings)
+        ∙ ap (λ one. Some (allstop_by helm.crew.axes now.parked one)) (sym after.turns.showings)
         ∙ ap Some (sym stops));
   }
 
-  iterates : iteration_by helm stamp now turned.showings.items ≡ iteration_at (plan_of helm) ticks' (length ticks)
+  iterates : iteration_by helm stamp now answers turned.showings.items ≡ iteration_at (plan_of helm) ticks' (length ticks)
   iterates =
       let recalls : Recalls helm (moment_before (plan_of helm) ticks' (length ticks))
       = subst (Recalls helm) (sym (before_same (plan_of helm) ticks (tick_of stamp mail ∷ []) (length ticks) (omega arith))) (recalled helm ticks stands) in
-      ap (iteration_with helm.crew.axes stamp now.parked now.mode turned.showings.items)
-      (same_posts helm now turned.showings.items (moment_before (plan_of helm) ticks' (length ticks)) moment' recalls parked' mode' (sym after.showings))
-      ∙ sym (ap (λ one. iteration_with helm.crew.axes one moment'.seen.parked moment'.seen.mode moment'.showings (helm_posts (plan_of helm) ticks' (length ticks))) (stamp_last ticks stamp mail)
-      ∙ ap (λ one. iteration_with helm.crew.axes stamp one moment'.seen.mode moment'.showings (helm_posts (plan_of helm) ticks' (length ticks))) parked'
-      ∙ ap (λ one. iteration_with helm.crew.axes stamp now.parked one moment'.showings (helm_posts (plan_of helm) ticks' (length ticks))) mode'
-      ∙ ap (λ one. iteration_with helm.crew.axes stamp now.parked now.mode one (helm_posts (plan_of helm) ticks' (length ticks))) (sym after.showings))
+      let made = iteration_with helm.crew.axes helm.crew.blocks in
+      let posts = helm_posts (plan_of helm) ticks' (length ticks) in
+      ap (made stamp now.parked now.mode answers turned.showings.items)
+      (same_posts helm now turned.showings.items (moment_before (plan_of helm) ticks' (length ticks)) moment' recalls parked' mode' (sym after.turns.showings))
+      ∙ sym (ap (λ one. made one moment'.seen.parked moment'.seen.mode moment'.answers moment'.showings posts) (stamp_last ticks stamp mail)
+      ∙ ap (λ one. made stamp one moment'.seen.mode moment'.answers moment'.showings posts) parked'
+      ∙ ap (λ one. made stamp now.parked one moment'.answers moment'.showings posts) mode'
+      ∙ ap (λ one. made stamp now.parked now.mode one moment'.showings posts) (sym after.told)
+      ∙ ap (λ one. made stamp now.parked now.mode answers one posts) (sym after.turns.showings))
 
-pub ticked : (helm : Helm) (stamp : ℕ) (mail : List Letter) (now : Outlook) (turned : Turned) (allstop : Allstop) → HasLearnt helm.modes mail helm.outlook now
-    → HasTurned helm.crew stamp (pairs_mailed mail) now turned → allstop_text allstop ≡ allstop_by helm.crew.axes now.parked turned.showings.items → clock_of helm ≤ stamp
-    → IsTicked helm (helm_after helm stamp now turned.kept.items allstop) stamp mail (iteration_by helm stamp now turned.showings.items)
-ticked helm stamp mail now turned allstop learnt turns stops later = record {
+pub ticked : (helm : Helm) (stamp : ℕ) (mail : List Letter) (now : Outlook) (answers : List Update) (turned : Turned) (allstop : Allstop) → HasLearnt helm.modes mail helm.outlook now
+    → HasHeardAndTurned helm.crew stamp (pairs_mailed mail) now answers turned → allstop_text allstop ≡ allstop_by helm.crew.axes now.parked turned.showings.items → clock_of helm ≤ stamp
+    → IsTicked helm (helm_after helm stamp now turned.kept.items allstop) stamp mail (iteration_by helm stamp now answers turned.showings.items)
+ticked helm stamp mail now answers turned allstop learnt turns stops later = record {
   plan = refl;
   clock = refl;
-  stands = stands_after helm stamp mail now turned allstop learnt turns stops later;
-  is = iterates helm stamp mail now turned allstop learnt turns stops later;
+  stands = stands_after helm stamp mail now answers turned allstop learnt turns stops later;
+  is = iterates helm stamp mail now answers turned allstop learnt turns stops later;
 }
 
 abbrev plan_by : List Axis → List Pair → List Decl → List Block → Plan

@@ -30,8 +30,8 @@ use Rattle.helm_core.specs.Plans.{always_read, block_names, decl_names, names_re
 use Rattle.helm_core.specs.Moments.{moment_at, moment_before}
 use Rattle.helm_core.specs.Ticks.{Tick, learnt_at, seen_at}
 use Rattle.helm_core.specs.WellFormed.{IsWellFormed, IsWellFormedPlan}
-use Rattle.helm_core.proofs.Listing.{names_hold}
-use Rattle.helm_core.proofs.NamesTold.{IsNamed, all_told, showings_named}
+use Rattle.helm_core.proofs.Listing.{IsNamed, names_hold}
+use Rattle.helm_core.proofs.NamesTold.{all_told, answers_named, showings_named}
 use Rattle.helm_core.proofs.Pairing.{HasValidCommon, all_posts}
 
 -- the behaviours of a file
@@ -108,13 +108,14 @@ iterations_formed mission file valid read ticks i =
     let plan = plan_made mission file in
     let mode = mode_is_text file.decls (latest_of (learnt_at ticks i)) read.decls in
     let blocks = blocks_valid [] file.blocks read.blocks in
-    let posts = all_posts plan ticks i valid.domain blocks mode in
+    let posts = all_posts plan ticks i valid.domain blocks read.few_blocks mode in
     let seen = seen_at file.decls ticks i in
     let ones = list_at plan ticks i in
-    let named = showings_named mission.domain seen (list_any has_fault (all_begun mission.domain seen ones)) ones (names_hold IsNamed plan ticks i (each_weaker HasValidCommon (λ block. IsNamed block.common.name) (λ block valid. valid.name) file.blocks blocks)) in
+    let names = each_weaker HasValidCommon (λ block. IsNamed block.common.name) (λ block valid. valid.name) file.blocks blocks in
+    let named = showings_named mission.domain seen (list_any has_fault (all_begun mission.domain seen ones)) ones (names_hold plan ticks i names) in
     record {
-      names = all_told plan (moment_before plan ticks i) (moment_at plan ticks i) named;
-      posts = (omega (arith, posts.few, read.few_blocks), All-from_recursion IsPair _ posts.all);
+      names = all_told plan (moment_before plan ticks i) (moment_at plan ticks i) (answers_named plan ticks i names) named;
+      posts = (omega (arith, posts.few), All-from_recursion IsPair _ posts.all);
       mode = mode;
       axes = named_axes mission.domain (showings_at (plan_made mission file) ticks i) valid.axes;
     }

@@ -19,14 +19,13 @@ use Rattle.bhv_life.specs.Outcomes.{flags_at}
 use Rattle.helm_core.specs.declared.showing.Showing.{Showing}
 use Rattle.helm_core.specs.Ticks.{Seen}
 
--- the letter that made a behaviour: its iteration, and its number among the letters there that may make one
+-- the letter that made a behaviour: its iteration, and its number among the letters to templates that are judged there
 pub record Birth : Type 0 where
   pub iteration : ℕ
   pub letter : ℕ
 
--- a behaviour of the list before an iteration: its name; what the file says of it, or where it was made of what it was made of;
--- the letter that made it, which one of the file has none of; its turns so far in order; and its updates and steps so far, the
--- latest first
+-- a behaviour of the list before an iteration: its name; what the file says of it, or of its template where a letter made it; that
+-- letter, which one of the file has none of; its turns so far in order; and its updates and steps so far, the latest first
 pub record BhvSoFar : Type 0 where
   pub name : List ℕ
   pub block : Block
@@ -71,9 +70,13 @@ heard_with updates spec so_far letter = if option_eq bytes_eq updates (Some lett
 abbrev pub judged_in : Option (List ℕ) → Spec → List KindTurn → List Pair → Judged
 judged_in updates spec turns letters = fold (heard_with updates spec) (none_judged turns) letters
 
+-- the variable of its own updates: one that a letter made has none
+abbrev pub own_updates : BhvSoFar → Option (List ℕ)
+own_updates one = if is_some one.born then None else one.block.common.updates
+
 -- the updates that an iteration's letters bring, unless the behaviour completed for good in an earlier one
 abbrev pub judged_at : Seen → BhvSoFar → Judged
-judged_at seen one = judged_in one.block.common.updates one.block.spec one.turns (if can_run one.block.common (past_so_far one) then seen.letters else [])
+judged_at seen one = judged_in (own_updates one) one.block.spec one.turns (if can_run one.block.common (past_so_far one) then seen.letters else [])
 
 -- what stands where there was no step
 abbrev pub no_out : Out

@@ -16,7 +16,7 @@ use Rattle.helm_core.specs.Ticks.{Tick, heard_in_all, is_parked, pairs_mailed, s
 use Rattle.helm_core.specs.Moments.{moment_before}
 use Rattle.helm_core.specs.Posts.{allstop_of}
 use Rattle.helm_core.specs.Iterations.{iteration_at}
-use Rattle.helm_core.specs.Lists.{list_at}
+use Rattle.helm_core.specs.Lists.{list_before}
 use Rattle.helm_core.specs.Standings.{IsCrewOf}
 
 -- what the helm was made of
@@ -50,7 +50,7 @@ HasLearnt decls mail old new = (learnt : List Pair) → IsOutlook decls learnt o
 pub record StandsFor (helm : Helm) (ticks : List Tick) : Type 0 where
   pub clock : clock_of helm ≡ stamp_of_last ticks
   pub outlook : IsOutlook helm.modes (heard_in_all ticks) helm.outlook
-  pub crew : IsCrewOf (clock_of helm) (list_at (plan_of helm) ticks (length ticks)) helm.crew
+  pub crew : IsCrewOf (clock_of helm) (list_before (plan_of helm) ticks (length ticks)) helm.crew
   pub allstop : option_map allstop_text helm.allstop ≡ option_map (allstop_of (plan_of helm)) (moment_before (plan_of helm) ticks (length ticks))
 
 -- The helm has heard one tick more: of whichever ticks it stood for, it stands for them with this one behind, and the

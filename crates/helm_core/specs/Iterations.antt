@@ -1,6 +1,7 @@
 -- An iteration of the helm, as a function of what the helm is made of and of all its ticks so far.
-use Rattle.std.specs.Prelude.{ℕ, Bool, if◌then◌else◌, List, map, Option, option_map}
-use Rattle.std.specs.List.{filter_map, flat_map}
+use Rattle.std.specs.Prelude.{ℕ, Bool, if◌then◌else◌, List, ◌++◌, map, bytes_eq, Option, option_map}
+use Rattle.std.specs.List.{filter, filter_map, flat_map}
+use Rattle.bhv_file.specs.declared.file.Block.{Block}
 use Rattle.bhv_kinds.specs.declared.out.BhvFault.{BhvFault}
 use Rattle.helm_core.specs.declared.iteration.BhvError.{BhvError}
 use Rattle.helm_core.specs.declared.iteration.BhvNow.{BhvNow}
@@ -39,9 +40,13 @@ error_of name fault = record { name = name; fault = fault }
 abbrev pub fault_of : Showing → Option BhvError
 fault_of one = option_map (error_of one.name) one.out.fault
 
--- the updates of all behaviours
-abbrev pub all_updates : List Showing → List Update
-all_updates showings = flat_map updates_of showings
+-- those of these updates that the behaviour or the template of this block heard
+abbrev pub heard_by_block : List Update → Block → List Update
+heard_by_block heard block = filter (λ update. bytes_eq update.name block.common.name) heard
+
+-- the updates of all behaviours and templates, in file order
+abbrev pub all_updates : List Block → List Update → List Showing → List Update
+all_updates blocks answers showings = flat_map (heard_by_block (answers ++ flat_map updates_of showings)) blocks
 
 -- what each behaviour is
 abbrev pub all_states : List Showing → List BhvNow
@@ -57,7 +62,7 @@ iteration_of plan before now = record {
   stamp = now.seen.stamp;
   parked = now.seen.parked;
   mode = now.seen.mode;
-  updates = all_updates now.showings;
+  updates = all_updates plan.blocks now.answers now.showings;
   states = all_states now.showings;
   faults = all_faults now.showings;
   decision = decision_made plan.axes now.showings;

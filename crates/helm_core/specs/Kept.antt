@@ -9,16 +9,18 @@ use Rattle.helm_core.specs.declared.allstop.Allstop.{Allstop}
 use Rattle.helm_core.specs.declared.behavior.Behavior.{Behavior}
 use Rattle.helm_core.specs.declared.helm.Helm.{Helm}
 use Rattle.helm_core.specs.declared.iteration.Iteration.{Iteration}
+use Rattle.helm_core.specs.declared.iteration.Update.{Update}
 use Rattle.helm_core.specs.declared.outlook.Outlook.{Outlook}
 use Rattle.helm_core.specs.declared.showing.Showing.{Showing}
 use Rattle.helm_core.specs.declared.turned.Turned.{Turned}
 use Rattle.helm_core.specs.Ticks.{Seen, is_false, is_override}
 use Rattle.helm_core.specs.Behaviors.{BegunTurn, BhvSoFar, all_begun, has_fault, showing_of, bhv_after}
 use Rattle.helm_core.specs.Lists.{stays}
+use Rattle.helm_core.specs.Templates.{Spawning, spawned}
 use Rattle.helm_core.specs.Decisions.{decision_made}
 use Rattle.helm_core.specs.Posts.{allstop_by, are_declared_modes, changed, desired_posts, flags_raised, state_word}
 use Rattle.helm_core.specs.Iterations.{all_faults, all_states, all_updates}
-use Rattle.helm_core.specs.Standings.{HelmCrew, IsCrewOf, IsFit, IsFitKept, IsKept, Sees}
+use Rattle.helm_core.specs.Standings.{AreFew, HelmCrew, IsCrewOf, IsFit, IsFitKept, IsKept, Sees}
 use Rattle.helm_core.specs.Helms.{allstop_text}
 
 -- what is known once these pairs were learnt too
@@ -63,11 +65,22 @@ pub record IsTurnedWith (blocks : List Block) (fault : Bool) (seen : Seen) (begu
 abbrev pub IsTurned : List Block → Seen → List BegunTurn → Turned → Type 0
 IsTurned blocks seen begun turned = IsTurnedWith blocks (list_any has_fault begun) seen begun turned
 
+-- the answers to the letters of an iteration to templates, and then the turns of the list that these make
+pub record IsHeardAndTurned (axes : List Axis) (blocks : List Block) (seen : Seen) (spawning : Spawning) (answers : List Update) (turned : Turned) : Type 0 where
+  pub told : answers ≡ spawning.answers
+  pub turns : IsTurned blocks seen (all_begun axes seen spawning.ones) turned
+
 -- turns at this outlook: of whichever behaviours the crew stood for, these are the turns in an iteration that sees this
 abbrev pub HasTurned : HelmCrew → ℕ → List Pair → Outlook → Turned → Type 0
 HasTurned crew stamp letters now turned =
     (clock : ℕ) (seen : Seen) (ones : List BhvSoFar) → clock ≤ stamp → Sees seen stamp letters now → IsCrewOf clock ones crew
     → IsTurned crew.blocks seen (all_begun crew.axes seen ones) turned
+
+-- and with the answers to letters to templates before them, in an iteration of whichever number
+abbrev pub HasHeardAndTurned : HelmCrew → ℕ → List Pair → Outlook → List Update → Turned → Type 0
+HasHeardAndTurned crew stamp letters now answers turned =
+    (clock at : ℕ) (seen : Seen) (ones : List BhvSoFar) → clock ≤ stamp → Sees seen stamp letters now → IsCrewOf clock ones crew
+    → IsHeardAndTurned crew.axes crew.blocks seen (spawned crew.blocks at letters ones) answers turned
 
 -- what holds of so many turns over these axes
 pub record AreFit (axes : List Axis) (blocks : List Block) (count : ℕ) (turned : Turned) : Type 0 where
@@ -76,13 +89,19 @@ pub record AreFit (axes : List Axis) (blocks : List Block) (count : ℕ) (turned
   pub showings : length turned.showings.items ≡ count
   pub fit : All (IsFit axes) turned.showings.items
 
--- the iteration at this outlook, where it says this of the behaviours
-abbrev pub iteration_by : Helm → ℕ → Outlook → List Showing → Iteration
-iteration_by helm stamp now showings = record {
+-- they are of at most 64 behaviours and templates
+pub record AreFewFit (axes : List Axis) (blocks : List Block) (turned : Turned) : Type 0 where
+  pub count : ℕ
+  pub few : AreFew blocks count
+  pub fit : AreFit axes blocks count turned
+
+-- the iteration at this outlook, where these are the answers to letters to templates and it says this of the behaviours
+abbrev pub iteration_by : Helm → ℕ → Outlook → List Update → List Showing → Iteration
+iteration_by helm stamp now answers showings = record {
   stamp = stamp;
   parked = now.parked;
   mode = now.mode;
-  updates = all_updates showings;
+  updates = all_updates helm.crew.blocks answers showings;
   states = all_states showings;
   faults = all_faults showings;
   decision = decision_made helm.crew.axes showings;
@@ -91,9 +110,10 @@ iteration_by helm stamp now showings = record {
 
 -- the iteration, what is kept of the behaviours, and why the vehicle has to stop are what turns at this outlook came to
 pub record IsIterationOfTurns (helm : Helm) (stamp : ℕ) (letters : List Pair) (now : Outlook) (iteration : Iteration) (kept : List Behavior) (allstop : Allstop) : Type 0 where
+  pub answers : List Update
   pub turned : Turned
-  pub turns : HasTurned helm.crew stamp letters now turned
-  pub is : iteration ≡ iteration_by helm stamp now turned.showings.items
+  pub turns : HasHeardAndTurned helm.crew stamp letters now answers turned
+  pub is : iteration ≡ iteration_by helm stamp now answers turned.showings.items
   pub keeps : kept ≡ turned.kept.items
   pub stops : allstop_text allstop ≡ allstop_by helm.crew.axes now.parked turned.showings.items
 

@@ -1,6 +1,7 @@
 pub mod Plans
 pub mod Ticks
 pub mod Behaviors
+pub mod Templates
 pub mod Lists
 pub mod Moments
 pub mod Decisions

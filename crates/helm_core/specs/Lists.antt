@@ -1,21 +1,43 @@
 -- The list of the behaviours in each iteration.
 use Rattle.std.specs.Prelude.{◌≡◌, ℕ, zero, suc, ◌<◌, ◌⊎◌, Bool, not, ◌&&◌, IsTrue, List, [], ◌∷◌, ◌++◌, map, Option, Some, None, is_some}
 use Rattle.std.specs.List.{All, filter}
+use Rattle.bhv_file.specs.declared.file.Block.{Block}
 use Rattle.bhv_life.specs.Lives.{can_run}
 use Rattle.helm_core.specs.declared.showing.Showing.{Showing}
-use Rattle.helm_core.specs.Plans.{Plan}
+use Rattle.helm_core.specs.Plans.{Plan, is_template}
 use Rattle.helm_core.specs.Ticks.{Tick, seen_at}
 use Rattle.helm_core.specs.Behaviors.{BhvSoFar, Birth, all_after, all_begun, all_showings, past_so_far, unstarted}
+use Rattle.helm_core.specs.Templates.{Spawning, spawned}
 
 -- it stays in the list: one that a letter made leaves it once it completed for good
 abbrev pub stays : BhvSoFar → Bool
 stays one = not (is_some one.born && not (can_run one.block.common (past_so_far one)))
 
--- The list of iteration i: the behaviours of the file, and then those that letters made, in the order of making, without those
--- of these that completed for good before. No letter makes one yet.
+-- the behaviours of the file before the first iteration: its blocks that are no templates
+abbrev pub first_list : List Block → List BhvSoFar
+first_list blocks = map unstarted (filter (λ block. not (is_template block)) blocks)
+
+-- what the letters of iteration i to templates make of a list
+abbrev pub spawned_in : Plan → List Tick → ℕ → List BhvSoFar → Spawning
+spawned_in plan ticks i ones = spawned plan.blocks i (seen_at plan.decls ticks i).letters ones
+
+-- those of the list of iteration i that stay in it behind its turns
+abbrev pub staying_after : Plan → List Tick → ℕ → List BhvSoFar → List BhvSoFar
+staying_after plan ticks i ones = filter stays (all_after (seen_at plan.decls ticks i) (all_begun plan.axes (seen_at plan.decls ticks i) ones))
+
+-- the list before the letters of iteration i are judged
+abbrev pub list_before : Plan → List Tick → ℕ → List BhvSoFar
+list_before plan ticks zero = first_list plan.blocks
+list_before plan ticks (suc i) = staying_after plan ticks i (spawned_in plan ticks i (list_before plan ticks i)).ones
+
+-- what the letters of iteration i to templates make of it
+abbrev pub spawned_at : Plan → List Tick → ℕ → Spawning
+spawned_at plan ticks i = spawned_in plan ticks i (list_before plan ticks i)
+
+-- The list of iteration i: the behaviours of the file, and then those that letters made up to there, in the order of making,
+-- without those of these that completed for good before.
 abbrev pub list_at : Plan → List Tick → ℕ → List BhvSoFar
-list_at plan ticks zero = map unstarted plan.blocks
-list_at plan ticks (suc i) = filter stays (all_after (seen_at plan.decls ticks i) (all_begun plan.axes (seen_at plan.decls ticks i) (list_at plan ticks i)))
+list_at plan ticks i = (spawned_at plan ticks i).ones
 
 -- What iteration i says of the behaviours of its list, in its order.
 abbrev pub showings_at : Plan → List Tick → ℕ → List Showing
@@ -36,13 +58,13 @@ abbrev pub AreMadeBehind : Option Birth → List BhvSoFar → Type 0
 AreMadeBehind before [] = Unit {0}
 AreMadeBehind before (one ∷ rest) = IsBornBehind before one.born × AreMadeBehind one.born rest
 
--- a list of behaviours of a plan: the behaviours of the file in its order, which are always there, and then those that letters
--- made, each by a later one than the one before it; none of these has completed for good
+-- a list of behaviours of a plan: the behaviours of the file in its order without its templates, which are always there, and then
+-- those that letters made, each by a later one than the one before it; none of these has completed for good
 pub record IsListed (plan : Plan) (ones : List BhvSoFar) : Type 0 where
   pub own : List BhvSoFar
   pub made : List BhvSoFar
   pub parts : ones ≡ own ++ made
-  pub of_file : map (λ one. one.block) own ≡ plan.blocks
+  pub of_file : map (λ one. one.block) own ≡ filter (λ block. not (is_template block)) plan.blocks
   pub unmade : All (λ one. one.born ≡ None) own
   pub in_order : AreMadeBehind None made
   pub staying : All (λ one. IsTrue (stays one)) made

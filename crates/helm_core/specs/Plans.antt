@@ -1,5 +1,5 @@
 -- What a helm is made of, and the variables that it registers for.
-use Rattle.std.specs.Prelude.{ℕ, ◌||◌, if◌then◌else◌, List, [], ◌∷◌, ◌++◌, map, fold, codes, bytes_eq}
+use Rattle.std.specs.Prelude.{ℕ, Bool, ◌||◌, if◌then◌else◌, List, [], ◌∷◌, ◌++◌, map, fold, codes, bytes_eq}
 use Rattle.std.specs.List.{flat_map, list_any}
 use Rattle.std.specs.Option.{option_to_list}
 use Rattle.moos_post.specs.declared.registration.Reg.{Reg}
@@ -22,6 +22,10 @@ pub record Plan : Type 0 where
 abbrev pub plan_made : Mission → BhvFile → Plan
 plan_made mission file = record { axes = mission.domain; opening = file.opening; decls = file.decls; blocks = file.blocks }
 
+-- the block is a template: it never runs itself, and letters make behaviours of it
+abbrev pub is_template : Block → Bool
+is_template block = block.common.template
+
 -- the variables of the override, in both spellings, and of the position
 abbrev pub always_read : List (List ℕ)
 always_read =
@@ -31,7 +35,7 @@ always_read =
 abbrev pub decl_names : Decl → List (List ℕ)
 decl_names decl = flat_map names_in decl.conds
 
--- the variables of a behaviour's conditions, and then the one of its updates
+-- the variables of the conditions of a behaviour or a template, and then the one of its updates
 abbrev pub block_names : Block → List (List ℕ)
 block_names block = flat_map names_in block.common.conds ++ option_to_list block.common.updates
 

@@ -8,7 +8,7 @@ ghost use Rattle.helm_core.specs.Standings.{BeginsTurn, IsBegun, IsEnded, IsFitB
 ghost use Rattle.helm_core.specs.Ticks.{Seen, pairs_mailed};
 
 use crate::behavior::{Behavior, BoxedKind};
-use crate::judging::judge_all;
+use crate::judging::judge_own;
 use crate::outlook::Outlook;
 use crate::posts::add_pairs;
 use crate::showing::Showing;
@@ -60,7 +60,14 @@ pub(crate) fn begin<'a>(
         .life
         .start(common, &now.info, now.mode.bytes(), now.parked, stamp);
     let mut kind = kept.kind.lent().copy(alloc)?;
-    let taken = judge_all(alloc, started.phase, &common.updates, letters, &mut kind)?;
+    let taken = judge_own(
+        alloc,
+        kept.made,
+        started.phase,
+        &common.updates,
+        letters,
+        &mut kind,
+    )?;
     let out = step_in(alloc, started.phase, domain, &now.info, stamp, &mut kind)?;
     let kind = BoxedKind::of(alloc, kind)?;
     let name = kept.name.copy(alloc)?;

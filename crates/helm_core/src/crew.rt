@@ -1,15 +1,20 @@
 // The behaviours of the helm.
-ghost use Rattle.std.specs.Prelude.{◌≡◌, ◌<◌, ◌≤◌, List, length, map, slice_get, Some, IfOk};
+ghost use Rattle.std.specs.Prelude.{◌≡◌, ◌+◌, ◌<◌, ◌≤◌, List, length, slice_get, Some, false, IfOk};
 ghost use Rattle.bhv_file.specs.declared.file.Block.{Block};
-ghost use Rattle.std.specs.List.{All, AllZip};
+ghost use Rattle.std.specs.List.{All, AllZip, count_by, list_any};
 ghost use Rattle.helm_core.specs.Behaviors.{unstarted};
-ghost use Rattle.helm_core.specs.Kept.{AreFit, HasTurned};
-ghost use Rattle.helm_core.specs.Standings.{HasAllBegun, crew_of, IsCrewOf, IsFitBegun, IsFitKept, IsKept, MayStep};
+ghost use Rattle.helm_core.specs.Kept.{AreFewFit, AreFit, HasHeardAndTurned, HasTurned};
+ghost use Rattle.helm_core.specs.Lists.{first_list};
+ghost use Rattle.helm_core.specs.Plans.{is_template};
+ghost use Rattle.helm_core.specs.Standings.{AreFew, HasAllBegun, crew_of, IsCrewOf, IsFitBegun, IsFitKept, IsKept, MayStep, is_called_in};
 ghost use Rattle.helm_core.specs.Ticks.{pairs_mailed};
 
 use crate::begun::{Begun, begin};
 use crate::behavior::{Behavior, BoxedKind};
+use crate::iteration::Updates;
+use crate::making::is_template;
 use crate::outlook::Outlook;
+use crate::spawning::{calls_some, spawn_all};
 use crate::turned::{Turned, finish_all};
 use bhv_file::{Block, Blocks};
 use bhv_kinds::Kind;
@@ -50,7 +55,7 @@ impl Crew {
         requires may_step { All (MayStep domain) blocks }
         ensures axes { IfOk result (λ crew. crew.axes ≡ domain) }
         ensures blocks { IfOk result (λ crew. crew.blocks ≡ blocks) }
-        ensures stands { IfOk result (IsCrewOf 0 (map unstarted blocks)) }
+        ensures stands { IfOk result (IsCrewOf 0 (first_list blocks)) }
     {
         let kept = first_kept(alloc, &domain, blocks.all())?;
         Ok(Crew {
@@ -74,32 +79,106 @@ impl Crew {
         self.blocks.all()
     }
 
-    // Their turns in an iteration.
+    // What the letters of an iteration to templates make of them, with the answers, and then their turns.
     pub fn turned(
         &self,
         alloc: Global,
         stamp: u64,
         letters: &[Letter],
         now: &Outlook,
-    ) -> Result<Turned, NoMemory>
-        ensures turned { IfOk result (HasTurned self.now stamp (pairs_mailed letters.now) now.now) }
-        ensures fit { IfOk result (AreFit self.now.axes self.now.blocks (length self.now.kept)) }
-        ensures few { length self.now.kept ≤ 64 }
+    ) -> Result<(Updates, Turned), NoMemory>
+        ensures turned { IfOk result (λ made. HasHeardAndTurned self.now stamp (pairs_mailed letters.now) now.now made.0 made.1) }
+        ensures fit { IfOk result (λ made. AreFewFit self.now.axes self.now.blocks made.1) }
+    {
+        if calls_some(self.blocks.all(), letters) {
+            self.turned_called(alloc, stamp, letters, now)
+        } else {
+            self.turned_uncalled(alloc, stamp, letters, now)
+        }
+    }
+
+    // Where some letter is to a template: what is kept is as it was, since a copy of it is led by the letters.
+    fn turned_called(
+        &self,
+        alloc: Global,
+        stamp: u64,
+        letters: &[Letter],
+        now: &Outlook,
+    ) -> Result<(Updates, Turned), NoMemory>
+        ensures turned { IfOk result (λ made. HasHeardAndTurned self.now stamp (pairs_mailed letters.now) now.now made.0 made.1) }
+        ensures fit { IfOk result (λ made. AreFewFit self.now.axes self.now.blocks made.1) }
+    {
+        let blocks = self.blocks.all();
+        let mut kept = copy_all(alloc, self.kept.as_slice())?;
+        let mut answers = Updates::new(alloc);
+        spawn_all(alloc, blocks, letters, &mut kept, &mut answers)?;
+        let turned = turn_all(
+            alloc,
+            &self.domain,
+            blocks,
+            kept.as_slice(),
+            stamp,
+            letters,
+            now,
+        )?;
+        Ok((answers, turned))
+    }
+
+    // Where none is.
+    fn turned_uncalled(
+        &self,
+        alloc: Global,
+        stamp: u64,
+        letters: &[Letter],
+        now: &Outlook,
+    ) -> Result<(Updates, Turned), NoMemory>
+        requires uncalled { list_any (is_called_in (pairs_mailed letters.now)) self.now.blocks ≡ false }
+        ensures turned { IfOk result (λ made. HasHeardAndTurned self.now stamp (pairs_mailed letters.now) now.now made.0 made.1) }
+        ensures fit { IfOk result (λ made. AreFewFit self.now.axes self.now.blocks made.1) }
     {
         let blocks = self.blocks.all();
         let kept = self.kept.as_slice();
-        let begun = begin_all(alloc, &self.domain, blocks, kept, stamp, letters, now)?;
-        finish_all(alloc, begun)
+        let turned = turn_all(alloc, &self.domain, blocks, kept, stamp, letters, now)?;
+        Ok((Updates::new(alloc), turned))
     }
 
     // Keeps what their last turns came to.
     pub fn go_on(&mut self, kept: Vec<Behavior>)
-        requires few { length kept.items ≤ 64 }
+        requires few { AreFew self.old.blocks (length kept.items) }
         requires fit { All (IsFitKept self.old.axes self.old.blocks) kept.items }
         ensures { self.new ≡ record self.old { kept = kept.items } }
     {
         self.kept = kept;
     }
+}
+
+// The turns of these behaviours.
+fn turn_all(
+    alloc: Global,
+    domain: &Domain,
+    blocks: &[Block],
+    kept: &[Behavior],
+    stamp: u64,
+    letters: &[Letter],
+    now: &Outlook,
+) -> Result<Turned, NoMemory>
+    requires fit { All (IsFitKept domain.now blocks.now) kept.now }
+    ensures turned { IfOk result (HasTurned (crew_of domain.now blocks.now kept.now) stamp (pairs_mailed letters.now) now.now) }
+    ensures fit { IfOk result (AreFit domain.now blocks.now (length kept.now)) }
+{
+    let begun = begin_all(alloc, domain, blocks, kept, stamp, letters, now)?;
+    finish_all(alloc, begun)
+}
+
+// Equal ones of these.
+fn copy_all(alloc: Global, kept: &[Behavior]) -> Result<Vec<Behavior>, NoMemory>
+    ensures { IfOk result (λ copies. copies.items ≡ kept.now) }
+{
+    let mut copies = Vec::with_capacity(alloc, kept.len())?;
+    for one in kept {
+        copies.push(one.copy(alloc)?)?;
+    }
+    Ok(copies)
 }
 
 // The turns of these behaviours up to the ends of their steps.
@@ -125,16 +204,18 @@ fn begin_all<'a>(
     Ok(begun)
 }
 
-// What is kept of each behaviour at first.
+// What is kept of each behaviour at first: a template is none.
 fn first_kept(alloc: Global, domain: &Domain, blocks: &[Block]) -> Result<Vec<Behavior>, NoMemory>
     requires may_step { All (MayStep domain.now) blocks.now }
-    ensures stands { IfOk result (λ kept. AllZip (IsKept blocks.now 0) (map unstarted blocks.now) kept.items) }
+    ensures stands { IfOk result (λ kept. AllZip (IsKept blocks.now 0) (first_list blocks.now) kept.items) }
     ensures fit { IfOk result (λ kept. All (IsFitKept domain.now blocks.now) kept.items) }
-    ensures one_each { IfOk result (λ kept. length kept.items ≡ length blocks.now) }
+    ensures few { IfOk result (λ kept. count_by is_template blocks.now + length kept.items ≡ length blocks.now) }
 {
     let mut kept = Vec::with_capacity(alloc, blocks.len())?;
     for (place, block) in blocks.iter().enumerate() {
-        kept.push(kept_first(alloc, domain, place, block)?)?;
+        if !is_template(block) {
+            kept.push(kept_first(alloc, domain, place, block)?)?;
+        }
     }
     Ok(kept)
 }

@@ -6,7 +6,7 @@ ghost use Rattle.mission_reader.specs.Validity.{IsValidMission};
 ghost use Rattle.ivp_domain.specs.Domains.{is_point};
 ghost use Rattle.helm_core.specs.Plans.{block_names, decl_names, plan_made, wants_of, with_wanted};
 ghost use Rattle.helm_core.specs.Posts.{allstop_by, changed, desired, desired_speed};
-ghost use Rattle.helm_core.specs.Standings.{IsFit, IsFitKept};
+ghost use Rattle.helm_core.specs.Standings.{AreFew, IsFit, IsFitKept};
 ghost use Rattle.helm_core.specs.Helms.{allstop_text, clock_of, plan_of, HasLearnt, IsTicked, StandsFor};
 ghost use Rattle.helm_core.specs.Kept.{first_posts, IsIterationOfTurns, helm_after, iteration_by, said_before};
 ghost use Rattle.helm_core.specs.Ticks.{pairs_mailed};
@@ -15,7 +15,7 @@ use crate::allstop::{Allstop, mentions_course, mentions_depth, mentions_speed};
 use crate::behavior::Behavior;
 use crate::crew::Crew;
 use crate::decision::{add_depth, add_heading, add_speed, decision_made};
-use crate::iteration::Iteration;
+use crate::iteration::{Iteration, Updates};
 use crate::outlook::Outlook;
 use crate::own_names::OwnNames;
 use crate::posts::add_changed;
@@ -160,12 +160,15 @@ impl Helm {
         requires some_worker { 1 ≤ workers }
         requires few_workers { workers ≤ 16 }
         ensures iterated { IfOk result (λ made. IsIterationOfTurns self.now stamp (pairs_mailed letters.now) now.now made.0 made.1.items made.2) }
-        ensures few { IfOk result (λ made. length made.1.items ≤ 64) }
+        ensures few { IfOk result (λ made. AreFew self.now.crew.blocks (length made.1.items)) }
         ensures fit { IfOk result (λ made. All (IsFitKept self.now.crew.axes self.now.crew.blocks) made.1.items) }
     {
-        let Turned { kept, showings } = self.crew.turned(alloc, stamp, letters, now)?;
+        let (answers, turned) = self.crew.turned(alloc, stamp, letters, now)?;
+        let Turned { kept, showings } = turned;
         let allstop = Allstop::of(&self.crew.domain(), now.parked, showings.as_slice());
-        let iteration = self.iteration(rt, alloc, stamp, now, showings, allstop, workers, gate)?;
+        let iteration = self.iteration(
+            rt, alloc, stamp, now, answers, showings, allstop, workers, gate,
+        )?;
         Ok((iteration, kept, allstop))
     }
 
@@ -192,7 +195,7 @@ impl Helm {
 
     // Keeps what the next iteration asks of this one.
     fn end(&mut self, stamp: u64, fresh: Option<Outlook>, kept: Vec<Behavior>, allstop: Allstop)
-        requires few { length kept.items ≤ 64 }
+        requires few { AreFew self.old.crew.blocks (length kept.items) }
         requires fit { All (IsFitKept self.old.crew.axes self.old.crew.blocks) kept.items }
         ensures { self.new ≡ helm_after self.old stamp (unwrap_or fresh self.old.outlook) kept.items allstop }
     {
@@ -204,13 +207,14 @@ impl Helm {
         self.clock = stamp;
     }
 
-    // The iteration at this outlook, where it says this of the behaviours.
+    // The iteration at this outlook, where these are the answers to letters to templates and it says this of the behaviours.
     fn iteration<R: Threads + Wait + Sync, G: Gate>(
         &self,
         rt: &R,
         alloc: Global,
         stamp: u64,
         now: &Outlook,
+        answers: Updates,
         showings: Vec<Showing>,
         allstop: Allstop,
         workers: u32,
@@ -221,11 +225,11 @@ impl Helm {
         requires few { length showings.items ≤ 64 }
         requires fit { All (IsFit self.now.crew.axes) showings.items }
         requires allstop { allstop_text allstop ≡ allstop_by self.now.crew.axes now.now.parked showings.items }
-        ensures { IfOk result (λ iteration. iteration ≡ iteration_by self.now stamp now.now showings.items) }
+        ensures { IfOk result (λ iteration. iteration ≡ iteration_by self.now stamp now.now answers showings.items) }
     {
         let all = showings.as_slice();
         let mode = now.mode.copy(alloc)?;
-        let (updates, states, faults) = told_of(alloc, all)?;
+        let (updates, states, faults) = told_of(alloc, self.crew.blocks(), answers, all)?;
         let mut posts = self.first_posts(alloc, now, all)?;
         let (course, speed, depth) = (
             mentions_course(all),

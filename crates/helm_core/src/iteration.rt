@@ -1,10 +1,14 @@
 // What an iteration tells: updates, behaviours, errors, the decision.
+ghost use Rattle.std.specs.Prelude.{◌≡◌, IfOk};
+
 use bhv_kinds::BhvFault;
 use bhv_life::BhvState;
 use ivp_cert::Decision;
-use moos_post::{Batch, List, Name, Txt};
+use moos_post::{Batch, Copied, List, Name, NoMemory, Txt};
+use std::alloc::Global;
 
-/// What became of an update: it was refused, it changed a behaviour, or it made the behaviour of this name. None makes one yet.
+/// What became of an update: it was refused, it changed a behaviour, or, as a letter to a template, it made the behaviour of this
+/// name.
 #[derive(Drop)]
 pub enum How {
     Refused,
@@ -12,11 +16,38 @@ pub enum How {
     Spawned(Name),
 }
 
-/// An update, by the name of the behaviour that heard it, and what became of it.
+/// An update, by the name of the behaviour or the template that heard it, and what became of it.
 #[derive(Drop)]
 pub struct Update {
     pub name: Name,
     pub how: How,
+}
+
+impl Update {
+    // An equal one.
+    pub(crate) fn copy(&self, alloc: Global) -> Result<Update, NoMemory>
+        ensures { IfOk result (λ copy. copy ≡ self.now) }
+    {
+        let name = self.name.copy(alloc)?;
+        let how = self.how.copy(alloc)?;
+        Ok(Update { name, how })
+    }
+}
+
+impl How {
+    // An equal one.
+    fn copy(&self, alloc: Global) -> Result<How, NoMemory>
+        ensures { IfOk result (λ copy. copy ≡ self.now) }
+    {
+        match self {
+            How::Refused => Ok(How::Refused),
+            How::Changed => Ok(How::Changed),
+            How::Spawned(name) => {
+                let name = name.copy(alloc)?;
+                Ok(How::Spawned(name))
+            },
+        }
+    }
 }
 
 /// What a behaviour is, by its name.
@@ -33,7 +64,7 @@ pub struct BhvError {
     pub fault: BhvFault,
 }
 
-/// The updates of an iteration, in order.
+/// The updates of an iteration, in file order, and of one behaviour or template in the order of the mail.
 pub type Updates = List<Update>;
 
 /// What each behaviour of the list is, in its order.
@@ -51,7 +82,7 @@ pub struct Iteration {
     pub parked: bool,
     /// The mode's text, empty where there is no mode.
     pub mode: Txt,
-    /// The updates of the behaviours.
+    /// The updates of the behaviours, and the letters to templates.
     pub updates: Updates,
     /// What each behaviour is.
     pub states: States,

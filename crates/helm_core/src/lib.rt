@@ -6,11 +6,12 @@
 //! of memory the helm is as it was.
 //!
 //! Read `iteration`, `allstop`, `outlook` for what is kept of the mails, `behavior` for what is kept of a behaviour, `judging`,
-//! `stepping` and `begun` for its turn, `turned` and `crew` for the turns of all, `showing` and `telling` for what is said of
-//! them, `decision` for what they decide, `own_names` and `posts` for what is posted, `wanted` for the variables that are registered for, and
-//! `helm` last; `law` says that no iteration depends on a later mail, which behaviours the list has, that what is said is well
-//! formed, and that what is decided is the first point of greatest worth to all behaviours. Of specs/ read `Plans`, `Ticks`, `Behaviors`, `Lists`, `Moments`, `Decisions`,
-//! `Posts`, `Iterations`, `WellFormed`, `Worths`, `FirstSteps`, `Standings` and `Helms`; `Kept` serves the files of the crate.
+//! `stepping` and `begun` for its turn, `named`, `making` and `spawning` for letters to templates, `turned` and `crew` for the turns of
+//! all, `showing` and `telling` for what is said of them, `decision` for what they decide, `own_names` and `posts` for what is posted,
+//! `wanted` for the variables that are registered for, and `helm` last; `law` says that no iteration depends on a later mail, which
+//! behaviours the list has, that what is said is well formed, and that what is decided is the first point of greatest worth to all
+//! behaviours. Of specs/ read `Plans`, `Ticks`, `Behaviors`, `Templates`, `Lists`, `Moments`, `Decisions`, `Posts`, `Iterations`,
+//! `WellFormed`, `Worths`, `FirstSteps`, `Standings` and `Helms`; `Kept` serves the files of the crate.
 #![tactic(auto)]
 
 mod allstop;
@@ -22,10 +23,13 @@ mod helm;
 mod iteration;
 mod judging;
 mod law;
+mod making;
+mod named;
 mod outlook;
 mod own_names;
 mod posts;
 mod showing;
+mod spawning;
 mod stepping;
 mod telling;
 mod turned;

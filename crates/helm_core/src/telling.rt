@@ -1,39 +1,100 @@
 // What an iteration says of the behaviours.
-ghost use Rattle.std.specs.Prelude.{◌≡◌, ◌++◌, map, IfOk, OnOk};
+ghost use Rattle.std.specs.Prelude.{◌≡◌, ◌++◌, ◌∷◌, [], map, bytes_eq, if◌then◌else◌, IfOk, OnOk};
+ghost use Rattle.std.specs.List.{filter, flat_map};
 ghost use Rattle.std.specs.Option.{option_to_list};
-ghost use Rattle.helm_core.specs.Iterations.{all_faults, all_states, all_updates, fault_of, how_taken, state_of, update_of};
+ghost use Rattle.helm_core.specs.declared.iteration.Update.{Update as UpdateNow};
+ghost use Rattle.helm_core.specs.Iterations.{all_faults, all_states, all_updates, fault_of, heard_by_block, how_taken, state_of, update_of, updates_of};
 ghost use Rattle.helm_core.specs.Posts.{flags_raised};
 
 use crate::iteration::{BhvError, BhvNow, Faults, How, States, Update, Updates};
 use crate::posts::add_pairs;
 use crate::showing::Showing;
+use bhv_file::Block;
 use moos_post::{Batch, Copied, Name, NoMemory};
 use std::alloc::Global;
 
-// The updates, the states and the faults of all behaviours.
+// The updates, the states and the faults of all behaviours, where these are the answers to letters to templates.
 pub(crate) fn told_of(
     alloc: Global,
+    blocks: &[Block],
+    answers: Updates,
     showings: &[Showing],
 ) -> Result<(Updates, States, Faults), NoMemory>
-    ensures updates { IfOk result (λ told. told.0 ≡ all_updates showings.now) }
+    ensures updates { IfOk result (λ told. told.0 ≡ all_updates blocks.now answers showings.now) }
     ensures states { IfOk result (λ told. told.1 ≡ all_states showings.now) }
     ensures faults { IfOk result (λ told. told.2 ≡ all_faults showings.now) }
 {
-    let updates = updates_of(alloc, showings)?;
+    let updates = updates_of(alloc, blocks, answers, showings)?;
     let states = states_of(alloc, showings)?;
     let faults = faults_of(alloc, showings)?;
     Ok((updates, states, faults))
 }
 
-// The updates of all behaviours, in file order.
-fn updates_of(alloc: Global, showings: &[Showing]) -> Result<Updates, NoMemory>
-    ensures { IfOk result (λ updates. updates ≡ all_updates showings.now) }
+// The updates of all behaviours and templates, in file order.
+fn updates_of(
+    alloc: Global,
+    blocks: &[Block],
+    answers: Updates,
+    showings: &[Showing],
+) -> Result<Updates, NoMemory>
+    ensures { IfOk result (λ updates. updates ≡ all_updates blocks.now answers showings.now) }
+{
+    let heard = heard_by_all(alloc, answers, showings)?;
+    let updates = in_file_order(alloc, blocks, heard.all())?;
+    Ok(updates)
+}
+
+// These updates, by the blocks that heard them.
+fn in_file_order(alloc: Global, blocks: &[Block], heard: &[Update]) -> Result<Updates, NoMemory>
+    ensures { IfOk result (λ updates. updates ≡ flat_map (heard_by_block heard.now) blocks.now) }
 {
     let mut updates = Updates::new(alloc);
-    for showing in showings {
-        add_updates(alloc, &mut updates, &showing.name, showing.taken.all())?;
+    for block in blocks {
+        add_heard(alloc, &mut updates, &block.common.name, heard)?;
     }
     Ok(updates)
+}
+
+// The answers to letters to templates, and then the updates of the behaviours.
+fn heard_by_all(alloc: Global, answers: Updates, showings: &[Showing]) -> Result<Updates, NoMemory>
+    ensures { IfOk result (λ heard. heard ≡ answers ++ flat_map updates_of showings.now) }
+{
+    let mut heard = answers;
+    for showing in showings {
+        add_updates(alloc, &mut heard, &showing.name, showing.taken.all())?;
+    }
+    Ok(heard)
+}
+
+// Adds those of these updates that the behaviour or the template of this name heard.
+fn add_heard(
+    alloc: Global,
+    updates: &mut Updates,
+    name: &Name,
+    heard: &[Update],
+) -> Result<(), NoMemory>
+    ensures { OnOk result (updates.new ≡ updates.old ++ filter (λ (update : UpdateNow). bytes_eq update.name name.now) heard.now) }
+{
+    for update in heard {
+        let is_own = update.name.bytes() == name.bytes();
+        add_own(alloc, updates, update, is_own)?;
+    }
+    Ok(())
+}
+
+// Adds an update, where it is of the behaviour or the template that is told of.
+fn add_own(
+    alloc: Global,
+    updates: &mut Updates,
+    update: &Update,
+    is_own: bool,
+) -> Result<(), NoMemory>
+    ensures { OnOk result (updates.new ≡ updates.old ++ (if is_own then update.now ∷ [] else [])) }
+{
+    if is_own {
+        updates.add(update.copy(alloc)?)?;
+    }
+    Ok(())
 }
 
 fn add_updates(

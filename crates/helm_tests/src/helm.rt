@@ -204,6 +204,27 @@ fn timers(rt: HostRuntime) {
     check(&rt, rt.alloc(), TIMERS, TIMED);
 }
 
+const TEMPLATE: &[u8] =
+    b"Behavior = BHV_Timer {\n  name = tmpl\n  templating = spawn\n  updates = T_UP\n  duration = 0.5\n  runflag = A=1\n  endflag = B=1\n}\n";
+
+// A letter makes a timer of a template, which has its turn at once; a bad one changes nothing; and the timer is gone when it is over.
+const SPAWNED: &str = "0 MOOS_MANUAL_OVERRIDE=false T_UP=name=t1#pwt=5
+0 DRIVE : Running IVPHELM_STATE=<DRIVE> A=1 DESIRED_SPEED=0 IVPHELM_ALLSTOP=<NothingToDo>
+
+250 T_UP=name=t1#pwt=abc
+0.25 DRIVE : Running DESIRED_SPEED=0
+
+500
+0.5 DRIVE : Completed B=1 DESIRED_SPEED=0
+
+750
+0.75 DRIVE : DESIRED_SPEED=0";
+
+#[test]
+fn spawned(rt: HostRuntime) {
+    check(&rt, rt.alloc(), TEMPLATE, SPAWNED);
+}
+
 const STEERED: &[u8] =
     b"Behavior = BHV_ConstantHeading {\n  name = h\n  heading = 90\n  updates = H_UP\n}\nBehavior = BHV_ConstantSpeed {\n  name = s\n  speed = 2\n  inactiveflag = N=1\n}\n";
 

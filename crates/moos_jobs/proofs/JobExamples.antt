@@ -166,6 +166,7 @@ timer = record {
     duration = None;
     idle_decay = true;
     perpetual = false;
+    template = false;
   };
   spec = record { weight = 100; shape = Timer };
 }

@@ -75,6 +75,21 @@ const PLAYED: &[([&str; 3], &[&str])] = &[
             %% end 12 11\n",
         ],
     ),
+    // A letter makes a timer of a template, a bad one changes nothing, and the timer is gone when it is over.
+    (
+        [
+            "0 nav post MOOS_MANUAL_OVERRIDE=false # T_UP=\"name=t1 # pwt=5\"\n\
+            0.25 nav post T_UP=\"name=t1 # pwt=abc\"\n0.75 until\n",
+            COURSE_MISSION,
+            "Behavior = BHV_Timer {\nname = tmpl\ntemplating = spawn\nupdates = T_UP\nduration = 0.5\n}\n",
+        ],
+        &[
+            "%% iteration 0 0 DRIVE\n%% update tmpl spawned t1\n%% behavior t1 running\n%% none\n",
+            "%% iteration 1 0.25 DRIVE\n%% update tmpl refused\n%% behavior t1 running\n%% none\n",
+            "%% iteration 2 0.5 DRIVE\n%% behavior t1 completed\n%% none\n",
+            "%% iteration 3 0.75 DRIVE\n%% none\n%% end 11 9\n",
+        ],
+    ),
     // A heading and a speed are decided on, or neither counts.
     (
         [

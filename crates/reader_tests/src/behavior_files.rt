@@ -30,7 +30,14 @@ fn is_survey(rt: &impl Abort, file: &BhvFile) {
     assert!(rt; block.spec.weight == 100);
 }
 
-const MORE_BLOCKS: &[(&[u8], Cause)] = &[(b"Behavior = BHV_Timer {\nname = x\n}", Cause::B9)];
+// A template counts as any other.
+const MORE_BLOCKS: &[(&[u8], Cause)] = &[
+    (b"Behavior = BHV_Timer {\nname = x\n}", Cause::B9),
+    (
+        b"Behavior = BHV_Timer {\nname = x\ntemplating = spawn\nupdates = UP\n}",
+        Cause::B9,
+    ),
+];
 
 #[test]
 fn most_blocks(rt: HostRuntime) {
@@ -85,7 +92,9 @@ fn most_places(rt: HostRuntime) {
     are_refused(&rt, alloc, Kind::Behaviors, b"", &[(&bad, 4, Cause::B6)]);
 }
 
-// Blocks behind that of a timer: a name that is given already, no name, no points, and an outer radius that isn't above the inner one.
+// Blocks behind that of a timer: a name that is given already, no name, no points, and an outer radius that isn't above the inner one;
+// and how a timer goes on: as a template without a variable for its letters, with a word that is none, and as a template whose name is
+// given again.
 const BAD_BLOCKS: &[(&[u8], u32, Cause)] = &[
     (b"}\nBehavior = BHV_Timer {\nname = t", 5, Cause::B4),
     (b"}\nBehavior = BHV_Timer {\n}", 5, Cause::B11),
@@ -99,11 +108,30 @@ const BAD_BLOCKS: &[(&[u8], u32, Cause)] = &[
         8,
         Cause::B6,
     ),
+    (b"templating = spawn\n}", 4, Cause::B11),
+    (b"templating = Spawn", 3, Cause::B6),
+    (
+        b"templating = spawn\nupdates = UP\n}\nBehavior = BHV_Timer {\nname = t",
+        7,
+        Cause::B4,
+    ),
 ];
 
 #[test]
 fn bad_blocks(rt: HostRuntime) {
     are_refused(&rt, rt.alloc(), Kind::Behaviors, TIMER, BAD_BLOCKS);
+}
+
+const TEMPLATES: &[u8] =
+    b"Behavior = BHV_Timer {\nname = t\ntemplating = spawn\nupdates = UP\n}\nBehavior = BHV_Timer {\nname = u\ntemplating = spawn\ntemplating = disallowed\n}";
+
+// Of the words of a block the last one says whether it is a template.
+#[test]
+fn templates(rt: HostRuntime) {
+    let file = behaviors(&rt, rt.alloc(), TEMPLATES);
+    assert!(rt; file.blocks.len() == 2);
+    assert!(rt; file.blocks.get(0).common.template);
+    assert!(rt; !file.blocks.get(1).common.template);
 }
 
 // A behaviour that needs an axis which the domain lacks is refused at the end of its block.

@@ -1,4 +1,4 @@
-use Rattle.helm_core.proofs.Listing.{always_listed}
+use Rattle.helm_core.proofs.Births.{always_listed}
 use Rattle.helm_core.proofs.law.list_law.Goals as goal
 
 pub returns : goal.returns

@@ -1,7 +1,7 @@
-use Rattle.std.proofs.Common.{List, [], map, refl, subst, sym}
+use Rattle.std.proofs.Common.{List, [], refl, subst, sym}
 use Rattle.bhv_file.specs.declared.file.Block.{Block}
-use Rattle.helm_core.specs.Behaviors.{unstarted}
 use Rattle.helm_core.specs.Helms.{IsOutlook}
+use Rattle.helm_core.specs.Lists.{first_list}
 use Rattle.helm_core.specs.Standings.{IsCrewOf}
 use Rattle.helm_core.proofs.Rooted.{rooted_behind}
 use Rattle.helm_core.proofs.Turning.{all_may_step}
@@ -21,6 +21,6 @@ pub returns-clause-stands : goal.returns-clause-stands
 returns-clause-stands c = record {
   clock = refl;
   outlook = subst (λ decls. IsOutlook decls [] c.in_ok-outlook.outlook) refl c.in_ok-outlook.ensures;
-  crew = subst (λ (blocks : List Block). IsCrewOf 0 (map unstarted blocks) c.in_ok-crew.crew) (sym c.in_ok-crew.ensures.blocks) c.in_ok-crew.ensures.stands;
+  crew = subst (λ (blocks : List Block). IsCrewOf 0 (first_list blocks) c.in_ok-crew.crew) (sym c.in_ok-crew.ensures.blocks) c.in_ok-crew.ensures.stands;
   allstop = refl;
 }

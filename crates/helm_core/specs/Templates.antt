@@ -1,0 +1,130 @@
+-- What letters to templates make of the list of behaviours: the ones that they make, and the ones that they change.
+use Rattle.std.specs.Prelude.{ℕ, ◌+◌, ◌==◌, nat_lt, Bool, true, not, ◌&&◌, if◌then◌else◌, List, [], ◌∷◌, ◌++◌, fold, length, codes, bytes_eq, slice_get, slice_set, Option, Some, None, is_some, option_map, option_and_then, position}
+use Rattle.std.specs.List.{after_first, before_first, count_by, list_any, position_or_len}
+use Rattle.std.specs.Option.{option_eq}
+use Rattle.std.specs.Str.{str_eq_ignore_ascii_case}
+use Rattle.moos_post.specs.declared.value.Pair.{Pair}
+use Rattle.moos_post.specs.declared.value.Value.{Value}
+use Rattle.moos_post.specs.declared.value.Value.TheVariants.{Num, Text}
+use Rattle.moos_post.specs.Words.{is_name}
+use Rattle.moos_text.specs.Pairs.{Sides, sides_of}
+use Rattle.bhv_file.specs.declared.file.Block.{Block}
+use Rattle.bhv_file.specs.declared.spec.Spec.{Spec}
+use Rattle.bhv_kinds.specs.Turns.{KindTurn, Updated, params_at}
+use Rattle.bhv_kinds.specs.Updates.{updated}
+use Rattle.helm_core.specs.declared.iteration.How.{How}
+use Rattle.helm_core.specs.declared.iteration.How.TheVariants.{Refused, Changed, Spawned}
+use Rattle.helm_core.specs.declared.iteration.Update.{Update}
+use Rattle.helm_core.specs.declared.named.NamedPairs.{NamedPairs}
+use Rattle.helm_core.specs.Behaviors.{BhvSoFar, Birth}
+use Rattle.helm_core.specs.Plans.{is_template}
+
+-- `#`
+abbrev pub is_hash : ℕ → Bool
+is_hash byte = byte == 35
+
+-- what stands behind the first `#`, where there is one
+abbrev pub behind_hash : List ℕ → Option (List ℕ)
+behind_hash text = if nat_lt (position_or_len is_hash text) (length text) then Some (after_first is_hash text) else None
+
+-- the name in a part `name=N`
+abbrev pub name_said : Sides → Option (List ℕ)
+name_said sides = if str_eq_ignore_ascii_case sides.name (codes "name") && is_name sides.value then Some sides.value else None
+
+-- a name with the pairs behind it
+abbrev pub named_with : Option (List ℕ) → List ℕ → NamedPairs
+named_with pairs name = record { name = name; pairs = pairs }
+
+-- what a text says to a template: its first part is `name=N`, and what stands behind it, if anything, are pairs
+abbrev pub named_pairs : List ℕ → Option NamedPairs
+named_pairs text = option_map (named_with (behind_hash text)) (option_and_then name_said (sides_of (before_first is_hash text)))
+
+-- what a value says to a template: a number says nothing
+abbrev pub said_by : Value → Option NamedPairs
+said_by (Num number) = None
+said_by (Text text) = named_pairs text
+
+-- there are no pairs, or they are good as a whole for a behaviour with these parameters
+abbrev pub are_good : Spec → Option (List ℕ) → Bool
+are_good params None = true
+are_good params (Some pairs) = is_some (updated params pairs)
+
+-- one update more, where there are pairs
+abbrev pub with_said : List KindTurn → Option (List ℕ) → List KindTurn
+with_said turns None = turns
+with_said turns (Some pairs) = Updated pairs ∷ turns
+
+-- the behaviour that a letter makes of a template: it has the name that was said, and the template's parameters with the pairs
+abbrev pub made_from : Block → Birth → NamedPairs → BhvSoFar
+made_from template birth said = record { name = said.name; block = template; born = Some birth; lived = []; turns = with_said [] said.pairs }
+
+-- the behaviour with these pairs too
+abbrev pub changed_by : NamedPairs → BhvSoFar → BhvSoFar
+changed_by said one = record one { turns = with_said one.turns said.pairs }
+
+-- the behaviour has this name
+abbrev pub bears_name : List ℕ → BhvSoFar → Bool
+bears_name name one = bytes_eq one.name name
+
+-- it was made of this template; of all blocks of the file only this one has its name
+abbrev pub is_made_of : Block → BhvSoFar → Bool
+is_made_of template one = is_some one.born && bytes_eq one.block.common.name template.common.name
+
+-- the template has this name
+abbrev pub is_template_named : List ℕ → Block → Bool
+is_template_named name block = is_template block && bytes_eq block.common.name name
+
+-- no template has this name, and templates and a list of so many are together below 64
+abbrev pub may_make : List Block → List ℕ → ℕ → Bool
+may_make blocks name count = not (list_any (is_template_named name) blocks) && nat_lt (count_by is_template blocks + count) 64
+
+-- the list so far in an iteration, and the answers to letters to templates so far
+pub record Spawning : Type 0 where
+  pub ones : List BhvSoFar
+  pub answers : List Update
+
+-- a letter to this template was answered, and then this is the list
+abbrev pub answered : Block → Spawning → List BhvSoFar → How → Spawning
+answered template so_far ones how = record { ones = ones; answers = so_far.answers ++ record { name = template.common.name; how = how } ∷ [] }
+
+-- a letter with a name that none in the list has, in iteration `at`
+abbrev pub heard_new : List Block → ℕ → Block → Spawning → NamedPairs → Spawning
+heard_new blocks at template so_far said =
+    if may_make blocks said.name (length so_far.ones) && are_good template.spec said.pairs
+    then answered template so_far (so_far.ones ++ made_from template (record { iteration = at; letter = length so_far.answers }) said ∷ []) (Spawned said.name)
+    else answered template so_far so_far.ones Refused
+
+-- a letter with the name of this one, which stands at this place of the list
+abbrev pub heard_known : Block → Spawning → NamedPairs → ℕ → Option BhvSoFar → Spawning
+heard_known template so_far said place None = answered template so_far so_far.ones Refused
+heard_known template so_far said place (Some one) =
+    if is_made_of template one && are_good (params_at one.block.spec one.turns) said.pairs
+    then answered template so_far (slice_set so_far.ones place (changed_by said one)) Changed
+    else answered template so_far so_far.ones Refused
+
+-- by the place in the list where the name stands, if it does
+abbrev pub heard_at_place : List Block → ℕ → Block → Spawning → NamedPairs → Option ℕ → Spawning
+heard_at_place blocks at template so_far said None = heard_new blocks at template so_far said
+heard_at_place blocks at template so_far said (Some place) = heard_known template so_far said place (slice_get so_far.ones place)
+
+-- a letter to the template that says this, or nothing
+abbrev pub heard_said : List Block → ℕ → Block → Spawning → Option NamedPairs → Spawning
+heard_said blocks at template so_far None = answered template so_far so_far.ones Refused
+heard_said blocks at template so_far (Some said) = heard_at_place blocks at template so_far said (position (bears_name said.name) so_far.ones)
+
+-- a letter, which is one to the template where it is of its variable
+abbrev pub heard_to : List Block → ℕ → Block → Spawning → Pair → Spawning
+heard_to blocks at template so_far letter =
+    if option_eq bytes_eq template.common.updates (Some letter.var) then heard_said blocks at template so_far (said_by letter.value) else so_far
+
+-- all letters to a block of the file, where it is a template
+abbrev pub heard_by : List Block → ℕ → List Pair → Spawning → Block → Spawning
+heard_by blocks at letters so_far block = if is_template block then fold (heard_to blocks at block) so_far letters else so_far
+
+-- before the letters of an iteration
+abbrev pub none_spawned : List BhvSoFar → Spawning
+none_spawned ones = record { ones = ones; answers = [] }
+
+-- The letters of iteration `at` to all templates, in file order, where this was the list before.
+abbrev pub spawned : List Block → ℕ → List Pair → List BhvSoFar → Spawning
+spawned blocks at letters ones = fold (heard_by blocks at letters) (none_spawned ones) blocks

@@ -1,0 +1,202 @@
+// What one letter to a template makes or changes.
+ghost use Rattle.std.specs.Prelude.{◌≡◌, ℕ, ◌<◌, ◌&&◌, [], List, length, slice_get, Some, bytes_eq, position, true, IfOk};
+ghost use Rattle.std.specs.List.{AllZip, count_by, list_any};
+ghost use Rattle.bhv_file.specs.declared.file.Block.{Block};
+ghost use Rattle.bhv_file.specs.declared.spec.Spec.{Spec};
+ghost use Rattle.bhv_file.specs.declared.common.Common.{Common};
+ghost use Rattle.bhv_kinds.specs.Standing.{IsKindOf};
+ghost use Rattle.bhv_kinds.specs.Turns.{KindTurn, params_at};
+ghost use Rattle.bhv_life.specs.Standing.{IsLifeOf};
+ghost use Rattle.helm_core.specs.Plans.{is_template};
+ghost use Rattle.helm_core.specs.Standings.{AreFew, HasSpawned, HasAnswered, IsKept, MaySpawn, is_kept_called};
+ghost use Rattle.helm_core.specs.Templates.{Spawning, are_good, heard_known, heard_new, heard_said, is_template_named, may_make, with_said};
+
+use crate::behavior::{Behavior, BoxedKind};
+use crate::iteration::How;
+use crate::named::NamedPairs;
+use bhv_file::Block;
+use bhv_kinds::Kind;
+use bhv_life::Life;
+use moos_post::{Copied, Name, NoMemory, Txt};
+use std::alloc::Global;
+
+// A letter to the template at this place, which says this or nothing: what becomes of it.
+pub(crate) fn hear_said(
+    alloc: Global,
+    blocks: &[Block],
+    place: usize,
+    template: &Block,
+    said: Option<NamedPairs>,
+    kept: &mut Vec<Behavior>,
+) -> Result<How, NoMemory>
+    requires at { slice_get blocks.now place ≡ Some template.now }
+    requires may { MaySpawn blocks.now kept.old.items }
+    ensures heard { IfOk result (λ how. (clock at : ℕ) (before : Spawning) → AllZip (IsKept blocks.now clock) before.ones kept.old.items
+        → HasAnswered blocks.now clock template.now before (heard_said blocks.now at template.now before said) kept.new.items how) }
+    ensures more { IfOk result (λ _. HasSpawned blocks.now kept.old.items kept.new.items) }
+{
+    match said {
+        Some(said) => hear_named(alloc, blocks, place, template, said, kept),
+        None => Ok(How::Refused),
+    }
+}
+
+// A letter with a name.
+fn hear_named(
+    alloc: Global,
+    blocks: &[Block],
+    place: usize,
+    template: &Block,
+    said: NamedPairs,
+    kept: &mut Vec<Behavior>,
+) -> Result<How, NoMemory>
+    requires at { slice_get blocks.now place ≡ Some template.now }
+    requires may { MaySpawn blocks.now kept.old.items }
+    ensures heard { IfOk result (λ how. (clock at : ℕ) (before : Spawning) → AllZip (IsKept blocks.now clock) before.ones kept.old.items
+        → HasAnswered blocks.now clock template.now before (heard_said blocks.now at template.now before (Some said)) kept.new.items how) }
+    ensures more { IfOk result (λ _. HasSpawned blocks.now kept.old.items kept.new.items) }
+{
+    match place_of(kept.as_slice(), said.name.bytes()) {
+        Some(known) => {
+            let how = hear_known(alloc, blocks, template, said, known, kept)?;
+            Ok(how)
+        },
+        None => {
+            let how = hear_new(alloc, blocks, place, template, said, kept)?;
+            Ok(how)
+        },
+    }
+}
+
+// Where the behaviour of this name stands in the list.
+fn place_of(kept: &[Behavior], name: &[u8]) -> Option<usize>
+    ensures { result ≡ position (is_kept_called name.now) kept.now }
+{
+    kept.iter().position(|one| one.name.bytes() == name)
+}
+
+// A letter with a name that none in the list has.
+fn hear_new(
+    alloc: Global,
+    blocks: &[Block],
+    place: usize,
+    template: &Block,
+    said: NamedPairs,
+    kept: &mut Vec<Behavior>,
+) -> Result<How, NoMemory>
+    requires at { slice_get blocks.now place ≡ Some template.now }
+    requires may { MaySpawn blocks.now kept.old.items }
+    ensures heard { IfOk result (λ how. (clock at : ℕ) (before : Spawning) → AllZip (IsKept blocks.now clock) before.ones kept.old.items
+        → HasAnswered blocks.now clock template.now before (heard_new blocks.now at template.now before said) kept.new.items how) }
+    ensures more { IfOk result (λ _. HasSpawned blocks.now kept.old.items kept.new.items) }
+{
+    if !may_make(blocks, said.name.bytes(), kept.as_slice()) {
+        return Ok(How::Refused);
+    }
+    let spec = template.spec.copy(alloc)?;
+    let mut kind = Kind::make(spec);
+    let good = take_pairs(alloc, &mut kind, &said.pairs)?;
+    if !good {
+        return Ok(How::Refused);
+    }
+    let kind = BoxedKind::of(alloc, kind)?;
+    let name = said.name.copy(alloc)?;
+    kept.push(made(name, place, kind))?;
+    Ok(How::Spawned(said.name))
+}
+
+// Whether a behaviour of this name may be made beside these.
+fn may_make(blocks: &[Block], name: &[u8], kept: &[Behavior]) -> bool
+    requires few { AreFew blocks.now (length kept.now) }
+    ensures { result ≡ may_make blocks.now name.now (length kept.now) }
+{
+    !is_template_named(blocks, name) && templates(blocks) + kept.len() < 64
+}
+
+// Whether a template has this name.
+fn is_template_named(blocks: &[Block], name: &[u8]) -> bool
+    ensures { result ≡ list_any (is_template_named name.now) blocks.now }
+{
+    blocks.iter().any(|block| is_template(block) && block.common.name.bytes() == name)
+}
+
+// Whether the block is a template, which never runs itself.
+pub(crate) fn is_template(block: &Block) -> bool
+    ensures { result ≡ is_template block.now }
+{
+    block.common.template
+}
+
+// How many templates the file has.
+fn templates(blocks: &[Block]) -> usize
+    ensures { result ≡ count_by is_template blocks.now }
+{
+    blocks.iter().filter(|block| is_template(block)).count()
+}
+
+// What is kept of a behaviour that a letter makes of the block at this place.
+fn made(name: Name, block: usize, kind: BoxedKind) -> Behavior
+    ensures named { result.name ≡ name }
+    ensures of { result.block ≡ block }
+    ensures by_letter { result.made ≡ true }
+    ensures kind { result.kind ≡ kind }
+    ensures fresh { (common : Common) → IsLifeOf common [] result.life }
+{
+    Behavior {
+        name,
+        block,
+        made: true,
+        kind,
+        life: Life::make(),
+    }
+}
+
+// Takes pairs, where there are some. False exactly where they aren't good as a whole.
+fn take_pairs(alloc: Global, kind: &mut Kind, pairs: &Option<Txt>) -> Result<bool, NoMemory>
+    ensures good { IfOk result (λ good. (spec : Spec) (turns : List KindTurn) → IsKindOf spec turns kind.old → good ≡ are_good (params_at spec turns) pairs.now) }
+    ensures stands { IfOk result (λ _. (spec : Spec) (turns : List KindTurn) → IsKindOf spec turns kind.old → IsKindOf spec (with_said turns pairs.now) kind.new) }
+{
+    match pairs {
+        Some(pairs) => {
+            let good = kind.update(alloc, pairs)?;
+            Ok(good)
+        },
+        None => Ok(true),
+    }
+}
+
+// A letter with the name of the behaviour at this place of the list.
+fn hear_known(
+    alloc: Global,
+    blocks: &[Block],
+    template: &Block,
+    said: NamedPairs,
+    place: usize,
+    kept: &mut Vec<Behavior>,
+) -> Result<How, NoMemory>
+    requires place { place < length kept.old.items }
+    requires may { MaySpawn blocks.now kept.old.items }
+    ensures heard { IfOk result (λ how. (clock : ℕ) (before : Spawning) → AllZip (IsKept blocks.now clock) before.ones kept.old.items
+        → HasAnswered blocks.now clock template.now before (heard_known template.now before said place (slice_get before.ones place)) kept.new.items how) }
+    ensures more { IfOk result (λ _. HasSpawned blocks.now kept.old.items kept.new.items) }
+{
+    let one = &kept[place];
+    if !is_made_of(blocks, template, one) {
+        return Ok(How::Refused);
+    }
+    let mut kind = one.kind.lent().copy(alloc)?;
+    let good = take_pairs(alloc, &mut kind, &said.pairs)?;
+    if !good {
+        return Ok(How::Refused);
+    }
+    kept[place].kind = BoxedKind::of(alloc, kind)?;
+    Ok(How::Changed)
+}
+
+// Whether it was made of this template: a letter made it, and its block has the template's name.
+fn is_made_of(blocks: &[Block], template: &Block, one: &Behavior) -> bool
+    requires within { one.now.block < length blocks.now }
+    ensures { (block : Block) → slice_get blocks.now one.now.block ≡ Some block → result ≡ (one.now.made && bytes_eq block.common.name template.now.common.name) }
+{
+    one.made && blocks[one.block].common.name.bytes() == template.common.name.bytes()
+}
