@@ -3,11 +3,12 @@
 
     bench/simulate.py [RUNS]   three times where nothing is given
 
-The script that is played is made from the report of the simulation: it has the opening of pMarinePID and uSimMarine, and each of their
-fetches and posts a thousandth of a second behind its tick, so that the helm hears the same before each tick and decides the same. The least
-seconds, the least seconds of a processor and the peak memory of both are printed, and how many times `simulate` takes what `play`
-does. It says so if the helms differ. MOOS names another program than `./moos`. Nothing here is part of the gate, and no figure is promised.
+The script that is played is made from the report of the simulation: it has the opening of pMarinePID and uSimMarine, and their
+fetches and posts one and two thousandths of a second behind each tick, so that the helm hears the same before each tick and decides the
+same. The least seconds, the least seconds of a processor and the peak memory of both are printed, and how many times `simulate` takes
+what `play` does. It says so if the helms differ. MOOS names another program than `./moos`. Nothing here is part of the gate, and no figure is promised.
 """
+import hashlib
 import os
 import subprocess
 import sys
@@ -26,18 +27,18 @@ FILES = {
     "sail.txt": ["0 owner post MOOS_MANUAL_OVERRIDE=false", f"{(TICKS - 1) / APP_TICK} until"],
     "sail.vehicle": [],
 }
-VEHICLE = ("pMarinePID", "uSimMarine")
+LATER = {"pMarinePID": 0.001, "uSimMarine": 0.002}
 
 
-def entries(report):
+def entries(lines):
     """The entries of a report, each with the lines below it."""
-    found = []
-    for line in report:
+    entry = []
+    for line in lines:
         if line.startswith("%% entry "):
-            found.append([line])
-        elif found:
-            found[-1].append(line)
-    return found
+            yield entry
+            entry = []
+        entry.append(line)
+    yield entry
 
 
 def lines_of(entry, later):
@@ -54,29 +55,36 @@ def lines_of(entry, later):
 
 
 def script_of(report):
-    """What the vehicle's clients do at the start, and then what they do behind each tick."""
-    found = entries(report)
-    ticked = next(place for place, entry in enumerate(found) if entry[0].endswith(" pHelmIvP fetch"))
-    ours = [(entry, 0.001 if place > ticked else 0) for place, entry in enumerate(found) if entry[0].split(" ")[4] in VEHICLE]
-    return FILES["sail.txt"][:1] + [line for entry, later in ours for line in lines_of(entry, later)]
+    """What the vehicle's clients do at the start, and then what they do behind each tick, each at a stamp of its own."""
+    yield FILES["sail.txt"][0]
+    ticked = False
+    for entry in entries(line.rstrip("\n") for line in report):
+        words = entry[0].split(" ") if entry else [""]
+        ticked = ticked or words[4:6] == ["pHelmIvP", "fetch"]
+        if words[0] == "%%" and words[1] == "entry" and words[4] in LATER:
+            yield from lines_of(entry, LATER[words[4]] if ticked else 0)
 
 
-def decisions(report):
-    return [line for line in report if line.startswith("%% decision ")]
+def decisions(path):
+    """How many decisions a report has, and a sum over them."""
+    count, digest = 0, hashlib.sha256()
+    with open(path) as report:
+        for line in report:
+            if line.startswith("%% decision "):
+                count += 1
+                digest.update(line.encode())
+    return count, digest.hexdigest()
 
 
-def run(words, folder):
-    """Seconds, seconds of a processor and megabytes of a run, and its report."""
-    out = os.path.join(folder, "report.txt")
-    with open(out, "w") as file:
+def run(words, folder, report):
+    """Seconds, seconds of a processor and megabytes of a run, whose report goes to a file."""
+    with open(report, "w") as file:
         start = time.perf_counter()
         process = subprocess.Popen([MOOS, *words], stdout=file, cwd=folder)
         _, status, use = os.wait4(process.pid, 0)
-        seconds = time.perf_counter() - start
     if status:
         sys.exit(f"{words}: ended with {os.waitstatus_to_exitcode(status)}")
-    with open(out) as file:
-        return (seconds, use.ru_utime + use.ru_stime, use.ru_maxrss / 1024), file.read().splitlines()
+    return time.perf_counter() - start, use.ru_utime + use.ru_stime, use.ru_maxrss / 1024
 
 
 def main():
@@ -85,18 +93,18 @@ def main():
         for name, lines in FILES.items():
             with open(os.path.join(folder, name), "w") as file:
                 file.write("\n".join(lines) + "\n")
-        simulated, played = ["simulate", "sail.txt", "sail.moos", "sail.vehicle"], ["play", "same.txt", "sail.moos"]
-        _, report = run(simulated, folder)
-        with open(os.path.join(folder, "same.txt"), "w") as file:
-            file.write("\n".join(script_of(report)) + "\n")
-        _, same = run(played, folder)
-        if decisions(report) != decisions(same):
+        one, other = (os.path.join(folder, name) for name in ("simulated", "played"))
+        simulate, play = ["simulate", "sail.txt", "sail.moos", "sail.vehicle"], ["play", "same.txt", "sail.moos"]
+        run(simulate, folder, one)
+        with open(one) as report, open(os.path.join(folder, "same.txt"), "w") as script:
+            script.writelines(line + "\n" for line in script_of(report))
+        turns = [(run(simulate, folder, one), run(play, folder, other)) for _ in range(runs)]
+        if decisions(one) != decisions(other):
             print("the decisions differ")
-        print(f"{len(decisions(report))} decisions")
-        turns = [(run(simulated, folder)[0], run(played, folder)[0]) for _ in range(runs)]
+        print(f"{decisions(one)[0]} decisions")
         for name, place in (("seconds", 0), ("of a processor", 1), ("megabytes", 2)):
-            one, other = (min(turn[which][place] for turn in turns) for which in (0, 1))
-            print(f"{name:15} simulate {one:8.3f}  play {other:8.3f}  {one / other:5.2f}")
+            simulated, played = (min(turn[which][place] for turn in turns) for which in (0, 1))
+            print(f"{name:15} simulate {simulated:8.3f}  play {played:8.3f}  {simulated / played:5.2f}")
 
 
 main()
