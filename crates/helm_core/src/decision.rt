@@ -4,7 +4,7 @@ ghost use Rattle.std.specs.List.{All, filter_map};
 ghost use Rattle.std.specs.Option.{option_to_list};
 ghost use Rattle.moos_post.specs.Words.{IsMilli};
 ghost use Rattle.ivp_domain.specs.Domains.{is_point};
-ghost use Rattle.helm_core.specs.Decisions.{IsFitTerm, active_term, best_decision, decision_made, number_on};
+ghost use Rattle.helm_core.specs.Decisions.{IsFitTerm, active_term, decision_made, number_on};
 ghost use Rattle.helm_core.specs.Helms.{allstop_text};
 ghost use Rattle.helm_core.specs.Posts.{desired, desired_speed};
 ghost use Rattle.helm_core.specs.Standings.{IsFit};
@@ -13,10 +13,9 @@ use crate::allstop::{Allstop, some_active};
 use crate::own_names::OwnNames;
 use crate::posts::add_number;
 use crate::showing::Showing;
-use ivp_cert::{Claim, Decision, cut};
+use ivp_cert::{Decision, decide};
 use ivp_domain::{Axis, Domain, Point};
-use ivp_pool::solve;
-use ivp_problem::{Problem, Term, keys_law, sum_of};
+use ivp_problem::{Problem, Term};
 use moos_io::Gate;
 use moos_post::{Batch, Name, NoMemory};
 use std::alloc::Global;
@@ -73,34 +72,6 @@ fn add_term(terms: &mut Vec<Term>, showing: Showing) -> Result<(), NoMemory>
         _ => {},
     }
     Ok(())
-}
-
-/// The decision on a problem: its best point and the sum there, with the certificate that shows it. It is the same for each
-/// number of workers, which are 1 to 16.
-pub fn decide<R: Threads + Wait + Sync, G: Gate>(
-    rt: &R,
-    alloc: Global,
-    problem: Problem,
-    workers: u32,
-    gate: &G,
-) -> Result<Decision, NoMemory>
-    requires some_worker { 1 ≤ workers }
-    requires few_workers { workers ≤ 16 }
-    ensures best { IfOk result (λ decision. decision ≡ best_decision problem) }
-    ensures point { IfOk result (λ decision. IsTrue (is_point decision.problem.axes decision.claim.point)) }
-{
-    keys_law(&problem);
-    let solved = solve(rt, alloc, &problem, workers, gate)?;
-    let cert = cut(alloc, &problem, solved.key)?;
-    let claim = Claim {
-        point: solved.point,
-        sum: sum_of(solved.key),
-    };
-    Ok(Decision {
-        problem,
-        claim,
-        cert,
-    })
 }
 
 // The problem that these terms make: none is refused.

@@ -5,8 +5,11 @@ pub mod Pieces
 pub mod SaidLines
 pub mod Problems
 pub mod Certificates
+pub mod Subtrees
+pub mod Dealing
 pub mod Walks
 pub mod Decisions
 pub mod Stages
 pub mod Texts
+pub mod PathTexts
 pub mod Printed

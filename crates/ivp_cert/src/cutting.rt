@@ -21,49 +21,54 @@ pub fn cut(alloc: Global, problem: &Problem, key: Key) -> Result<Cert, NoMemory>
     ensures { IfOk result (λ cert. cert ≡ certificate_of problem.now) }
 {
     problem_law(problem);
-    let mut cert = Cert::of(Vec::with_capacity(alloc, ROOM)?);
+    let mut lines = Vec::with_capacity(alloc, ROOM)?;
     add_topmost(
         alloc,
         problem,
         key,
         &problem.root(),
         &mut Trail::new(),
-        &mut cert,
+        &mut lines,
     )?;
-    Ok(cert)
+    Ok(Cert::of(lines))
 }
 
 // Adds the line of a node with this bound.
-fn add_line(alloc: Global, numbers: &[u32], bound: Key, cert: &mut Cert) -> Result<(), NoMemory>
+fn add_line(
+    alloc: Global,
+    numbers: &[u32],
+    bound: Key,
+    lines: &mut Vec<Line>,
+) -> Result<(), NoMemory>
     requires { length numbers.now ≤ 64 }
-    ensures { OnOk result (cert.new ≡ cert.old ++ record { path = numbers.now; sum = bound.sum; index = bound.index } ∷ []) }
+    ensures { OnOk result (lines.new.items ≡ lines.old.items ++ record { path = numbers.now; sum = bound.sum; index = bound.index } ∷ []) }
 {
     let path = Path::of(alloc, numbers)?;
-    let line = Line {
+    lines.push(Line {
         path,
         sum: sum_of(bound),
         index: index_of_key(bound),
-    };
-    cert.add(line)
+    })?;
+    Ok(())
 }
 
 // Adds the lines of the topmost nodes, from this node on, whose bound is at most the key.
-fn add_topmost(
+pub(crate) fn add_topmost(
     alloc: Global,
     problem: &Problem,
     key: Key,
     node: &Node,
     trail: &mut Trail,
-    cert: &mut Cert,
+    lines: &mut Vec<Line>,
 ) -> Result<(), NoMemory>
     requires node { IsNode problem.now node.now }
     requires trail { length trail.old ≡ node.now.depth }
-    ensures lines { OnOk result (cert.new ≡ cert.old ++ topmost problem.now key (drop node.now.depth problem.now.terms) trail.old node.now) }
+    ensures lines { OnOk result (lines.new.items ≡ lines.old.items ++ topmost problem.now key (drop node.now.depth problem.now.terms) trail.old node.now) }
     ensures trail { OnOk result (trail.new ≡ trail.old) }
 {
     let bound = bound_of(problem, node);
     if at_most(bound, key) {
-        add_line(alloc, trail.all(), bound, cert)?;
+        add_line(alloc, trail.all(), bound, lines)?;
         return Ok(());
     }
     if node.depth >= problem.len() {
@@ -72,7 +77,7 @@ fn add_topmost(
     let mut from = 0;
     while let Some(child) = problem.next_child(node, from) {
         trail.push(child.piece);
-        add_topmost(alloc, problem, key, &child.node, trail, cert)?;
+        add_topmost(alloc, problem, key, &child.node, trail, lines)?;
         trail.pop();
         from = child.piece + 1;
     }

@@ -71,7 +71,8 @@ impl Path {
 
     /// All of them, in order.
     pub fn all(&self) -> &[u32]
-        ensures { result.now ≡ self.now }
+        ensures all { result.now ≡ self.now }
+        ensures few { length result.now ≤ 64 }
     {
         self.numbers.as_slice()
     }

@@ -8,6 +8,7 @@ ghost use Rattle.ivp_cert.specs.Texts.{claim_text, decision_lines, line_text};
 
 use crate::cert::{Cert, Line};
 use crate::claim::{Claim, Decision};
+use crate::path_text::PathText;
 use crate::put::{put, put_numbers};
 use crate::put_problem::put_problem;
 use moos_io::{Buffer, Failed, Sink};
@@ -104,8 +105,9 @@ fn put_cert<K: Sink>(
     ensures { Wrote (way (K.taken out.old) buffer.old (K.faults out.old)) (way (K.taken out.new) buffer.new (K.faults out.new))
         result (flat_map (line_text prefix.now) cert.now) }
 {
+    let mut texts = PathText::new();
     for number in 0..cert.len() {
-        if let Err(failed) = put_line(prefix, cert.get(number), buffer, out) {
+        if let Err(failed) = put_line(prefix, cert.get(number), &mut texts, buffer, out) {
             return Err(failed);
         }
     }
@@ -115,16 +117,15 @@ fn put_cert<K: Sink>(
 fn put_line<K: Sink>(
     prefix: &[u8],
     line: &Line,
+    texts: &mut PathText,
     buffer: &mut Buffer,
     out: &mut K,
 ) -> Result<(), Failed>
     ensures { Wrote (way (K.taken out.old) buffer.old (K.faults out.old)) (way (K.taken out.new) buffer.new (K.faults out.new))
         result (line_text prefix.now line.now) }
 {
-    if let Err(failed) = put(&[prefix, b"cut"], buffer, out) {
-        return Err(failed);
-    }
-    if let Err(failed) = put_numbers(line.path.all(), buffer, out) {
+    let path = texts.of(line.path.all());
+    if let Err(failed) = put(&[prefix, b"cut", path], buffer, out) {
         return Err(failed);
     }
     put_bound(line.sum, line.index, buffer, out)

@@ -56,4 +56,14 @@ impl Trail {
     {
         &self.numbers[..self.len]
     }
+
+    /// The same path.
+    pub fn copy(&self) -> Trail
+        ensures { result ≡ self.now }
+    {
+        Trail {
+            numbers: self.numbers,
+            len: self.len,
+        }
+    }
 }

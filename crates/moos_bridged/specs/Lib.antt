@@ -1,5 +1,7 @@
 pub mod Bridging
 pub mod Communities
+pub mod Ending
+pub mod Entries
 pub mod Fronts
 pub mod Opening
 pub mod Racing

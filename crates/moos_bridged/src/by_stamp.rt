@@ -2,10 +2,10 @@
 ghost use Rattle.std.specs.Prelude.{◌≡◌, ◌<◌, true, false, IfOk, IsTrue, OnOk, nat_le};
 ghost use Rattle.std.specs.List.{list_all};
 ghost use Rattle.std.specs.Thread.{IsSync};
-ghost use Rattle.moos_bridged.specs.Communities.{community_history, community_script, HasPlayedStamp, IsResting, left_lines};
+ghost use Rattle.moos_bridged.specs.Communities.{community_script, HasPlayedStamp, IsResting, left_lines};
+ghost use Rattle.moos_bridged.specs.Ending.{HaveShared};
 ghost use Rattle.moos_bridged.specs.Opening.{AreOpened};
 ghost use Rattle.moos_bridged.specs.Stamping.{earlier, IsSharedSoFar, lines_left};
-ghost use Rattle.moos_share.specs.Bridged.{IsShared};
 ghost use Rattle.script_reader.specs.declared.script.Order.TheVariants.{Stamp};
 
 use crate::community::Community;
@@ -29,10 +29,7 @@ pub(crate) fn share_by_stamp<R: Threads + Wait + Sync, G: Gate>(
     gate: &G,
 ) -> Result<(), NoMemory>
     requires ready { AreOpened bridge.old one.old two.old }
-    ensures resting { OnOk result (IsResting one.new × IsResting two.new) }
-    ensures shared { OnOk result (IsShared Stamp (community_script one.old) (community_script two.old) bridge.old.rules (community_history one.new) (community_history two.new)) }
-    ensures first { OnOk result (community_script one.new ≡ community_script one.old) }
-    ensures second { OnOk result (community_script two.new ≡ community_script two.old) }
+    ensures { OnOk result (HaveShared Stamp bridge.old.rules one.old one.new two.old two.new) }
 {
     while share_next(rt, alloc, bridge, one, two, gate)? {}
     Ok(())

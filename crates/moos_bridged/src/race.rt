@@ -2,11 +2,11 @@
 ghost use Rattle.std.specs.Prelude.{◌≡◌, ◌<◌, OnOk};
 ghost use Rattle.std.specs.List.{All, AllZip};
 ghost use Rattle.std.specs.Thread.{IsSync};
-ghost use Rattle.moos_bridged.specs.Communities.{bridge_in, community_history, community_script, IsResting};
-ghost use Rattle.moos_bridged.specs.Racing.{AreRaced, HasCarriedLines, HasRacedFirst, IsFirstReady, MayCarryLines, stamps_of};
+ghost use Rattle.moos_bridged.specs.Communities.{bridge_in};
+ghost use Rattle.moos_bridged.specs.Ending.{HaveShared};
+ghost use Rattle.moos_bridged.specs.Racing.{HasCarriedLines, HasRacedFirst, HaveRaced, IsFirstReady, MayCarryLines, stamps_of};
 ghost use Rattle.moos_bridged.specs.Opening.{AreOpened};
 ghost use Rattle.moos_client.specs.Calls.{MayCall};
-ghost use Rattle.moos_share.specs.Bridged.{IsShared};
 ghost use Rattle.moos_share.specs.Carrying.{MayCarry, seated};
 ghost use Rattle.moos_step.specs.Steps.{HasEnded, IsApart};
 ghost use Rattle.script_reader.specs.declared.script.Order.TheVariants.{Race};
@@ -33,10 +33,7 @@ pub(crate) fn share_by_race<R: Threads + Wait + Sync, G: Gate>(
     gate: &G,
 ) -> Result<(), NoMemory>
     requires ready { AreOpened bridge.old one.old two.old }
-    ensures resting { OnOk result (IsResting one.new × IsResting two.new) }
-    ensures shared { OnOk result (IsShared Race (community_script one.old) (community_script two.old) bridge.old.rules (community_history one.new) (community_history two.new)) }
-    ensures first { OnOk result (community_script one.new ≡ community_script one.old) }
-    ensures second { OnOk result (community_script two.new ≡ community_script two.old) }
+    ensures { OnOk result (HaveShared Race bridge.old.rules one.old one.new two.old two.new) }
 {
     let stop = one.script.stop.max(two.script.stop);
     race(rt, alloc, bridge, one, two, gate)?;
@@ -54,10 +51,7 @@ fn race<R: Threads + Wait + Sync, G: Gate>(
     gate: &G,
 ) -> Result<(), NoMemory>
     requires ready { AreOpened bridge.old one.old two.old }
-    ensures raced { OnOk result (AreRaced bridge.new one.new two.new) }
-    ensures rules { OnOk result (bridge.new.rules ≡ bridge.old.rules) }
-    ensures first { OnOk result (community_script one.new ≡ community_script one.old) }
-    ensures second { OnOk result (community_script two.new ≡ community_script two.old) }
+    ensures { OnOk result (HaveRaced bridge.old bridge.new one.old one.new two.old two.new) }
 {
     if one.bridge() == 0 {
         two.play_all(rt, alloc, gate)?;
@@ -81,10 +75,7 @@ fn race_alone<R: Threads + Wait + Sync, G: Gate>(
     requires ready { AreOpened bridge.old one.old two.old }
     requires first { 0 < bridge_in one.old }
     requires second { bridge_in two.old ≡ 0 }
-    ensures raced { OnOk result (AreRaced bridge.new one.new two.new) }
-    ensures rules { OnOk result (bridge.new.rules ≡ bridge.old.rules) }
-    ensures first { OnOk result (community_script one.new ≡ community_script one.old) }
-    ensures second { OnOk result (community_script two.new ≡ community_script two.old) }
+    ensures { OnOk result (HaveRaced bridge.old bridge.new one.old one.new two.old two.new) }
 {
     let to = &mut two.first.seat;
     race_first(rt, alloc, bridge, one, &two.lock, to, gate)?;
@@ -104,10 +95,7 @@ fn race_both<R: Threads + Wait + Sync, G: Gate>(
     requires ready { AreOpened bridge.old one.old two.old }
     requires first { 0 < bridge_in one.old }
     requires second { 0 < bridge_in two.old }
-    ensures raced { OnOk result (AreRaced bridge.new one.new two.new) }
-    ensures rules { OnOk result (bridge.new.rules ≡ bridge.old.rules) }
-    ensures first { OnOk result (community_script one.new ≡ community_script one.old) }
-    ensures second { OnOk result (community_script two.new ≡ community_script two.old) }
+    ensures { OnOk result (HaveRaced bridge.old bridge.new one.old one.new two.old two.new) }
 {
     let number = two.bridge();
     let lines = two.script.lines.all();

@@ -1,6 +1,6 @@
 // Two scripts played at once, with a bridge between their communities.
 ghost use Rattle.std.specs.Prelude.{◌≡◌, IfOk, OnOk};
-ghost use Rattle.moos_bridged.specs.Communities.{community_history, community_script, IsResting};
+ghost use Rattle.moos_bridged.specs.Ending.{HaveShared};
 ghost use Rattle.moos_bridged.specs.Opening.{AreOpened};
 ghost use Rattle.moos_share.specs.Bridged.{IsShared, names_bridged, regs_of_rules};
 ghost use Rattle.script_reader.specs.Validity.{IsValid};
@@ -75,10 +75,7 @@ fn share_in_order<R: Threads + Wait + Sync, G: Gate>(
     gate: &G,
 ) -> Result<(), NoMemory>
     requires ready { AreOpened bridge.old one.old two.old }
-    ensures resting { OnOk result (IsResting one.new × IsResting two.new) }
-    ensures shared { OnOk result (IsShared order (community_script one.old) (community_script two.old) bridge.old.rules (community_history one.new) (community_history two.new)) }
-    ensures first { OnOk result (community_script one.new ≡ community_script one.old) }
-    ensures second { OnOk result (community_script two.new ≡ community_script two.old) }
+    ensures { OnOk result (HaveShared order bridge.old.rules one.old one.new two.old two.new) }
 {
     match order {
         Order::Stamp => share_by_stamp(rt, alloc, bridge, one, two, gate),

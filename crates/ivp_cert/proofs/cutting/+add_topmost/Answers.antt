@@ -11,7 +11,7 @@ use Rattle.ivp_cert.proofs.cutting.+add_topmost.Goals as goal
 pub returns-then-at_most-clause-lines : goal.returns-then-at_most-clause-lines
 returns-then-at_most-clause-lines t c =
     let problem = c.args.problem.now in
-    own_added problem c.args.key c.args.trail.now c.all.result.now c.args.node.now c.bound_of-bound.result c.args.cert.now c.add_line.new.cert c.bound_of-bound.ensures.bound c.all.ensures.all (subst (λ (k : Key). AtMost k c.args.key) c.bound_of-bound.ensures.bound (c.at_most.ensures.0 c.if-at_most.true)) c.in_ok-add_line.ensures
+    own_added problem c.args.key c.args.trail.now c.all.result.now c.args.node.now c.bound_of-bound.result c.args.lines.now.items c.add_line.new.lines.items c.bound_of-bound.ensures.bound c.all.ensures.all (subst (λ (k : Key). AtMost k c.args.key) c.bound_of-bound.ensures.bound (c.at_most.ensures.0 c.if-at_most.true)) c.in_ok-add_line.ensures
 
 pub returns-then-node-len-clause-lines : goal.returns-then-node-len-clause-lines
 returns-then-node-len-clause-lines t c =
@@ -19,7 +19,7 @@ returns-then-node-len-clause-lines t c =
     let node = c.args.node.now in
     let full : length problem.terms ≤ node.depth = omega (arith, c.if-node-len.true, c.len.ensures.len) in
     let none = left_full problem c.args.key c.args.trail.now node full (false_at_most (bound_of c.args.problem.now c.args.node.now) c.args.key (λ le. absurd (false≢true (sym c.if-at_most.false ∙ c.at_most.ensures.1 (subst (λ (k : Key). AtMost k c.args.key) (sym c.bound_of-bound.ensures.bound) le))))) in
-    sym (ap (λ ls. c.args.cert.now ++ ls) none ∙ append-nil c.args.cert.now)
+    sym (ap (λ ls. c.args.lines.now.items ++ ls) none ∙ append-nil c.args.lines.now.items)
 
 pub loop-child-init : goal.loop-child-init
 loop-child-init t c =
@@ -27,7 +27,7 @@ loop-child-init t c =
     let node = c.args.node.now in
     record {
       few = omega arith;
-      lines = ap (λ ls. c.args.cert.now ++ ls) (left_start problem c.args.key c.args.trail.now node (omega (arith, c.if-node-len.false, c.len.ensures.len)) (false_at_most (bound_of c.args.problem.now c.args.node.now) c.args.key (λ le. absurd (false≢true (sym c.if-at_most.false ∙ c.at_most.ensures.1 (subst (λ (k : Key). AtMost k c.args.key) (sym c.bound_of-bound.ensures.bound) le))))));
+      lines = ap (λ ls. c.args.lines.now.items ++ ls) (left_start problem c.args.key c.args.trail.now node (omega (arith, c.if-node-len.false, c.len.ensures.len)) (false_at_most (bound_of c.args.problem.now c.args.node.now) c.args.key (λ le. absurd (false≢true (sym c.if-at_most.false ∙ c.at_most.ensures.1 (subst (λ (k : Key). AtMost k c.args.key) (sym c.bound_of-bound.ensures.bound) le))))));
       trail = refl;
     }
 
@@ -51,7 +51,7 @@ loop-child-preserved t c =
     let more : c.push.new.self ≡ path ++ child.child.piece ∷ [] = c.push.ensures ∙ ap (λ p. p ++ child.child.piece ∷ []) old.trail in
     record {
       few = omega (arith, child.ensures.piece.1);
-      lines = old.lines ∙ child_added problem c.args.key path c.push.new.self node child.child.node c.loop-child.from child.child.piece c.loop-child.cert c.add_topmost.new.cert below child.ensures.piece.0 child.ensures.least child.ensures.child more c.in_ok-add_topmost.ensures.lines;
+      lines = old.lines ∙ child_added problem c.args.key path c.push.new.self node child.child.node c.loop-child.from child.child.piece c.loop-child.lines.items c.add_topmost.new.lines.items below child.ensures.piece.0 child.ensures.least child.ensures.child more c.in_ok-add_topmost.ensures.lines;
       trail = popped_back path c.add_topmost.new.trail c.pop.new.self child.child.piece (c.in_ok-add_topmost.ensures.trail ∙ more) c.pop.ensures;
     }
 
@@ -60,4 +60,4 @@ returns-clause-lines t c =
     let problem = c.args.problem.now in
     let node = c.args.node.now in
     let none = left_last problem c.args.key c.args.trail.now node c.loop-child.from (omega (arith, c.if-node-len.false, c.len.ensures.len)) c.in_default.ensures.none in
-    sym (c.loop-child.invariant.lines ∙ (ap (λ ls. c.loop-child.cert ++ ls) none ∙ append-nil c.loop-child.cert))
+    sym (c.loop-child.invariant.lines ∙ (ap (λ ls. c.loop-child.lines.items ++ ls) none ∙ append-nil c.loop-child.lines.items))

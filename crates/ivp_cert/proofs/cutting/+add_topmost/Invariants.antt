@@ -10,7 +10,7 @@ abbrev pub invariant-loop-child : goal.invariant-loop-child
 invariant-loop-child l =
     record {
       few : l.from ≤ 4096;
-      lines : l.fn.cert ++ topmost_of l.problem l.key l.fn.trail l.node ≡ l.cert ++ left l.problem l.key l.fn.trail l.node l.from;
+      lines : l.fn.lines.items ++ topmost_of l.problem l.key l.fn.trail l.node ≡ l.lines.items ++ left l.problem l.key l.fn.trail l.node l.from;
       trail : l.trail ≡ l.fn.trail;
     }
 

@@ -1,18 +1,26 @@
-use Rattle.std.proofs.Common.{List, ℕ, flat_map, ap}
-use Rattle.moos_io.proofs.Writing.{stopped_before, stopped_later}
-use Rattle.moos_io.proofs.Passages.{stopped_as, went_as, wrote_on}
-use Rattle.ivp_cert.specs.Texts.{number_word}
+use Rattle.std.proofs.Common.{◌≡◌, List, ℕ, [], ◌∷◌, ◌++◌, flat_map, ap, subst, ◌∙◌}
+use Rattle.std.specs.Prelude.{codes, decimal}
+use Rattle.std.specs.List.{concat}
+use Rattle.moos_io.specs.Writing.{Wrote}
+use Rattle.moos_io.proofs.Writing.{stopped_before}
+use Rattle.moos_io.proofs.Passages.{stopped_as, wrote_on}
+use Rattle.ivp_cert.specs.Texts.{line_text, number_word}
+use Rattle.ivp_cert.specs.declared.cert.Line.{Line}
+use Rattle.ivp_cert.proofs.PathTexts.{line_begun}
 use Rattle.ivp_cert.proofs.print.put_line.Goals as goal
 
-pub returns-in-Err : goal.returns-in-Err
-returns-in-Err g c = record { ok = tt; front = stopped_before _ c.in-Err.ensures.front }
+-- the line, with the text of its path
+whole : (prefix path : List ℕ) (line : Line) → path ≡ flat_map number_word line.path → concat (prefix ∷ codes "cut" ∷ path ∷ []) ++ concat (codes " : " ∷ decimal line.sum ∷ codes " " ∷ decimal line.index ∷ codes "\n" ∷ []) ≡ line_text prefix line
+whole prefix path line is =
+    let rest : List ℕ = concat (codes " : " ∷ decimal line.sum ∷ codes " " ∷ decimal line.index ∷ codes "\n" ∷ []) in
+    ap (λ t. concat (prefix ∷ codes "cut" ∷ t ∷ []) ++ rest) is ∙ line_begun prefix (flat_map number_word line.path) rest
 
-pub returns-in-Err-put_numbers : goal.returns-in-Err-put_numbers
-returns-in-Err-put_numbers g c =
-    let same = ap (λ (path : List ℕ). flat_map number_word path) c.all.ensures in
-    record { ok = tt; front = stopped_later c.in_default.ensures.ok (stopped_before _ (stopped_as same c.in-Err-put_numbers.ensures.front)) }
+pub returns-in-Err : goal.returns-in-Err
+returns-in-Err g c =
+    let is = c.of-path.ensures ∙ ap (flat_map number_word) c.all.ensures.all in
+    record { ok = tt; front = stopped_as (whole c.args.prefix.now c.of-path.result.now c.args.line.now is) (stopped_before _ c.in-Err.ensures.front) }
 
 pub returns : goal.returns
 returns g c =
-    let same = ap (λ (path : List ℕ). flat_map number_word path) c.all.ensures in
-    wrote_on c.put_bound.result c.in_default.ensures.ok (wrote_on c.put_bound.result (went_as same c.in_default-put_numbers.ensures.ok) c.put_bound.ensures)
+    let is = c.of-path.ensures ∙ ap (flat_map number_word) c.all.ensures.all in
+    subst (Wrote _ _ c.put_bound.result) (whole c.args.prefix.now c.of-path.result.now c.args.line.now is) (wrote_on c.put_bound.result c.in_default.ensures.ok c.put_bound.ensures)

@@ -1,4 +1,4 @@
-use Rattle.std.proofs.Common.{◌∙◌, ap, refl, sym}
+use Rattle.std.proofs.Common.{◌≡◌, ◌∙◌, ap, refl, sym}
 use Rattle.moos_bridged.proofs.Beginning.{begun_so_far}
 use Rattle.moos_bridged.proofs.Ending.{shared_by_stamp, shared_same}
 use Rattle.moos_bridged.specs.Communities.{community_history, community_script}
@@ -23,21 +23,20 @@ loop-preserved g c =
     let on = c.in_ok-share_next.ensures in
     record { so_far = on.so_far; rules = on.rules ∙ so.rules; first = on.first ∙ so.first; second = on.second ∙ so.second }
 
-pub returns-clause-resting : goal.returns-clause-resting
-returns-clause-resting g c = let so = c.in_ok-share_next.ensures.so_far in (so.first, so.second)
-
-pub returns-clause-shared : goal.returns-clause-shared
-returns-clause-shared g c =
+pub returns : goal.returns
+returns g c =
     let before = c.loop.invariant in
     let so = c.in_ok-share_next.ensures in
     let bridge : BridgeState = c.share_next.new.bridge in
     let one = c.share_next.new.one in
     let two = c.share_next.new.two in
-    shared_same Stamp (community_script one) (community_script c.args.one.now) (community_script two) (community_script c.args.two.now) bridge.rules c.args.bridge.now.rules (community_history one) (community_history one) (community_history two) (community_history two)
-    (sym (so.first ∙ before.first)) (sym (so.second ∙ before.second)) (sym (so.rules ∙ before.rules)) refl refl (shared_by_stamp bridge one two so.so_far (so.over c.if-branch.false))
-
-pub returns-clause-first : goal.returns-clause-first
-returns-clause-first g c = c.in_ok-share_next.ensures.first ∙ c.loop.invariant.first
-
-pub returns-clause-second : goal.returns-clause-second
-returns-clause-second g c = c.in_ok-share_next.ensures.second ∙ c.loop.invariant.second
+    let first : community_script one ≡ community_script c.args.one.now = so.first ∙ before.first in
+    let second : community_script two ≡ community_script c.args.two.now = so.second ∙ before.second in
+    record {
+      first_rests = so.so_far.first;
+      second_rests = so.so_far.second;
+      first = first;
+      second = second;
+      shared = shared_same Stamp (community_script one) (community_script c.args.one.now) (community_script two) (community_script c.args.two.now) bridge.rules c.args.bridge.now.rules (community_history one) (community_history one) (community_history two) (community_history two)
+          (sym first) (sym second) (sym (so.rules ∙ before.rules)) refl refl (shared_by_stamp bridge one two so.so_far (so.over c.if-branch.false));
+    }

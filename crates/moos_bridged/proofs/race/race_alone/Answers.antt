@@ -20,8 +20,8 @@ pub see_all-requires-clause-all : goal.see_all-requires-clause-all
 see_all-requires-clause-all g c =
     let two = c.args.two.now in gone_all two.lock two.first.seat c.race_first.new.to c.in_ok-race_first.ensures.raced.gone c.requires.ready.second.gathered
 
-pub returns-clause-raced : goal.returns-clause-raced
-returns-clause-raced g c =
+pub returns : goal.returns
+returns g c =
     let two = c.args.two.now in
     let ready = c.requires.ready in
     let none = c.requires.second in
@@ -29,14 +29,13 @@ returns-clause-raced g c =
     let to = c.race_first.new.to in
     let seen = c.see_all.new.first in
     let after : Community = record two { first = record two.first { seat = seen } } in
-    both_raced c.args.bridge.now c.race_first.new.bridge c.args.one.now c.race_first.new.one two after two.first.seat to ready raced
-    (alone_rests two to seen ready.second none ready.second_unplayed ready.silent raced.gone c.see_all.ensures) refl
-    (alone_all two to seen ready.second none ready.second_unplayed ready.silent raced.gone c.see_all.ensures)
-    (alone_number two to seen ready.second none ready.second_unplayed ready.silent raced.gone c.see_all.ensures)
-    (alone_own two to seen ready.second none ready.second_unplayed ready.silent raced.gone c.see_all.ensures)
-
-pub returns-clause-rules : goal.returns-clause-rules
-returns-clause-rules g c = c.in_ok-race_first.ensures.raced.rules
-
-pub returns-clause-first : goal.returns-clause-first
-returns-clause-first g c = c.in_ok-race_first.ensures.raced.script
+    record {
+      raced = both_raced c.args.bridge.now c.race_first.new.bridge c.args.one.now c.race_first.new.one two after two.first.seat to ready raced
+          (alone_rests two to seen ready.second none ready.second_unplayed ready.silent raced.gone c.see_all.ensures) refl
+          (alone_all two to seen ready.second none ready.second_unplayed ready.silent raced.gone c.see_all.ensures)
+          (alone_number two to seen ready.second none ready.second_unplayed ready.silent raced.gone c.see_all.ensures)
+          (alone_own two to seen ready.second none ready.second_unplayed ready.silent raced.gone c.see_all.ensures);
+      rules = raced.rules;
+      first = raced.script;
+      second = refl;
+    }

@@ -61,8 +61,8 @@ see_all-requires-clause-all g c =
     (joined_of two number c.all-lines.result.now (Err (record {})) _ c.take_in-ended.result apart played taken joined seat sailed befores afters c.all-lines.ensures c.race_beside.ensures.first c.race_beside.ensures.players
     (sailed_on seat sailed sailed.mine c.in_ok-race_beside.ensures.raced.gone (sym (ap (λ mine. mine ++ sailed.mine) idle))) c.take_in-ended.ensures.taken c.meet.ensures.pass c.meet.ensures.seen c.take_in-ended.ensures.ended tt)
 
-pub returns-clause-raced : goal.returns-clause-raced
-returns-clause-raced g c =
+pub returns : goal.returns
+returns g c =
     let two = c.args.two.now in
     let ready = c.requires.ready in
     let number = c.bridge-number.result in
@@ -83,17 +83,16 @@ returns-clause-raced g c =
     let so = joined_of two number c.all-lines.result.now (Ok tt) _ c.take_in-ended.result apart played taken joined seat sailed befores afters c.all-lines.ensures c.race_beside.ensures.first c.race_beside.ensures.players
     (sailed_on seat sailed sailed.mine raced.gone (sym (ap (λ mine. mine ++ sailed.mine) idle))) c.take_in-ended.ensures.taken c.meet.ensures.pass c.meet.ensures.seen c.take_in-ended.ensures.ended c.in_ok-both.ensures in
     let after : Community = record two { first = record { seat = c.see_all.new.first; calls = c.race_beside.new.first.calls; ended = c.race_beside.new.first.ended }; calls = with_items two.calls c.take_in-ended.new.calls; from = length c.all-lines.result.now } in
-    both_raced bridge bridge' c.args.one.now c.race_beside.new.one two after seat sailed ready raced
-    (raced_rests bridge bridge' two after number _ c.take_in-ended.result parted apart played taken joined seat sailed befores afters split so c.see_all.ensures refl refl (ap length c.all-lines.ensures)
-    (counts_kept two.calls.len two.calls.items c.take_in-ended.new.calls (c.take_in-ended.auto.calls ∙ ap length c.as_mut_slice-calls.ensures.value) (search rules) ∙ (search rules)) ready.second_unplayed)
-    refl (ap length c.all-lines.ensures)
-    (raced_number bridge bridge' two after number _ c.take_in-ended.result parted apart played taken joined seat sailed befores afters split so c.see_all.ensures refl refl (ap length c.all-lines.ensures)
-    (counts_kept two.calls.len two.calls.items c.take_in-ended.new.calls (c.take_in-ended.auto.calls ∙ ap length c.as_mut_slice-calls.ensures.value) (search rules) ∙ (search rules)))
-    (raced_own bridge bridge' two after number _ c.take_in-ended.result parted apart played taken joined seat sailed befores afters split so c.see_all.ensures refl refl (ap length c.all-lines.ensures)
-    (counts_kept two.calls.len two.calls.items c.take_in-ended.new.calls (c.take_in-ended.auto.calls ∙ ap length c.as_mut_slice-calls.ensures.value) (search rules) ∙ (search rules)))
-
-pub returns-clause-rules : goal.returns-clause-rules
-returns-clause-rules g c = c.in_ok-race_beside.ensures.raced.rules
-
-pub returns-clause-first : goal.returns-clause-first
-returns-clause-first g c = c.in_ok-race_beside.ensures.raced.script
+    record {
+      raced = both_raced bridge bridge' c.args.one.now c.race_beside.new.one two after seat sailed ready raced
+          (raced_rests bridge bridge' two after number _ c.take_in-ended.result parted apart played taken joined seat sailed befores afters split so c.see_all.ensures refl refl (ap length c.all-lines.ensures)
+          (counts_kept two.calls.len two.calls.items c.take_in-ended.new.calls (c.take_in-ended.auto.calls ∙ ap length c.as_mut_slice-calls.ensures.value) (search rules) ∙ (search rules)) ready.second_unplayed)
+          refl (ap length c.all-lines.ensures)
+          (raced_number bridge bridge' two after number _ c.take_in-ended.result parted apart played taken joined seat sailed befores afters split so c.see_all.ensures refl refl (ap length c.all-lines.ensures)
+          (counts_kept two.calls.len two.calls.items c.take_in-ended.new.calls (c.take_in-ended.auto.calls ∙ ap length c.as_mut_slice-calls.ensures.value) (search rules) ∙ (search rules)))
+          (raced_own bridge bridge' two after number _ c.take_in-ended.result parted apart played taken joined seat sailed befores afters split so c.see_all.ensures refl refl (ap length c.all-lines.ensures)
+          (counts_kept two.calls.len two.calls.items c.take_in-ended.new.calls (c.take_in-ended.auto.calls ∙ ap length c.as_mut_slice-calls.ensures.value) (search rules) ∙ (search rules)));
+      rules = raced.rules;
+      first = raced.script;
+      second = refl;
+    }
