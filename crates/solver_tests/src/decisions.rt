@@ -3,8 +3,8 @@ ghost use Rattle.std.specs.Prelude.{◌≡◌, ◌<◌};
 ghost use Rattle.ivp_problem.specs.Sums.{best_of, key_at};
 
 use ivp_cert::{
-    Cert, Claim, Decision, Line, Path, accepted_law, accepts, certificate_law, cut, print_decision,
-    printed_law, read_decision, read_problem,
+    Cert, Claim, Decision, Line, Path, accepted_law, accepts, certificate_law, cut, cut_by_workers,
+    print_decision, printed_law, read_decision, read_problem,
 };
 use ivp_domain::{Point, Steps};
 use ivp_problem::{Key, Problem, sum_of};
@@ -120,6 +120,29 @@ fn decisions_with_certificates(rt: HostRuntime) {
         let sink = solved(&rt, alloc, *problem, *at, b"");
         assert!(rt; sink.bytes() == expected.as_slice());
         assert_eq!(rt; is_accepted(&rt, alloc, &expected), Some(true));
+    }
+}
+
+/// Whether both have the same lines.
+fn are_same(one: &Cert, other: &Cert) -> bool {
+    let is_same = |(a, b): (&Line, &Line)| {
+        a.path.all() == b.path.all() && a.sum == b.sum && a.index == b.index
+    };
+    one.len() == other.len() && one.all().iter().zip(other.all()).all(is_same)
+}
+
+#[test]
+fn certificates_by_several_workers(rt: HostRuntime) {
+    let alloc = rt.alloc();
+    for (text, _, _) in SOLVED {
+        assert!(rt; text.len() < 4_000_000_000);
+        let problem = read_problem(alloc, *text).expect(&rt, "a problem");
+        let key = greatest_key(&problem);
+        let alone = cut(alloc, &problem, key).expect(&rt, "memory");
+        for workers in 1..=16 {
+            let cert = cut_by_workers(&rt, alloc, &problem, key, workers).expect(&rt, "memory");
+            assert!(rt; are_same(&alone, &cert), "{workers}");
+        }
     }
 }
 
