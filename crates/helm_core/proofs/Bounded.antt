@@ -16,7 +16,8 @@ use Rattle.ivp_build.proofs.Nearest.{value_within}
 use Rattle.ivp_cert.specs.declared.claim.Decision.{Decision}
 use Rattle.ivp_problem.proofs.KeyOrder.{best_point}
 use Rattle.helm_core.specs.declared.showing.Showing.{Showing}
-use Rattle.helm_core.specs.Decisions.{active_problem, best_decision, decision_made, number_at, number_on, some_active}
+use Rattle.ivp_cert.specs.Certificates.{best_decision}
+use Rattle.helm_core.specs.Decisions.{active_problem, decision_made, number_at, number_on, some_active}
 use Rattle.helm_core.proofs.Deciding.{place_there}
 
 end_milli : (number : ℤ) → is_end number ≡ true → IsMilli number

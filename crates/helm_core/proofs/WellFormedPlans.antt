@@ -23,7 +23,8 @@ use Rattle.mode_tree.proofs.Worded.{mode_is_text}
 use Rattle.helm_core.specs.declared.showing.Showing.{Showing}
 use Rattle.helm_core.specs.Behaviors.{all_begun, has_fault}
 use Rattle.helm_core.specs.Lists.{list_at, showings_at}
-use Rattle.helm_core.specs.Decisions.{active_problem, best_decision, decision_made, some_active}
+use Rattle.ivp_cert.specs.Certificates.{best_decision}
+use Rattle.helm_core.specs.Decisions.{active_problem, decision_made, some_active}
 use Rattle.helm_core.specs.Iterations.{iteration_at}
 use Rattle.helm_core.specs.Plans.{always_read, block_names, decl_names, names_read, plan_made, reg_wanted, with_wanted}
 use Rattle.helm_core.specs.Moments.{moment_at, moment_before}

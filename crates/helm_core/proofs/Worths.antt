@@ -19,7 +19,8 @@ use Rattle.bhv_kinds.specs.Turns.{params_at, step_of}
 use Rattle.bhv_kinds.specs.Worths.{IsWorth, StepsAreWorth}
 use Rattle.bhv_life.specs.Lives.{is_fresh, is_stepped}
 use Rattle.helm_core.specs.Behaviors.{BegunTurn, BhvSoFar, Judged, all_begun, begun_at, begun_by_step, beginning_at, has_fault, judged_at, past_so_far, showing_of, weight_now}
-use Rattle.helm_core.specs.Decisions.{active_problem, active_term, best_decision, decision_made, some_active, term_of}
+use Rattle.ivp_cert.specs.Certificates.{best_decision}
+use Rattle.helm_core.specs.Decisions.{active_problem, active_term, decision_made, some_active, term_of}
 use Rattle.helm_core.specs.Lists.{list_at}
 use Rattle.helm_core.specs.Plans.{Plan, plan_made}
 use Rattle.helm_core.specs.Standings.{MayStep}

@@ -7,9 +7,8 @@ use Rattle.ivp_domain.specs.declared.boxes.Point.{Point}
 use Rattle.ivp_func.specs.Functions.{Function}
 use Rattle.ivp_problem.specs.declared.term.Term.{Term}
 use Rattle.ivp_problem.specs.Problems.{WeightedSum, is_weight}
-use Rattle.ivp_problem.specs.Sums.{best_of, sum_at}
 use Rattle.ivp_cert.specs.declared.claim.Decision.{Decision}
-use Rattle.ivp_cert.specs.Certificates.{certificate_of}
+use Rattle.ivp_cert.specs.Certificates.{best_decision}
 use Rattle.helm_core.specs.declared.showing.Showing.{Showing}
 
 -- one is active
@@ -32,10 +31,6 @@ pub record IsFitTerm (axes : List Axis) (term : Term) : Type 0 where
 -- the functions of the active behaviours over a domain, in the order of the list
 abbrev pub active_problem : List Axis → List Showing → WeightedSum
 active_problem axes showings = record { axes = axes; terms = filter_map active_term showings }
-
--- the best point of a problem, its sum and its certificate
-abbrev pub best_decision : WeightedSum → Decision
-best_decision problem = record { problem = problem; claim = record { point = best_of problem; sum = sum_at problem (best_of problem) }; cert = certificate_of problem }
 
 -- what is decided where a behaviour is active
 abbrev pub decision_made : List Axis → List Showing → Option Decision

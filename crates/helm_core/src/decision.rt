@@ -4,9 +4,7 @@ ghost use Rattle.std.specs.List.{All, filter_map};
 ghost use Rattle.std.specs.Option.{option_to_list};
 ghost use Rattle.moos_post.specs.Words.{IsMilli};
 ghost use Rattle.ivp_domain.specs.Domains.{is_point};
-ghost use Rattle.ivp_problem.specs.Sums.{best_of, key_at};
-ghost use Rattle.ivp_cert.specs.Certificates.{certificate_of};
-ghost use Rattle.helm_core.specs.Decisions.{IsFitTerm, active_term, best_decision, decision_made, number_on};
+ghost use Rattle.helm_core.specs.Decisions.{IsFitTerm, active_term, decision_made, number_on};
 ghost use Rattle.helm_core.specs.Helms.{allstop_text};
 ghost use Rattle.helm_core.specs.Posts.{desired, desired_speed};
 ghost use Rattle.helm_core.specs.Standings.{IsFit};
@@ -15,19 +13,14 @@ use crate::allstop::{Allstop, some_active};
 use crate::own_names::OwnNames;
 use crate::posts::add_number;
 use crate::showing::Showing;
-use ivp_cert::{Cert, Claim, Decision, cut, cut_by_workers};
+use ivp_cert::{Decision, decide};
 use ivp_domain::{Axis, Domain, Point};
-use ivp_pool::{Solved, solve};
-use ivp_problem::{Problem, Term, keys_law, sum_of};
+use ivp_problem::{Problem, Term};
 use moos_io::Gate;
 use moos_post::{Batch, Name, NoMemory};
 use std::alloc::Global;
 use std::sync::Wait;
 use std::thread::Threads;
-
-// How many nodes a worker closes in a search that is worth threads for its certificate: fewer are cut in some milliseconds, of which
-// threads would save little.
-const MANY: u64 = 10_000;
 
 // The decision, or None exactly where no behaviour is active.
 pub(crate) fn decision_made<R: Threads + Wait + Sync, G: Gate>(
@@ -79,53 +72,6 @@ fn add_term(terms: &mut Vec<Term>, showing: Showing) -> Result<(), NoMemory>
         _ => {},
     }
     Ok(())
-}
-
-/// The decision on a problem: its best point and the sum there, with the certificate that shows it. It is the same for each
-/// number of workers, which are 1 to 16.
-pub fn decide<R: Threads + Wait + Sync, G: Gate>(
-    rt: &R,
-    alloc: Global,
-    problem: Problem,
-    workers: u32,
-    gate: &G,
-) -> Result<Decision, NoMemory>
-    requires some_worker { 1 ≤ workers }
-    requires few_workers { workers ≤ 16 }
-    ensures best { IfOk result (λ decision. decision ≡ best_decision problem) }
-    ensures point { IfOk result (λ decision. IsTrue (is_point decision.problem.axes decision.claim.point)) }
-{
-    keys_law(&problem);
-    let solved = solve(rt, alloc, &problem, workers, gate)?;
-    let cert = certificate(rt, alloc, &problem, &solved, workers)?;
-    let claim = Claim {
-        point: solved.point,
-        sum: sum_of(solved.key),
-    };
-    Ok(Decision {
-        problem,
-        claim,
-        cert,
-    })
-}
-
-// The certificate of a problem that was searched, by several workers where one of them closed many nodes.
-fn certificate<R: Threads + Sync>(
-    rt: &R,
-    alloc: Global,
-    problem: &Problem,
-    solved: &Solved,
-    workers: u32,
-) -> Result<Cert, NoMemory>
-    requires key { solved.now.key ≡ key_at problem.now (best_of problem.now) }
-    requires some_worker { 1 ≤ workers }
-    requires few_workers { workers ≤ 16 }
-    ensures { IfOk result (λ cert. cert ≡ certificate_of problem.now) }
-{
-    if workers > 1 && solved.work.all().iter().any(|work| work.closed >= MANY) {
-        return cut_by_workers(rt, alloc, problem, solved.key, workers);
-    }
-    cut(alloc, problem, solved.key)
 }
 
 // The problem that these terms make: none is refused.

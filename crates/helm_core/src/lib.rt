@@ -3,7 +3,7 @@
 //!
 //! The layer above relies on this: a `Helm` stands for the list of mails that it has heard, each with the stamp of its
 //! iteration, and `tick` gives the iteration that `iteration_at` of specs/ says of that list with one mail more. After want
-//! of memory the helm is as it was. `decide` gives the decision on a problem, the helm's or any other.
+//! of memory the helm is as it was.
 //!
 //! Read `iteration`, `allstop`, `outlook` for what is kept of the mails, `behavior` for what is kept of a behaviour, `judging`,
 //! `stepping` and `begun` for its turn, `turned` and `crew` for the turns of all, `showing` and `telling` for what is said of
@@ -31,7 +31,6 @@ mod telling;
 mod turned;
 mod wanted;
 
-pub use decision::decide;
 pub use helm::Helm;
 pub use iteration::{BhvError, BhvNow, Faults, How, Iteration, States, Update, Updates};
 pub use law::{first_step_law, iterations_law, list_law, plan_law, worth_law};

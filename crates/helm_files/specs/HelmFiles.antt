@@ -1,11 +1,12 @@
 -- What a helm is made of, how it is run beside a script's clients, and what a report tells of its files.
-use Rattle.std.specs.Prelude.{◌+◌, ◌/◌, nat_le, false, if◌then◌else◌, [], Option, Some, None, Result, Ok, Err}
+use Rattle.std.specs.Prelude.{◌+◌, ◌/◌, nat_le, if◌then◌else◌, Option, Some, None, Result, Ok, Err}
 use Rattle.bhv_file.specs.declared.file.BhvFile.{BhvFile}
 use Rattle.helm_core.specs.Plans.{plan_made}
 use Rattle.helm_core.specs.Posts.{are_declared_modes}
 use Rattle.mission_reader.specs.declared.mission.Mission.{Mission}
 use Rattle.moos_play.specs.Lawful.{Steering, helm_number}
 use Rattle.moos_report.specs.declared.setup.Setup.{Setup}
+use Rattle.moos_report.specs.Setups.{no_modes}
 use Rattle.moos_text.specs.declared.cause.Cause.TheVariants.{M8}
 use Rattle.moos_text.specs.declared.cause.ReadFault.{ReadFault}
 use Rattle.moos_text.specs.declared.cause.ReadFault.TheVariants.{At}
@@ -23,10 +24,6 @@ with_few_ticks script mission = if nat_le (script.stop / mission.period + 1) 200
 -- how the helm of these files is run beside a script's clients
 abbrev pub steering_by : Script → HelmFiles → Steering
 steering_by script files = record { client = helm_number script; plan = plan_made files.mission files.file; period = files.mission.period }
-
--- a setup without unused parameters and modes
-abbrev pub no_modes : Setup
-no_modes = record { unused = []; modes = false }
 
 -- what a report tells of the behaviour file: its unused parameters, and that its modes are told where it declares any
 abbrev pub setup_of : Option HelmFiles → Setup

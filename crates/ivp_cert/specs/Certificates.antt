@@ -12,6 +12,7 @@ use Rattle.ivp_problem.specs.Keys.{AtMost, is_at_most}
 use Rattle.ivp_problem.specs.declared.key.Key.{Key}
 use Rattle.ivp_cert.specs.declared.cert.Line.{Line}
 use Rattle.ivp_cert.specs.declared.claim.Claim.{Claim}
+use Rattle.ivp_cert.specs.declared.claim.Decision.{Decision}
 
 -- the line of a node: its path, and the sum and the index of its bound
 abbrev pub line_of : WeightedSum → List ℕ → Node → Line
@@ -29,6 +30,10 @@ topmost problem key (term ∷ terms) path node =
 -- the certificate of a problem: the topmost nodes of its tree whose bound is at most the key of the best point
 abbrev pub certificate_of : WeightedSum → List Line
 certificate_of problem = topmost problem (key_at problem (best_of problem)) problem.terms [] (root_of problem)
+
+-- the decision on a problem: its best point, the sum there, and its certificate
+abbrev pub best_decision : WeightedSum → Decision
+best_decision problem = record { problem = problem; claim = record { point = best_of problem; sum = sum_at problem (best_of problem) }; cert = certificate_of problem }
 
 -- a path is a beginning of another one, or the whole of it
 abbrev pub begins : List ℕ → List ℕ → Bool

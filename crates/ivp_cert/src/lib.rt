@@ -1,17 +1,18 @@
-//! Certificates, which show that a point is the best one of a problem, and the texts of problems and decisions.
+//! Decisions: the best point of a problem, the certificates that show it, and the texts of problems and decisions.
 //!
-//! The contract for the layer above: `cut` gives the certificate of a problem, and `cut_by_workers` the same by several
-//! workers; `accepts` tells whether a certificate is accepted for what is claimed, and then the claimed point is the best.
-//! `read_problem` and `read_decision` give what stands in the bytes, or the first refusal with its line and its cause;
-//! `print_decision` writes a decision, and what it writes stands for the decision.
+//! The contract for the layer above: `decide` gives the decision on a problem. `cut` gives the certificate of a problem, and
+//! `cut_by_workers` the same by several workers; `accepts` tells whether a certificate is accepted for what is claimed, and then the
+//! claimed point is the best. `read_problem` and `read_decision` give what stands in the bytes, or the first refusal with its line and
+//! its cause; `print_decision` writes a decision, and what it writes stands for the decision.
 //!
-//! Reading order: `path`, `cert`, `claim`; `trail`, `cutting`, `subtree`, `share`, `by_workers`, `accept`, `law`; `words`, `piece`,
-//! `terms`, `unfinished`, `stage`, `read`; `line`, `phase`, `decision`; `put`, `put_problem`, `path_text`, `print`, `printed`. Of
+//! Reading order: `path`, `cert`, `claim`; `trail`, `cutting`, `subtree`, `share`, `by_workers`, `best`, `accept`, `law`; `words`,
+//! `piece`, `terms`, `unfinished`, `stage`, `read`; `line`, `phase`, `decision`; `put`, `put_problem`, `path_text`, `print`, `printed`. Of
 //! specs/ read `Certificates`, `SaidLines`, `Problems`, `Decisions`, `Texts` and `Printed`; `Walks` serves the checker alone,
 //! `Subtrees` and `Dealing` the cut by several workers, `PathTexts` the printer, and `Stages` the reader.
 #![tactic(auto)]
 
 mod accept;
+mod best;
 mod by_workers;
 mod cert;
 mod claim;
@@ -37,6 +38,7 @@ mod unfinished;
 mod words;
 
 pub use accept::accepts;
+pub use best::decide;
 pub use by_workers::cut_by_workers;
 pub use cert::{Cert, Line};
 pub use claim::{Claim, Decision};

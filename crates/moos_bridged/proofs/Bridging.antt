@@ -15,7 +15,7 @@ use Rattle.moos_share.specs.Bridged.{bridge_number, bridge_opening, fetches_on, 
 use Rattle.moos_share.specs.declared.rule.Rule.{Rule}
 use Rattle.moos_share.specs.Fetches.{fetch_entry, MailedFetch}
 use Rattle.moos_share.specs.Renaming.{renamed}
-use Rattle.moos_bridged.proofs.NextFetches.{entries_next, fetches_next, fetches_none, fetches_same}
+use Rattle.moos_share.proofs.NextFetches.{entries_next, fetches_next, fetches_none, fetches_same}
 use Rattle.script_reader.specs.declared.script.Script.{Script}
 
 -- a client's entries with one more of another client, and of its own

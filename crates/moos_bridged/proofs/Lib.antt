@@ -4,12 +4,13 @@ pub mod Beside
 pub mod Bridging
 pub mod Carried
 pub mod CarryingLines
+pub mod Counts
 pub mod Ending
+pub mod Entries
 pub mod Fronts
 pub mod Lines
 pub mod Mailed
 pub mod Moments
-pub mod NextFetches
 pub mod Playing
 pub mod Raced
 pub mod RacedAlone

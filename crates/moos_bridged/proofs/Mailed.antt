@@ -94,7 +94,7 @@ letters_front posts more (n ∷ some) below =
     ∙ ap (λ rest. option_to_list (option_map (letter_of n) (slice_get (posts ++ more) n)) ++ rest) (letters_front posts more some (All-tail (λ n. n < length posts) n some below))
 
 -- the numbers that wait are of posts that are there
-waiting_there : (names : List (List ℕ)) (client : ℕ) (history : History) → All (λ n. n < length (posts_of history)) (mail_after names client history)
+pub waiting_there : (names : List (List ℕ)) (client : ℕ) (history : History) → All (λ n. n < length (posts_of history)) (mail_after names client history)
 waiting_there names client history =
     All-map (λ n. n < length (posts_of history)) (λ (one : Mailing). one.number) (filter waits inbox.mailed)
     (All-filter waits (λ (one : Mailing). one.number < length (posts_of history)) inbox.mailed (λ i d within. subst (λ posts. (get_or inbox.mailed i d).number < length posts) (posts-inbox_of names client history) ((settled-inbox_of names client history).orderly.past i d within).number))

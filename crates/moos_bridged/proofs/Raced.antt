@@ -2,7 +2,7 @@
 use Rattle.std.proofs.Common.{◌≡◌, ℕ, max, cond, eq-eqb, length, length-drop, List, [], ◌∷◌, ◌++◌, map, refl, sym, ap, ◌∙◌, subst, arith}
 use Rattle.moos_bridged.proofs.Bridging.{bridged_next, fetch_at, post_at}
 use Rattle.moos_bridged.proofs.Ending.{own_lines}
-use Rattle.moos_bridged.proofs.NextFetches.{fetches_next, fetches_same, none_more}
+use Rattle.moos_share.proofs.NextFetches.{fetches_next, fetches_same, none_more}
 use Rattle.moos_bridged.specs.Bridging.{IsBridgedSoFar}
 use Rattle.moos_bridged.specs.Communities.{community_history, community_script, HasCrossed, IsResting, left_lines}
 use Rattle.moos_bridged.specs.declared.community.Community.{Community}

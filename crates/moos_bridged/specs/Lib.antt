@@ -1,5 +1,6 @@
 pub mod Bridging
 pub mod Communities
+pub mod Entries
 pub mod Fronts
 pub mod Opening
 pub mod Racing

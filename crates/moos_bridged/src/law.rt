@@ -1,11 +1,15 @@
-// What a bridge has posted at every moment.
+// What a bridge has posted at every moment, and what entries stand in both histories.
 ghost use Rattle.std.specs.Prelude.{List};
+ghost use Rattle.std.specs.List.{All};
+ghost use Rattle.moos_bridged.specs.Entries.{AreEntries};
 ghost use Rattle.moos_bridged.specs.Fronts.{HasCarriedAll, HasCarriedFront};
 ghost use Rattle.moos_post.specs.History.{History};
 ghost use Rattle.moos_share.specs.Bridged.{IsBridged, IsShared};
 ghost use Rattle.moos_share.specs.declared.rule.Rule.{Rule};
+ghost use Rattle.moos_share.specs.Validity.{IsRule};
 ghost use Rattle.script_reader.specs.declared.script.Order.{Order};
 ghost use Rattle.script_reader.specs.declared.script.Script.{Script};
+ghost use Rattle.script_reader.specs.Validity.{IsValid};
 ghost use Rattle.turn_lock.specs.Passes.{Begins};
 
 /// What holds of two bridged histories, in either order: at every place of the second, what the bridge has posted there by then is the
@@ -15,4 +19,11 @@ pub fn bridged_law()
     ensures fronts { (order : Order) (first second : Script) (rules : List Rule) (one two front : History) → IsBridged order first second rules one two → Begins two front
         → HasCarriedFront first second rules one front }
     ensures all { (order : Order) (first second : Script) (rules : List Rule) (one two : History) → IsShared order first second rules one two → HasCarriedAll first second rules one two }
+{}
+
+/// What holds of what is shared between two valid scripts by rules that are as their parts let them be: so are all entries, each by a
+/// client of its community. It does nothing.
+pub fn entries_law()
+    ensures { (order : Order) (first second : Script) (rules : List Rule) (one two : History) → IsValid first → IsValid second → All IsRule rules → IsShared order first second rules one two
+        → AreEntries first one × AreEntries second two }
 {}

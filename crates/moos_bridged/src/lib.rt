@@ -16,6 +16,6 @@ mod race;
 mod seating;
 mod sharing;
 
-pub use law::bridged_law;
+pub use law::{bridged_law, entries_law};
 pub use seating::bridge_name;
 pub use sharing::{Shared, share};

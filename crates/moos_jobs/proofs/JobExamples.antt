@@ -14,7 +14,7 @@ use Rattle.moos_post.specs.declared.entry.Entry.{Entry}
 use Rattle.bhv_reader.specs.Behaviors.{nothing_said}
 use Rattle.bhv_file.specs.declared.file.Block.{Block}
 use Rattle.bhv_file.specs.declared.spec.Shape.TheVariants.{Timer}
-use Rattle.helm_core.specs.Decisions.{best_decision}
+use Rattle.ivp_cert.specs.Certificates.{best_decision}
 use Rattle.mission_reader.specs.declared.mission.Mission.{Mission}
 use Rattle.moos_client.specs.Calls.{entries_of}
 use Rattle.moos_play.specs.Lawful.{IsLawful}
@@ -30,7 +30,7 @@ use Rattle.command_line.specs.Turns.{Ready, Unfit, Wanted}
 use Rattle.moos_jobs.specs.Jobs.{IsAccepted, IsOutput, outcomes, turn_of}
 use Rattle.helm_files.specs.HelmFiles.{with_few_ticks}
 use Rattle.command_line.specs.Endings.{Ended, Sinking, sinking}
-use Rattle.moos_jobs.proofs.Communities.{all_entries}
+use Rattle.moos_report.proofs.Communities.{all_entries}
 
 -- one function over two points, of value 5 and 6
 abbrev pub problem : WeightedSum

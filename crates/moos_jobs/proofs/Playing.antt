@@ -1,20 +1,16 @@
 -- From a lawful history to its report.
-use Rattle.std.proofs.Common.{◌≡◌, nat_lt, List, [], ◌∷◌, length, refl, sym, ◌∙◌, subst, arith, Option, None, Some, ℕ, inl, inr}
+use Rattle.std.proofs.Common.{◌≡◌, List, refl, sym, ◌∙◌, subst, Option, None, Some, ℕ, inl, inr}
 use Rattle.std.specs.Prelude.{IfSome, option_map}
-use Rattle.std.proofs.lemmas.Bool.{lt-ltb}
 use Rattle.moos_post.specs.History.{History}
-use Rattle.bhv_file.specs.declared.decl.Decl.{Decl}
-use Rattle.helm_core.specs.Helms.{plan_of}
-use Rattle.helm_core.specs.Posts.{are_declared_modes}
 use Rattle.helm_core.specs.Plans.{plan_made}
 use Rattle.helm_core.specs.Ticks.{Tick}
 use Rattle.helm_core.specs.Worths.{DecidesByWorth}
-use Rattle.moos_play.specs.declared.run.HelmRun.{HelmRun}
-use Rattle.moos_play.specs.Lawful.{IsLawful, heard_of, helm_number, iterations, names_with, Steering, steering_with}
+use Rattle.moos_play.specs.Lawful.{IsLawful, heard_of, helm_number, iterations, names_with, Steering}
 use Rattle.moos_report.specs.declared.setup.Setup.{Setup}
 use Rattle.moos_report.specs.Report.{report_text, ReportsTell}
 use Rattle.command_line.specs.Turns.{Ready}
 use Rattle.moos_jobs.specs.Jobs.{IsLawfulWith, IsReport, report_on, IsToPlay, outcomes}
+use Rattle.helm_files.proofs.Communities.{AreGoodFiles, stand_on_lines}
 use Rattle.helm_files.specs.HelmFiles.{HelmFiles, setup_of, steering_by}
 use Rattle.moos_jobs.specs.Jobs.Task.{Playing}
 use Rattle.command_line.specs.declared.status.Status.{Status}
@@ -22,7 +18,7 @@ use Rattle.command_line.specs.declared.status.Status.TheVariants.{Done, CheckNo,
 use Rattle.command_line.specs.Endings.{Ended, Sinking, WroteAll, WroteFront}
 use Rattle.moos_jobs.specs.Telling.{IsOfLawful}
 use Rattle.moos_telling.specs.Telling.{Tells, ToldAll, ToldFront}
-use Rattle.moos_jobs.proofs.Communities.{AreGoodFiles, lawful_community, stand_on_lines}
+use Rattle.moos_jobs.proofs.Communities.{lawful_community}
 use Rattle.script_reader.specs.declared.script.Order.{Order}
 use Rattle.script_reader.specs.declared.script.Script.{Script}
 use Rattle.script_reader.specs.Validity.{IsValid}
@@ -51,10 +47,6 @@ reported_as order script helm text history tell valid files lawful printed = rec
   listed = λ other is also. told_apart order script helm history other tell valid files lawful is (sym also ∙ printed);
   worth = worth_of helm files;
 }
-
--- a helm that was made of these files is run as they say
-pub steered_by : (script : Script) (files : HelmFiles) (run : HelmRun) → plan_of run.helm ≡ plan_made files.mission files.file → run.period ≡ files.mission.period → steering_with script run ≡ steering_by script files
-steered_by script files run plan period = λ i. record { client = helm_number script; plan = plan i; period = period i }
 
 -- what was told of a run, with a helm of these files or without one, is what its job may write
 module _ (order : Order) (script : Script) (files : Option HelmFiles) (helm : Option Steering) (setup : Setup) (tell : ReportsTell) (valid : IsValid script) (good : IfSome files AreGoodFiles)
@@ -86,8 +78,3 @@ module _ (order : Order) (script : Script) (files : Option HelmFiles) (helm : Op
   told_ended sink (Refused refusal) tells = absurd tells
   told_ended sink NoMemory (inl untouched) = inl untouched
   told_ended sink NoMemory (inr front) = inr (front_told sink front)
-
--- modes are declared where there is a declaration
-pub declared : (decls : List Decl) → nat_lt 0 (length decls) ≡ are_declared_modes decls
-declared [] = refl
-declared (decl ∷ decls) = lt-ltb 0 (length (decl ∷ decls)) (omega arith)

@@ -2,7 +2,7 @@
 use Rattle.std.proofs.Common.{◌≡◌, ℕ, inl, inr, true, false, List, [], ◌∷◌, ◌++◌, length, take, refl, ap, sym, ◌∙◌, subst, arith}
 use Rattle.std.specs.Prelude.{codes, Option, Some, None, Result, Ok, Err}
 use Rattle.std.specs.Fmt.{digits}
-use Rattle.helm_core.specs.Decisions.{best_decision}
+use Rattle.ivp_cert.specs.Certificates.{best_decision}
 use Rattle.ivp_cert.specs.Texts.{decision_lines}
 use Rattle.moos_io.specs.Faults.{Rose}
 use Rattle.moos_io.specs.Files.{file_content, is_among}

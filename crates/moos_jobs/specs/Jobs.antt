@@ -1,7 +1,7 @@
 -- Which files a job reads, what is to be done with them, and what it may write.
 use Rattle.std.specs.Prelude.{◌≡◌, ℕ, List, [], ◌∷◌, codes, Option, Some, None, option_map, IfSome, Ok}
 use Rattle.bhv_reader.specs.Behaviors.{behaviors_of}
-use Rattle.helm_core.specs.Decisions.{best_decision}
+use Rattle.ivp_cert.specs.Certificates.{best_decision}
 use Rattle.helm_files.specs.HelmFiles.{HelmFiles, setup_of, steering_by, with_few_ticks}
 use Rattle.helm_core.specs.Plans.{plan_made}
 use Rattle.helm_core.specs.Worths.{DecidesByWorth}

@@ -4,7 +4,6 @@ ghost use Rattle.bhv_file.specs.Validity.{IsValidFile, serves};
 ghost use Rattle.mission_reader.specs.Validity.{IsValidMission};
 ghost use Rattle.command_line.specs.Turns.{FileTurn, Ready};
 ghost use Rattle.moos_jobs.specs.Jobs.{Task, behaviors_turn, mission_turn, outcomes, turn_of};
-ghost use Rattle.helm_files.specs.HelmFiles.{no_modes};
 ghost use Rattle.moos_jobs.specs.Jobs.Task.{Playing};
 ghost use Rattle.command_line.specs.Endings.{EndsFrom, surroundings, Ended, sinking};
 ghost use Rattle.command_line.specs.declared.job.Job.TheVariants.{Play};
@@ -19,7 +18,7 @@ use mission_reader::Mission;
 use moos_io::{Folder, Gate, Sink};
 use moos_play::{HelmRun, Order};
 use moos_post::{List, Txt};
-use moos_report::{Setup, report_law};
+use moos_report::{Setup, no_modes, report_law};
 use script_reader::{Script, read_script};
 use std::alloc::Global;
 use std::mem;
@@ -186,14 +185,4 @@ fn play_alone<R: Threads + Wait + Sync, K: Sink, G: Gate>(
     report_law();
     let setup = no_modes(alloc);
     play_rounds(rt, alloc, script, None, &setup, order, 1, out, gate)
-}
-
-// The setup of a script without a mission: nothing unused and no modes.
-fn no_modes(alloc: Global) -> Setup
-    ensures { result ≡ no_modes }
-{
-    Setup {
-        unused: List::new(alloc),
-        modes: false,
-    }
 }

@@ -28,13 +28,11 @@ use Rattle.moos_report.specs.Community.{HaveOwnNames, IsCommunity, is_one_line, 
 use Rattle.moos_report.specs.IterationLines.{behavior_text, error_text, fetches_first, iteration_text, outcome_text}
 use Rattle.moos_report.specs.Parts.{BeginsWith, EndsWithin}
 use Rattle.moos_report.specs.Report.{entries_text, report_text, unused_text}
+use Rattle.moos_report.specs.Setups.{no_modes}
 
--- modes are declared, or not
+-- modes are declared
 abbrev with_modes : Setup
 with_modes = record { unused = []; modes = true }
-
-abbrev no_modes : Setup
-no_modes = record { unused = []; modes = false }
 
 abbrev first_lines : List Entry
 first_lines =

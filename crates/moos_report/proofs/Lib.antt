@@ -1,8 +1,10 @@
 pub mod AddingUp
+pub mod Communities
 pub mod Cuts
 pub mod Escapes
 pub mod Examples
 pub mod NextEntries
+pub mod OnLines
 pub mod PassedDecisions
 pub mod PassedLines
 pub mod PrintedCalls

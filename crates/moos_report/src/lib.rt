@@ -30,7 +30,7 @@ use self::iterations::{fetches_after, fetches_before, put_outcome};
 pub use self::law::{parts_law, report_law, reports_law};
 use self::lines::{put, put_client, put_mail, put_post, put_reg, put_unused};
 pub use self::parts::{report, report_end, report_head, report_part, report_part_through};
-pub use self::setup::Setup;
+pub use self::setup::{Setup, no_modes};
 use bhv_file::Unused;
 use helm_core::Iteration;
 use moos_db::Db;

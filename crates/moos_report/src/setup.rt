@@ -1,5 +1,10 @@
 // What a report tells of a community's setup.
+ghost use Rattle.std.specs.Prelude.{◌≡◌};
+ghost use Rattle.moos_report.specs.Setups.{no_modes};
+
 use bhv_file::UnusedList;
+use moos_post::List;
+use std::alloc::Global;
 
 /// What a report tells of a community's setup, beside its clients.
 #[derive(Drop)]
@@ -8,4 +13,14 @@ pub struct Setup {
     pub unused: UnusedList,
     /// Whether modes are declared, so that each iteration tells the helm's.
     pub modes: bool,
+}
+
+/// The setup of a community without a helm: nothing unused, and no modes.
+pub fn no_modes(alloc: Global) -> Setup
+    ensures { result ≡ no_modes }
+{
+    Setup {
+        unused: List::new(alloc),
+        modes: false,
+    }
 }

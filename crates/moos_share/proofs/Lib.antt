@@ -2,6 +2,7 @@ mod Carries
 mod CarryExamples
 mod Examples
 mod Following
+mod Kept
 mod LongNames
 mod Names
-mod NextFetches
+pub mod NextFetches

@@ -4,3 +4,4 @@ pub mod Renaming
 pub mod Carrying
 pub mod Fetches
 pub mod Bridged
+pub mod Validity

@@ -1,8 +1,10 @@
 // A bridge file line by line.
 ghost use Rattle.std.specs.Prelude.{◌≡◌, ℕ, ◌<◌, ◌^◌, [], ◌∷◌, Ok, Err, codes, IfErr, IfOk, IfNone, IfSome, OnOk, length};
+ghost use Rattle.std.specs.List.{All};
 ghost use Rattle.moos_text.specs.Lines.{is_unclosed, words_of};
 ghost use Rattle.moos_text.specs.Refusals.{IsFirst, IsLineFault};
 ghost use Rattle.moos_share.specs.BridgeFiles.{after_said, pattern_word, prefix_word, rule_of, rules_of, with_rule};
+ghost use Rattle.moos_share.specs.Validity.{IsRule};
 
 use crate::rule::{Rule, Rules};
 use moos_post::{List, Name, NameFault, Pattern, PatternFault, Reg};
@@ -21,6 +23,7 @@ pub fn read_bridge(alloc: Global, bytes: &[u8]) -> Result<Rules, ReadFault>
     requires { length bytes.now < 2 ^ 32 }
     ensures read { IfOk result (λ rules. rules_of bytes.now ≡ Ok rules) }
     ensures refused { IfErr result (λ fault. IsFirst fault (rules_of bytes.now)) }
+    ensures kept { IfOk result (All IsRule) }
 {
     let mut rules = List::new(alloc);
     let mut lines: u32 = 0;

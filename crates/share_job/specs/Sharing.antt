@@ -1,5 +1,6 @@
 -- Which files the job reads that shares between two communities, what is to be done with them, and what it may write.
 use Rattle.std.specs.Prelude.{◌≡◌, ℕ, false, List, [], ◌∷◌, ◌++◌, codes, Result, Ok, Err}
+use Rattle.std.specs.List.{list_any}
 use Rattle.std.specs.Option.{option_map_or}
 use Rattle.command_line.specs.Endings.{Outcomes}
 use Rattle.command_line.specs.Turns.{FileTurn, Ready, Wanted, turn_behind}
@@ -8,6 +9,7 @@ use Rattle.command_line.specs.declared.status.Status.{Status}
 use Rattle.command_line.specs.declared.status.Status.TheVariants.{Done}
 use Rattle.moos_post.specs.History.{History}
 use Rattle.moos_report.specs.Report.{report_text}
+use Rattle.moos_report.specs.Setups.{no_modes}
 use Rattle.moos_share.specs.Bridged.{IsShared, names_bridged}
 use Rattle.moos_share.specs.BridgeFiles.{rules_of}
 use Rattle.moos_share.specs.LongNames.{too_long_line}
@@ -18,8 +20,9 @@ use Rattle.moos_text.specs.declared.cause.ReadFault.TheVariants.{At}
 use Rattle.moos_text.specs.Refusals.{and_then}
 use Rattle.script_reader.specs.declared.script.Order.{Order}
 use Rattle.script_reader.specs.declared.script.Script.{Script}
-use Rattle.script_reader.specs.Named.{line_of_client}
+use Rattle.script_reader.specs.Named.{has_name, line_of_client}
 use Rattle.script_reader.specs.Script.{script_of}
+use Rattle.script_reader.specs.Validity.{IsValid}
 
 -- what is to be done: two scripts are played at once, in an order, with a bridge of these rules from the first one's community to the
 -- second one's
@@ -32,6 +35,11 @@ pub record ShareTask : Type 0 where
 -- the script of these bytes, unless a line of them is of a client with the bridge's name: then the first such line is refused
 abbrev pub without_bridge : List ℕ → Script → Result Script ReadFault
 without_bridge bytes script = option_map_or (λ line. Err (At line S10)) (line_of_client (codes "pShare" ∷ []) bytes) (Ok script)
+
+-- a valid script, of whose clients none has the bridge's name
+pub record IsWithoutBridge (script : Script) : Type 0 where
+  pub valid : IsValid script
+  pub unnamed : list_any (has_name (codes "pShare" ∷ [])) script.names ≡ false
 
 -- the script of one of the communities, or the first refusal of its bytes
 abbrev pub community_of : List ℕ → Result Script ReadFault
@@ -65,14 +73,21 @@ share_turn first second bridge order (bytes ∷ more) = turn_behind ScriptFile (
 
 -- the report of a community's history, in which no helm plays
 abbrev pub community_report : List (List ℕ) → History → List ℕ
-community_report names history = report_text (record { unused = []; modes = false }) names history []
+community_report names history = report_text no_modes names history []
 
--- The text is the report of the first community and behind it that of the second, whose histories are shared as the order asks.
+-- the report of the first community's history, and behind it that of the second one's
+abbrev pub both_reports : ShareTask → History → History → List ℕ
+both_reports task one two = community_report (names_bridged task.first) one ++ community_report (names_bridged task.second) two
+
+-- The text is the reports of two histories that are shared as the order asks. They are the two that the text lists: no other two such
+-- histories have these reports.
 pub record AreReports (task : ShareTask) (text : List ℕ) : Type 0 where
   pub one : History
   pub two : History
   pub shared : IsShared task.order task.first task.second task.rules one two
-  pub printed : text ≡ community_report (names_bridged task.first) one ++ community_report (names_bridged task.second) two
+  pub printed : text ≡ both_reports task one two
+  pub listed : (other another : History) → IsShared task.order task.first task.second task.rules other another → text ≡ both_reports task other another
+      → (other ≡ one) × (another ≡ two)
 
 -- the job writes both reports and is done, and writes nothing with another status
 abbrev pub IsSharing : ShareTask → Status → List ℕ → Type 0

@@ -1,16 +1,18 @@
 // The job from its first file to what is written.
 ghost use Rattle.std.specs.Prelude.{◌≡◌, ◌++◌, ℕ, [], List};
+ghost use Rattle.std.specs.List.{All};
 ghost use Rattle.command_line.specs.Endings.{Ended, EndsFrom, sinking, surroundings};
 ghost use Rattle.command_line.specs.Turns.{FileTurn, Ready};
-ghost use Rattle.script_reader.specs.Validity.{IsValid};
-ghost use Rattle.share_job.specs.Sharing.{bridge_turn, second_turn, share_outcomes, share_turn, ShareTask};
+ghost use Rattle.moos_share.specs.Validity.{IsRule};
+ghost use Rattle.share_job.specs.Sharing.{bridge_turn, IsWithoutBridge, second_turn, share_outcomes, share_turn, ShareTask};
 
 use crate::reading::{read_community, read_fitting};
 use crate::reporting::report_both;
 use command_line::{FileKind, Status, load, refused, unloaded, written};
-use moos_bridged::share;
+use moos_bridged::{entries_law, share};
 use moos_io::{Folder, Gate, Sink};
 use moos_post::Txt;
+use moos_report::reports_law;
 use moos_share::Rules;
 use script_reader::{Order, Script};
 use std::alloc::Global;
@@ -56,7 +58,7 @@ fn share_second<R: Threads + Wait + Sync, F: Folder, K: Sink, G: Gate>(
     out: &mut K,
     gate: &G,
 ) -> Status
-    requires valid { IsValid first.now }
+    requires first { IsWithoutBridge first.now }
     // Whichever job the first script was loaded for, by where it stands with its files.
     ensures ends { (turn : List (List ℕ) → FileTurn ShareTask) (front : List (List ℕ)) → ((files : List (List ℕ)) → turn (front ++ files) ≡ second_turn order first.now name.now bridge.now files)
         → EndsFrom share_outcomes (surroundings (F.told folder.old) (F.sure folder.old) (F.faults folder.old) (F.faults folder.new)
@@ -85,8 +87,8 @@ fn share_bridge<R: Threads + Wait + Sync, F: Folder, K: Sink, G: Gate>(
     out: &mut K,
     gate: &G,
 ) -> Status
-    requires first { IsValid first.now }
-    requires second { IsValid second.now }
+    requires first { IsWithoutBridge first.now }
+    requires second { IsWithoutBridge second.now }
     // Whichever job the scripts were loaded for, by where it stands with its files.
     ensures ends { (turn : List (List ℕ) → FileTurn ShareTask) (front : List (List ℕ)) → ((files : List (List ℕ)) → turn (front ++ files) ≡ bridge_turn order first.now second.now name.now files)
         → EndsFrom share_outcomes (surroundings (F.told folder.old) (F.sure folder.old) (F.faults folder.old) (F.faults folder.new)
@@ -114,11 +116,14 @@ fn share_scripts<R: Threads + Wait + Sync, K: Sink, G: Gate>(
     out: &mut K,
     gate: &G,
 ) -> Status
-    requires first { IsValid first.now }
-    requires second { IsValid second.now }
+    requires first { IsWithoutBridge first.now }
+    requires second { IsWithoutBridge second.now }
+    requires rules { All IsRule rules }
     ensures { Ended share_outcomes (Ready (record { order = order; first = first.now; second = second.now; rules = rules }))
         (sinking (K.taken out.old) (K.taken out.new) (K.faults out.old) (K.faults out.new)) result }
 {
+    entries_law();
+    reports_law();
     match share(rt, alloc, first, second, rules, order, gate) {
         Ok(shared) => written(Status::Done, report_both(alloc, &shared, out)),
         Err(_) => Status::NoMemory,

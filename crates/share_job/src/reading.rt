@@ -1,14 +1,15 @@
 // The files of the job: scripts without a client of the bridge's name, and rules that make no name too long.
 ghost use Rattle.std.specs.Prelude.{◌≡◌, ◌∷◌, ◌<◌, ◌^◌, [], codes, length, IfErr, IfOk, Ok};
+ghost use Rattle.std.specs.List.{All};
+ghost use Rattle.moos_share.specs.Validity.{IsRule};
 ghost use Rattle.moos_text.specs.Refusals.{IsFirst};
-ghost use Rattle.script_reader.specs.Validity.{IsValid};
-ghost use Rattle.share_job.specs.Sharing.{community_of, fitting_of};
+ghost use Rattle.share_job.specs.Sharing.{community_of, fitting_of, IsWithoutBridge};
 
 use moos_bridged::bridge_name;
 use moos_post::{List, Names, NoMemory};
 use moos_share::{Rules, read_bridge, too_long};
 use moos_text::{Cause, ReadFault};
-use script_reader::{Script, line_of_client, read_script};
+use script_reader::{Script, client_law, line_of_client, read_script};
 use std::alloc::Global;
 
 /// Reads a script of which no line is of a client with the bridge's name: the script, or its first refusal.
@@ -16,8 +17,9 @@ pub(crate) fn read_community(alloc: Global, bytes: &[u8]) -> Result<Script, Read
     requires { length bytes.now < 2 ^ 32 }
     ensures read { IfOk result (λ script. community_of bytes.now ≡ Ok script) }
     ensures refused { IfErr result (λ fault. IsFirst fault (community_of bytes.now)) }
-    ensures valid { IfOk result IsValid }
+    ensures without { IfOk result IsWithoutBridge }
 {
+    client_law();
     let script = read_script(alloc, bytes)?;
     let Ok(names) = bridge_alone(alloc) else {
         return Err(ReadFault::NoMemory);
@@ -46,6 +48,7 @@ pub(crate) fn read_fitting(alloc: Global, first: &Script, bytes: &[u8]) -> Resul
     requires { length bytes.now < 2 ^ 32 }
     ensures read { IfOk result (λ rules. fitting_of first.now bytes.now ≡ Ok rules) }
     ensures refused { IfErr result (λ fault. IsFirst fault (fitting_of first.now bytes.now)) }
+    ensures kept { IfOk result (All IsRule) }
 {
     let rules = read_bridge(alloc, bytes)?;
     match too_long(&rules, first) {

@@ -1,5 +1,5 @@
 // The reports of two communities, one after the other.
-ghost use Rattle.std.specs.Prelude.{◌≡◌, ◌++◌, [], false, OnErr, OnOk};
+ghost use Rattle.std.specs.Prelude.{◌++◌, OnErr, OnOk};
 ghost use Rattle.moos_io.specs.Faults.{FaresOn, Fell};
 ghost use Rattle.moos_io.specs.Pieces.{Took, TookFront};
 ghost use Rattle.share_job.specs.Sharing.{community_report};
@@ -7,8 +7,7 @@ ghost use Rattle.share_job.specs.Sharing.{community_report};
 use moos_bridged::Shared;
 use moos_db::Db;
 use moos_io::{Failed, Sink};
-use moos_post::List;
-use moos_report::{Setup, report};
+use moos_report::{no_modes, report};
 use std::alloc::Global;
 
 /// Writes the report of the first community, and then that of the second. Where the sink fails, it took a front of both.
@@ -39,16 +38,6 @@ fn report_community<K: Sink>(alloc: Global, db: &Db, out: &mut K) -> Result<(), 
     ensures later { FaresOn (K.faults out.old) (K.faults out.new) }
     ensures rose { OnErr result (Fell (K.faults out.old) (K.faults out.new) (K.taken out.new)) }
 {
-    let setup = helmless_setup(alloc);
+    let setup = no_modes(alloc);
     report(&setup, db, &[], out)
-}
-
-// What a report tells beside a history where no helm plays: no unused parameters, and no modes.
-fn helmless_setup(alloc: Global) -> Setup
-    ensures { result ≡ record { unused = []; modes = false } }
-{
-    Setup {
-        unused: List::new(alloc),
-        modes: false,
-    }
 }

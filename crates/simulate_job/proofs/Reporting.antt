@@ -1,19 +1,12 @@
 -- A play of a simulation: what is told of it is what the job may write.
-use Rattle.std.proofs.Common.{◌≡◌, ℕ, zero, suc, List, [], ◌∷◌, length, false, Option, None, Some, inl, inr, refl, ap, sym, ◌∙◌, subst, arith}
-use Rattle.std.specs.Prelude.{nat_lt, Result, Err}
-use Rattle.std.proofs.lemmas.Bool.{lt-ltb}
-use Rattle.bhv_file.specs.declared.decl.Decl.{Decl}
+use Rattle.std.proofs.Common.{◌≡◌, ℕ, zero, suc, List, [], length, false, Option, None, Some, inl, inr, refl, ap, sym, ◌∙◌, subst}
+use Rattle.std.specs.Prelude.{Result, Err}
 use Rattle.command_line.specs.declared.status.Status.{Status}
 use Rattle.command_line.specs.declared.status.Status.TheVariants.{Done, CheckNo, Usage, LoadFault, WriteFault, Refused, NoMemory}
 use Rattle.command_line.specs.Endings.{Ended, Sinking, WroteFront}
 use Rattle.command_line.specs.Turns.{Ready}
 use Rattle.helm_core.specs.declared.iteration.Iteration.{Iteration}
-use Rattle.helm_core.specs.Helms.{plan_of}
-use Rattle.helm_core.specs.Plans.{plan_made}
-use Rattle.helm_core.specs.Posts.{are_declared_modes}
-use Rattle.helm_files.specs.HelmFiles.{HelmFiles, steering_by}
-use Rattle.moos_play.specs.declared.run.HelmRun.{HelmRun}
-use Rattle.moos_play.specs.Lawful.{heard_of, helm_number, iterations, Steering, steering_with}
+use Rattle.moos_play.specs.Lawful.{heard_of, iterations, Steering}
 use Rattle.moos_play.specs.Plays.{clients_in, GoesOnWith, helm_in, Playing, script_played}
 use Rattle.moos_post.specs.History.{History}
 use Rattle.moos_report.specs.declared.setup.Setup.{Setup}
@@ -86,10 +79,6 @@ may_report task setup craft script helm names history made of simulated is = rec
     made_is : made ≡ iterations_sailed task history
     made_is = sym is ∙ (λ i. iterations (of.same_helm i) (of.same_script i).stop (heard_of (of.same_names i) (length (of.same_script i).names) history))
 
--- a helm that was made of these files is run as they say
-pub steered_by : (script : Script) (files : HelmFiles) (run : HelmRun) → plan_of run.helm ≡ plan_made files.mission files.file → run.period ≡ files.mission.period → steering_with script run ≡ steering_by script files
-steered_by script files run plan period = λ i. record { client = helm_number script; plan = plan i; period = period i }
-
 -- what was told is what the job may write
 module _ (task : Simulation) (sink : Sinking) where
   front_told : ToldFront (IsVoyage task) sink → WroteFront simulate_outcomes (Ready task) sink
@@ -109,11 +98,6 @@ module _ (task : Simulation) (sink : Sinking) where
 pub the_first : {A : Type 0} (fault : ReadFault) (read : Result A ReadFault) → read ≡ Err fault → IsFirst fault read
 the_first (At line cause) read is = is
 the_first Unread read is = tt
-
--- modes are declared where there is a declaration
-pub declared : (decls : List Decl) → nat_lt 0 (length decls) ≡ are_declared_modes decls
-declared [] = refl
-declared (decl ∷ decls) = lt-ltb 0 (length (decl ∷ decls)) (omega arith)
 
 -- a refusal stands before whatever else is judged
 pub refused_first : {A B : Type 0} (next : A → Result B ReadFault) (fault : ReadFault) (read : Result A ReadFault) → IsFirst fault read → IsFirst fault (and_then next read)

@@ -5,7 +5,8 @@ use Rattle.moos_play.specs.declared.run.HelmRun.{HelmRun}
 use Rattle.moos_play.specs.Lawful.{steering_with}
 use Rattle.moos_report.specs.declared.setup.Setup.{Setup}
 use Rattle.helm_files.specs.HelmFiles.{HelmFiles, setup_of}
-use Rattle.moos_jobs.proofs.Playing.{declared, steered_by, told_ended}
+use Rattle.helm_files.proofs.Helms.{declared, steered_by}
+use Rattle.moos_jobs.proofs.Playing.{told_ended}
 use Rattle.moos_jobs.proofs.play_job.play_helm.Goals as goal
 
 pub returns : goal.returns

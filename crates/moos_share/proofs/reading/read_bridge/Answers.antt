@@ -5,6 +5,7 @@ use Rattle.moos_text.specs.Refusals.{IsFirst}
 use Rattle.moos_text.proofs.Walks.{all_read, IsNext, one_read, one_refused}
 use Rattle.moos_share.specs.BridgeFiles.{after_bridge_line, after_said, rules_of}
 use Rattle.moos_share.proofs.Following.{bridge_read, whole}
+use Rattle.moos_share.proofs.Kept.{rules_good}
 use Rattle.moos_share.proofs.reading.read_bridge.Goals as goal
 
 pub loop-said-preserved : goal.loop-said-preserved
@@ -27,3 +28,6 @@ returns-in_err-read_line-clause-refused c =
 
 pub returns-clause-read : goal.returns-clause-read
 returns-clause-read c = all_read after_bridge_line [] whole (rules_of c.args.bytes.now) c.args.bytes.now c.loop-said.lines c.loop-said.rules c.loop-said.left.now (bridge_read c.args.bytes.now) c.loop-said.invariant c.in_default.ensures.none
+
+pub returns-clause-kept : goal.returns-clause-kept
+returns-clause-kept c = rules_good c.args.bytes.now c.loop-said.rules (returns-clause-read c)

@@ -3,6 +3,7 @@ use Rattle.std.proofs.Common.{◌++◌, refl}
 use Rattle.moos_post.specs.History.{History}
 use Rattle.command_line.proofs.Loading.{nothing_put, put_ends}
 use Rattle.command_line.specs.declared.status.Status.TheVariants.{Done}
+use Rattle.share_job.proofs.Telling.{HasEntries, reports_of}
 use Rattle.share_job.specs.Sharing.{community_report, share_outcomes, ShareTask}
 use Rattle.share_job.proofs.job.share_scripts.Goals as goal
 
@@ -11,13 +12,10 @@ returns-in-Ok g c =
     let task : ShareTask = record { order = c.args.order; first = c.args.first.now; second = c.args.second.now; rules = c.args.rules } in
     let one : History = c.in-Ok.shared.first.history in
     let two : History = c.in-Ok.shared.second.history in
+    let entries : HasEntries task = λ one two. c.entries_law.ensures task.order task.first task.second task.rules one two c.requires.first.valid c.requires.second.valid c.requires.rules in
     put_ends share_outcomes _ task _ Done c.written.result _ c.report_both.result (λ all. all) refl
-    (record {
-      one = one;
-      two = two;
-      shared = c.in-Ok.ensures.shared;
-      printed = λ i. community_report (c.in-Ok.ensures.first i) one ++ community_report (c.in-Ok.ensures.second i) two;
-    })
+    (reports_of task one two _ c.reports_law.ensures.two entries c.requires.first c.requires.second c.in-Ok.ensures.shared
+    (λ i. community_report (c.in-Ok.ensures.first i) one ++ community_report (c.in-Ok.ensures.second i) two))
     c.report_both.ensures.ok c.report_both.ensures.front c.report_both.ensures.rose c.written.ensures.all c.written.ensures.fault
 
 pub returns-in-Err : goal.returns-in-Err

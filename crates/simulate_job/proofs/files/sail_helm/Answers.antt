@@ -4,7 +4,8 @@ use Rattle.std.specs.Prelude.{Some}
 use Rattle.helm_files.specs.HelmFiles.{HelmFiles, setup_of}
 use Rattle.moos_play.specs.declared.run.HelmRun.{HelmRun}
 use Rattle.moos_report.specs.declared.setup.Setup.{Setup}
-use Rattle.simulate_job.proofs.Reporting.{declared, steered_by, told_ended}
+use Rattle.helm_files.proofs.Helms.{declared, steered_by}
+use Rattle.simulate_job.proofs.Reporting.{told_ended}
 use Rattle.simulate_job.specs.Simulating.{Simulation}
 use Rattle.simulate_job.proofs.files.sail_helm.Goals as goal
 

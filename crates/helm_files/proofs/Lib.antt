@@ -1,0 +1,2 @@
+pub mod Communities
+pub mod Helms
