@@ -23,7 +23,7 @@ use Rattle.moos_text.specs.Refusals.{and_then, IsFirst}
 use Rattle.script_reader.specs.declared.script.Script.{Script}
 use Rattle.script_reader.specs.Validity.{IsValid}
 use Rattle.sim_vehicle.specs.declared.settings.CraftSettings.{CraftSettings}
-use Rattle.simulate_job.specs.Simulating.{helm_sailed, IsOfSimulation, IsVoyage, iterations_sailed, names_sailed, simulate_outcomes, Simulation}
+use Rattle.simulate_job.specs.Simulating.{helm_sailed, IsOfSimulation, IsSailed, IsVoyage, iterations_sailed, names_sailed, simulate_outcomes, Simulation, voyage_text}
 
 -- none of the vehicle's clients has the helm's name
 no_helm : (client : ℕ) → is_helm vehicle_names client ≡ false
@@ -58,6 +58,7 @@ of_on task setup craft craft' old new on same of = record {
   same_names = on.names ∙ of.same_names;
   same_craft = same ∙ of.same_craft;
   same_setup = of.same_setup;
+  told = of.told;
   ranges = of.ranges;
   worth = of.worth;
 }
@@ -68,16 +69,23 @@ pub may_report : (task : Simulation) (setup : Setup) (craft : CraftSettings) (sc
     → IsVoyage task (report_text setup names history made)
 may_report task setup craft script helm names history made of simulated is = record {
   history = history;
-  sailed = subst (λ craft. IsSimulated task.script (Some (helm_sailed task)) craft (names_sailed task) history) of.same_craft
-      (subst (λ names. IsSimulated task.script (Some (helm_sailed task)) craft names history) of.same_names
-      (subst (λ helm. IsSimulated task.script helm craft names history) of.same_helm (subst (λ script. IsSimulated script helm craft names history) of.same_script simulated)));
-  printed = λ i. report_text (of.same_setup i) (of.same_names i) history (made_is i);
+  sailed = sailed;
+  printed = printed;
+  listed = λ other may also. of.told history other sailed may (sym also ∙ printed);
   ranges = of.ranges;
   worth = of.worth;
 }
   where
+    sailed : IsSailed task history
+    sailed = subst (λ craft. IsSimulated task.script (Some (helm_sailed task)) craft (names_sailed task) history) of.same_craft
+        (subst (λ names. IsSimulated task.script (Some (helm_sailed task)) craft names history) of.same_names
+        (subst (λ helm. IsSimulated task.script helm craft names history) of.same_helm (subst (λ script. IsSimulated script helm craft names history) of.same_script simulated)))
+
     made_is : made ≡ iterations_sailed task history
     made_is = sym is ∙ (λ i. iterations (of.same_helm i) (of.same_script i).stop (heard_of (of.same_names i) (length (of.same_script i).names) history))
+
+    printed : report_text setup names history made ≡ voyage_text task history
+    printed = λ i. report_text (of.same_setup i) (of.same_names i) history (made_is i)
 
 -- what was told is what the job may write
 module _ (task : Simulation) (sink : Sinking) where

@@ -89,6 +89,10 @@ IsSailed task history = IsSimulated task.script (Some (helm_sailed task)) task.c
 abbrev pub iterations_sailed : Simulation → History → List Iteration
 iterations_sailed task history = iterations (Some (helm_sailed task)) task.script.stop (heard_of (names_sailed task) (helm_number task.script) history)
 
+-- the report of a history, and of the helm's iterations in it
+abbrev pub voyage_text : Simulation → History → List ℕ
+voyage_text task history = report_text (setup_of (Some task.files)) (names_sailed task) history (iterations_sailed task history)
+
 -- Whatever was mailed to the vehicle's clients, what they post is in its range: the rudder within `max_rudder` either way, the thrust from 0
 -- to `max_thrust`, and the vehicle's place, heading, speed and depth.
 pub record KeepsInRange (craft : CraftSettings) : Type 0 where
@@ -96,12 +100,13 @@ pub record KeepsInRange (craft : CraftSettings) : Type 0 where
   pub thrust : (mails : List (List Pair)) → Lies (pos 0) craft.max_thrust (drive_by craft mails).thrust
   pub hull : (period : ℕ) (mails : List (List Pair)) → IsHull craft (hull_by craft period mails)
 
--- The text is the report of a history that the simulation may leave, and of the helm's iterations in it. What the vehicle's clients post in it
--- is in range, and what the helm decides is decided by worth.
+-- The text is the report of a history that the simulation may leave, which is the one that the text lists: no other one that it may leave has
+-- it. What the vehicle's clients post in it is in range, and what the helm decides is decided by worth.
 pub record IsVoyage (task : Simulation) (text : List ℕ) : Type 0 where
   pub history : History
   pub sailed : IsSailed task history
-  pub printed : text ≡ report_text (setup_of (Some task.files)) (names_sailed task) history (iterations_sailed task history)
+  pub printed : text ≡ voyage_text task history
+  pub listed : (other : History) → IsSailed task other → text ≡ voyage_text task other → other ≡ history
   pub ranges : KeepsInRange task.craft
   pub worth : DecidesByWorth (plan_made task.files.mission task.files.file)
 
@@ -116,13 +121,14 @@ simulate_outcomes = record { MayWrite = MayReport; IsWrittenAsItComes = λ task.
 
 -- ---- a play of a simulation; this serves `telling` alone
 
--- a script, a helm, names of clients, a vehicle and a setup that are those of this simulation, whose vehicle keeps in range and whose helm
--- decides by worth
+-- a script, a helm, names of clients, a vehicle and a setup that are those of this simulation, whose reports tell their histories, whose
+-- vehicle keeps in range and whose helm decides by worth
 pub record IsOfSimulation (task : Simulation) (setup : Setup) (craft : CraftSettings) (script : Script) (helm : Option Steering) (names : List (List ℕ)) : Type 0 where
   pub same_script : script ≡ task.script
   pub same_helm : helm ≡ Some (helm_sailed task)
   pub same_names : names ≡ names_sailed task
   pub same_craft : craft ≡ task.craft
   pub same_setup : setup ≡ setup_of (Some task.files)
+  pub told : (one other : History) → IsSailed task one → IsSailed task other → voyage_text task other ≡ voyage_text task one → other ≡ one
   pub ranges : KeepsInRange task.craft
   pub worth : DecidesByWorth (plan_made task.files.mission task.files.file)

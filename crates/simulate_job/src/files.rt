@@ -1,9 +1,12 @@
 // The files of a simulation, one after another.
-ghost use Rattle.std.specs.Prelude.{◌≡◌, ◌≤◌, ◌++◌, ℕ, [], List, IsTrue};
+ghost use Rattle.std.specs.Prelude.{◌≡◌, ◌≤◌, ◌++◌, ℕ, [], false, List, IsTrue};
+ghost use Rattle.std.specs.List.{list_any};
 ghost use Rattle.bhv_file.specs.Validity.{IsValidFile, serves};
 ghost use Rattle.command_line.specs.Endings.{Ended, EndsFrom, sinking, surroundings};
 ghost use Rattle.command_line.specs.Turns.{FileTurn, Ready};
 ghost use Rattle.mission_reader.specs.Validity.{IsValidMission};
+ghost use Rattle.moos_simulate.specs.Simulated.{vehicle_names};
+ghost use Rattle.script_reader.specs.Named.{has_name};
 ghost use Rattle.script_reader.specs.Validity.{IsValid};
 ghost use Rattle.simulate_job.specs.Simulating.{behaviors_turn_simulated, mission_turn_simulated, simulate_outcomes, simulate_turn, Simulation, vehicle_turn};
 
@@ -17,7 +20,7 @@ use mission_reader::Mission;
 use moos_io::{Folder, Gate, Sink};
 use moos_play::HelmRun;
 use moos_post::{List, Txt};
-use moos_report::Setup;
+use moos_report::{Setup, report_law};
 use script_reader::Script;
 use sim_clients::posts_law;
 use sim_vehicle::Craft;
@@ -70,6 +73,7 @@ fn with_mission<R: Threads + Wait + Sync, F: Folder, K: Sink, G: Gate>(
 ) -> Status
     requires few { (1 ≤ workers) × (workers ≤ 16) }
     requires valid { IsValid script.now }
+    requires apart { list_any (has_name vehicle_names) script.now.names ≡ false }
     // Wherever the job stood before, by where it stands with its files.
     ensures ends { (turn : List (List ℕ) → FileTurn Simulation) (front : List (List ℕ)) → ((files : List (List ℕ)) → turn (front ++ files) ≡ mission_turn_simulated script.now name.now vehicle.now files)
         → EndsFrom simulate_outcomes (surroundings (F.told folder.old) (F.sure folder.old) (F.faults folder.old) (F.faults folder.new)
@@ -102,6 +106,7 @@ fn with_behaviors<R: Threads + Wait + Sync, F: Folder, K: Sink, G: Gate>(
 ) -> Status
     requires few { (1 ≤ workers) × (workers ≤ 16) }
     requires valid { IsValid script.now }
+    requires apart { list_any (has_name vehicle_names) script.now.names ≡ false }
     requires mission { IsValidMission mission.now }
     // Wherever the job stood before, by where it stands with its files.
     ensures ends { (turn : List (List ℕ) → FileTurn Simulation) (front : List (List ℕ)) → ((files : List (List ℕ)) → turn (front ++ files) ≡ behaviors_turn_simulated script.now mission.now vehicle.now files)
@@ -136,6 +141,7 @@ fn with_vehicle<R: Threads + Wait + Sync, F: Folder, K: Sink, G: Gate>(
 ) -> Status
     requires few { (1 ≤ workers) × (workers ≤ 16) }
     requires valid { IsValid script.now }
+    requires apart { list_any (has_name vehicle_names) script.now.names ≡ false }
     requires mission { IsValidMission mission.now }
     requires file { IsValidFile file }
     requires served { IsTrue (serves mission.now.domain file.blocks) }
@@ -170,6 +176,7 @@ fn sail_helm<R: Threads + Wait + Sync, K: Sink, G: Gate>(
 ) -> Status
     requires few { (1 ≤ workers) × (workers ≤ 16) }
     requires valid { IsValid script.now }
+    requires apart { list_any (has_name vehicle_names) script.now.names ≡ false }
     requires mission { IsValidMission mission.now }
     requires file { IsValidFile file }
     requires served { IsTrue (serves mission.now.domain file.blocks) }
@@ -192,6 +199,7 @@ fn sail_helm<R: Threads + Wait + Sync, K: Sink, G: Gate>(
     plan_law();
     worth_law();
     posts_law();
+    report_law();
     craft.allowed_law();
     sail(rt, alloc, script, run, craft, &setup, workers, out, gate)
 }

@@ -4,9 +4,11 @@ use Rattle.std.specs.Prelude.{Some}
 use Rattle.helm_files.specs.HelmFiles.{HelmFiles, setup_of}
 use Rattle.moos_play.specs.declared.run.HelmRun.{HelmRun}
 use Rattle.moos_report.specs.declared.setup.Setup.{Setup}
+use Rattle.helm_files.proofs.Communities.{AreGoodFiles}
 use Rattle.helm_files.proofs.Helms.{declared, steered_by}
+use Rattle.simulate_job.proofs.Communities.{told_apart}
 use Rattle.simulate_job.proofs.Reporting.{told_ended}
-use Rattle.simulate_job.specs.Simulating.{Simulation}
+use Rattle.simulate_job.specs.Simulating.{KeepsInRange, Simulation}
 use Rattle.simulate_job.proofs.files.sail_helm.Goals as goal
 
 pub returns : goal.returns
@@ -19,6 +21,16 @@ returns g c =
       unused = c.replace-unused.ensures.value i;
       modes = (ap (nat_lt 0) c.len.ensures ∙ declared c.args.file.decls) i;
     } in
+    let ranges : KeepsInRange c.args.craft = record {
+      rudder = c.posts_law.ensures.rudder c.args.craft c.allowed_law.ensures;
+      thrust = c.posts_law.ensures.thrust c.args.craft c.allowed_law.ensures;
+      hull = c.posts_law.ensures.hull c.args.craft c.allowed_law.ensures;
+    } in
+    let good : AreGoodFiles files = record {
+      file = c.requires.file;
+      formed = c.plan_law.ensures c.args.mission.now c.args.file c.requires.mission c.requires.file;
+      worth = c.worth_law.ensures c.args.mission.now c.args.file c.requires.mission c.requires.file c.requires.served;
+    } in
     told_ended task _ c.sail.result
     (c.sail.ensures task (record {
       same_script = refl;
@@ -26,12 +38,9 @@ returns g c =
       same_names = refl;
       same_craft = refl;
       same_setup = told;
-      ranges = record {
-        rudder = c.posts_law.ensures.rudder c.args.craft c.allowed_law.ensures;
-        thrust = c.posts_law.ensures.thrust c.args.craft c.allowed_law.ensures;
-        hull = c.posts_law.ensures.hull c.args.craft c.allowed_law.ensures;
-      };
-      worth = c.worth_law.ensures c.args.mission.now c.args.file c.requires.mission c.requires.file c.requires.served;
+      told = told_apart task c.requires.valid c.requires.apart good c.allowed_law.ensures ranges c.report_law.ensures;
+      ranges = ranges;
+      worth = good.worth;
     }))
 
 pub sail-requires-clause-period : goal.sail-requires-clause-period
