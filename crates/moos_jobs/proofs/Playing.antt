@@ -11,7 +11,8 @@ use Rattle.moos_report.specs.Report.{report_text, ReportsTell}
 use Rattle.command_line.specs.Turns.{Ready}
 use Rattle.moos_jobs.specs.Jobs.{IsLawfulWith, IsReport, report_on, IsToPlay, outcomes}
 use Rattle.helm_files.proofs.Communities.{AreGoodFiles, stand_on_lines}
-use Rattle.helm_files.specs.HelmFiles.{HelmFiles, setup_of, steering_by}
+use Rattle.helm_files.specs.declared.loading.HelmFiles.{HelmFiles}
+use Rattle.helm_files.specs.HelmFiles.{setup_of, steering_by}
 use Rattle.moos_jobs.specs.Jobs.Task.{Playing}
 use Rattle.command_line.specs.declared.status.Status.{Status}
 use Rattle.command_line.specs.declared.status.Status.TheVariants.{Done, CheckNo, Usage, LoadFault, WriteFault, Refused, NoMemory}

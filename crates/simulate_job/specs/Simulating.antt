@@ -1,17 +1,16 @@
 -- Which files the job reads, what is to be simulated, and what may be written of it.
 use Rattle.std.specs.Prelude.{◌≡◌, ℕ, neg_ℤ, pos, List, [], ◌∷◌, ◌++◌, Option, Some, None, Result, Ok, Err}
-use Rattle.bhv_reader.specs.Behaviors.{behaviors_of}
 use Rattle.command_line.specs.Endings.{Outcomes}
 use Rattle.command_line.specs.Turns.{FileTurn, Ready, Wanted, turn_behind}
-use Rattle.command_line.specs.declared.status.FileKind.TheVariants.{Script as ScriptFile, Mission as MissionFile, Behaviors as BehaviorsFile, Vehicle as VehicleFile}
+use Rattle.command_line.specs.declared.status.FileKind.TheVariants.{Script as ScriptFile, Vehicle as VehicleFile}
 use Rattle.command_line.specs.declared.status.Status.{Status}
 use Rattle.command_line.specs.declared.status.Status.TheVariants.{Done}
 use Rattle.helm_core.specs.declared.iteration.Iteration.{Iteration}
 use Rattle.helm_core.specs.Plans.{plan_made}
 use Rattle.helm_core.specs.Worths.{DecidesByWorth}
-use Rattle.helm_files.specs.HelmFiles.{HelmFiles, setup_of, steering_by, with_few_ticks}
-use Rattle.mission_reader.specs.declared.mission.Mission.{Mission}
-use Rattle.mission_reader.specs.Missions.{mission_of}
+use Rattle.helm_files.specs.declared.loading.HelmFiles.{HelmFiles}
+use Rattle.helm_files.specs.HelmFiles.{setup_of, steering_by}
+use Rattle.helm_files.specs.Loading.{helm_turn}
 use Rattle.moos_play.specs.Lawful.{Steering, heard_of, helm_number, iterations, names_with}
 use Rattle.moos_post.specs.declared.value.Pair.{Pair}
 use Rattle.moos_post.specs.History.{History}
@@ -48,28 +47,17 @@ without_line (Some line) script = Err (At line S11)
 abbrev pub simulated_script : List ℕ → Result Script ReadFault
 simulated_script bytes = and_then (without_line (line_of_client vehicle_names bytes)) (script_of bytes)
 
--- behind a script, a mission and its behaviour file, by the bytes of the vehicle file of this name
-abbrev pub vehicle_turn : Script → HelmFiles → List ℕ → List (List ℕ) → FileTurn Simulation
-vehicle_turn script files vehicle [] = Wanted VehicleFile vehicle
-vehicle_turn script files vehicle (bytes ∷ more) = turn_behind VehicleFile (λ craft. Ready (record { script = script; files = files; craft = craft })) (vehicle_of bytes)
-
--- behind a script and a mission, by the bytes of the behaviour file and what is behind it
-abbrev pub behaviors_turn_simulated : Script → Mission → List ℕ → List (List ℕ) → FileTurn Simulation
-behaviors_turn_simulated script mission vehicle [] = Wanted BehaviorsFile mission.behaviors
-behaviors_turn_simulated script mission vehicle (bytes ∷ more) =
-    turn_behind BehaviorsFile (λ file. vehicle_turn script (record { mission = mission; file = file }) vehicle more) (behaviors_of mission.domain bytes)
-
--- behind a script, by the bytes of the mission of this name and what is behind it
-abbrev pub mission_turn_simulated : Script → List ℕ → List ℕ → List (List ℕ) → FileTurn Simulation
-mission_turn_simulated script mission vehicle [] = Wanted MissionFile mission
-mission_turn_simulated script mission vehicle (bytes ∷ more) =
-    turn_behind MissionFile (λ read. behaviors_turn_simulated script read vehicle more) (and_then (with_few_ticks script) (mission_of bytes))
+-- behind a script and a helm's files, by the bytes of the vehicle file of this name
+abbrev pub vehicle_turn : Script → List ℕ → HelmFiles → List (List ℕ) → FileTurn Simulation
+vehicle_turn script vehicle files [] = Wanted VehicleFile vehicle
+vehicle_turn script vehicle files (bytes ∷ more) = turn_behind VehicleFile (λ craft. Ready (record { script = script; files = files; craft = craft })) (vehicle_of bytes)
 
 -- Where the job stands, by the bytes of the files that were loaded so far, in order: a script, a mission, the behaviour file that the
 -- mission names, and a vehicle file.
 abbrev pub simulate_turn : List ℕ → List ℕ → List ℕ → List (List ℕ) → FileTurn Simulation
 simulate_turn script mission vehicle [] = Wanted ScriptFile script
-simulate_turn script mission vehicle (bytes ∷ more) = turn_behind ScriptFile (λ read. mission_turn_simulated read mission vehicle more) (simulated_script bytes)
+simulate_turn script mission vehicle (bytes ∷ more) =
+    turn_behind ScriptFile (λ read. helm_turn (vehicle_turn read vehicle) read mission more) (simulated_script bytes)
 
 -- ---- what may be written
 
