@@ -40,15 +40,6 @@ named_sailing vehicle play (helm, sailing) valid =
     alone : Some helm ≡ None → vehicle_names ≡ []
     alone none = cc
 
--- a play that goes on twice
-pub goes_on_twice : (before middle after : Playing) → GoesOnWith before middle → GoesOnWith middle after → GoesOnWith before after
-goes_on_twice before middle after one other = record {
-  script = other.script ∙ one.script;
-  order = other.order ∙ one.order;
-  names = other.names ∙ one.names;
-  helm = other.helm ∙ one.helm;
-}
-
 -- the same simulation goes on
 pub of_on : (task : Simulation) (setup : Setup) (craft craft' : CraftSettings) (old new : Playing) → GoesOnWith old new → craft' ≡ craft → IsOfSimulation task setup craft (script_played old) (helm_in old) (clients_in old)
     → IsOfSimulation task setup craft' (script_played new) (helm_in new) (clients_in new)
