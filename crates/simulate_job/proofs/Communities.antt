@@ -1,18 +1,21 @@
 -- A history that a simulation leaves is that of a community: each client has a name of its own, and each entry is as its type lets it be.
-use Rattle.std.proofs.Common.{◌≡◌, ℕ, suc, zero, ◌+◌, ◌-◌, ◌*◌, ◌<◌, ◌≤◌, ◌^◌, ◌||◌, Bool, true, false, cond, nat_eq, nat_lt, List, [], ◌∷◌, length, map, take, codes, refl, sym, ◌∙◌, subst, arith, length-append}
+use Rattle.std.proofs.Common.{◌≡◌, ℕ, suc, zero, ◌+◌, ◌-◌, ◌*◌, ◌/◌, ◌<◌, ◌≤◌, ◌^◌, ◌||◌, Bool, true, false, cond, nat_eq, nat_lt, List, [], ◌∷◌, length, map, take, codes, refl, sym, ◌∙◌, subst, arith, length-append}
 use Rattle.std.specs.Prelude.{◌≤ℤ◌, ℤ, pos, IsTrue, Some}
 use Rattle.std.specs.List.{All, list_any}
 use Rattle.std.proofs.lemmas.Bool.{and_parts, eqb-true, ltb-false, ltb-true}
 use Rattle.std.proofs.lemmas.Int.{ints}
-use Rattle.std.proofs.lemmas.List.Elements.{All-append, All-cons, All-head, All-map, All-nil, All-tail, All-weaker}
+use Rattle.std.proofs.lemmas.List.Elements.{All-append, All-cons, All-from_recursion, All-head, All-map, All-nil, All-tail, All-weaker}
 use Rattle.std.proofs.lemmas.List.Folds.{list_any-append}
+use Rattle.helm_core.specs.Plans.{wants_of}
 use Rattle.helm_core.specs.Ticks.{Tick}
 use Rattle.helm_core.specs.WellFormed.{IsWellFormedPlan}
 use Rattle.helm_files.proofs.Communities.{all_named, AreGoodFiles, clients_with, names_apart, stand_on_lines, tick_early}
+use Rattle.helm_files.specs.HelmFiles.{setup_of}
 use Rattle.moos_client.specs.Calls.{entries_of, entry_of}
+use Rattle.moos_client.specs.Hearing.{heard_in}
 use Rattle.moos_lawful.specs.Answering.{Answerer, answers_of, openings, turns_from}
 use Rattle.moos_lawful.specs.Schedules.{clients_below}
-use Rattle.moos_play.specs.Lawful.{heard_of, helm_number, names_with, Steering}
+use Rattle.moos_play.specs.Lawful.{heard_of, helm_number, mailed_in, names_with, Steering}
 use Rattle.moos_play.specs.Schedules.{answering}
 use Rattle.moos_post.specs.declared.entry.Call.TheVariants.{Register, Post as Posts, Fetch}
 use Rattle.moos_post.specs.declared.entry.Entry.{Entry}
@@ -44,7 +47,7 @@ record SaysCalls (answerer : Answerer Tick) : Type 0 where
 
 helm_says : (helm : Steering) → IsWellFormedPlan helm.plan → SaysCalls (answering helm)
 helm_says helm formed = record {
-  opening = All-cons IsCall _ _ formed.wants (posted (nat_lt 0 (length helm.plan.opening)));
+  opening = All-cons IsCall (Register (wants_of helm.plan)) (cond (nat_lt 0 (length helm.plan.opening)) (Posts helm.plan.opening ∷ []) []) formed.wants (posted (nat_lt 0 (length helm.plan.opening)));
   says = λ heard. (formed.iterations heard (length heard - 1)).posts;
 }
   where
@@ -55,8 +58,7 @@ helm_says helm formed = record {
 -- three registrations, each for a variable from everybody
 three_regs : (one two three : List ℕ) → IsTrue (is_pattern one) → IsTrue (is_pattern two) → IsTrue (is_pattern three) → All IsReg (map reg_simple (one ∷ two ∷ three ∷ []))
 three_regs one two three first second third =
-    All-cons IsReg (reg_simple one) (reg_simple two ∷ reg_simple three ∷ []) (is one first)
-    (All-cons IsReg (reg_simple two) (reg_simple three ∷ []) (is two second) (All-cons IsReg (reg_simple three) [] (is three third) (All-nil IsReg)))
+    All-from_recursion IsReg (map reg_simple (one ∷ two ∷ three ∷ [])) (is one first, (is two second, (is three third, tt)))
   where
     is : (var : List ℕ) → IsTrue (is_pattern var) → IsReg (reg_simple var)
     is var named = record { var = named; source = refl; interval = omega arith }
@@ -71,20 +73,18 @@ drive_pairs_are craft allowed keeps mails =
     let thrust = keeps.thrust mails in
     let steers = numbered (codes "DESIRED_RUDDER") drive.rudder refl (omega (arith, ints, rudder.0, (allowed MaxRudder).1), omega (arith, ints, rudder.1, (allowed MaxRudder).1)) in
     let pushes = numbered (codes "DESIRED_THRUST") drive.thrust refl (omega (arith, ints, thrust.0), omega (arith, ints, thrust.1, (allowed MaxThrust).1)) in
-    All-cons IsPair _ _ steers (All-cons IsPair _ _ pushes (All-nil IsPair))
+    All-from_recursion IsPair (drive_pairs drive) (steers, (pushes, tt))
 
 hull_pairs_are : (craft : CraftSettings) (hull : Hull) → craft.max_speed ≤ℤ pos 100000 → IsHull craft hull → All IsPair (hull_pairs hull)
 hull_pairs_are craft hull most is =
     let heading = numbered (codes "NAV_HEADING") hull.heading refl (omega (arith, ints, is.heading.0), omega (arith, ints, is.heading.1)) in
     let speed = numbered (codes "NAV_SPEED") hull.speed refl (omega (arith, ints, is.speed.0), omega (arith, ints, is.speed.1, most)) in
     let depth = numbered (codes "NAV_DEPTH") hull.depth refl (omega (arith, ints, is.depth.0), omega (arith, ints, is.depth.1)) in
-    All-cons IsPair _ _ (numbered (codes "NAV_X") hull.x refl is.x)
-    (All-cons IsPair _ _ (numbered (codes "NAV_Y") hull.y refl is.y)
-    (All-cons IsPair _ _ heading (All-cons IsPair _ _ speed (All-cons IsPair _ _ depth (All-nil IsPair)))))
+    All-from_recursion IsPair (hull_pairs hull) (numbered (codes "NAV_X") hull.x refl is.x, (numbered (codes "NAV_Y") hull.y refl is.y, (heading, (speed, (depth, tt)))))
 
 pid_says : (craft : CraftSettings) → AreAllowed craft → KeepsInRange craft → SaysCalls (marine_pid craft)
 pid_says craft allowed keeps = record {
-  opening = All-cons IsCall (Register marine_pid_regs) [] (three_regs (codes "DESIRED_HEADING") (codes "DESIRED_SPEED") (codes "NAV_HEADING") refl refl refl) (All-nil IsCall);
+  opening = All-from_recursion IsCall (Register marine_pid_regs ∷ []) (three_regs (codes "DESIRED_HEADING") (codes "DESIRED_SPEED") (codes "NAV_HEADING") refl refl refl, tt);
   says = λ heard. (omega arith, drive_pairs_are craft allowed keeps (mails_said heard));
 }
 
@@ -93,8 +93,8 @@ sim_says craft period allowed keeps =
     let most : craft.max_speed ≤ℤ pos 100000 = (allowed MaxSpeed).1 in
     let starts : IsCall (Posts (hull_pairs (start_hull craft))) = (omega arith, hull_pairs_are craft (start_hull craft) most (keeps.hull period [])) in
     record {
-      opening = All-cons IsCall (Register sim_marine_regs) (Posts (hull_pairs (start_hull craft)) ∷ []) (three_regs (codes "DESIRED_RUDDER") (codes "DESIRED_THRUST") (codes "DESIRED_DEPTH") refl refl refl)
-          (All-cons IsCall (Posts (hull_pairs (start_hull craft))) [] starts (All-nil IsCall));
+      opening = All-from_recursion IsCall (Register sim_marine_regs ∷ Posts (hull_pairs (start_hull craft)) ∷ [])
+          (three_regs (codes "DESIRED_RUDDER") (codes "DESIRED_THRUST") (codes "DESIRED_DEPTH") refl refl refl, (starts, tt));
       says = λ heard. (omega arith, hull_pairs_are craft (hull_by craft period (mails_said heard)) most (keeps.hull period (mails_said heard)));
     }
 
@@ -129,7 +129,7 @@ answers_by : (period ticks clients client : ℕ) (answerers : List (Answerer Tic
 answers_by period ticks clients client [] n heard says named early = All-nil (IsBy clients)
 answers_by period ticks clients client (answerer ∷ others) n heard says named early =
     either_all (IsBy clients) (nat_eq client n) (turns_from answerer n period heard 0 ticks) (answers_of period ticks (suc client) others n heard)
-    (turns_by answerer clients n period heard 0 ticks (All-head SaysCalls answerer others says) named early)
+    (turns_by answerer clients n period heard 0 ticks (All-head SaysCalls answerer others says) named (λ k within. early k (omega (arith, within))))
     (answers_by period ticks clients (suc client) others n heard (All-tail SaysCalls answerer others says) named early)
 
 -- nobody without a name has an entry
@@ -159,7 +159,7 @@ module _ (task : Simulation) (valid : IsValid task.script) (apart : list_any (ha
   all_answer = answering (helm_sailed task) ∷ vehicle_clients task.craft period
 
   many : length names ≡ clients + 3
-  many = length-append (names_with task.script (Some (helm_sailed task))) vehicle_names ∙ (let with_helm = clients_with task.script in omega (arith, with_helm))
+  many = omega (arith, length-append (names_with task.script (Some (helm_sailed task))) vehicle_names, clients_with task.script)
 
   names_own : AreApart names
   names_own =
@@ -168,9 +168,7 @@ module _ (task : Simulation) (valid : IsValid task.script) (apart : list_any (ha
 
   all_say : All SaysCalls all_answer
   all_say =
-      All-cons SaysCalls (answering (helm_sailed task)) (vehicle_clients task.craft period) (helm_says (helm_sailed task) good.formed)
-      (All-cons SaysCalls (marine_pid task.craft) (sim_marine task.craft period ∷ []) (pid_says task.craft allowed keeps)
-      (All-cons SaysCalls (sim_marine task.craft period) [] (sim_says task.craft period allowed keeps) (All-nil SaysCalls)))
+      All-from_recursion SaysCalls all_answer (helm_says (helm_sailed task) good.formed, (pid_says task.craft allowed keeps, (sim_says task.craft period allowed keeps, tt)))
 
   -- the entries of one client behind the openings are its lines or its turns
   own_entries : (history : History) → (sailed : IsSailed task history) → (n : ℕ) → All (IsBy (length names)) (entries_of n sailed.rest)
@@ -178,17 +176,19 @@ module _ (task : Simulation) (valid : IsValid task.script) (apart : list_any (ha
     where
       by : (known : Bool) → nat_lt n (clients + 3) ≡ known → All (IsBy (length names)) (entries_of n sailed.rest)
       by true is =
+          let By : Entry → Type 0 = IsBy (length names) in
+          let heard : List Tick = heard_in (mailed_in names) n (openings clients all_answer) sailed.rest in
+          let ticks : ℕ = suc (task.script.stop / period) in
           let below : n < clients + 3 = ltb-true n (clients + 3) is in
-          subst (All (IsBy (length names))) (sym (sailed.own n below))
-          (either_all (IsBy (length names)) (nat_lt n clients) (entries_of n task.script.lines) _
-          (own_lines (length names) n task.script valid (omega (arith, many)))
-          (answers_by period _ (length names) clients all_answer n _ all_say (omega (arith, many, below)) (λ k within. tick_early task.script.stop period k valid.early within)))
+          subst (All By) (sym (sailed.own n below))
+          (either_all By (nat_lt n clients) (entries_of n task.script.lines) (answers_of period ticks clients all_answer n heard) (own_lines (length names) n task.script valid (omega (arith, many)))
+          (answers_by period ticks (length names) clients all_answer n heard all_say (omega (arith, many, below)) (λ k within. tick_early task.script.stop period k valid.early within)))
       by false is = none_unnamed (IsBy (length names)) (length names) n sailed.rest sailed.named (let past = ltb-false n (clients + 3) is in omega (arith, many, past))
 
   pub sailed_community : (history : History) → IsSailed task history → IsCommunity names history
   sailed_community history sailed = record {
     named = All-append (λ name. IsTrue (is_name name)) (names_with task.script (Some (helm_sailed task))) vehicle_names (all_named task.script (Some (helm_sailed task)) valid)
-        (All-cons (λ name. IsTrue (is_name name)) (codes "pMarinePID") (codes "uSimMarine" ∷ []) refl (All-cons (λ name. IsTrue (is_name name)) (codes "uSimMarine") [] refl (All-nil (λ name. IsTrue (is_name name)))));
+        (All-from_recursion (λ name. IsTrue (is_name name)) vehicle_names (refl, (refl, tt)));
     own = own_names names names_own;
     entries = λ k d within. (all k d within).0;
     clients = λ k d within. (all k d within).1;
@@ -202,5 +202,5 @@ module _ (task : Simulation) (valid : IsValid task.script) (apart : list_any (ha
   -- no other history that the simulation may leave has the report of one
   pub told_apart : ReportsTell → (one other : History) → IsSailed task one → IsSailed task other → voyage_text task other ≡ voyage_text task one → other ≡ one
   told_apart tell one other sailed is same =
-      (tell _ _ names names one other _ _ (sailed_community one sailed) (sailed_community other is)
+      (tell (setup_of (Some task.files)) (setup_of (Some task.files)) names names one other _ _ (sailed_community one sailed) (sailed_community other is)
       (stand_on_lines task.script (Some task.files) (heard_of names (helm_number task.script) one) good) (stand_on_lines task.script (Some task.files) (heard_of names (helm_number task.script) other) good) same).1
