@@ -1,2 +1,2 @@
 pub mod Communities
-pub mod Loading
+pub mod FilesFirst

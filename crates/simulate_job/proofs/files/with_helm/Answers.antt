@@ -2,7 +2,7 @@
 use Rattle.std.proofs.Common.{refl}
 use Rattle.command_line.proofs.Loading.{IsBehind}
 use Rattle.command_line.specs.Endings.{surroundings}
-use Rattle.helm_files.proofs.Loading.{both, ends_so, goes_on, stands_behind}
+use Rattle.helm_files.proofs.FilesFirst.{both, ends_so, goes_on, stands_behind}
 use Rattle.simulate_job.specs.Simulating.{simulate_outcomes, vehicle_turn}
 use Rattle.simulate_job.proofs.files.with_helm.Goals as goal
 

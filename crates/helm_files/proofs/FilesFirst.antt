@@ -19,7 +19,7 @@ use Rattle.moos_text.specs.Refusals.{and_then}
 use Rattle.script_reader.specs.declared.script.Script.{Script}
 
 -- where a job stands by where a part of it stands, and by what follows that
-followed : {A T : Type 0} → (A → FileTurn T) → FileTurn A → FileTurn T
+abbrev followed : {A T : Type 0} → (A → FileTurn T) → FileTurn A → FileTurn T
 followed next (Wanted kind name) = Wanted kind name
 followed next (Ready value) = next value
 followed next (Unfit kind fault) = Unfit kind fault
@@ -34,7 +34,7 @@ was_followed told next (Ready value) bytes was = absurd was
 was_followed told next (Unfit kind fault) bytes was = absurd was
 
 -- what is behind the first file
-behind : List (List ℕ) → List (List ℕ)
+abbrev behind : List (List ℕ) → List (List ℕ)
 behind [] = []
 behind (bytes ∷ more) = more
 
