@@ -6,9 +6,9 @@ use Rattle.moos_play.specs.declared.run.HelmRun.{HelmRun}
 use Rattle.moos_report.specs.declared.setup.Setup.{Setup}
 use Rattle.helm_files.proofs.Communities.{AreGoodFiles}
 use Rattle.helm_files.proofs.Helms.{declared, steered_by}
+use Rattle.moos_telling.proofs.Endings.{ends_told}
 use Rattle.simulate_job.proofs.Communities.{told_apart}
-use Rattle.simulate_job.proofs.Reporting.{told_ended}
-use Rattle.simulate_job.specs.Simulating.{KeepsInRange, Simulation}
+use Rattle.simulate_job.specs.Simulating.{IsVoyage, KeepsInRange, simulate_outcomes, Simulation}
 use Rattle.simulate_job.proofs.files.sail_helm.Goals as goal
 
 pub returns : goal.returns
@@ -31,7 +31,7 @@ returns g c =
       formed = c.plan_law.ensures c.args.mission.now c.args.file c.requires.mission c.requires.file;
       worth = c.worth_law.ensures c.args.mission.now c.args.file c.requires.mission c.requires.file c.requires.served;
     } in
-    told_ended task _ c.sail.result
+    ends_told simulate_outcomes task tt (IsVoyage task) (λ text voyage. voyage) _ c.sail.result
     (c.sail.ensures task (record {
       same_script = refl;
       same_helm = ap (λ steering. Some steering) (steered_by c.args.script.now files run c.in-Ok.ensures.plan refl);
