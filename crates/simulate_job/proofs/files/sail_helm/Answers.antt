@@ -2,9 +2,9 @@
 use Rattle.std.proofs.Common.{ap, refl}
 use Rattle.std.specs.Prelude.{Some}
 use Rattle.helm_files.proofs.Communities.{AreGoodFiles, good_files}
+use Rattle.moos_telling.proofs.Endings.{ends_told}
 use Rattle.simulate_job.proofs.Communities.{told_apart}
-use Rattle.simulate_job.proofs.Reporting.{told_ended}
-use Rattle.simulate_job.specs.Simulating.{KeepsInRange, Simulation}
+use Rattle.simulate_job.specs.Simulating.{IsVoyage, KeepsInRange, simulate_outcomes, Simulation}
 use Rattle.simulate_job.proofs.files.sail_helm.Goals as goal
 
 pub returns : goal.returns
@@ -16,7 +16,7 @@ returns g c =
       hull = c.posts_law.ensures.hull c.args.craft c.allowed_law.ensures;
     } in
     let good : AreGoodFiles c.args.files = good_files c.args.files c.plan_law.ensures c.worth_law.ensures c.requires.files in
-    told_ended task _ c.sail.result
+    ends_told simulate_outcomes task tt (IsVoyage task) (λ text voyage. voyage) _ c.sail.result
     (c.sail.ensures task (record {
       same_script = refl;
       same_helm = ap (λ steering. Some steering) (c.in-Ok.ensures.steers c.args.script.now);
