@@ -10,9 +10,11 @@ use Rattle.helm_core.specs.declared.iteration.Iteration.{Iteration}
 use Rattle.helm_core.specs.Iterations.{iteration_at}
 use Rattle.helm_core.specs.Plans.{Plan, plan_made}
 use Rattle.helm_core.specs.Ticks.{Tick}
-use Rattle.helm_core.specs.WellFormed.{IsWellFormedPlan, names_told}
-use Rattle.helm_core.specs.Worths.{DecidesByWorth}
-use Rattle.helm_files.specs.HelmFiles.{HelmFiles, setup_of, steering_by}
+use Rattle.helm_core.specs.WellFormed.{IsWellFormedPlan, names_told, ValidFilesPlanWell}
+use Rattle.helm_core.specs.Worths.{DecidesByWorth, ValidFilesDecideByWorth}
+use Rattle.helm_files.specs.declared.loading.HelmFiles.{HelmFiles}
+use Rattle.helm_files.specs.HelmFiles.{setup_of, steering_by}
+use Rattle.helm_files.specs.Loading.{AreValidFiles}
 use Rattle.ivp_cert.specs.declared.claim.Decision.{Decision}
 use Rattle.ivp_domain.specs.AxisNames.{is_axis_name}
 use Rattle.ivp_domain.specs.declared.axis.Axis.{Axis}
@@ -30,6 +32,14 @@ pub record AreGoodFiles (files : HelmFiles) : Type 0 where
   pub file : IsValidFile files.file
   pub formed : IsWellFormedPlan (plan_made files.mission files.file)
   pub worth : DecidesByWorth (plan_made files.mission files.file)
+
+-- the files that were read for a helm are such
+pub good_files : (files : HelmFiles) → ValidFilesPlanWell → ValidFilesDecideByWorth → AreValidFiles files → AreGoodFiles files
+good_files files formed worth valid = record {
+  file = valid.file;
+  formed = formed files.mission files.file valid.mission valid.file;
+  worth = worth files.mission files.file valid.mission valid.file valid.served;
+}
 
 -- how the helm is run, where there is one
 abbrev pub steered : Script → Option HelmFiles → Option Steering

@@ -1,2 +1,2 @@
 pub mod Communities
-pub mod Helms
+pub mod FilesFirst

@@ -1,8 +1,8 @@
--- What a helm is made of, how it is run beside a script's clients, and what a report tells of its files.
+-- How a helm of a mission and a behaviour file is run beside a script's clients, and what a report tells of these files.
 use Rattle.std.specs.Prelude.{◌+◌, ◌/◌, nat_le, if◌then◌else◌, Option, Some, None, Result, Ok, Err}
-use Rattle.bhv_file.specs.declared.file.BhvFile.{BhvFile}
 use Rattle.helm_core.specs.Plans.{plan_made}
 use Rattle.helm_core.specs.Posts.{are_declared_modes}
+use Rattle.helm_files.specs.declared.loading.HelmFiles.{HelmFiles}
 use Rattle.mission_reader.specs.declared.mission.Mission.{Mission}
 use Rattle.moos_play.specs.Lawful.{Steering, helm_number}
 use Rattle.moos_report.specs.declared.setup.Setup.{Setup}
@@ -11,11 +11,6 @@ use Rattle.moos_text.specs.declared.cause.Cause.TheVariants.{M8}
 use Rattle.moos_text.specs.declared.cause.ReadFault.{ReadFault}
 use Rattle.moos_text.specs.declared.cause.ReadFault.TheVariants.{At}
 use Rattle.script_reader.specs.declared.script.Script.{Script}
-
--- what a helm is made of: a mission, and the behaviour file that it names
-pub record HelmFiles : Type 0 where
-  pub mission : Mission
-  pub file : BhvFile
 
 -- the helm would tick at most 20,000 times while the script is played, or else its mission is refused at its last line
 abbrev pub with_few_ticks : Script → Mission → Result Mission ReadFault

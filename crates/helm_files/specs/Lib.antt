@@ -1,1 +1,2 @@
 pub mod HelmFiles
+pub mod Loading

@@ -16,7 +16,7 @@ const MOST_TICKS: u64 = 20_000;
 
 /// Reads a mission for a script, during which its helm may not have too many iterations: those are refused at the mission's last
 /// line, where it has no other refusal.
-pub fn read_for(alloc: Global, script: &Script, bytes: &[u8]) -> Result<Mission, ReadFault>
+pub(crate) fn read_for(alloc: Global, script: &Script, bytes: &[u8]) -> Result<Mission, ReadFault>
     requires short { length bytes.now < 2 ^ 32 }
     requires valid { IsValid script.now }
     ensures read { IfOk result (λ mission. and_then (with_few_ticks script.now) (mission_of bytes.now) ≡ Ok mission) }

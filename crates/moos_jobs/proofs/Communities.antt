@@ -15,7 +15,8 @@ use Rattle.helm_core.specs.Plans.{wants_of}
 use Rattle.helm_core.specs.Ticks.{Tick}
 use Rattle.helm_core.specs.WellFormed.{IsWellFormedPlan}
 use Rattle.helm_files.proofs.Communities.{all_named, AreGoodFiles, clients_with, names_apart, steered, tick_early}
-use Rattle.helm_files.specs.HelmFiles.{HelmFiles, steering_by}
+use Rattle.helm_files.specs.declared.loading.HelmFiles.{HelmFiles}
+use Rattle.helm_files.specs.HelmFiles.{steering_by}
 use Rattle.moos_play.specs.Lawful.{heard_of, helm_number, names_with, opening, opening_of, Steering, tick_entries, ticks, ticks_of, ticks_to}
 use Rattle.moos_report.proofs.Communities.{all_entries, IsBy, own_lines, own_names}
 use Rattle.moos_report.specs.Community.{IsCommunity}

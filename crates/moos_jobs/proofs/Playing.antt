@@ -1,5 +1,5 @@
 -- From a lawful history to its report.
-use Rattle.std.proofs.Common.{◌≡◌, List, refl, sym, ◌∙◌, subst, Option, None, Some, ℕ, inl, inr}
+use Rattle.std.proofs.Common.{◌≡◌, List, refl, sym, ◌∙◌, subst, Option, None, Some, ℕ}
 use Rattle.std.specs.Prelude.{IfSome, option_map}
 use Rattle.moos_post.specs.History.{History}
 use Rattle.helm_core.specs.Plans.{plan_made}
@@ -9,15 +9,16 @@ use Rattle.moos_play.specs.Lawful.{IsLawful, heard_of, helm_number, iterations, 
 use Rattle.moos_report.specs.declared.setup.Setup.{Setup}
 use Rattle.moos_report.specs.Report.{report_text, ReportsTell}
 use Rattle.command_line.specs.Turns.{Ready}
-use Rattle.moos_jobs.specs.Jobs.{IsLawfulWith, IsReport, report_on, IsToPlay, outcomes}
+use Rattle.moos_jobs.specs.Jobs.{IsLawfulWith, IsReport, report_on, outcomes}
 use Rattle.helm_files.proofs.Communities.{AreGoodFiles, stand_on_lines}
-use Rattle.helm_files.specs.HelmFiles.{HelmFiles, setup_of, steering_by}
+use Rattle.helm_files.specs.declared.loading.HelmFiles.{HelmFiles}
+use Rattle.helm_files.specs.HelmFiles.{setup_of, steering_by}
 use Rattle.moos_jobs.specs.Jobs.Task.{Playing}
 use Rattle.command_line.specs.declared.status.Status.{Status}
-use Rattle.command_line.specs.declared.status.Status.TheVariants.{Done, CheckNo, Usage, LoadFault, WriteFault, Refused, NoMemory}
-use Rattle.command_line.specs.Endings.{Ended, Sinking, WroteAll, WroteFront}
+use Rattle.command_line.specs.Endings.{Ended, Sinking}
 use Rattle.moos_jobs.specs.Telling.{IsOfLawful}
-use Rattle.moos_telling.specs.Telling.{Tells, ToldAll, ToldFront}
+use Rattle.moos_telling.proofs.Endings.{ends_told}
+use Rattle.moos_telling.specs.Telling.{Tells}
 use Rattle.moos_jobs.proofs.Communities.{lawful_community}
 use Rattle.script_reader.specs.declared.script.Order.{Order}
 use Rattle.script_reader.specs.declared.script.Script.{Script}
@@ -63,18 +64,5 @@ module _ (order : Order) (script : Script) (files : Option HelmFiles) (helm : Op
           (subst (λ names. IsLawful order script (option_map (steering_by script) files) names is.history) (names files) is.lawful)
           (is.printed ∙ (λ i. report_text (told i) (names files i) is.history (iterations (option_map (steering_by script) files) script.stop (heard_of (names files i) (helm_number script) is.history))))
 
-  all_told : (sink : Sinking) → ToldAll (IsOfLawful order script helm setup) sink → WroteAll outcomes (Ready (Playing order script files)) Done sink
-  all_told sink all = record { task = Playing order script files; good = refl; text = all.text; output = output_as all.text all.may; took = all.took }
-
-  front_told : (sink : Sinking) → ToldFront (IsOfLawful order script helm setup) sink → (wrote : WroteFront outcomes (Ready (Playing order script files)) sink) × IsToPlay wrote.task
-  front_told sink front = (record { task = Playing order script files; good = refl; status = Done; text = front.text; output = output_as front.text front.may; took = front.took }, tt)
-
   pub told_ended : (sink : Sinking) (status : Status) → Tells (IsOfLawful order script helm setup) sink status → Ended outcomes (Ready (Playing order script files)) sink status
-  told_ended sink Done tells = all_told sink tells
-  told_ended sink CheckNo tells = absurd tells
-  told_ended sink Usage tells = absurd tells
-  told_ended sink LoadFault tells = absurd tells
-  told_ended sink WriteFault tells = ((front_told sink tells.0).0, tells.1)
-  told_ended sink (Refused refusal) tells = absurd tells
-  told_ended sink NoMemory (inl untouched) = inl untouched
-  told_ended sink NoMemory (inr front) = inr (front_told sink front)
+  told_ended sink status tells = ends_told outcomes (Playing order script files) tt (IsOfLawful order script helm setup) output_as sink status tells

@@ -67,15 +67,6 @@ none_made play well alone begun =
         by true = refl
         by false = refl
 
--- a run that goes on twice
-pub goes_on_twice : (before middle after : Playing) → GoesOnWith before middle → GoesOnWith middle after → GoesOnWith before after
-goes_on_twice before middle after one other = record {
-  script = other.script ∙ one.script;
-  order = other.order ∙ one.order;
-  names = other.names ∙ one.names;
-  helm = other.helm ∙ one.helm;
-}
-
 -- the names with a helm are the same, whatever is known of it
 pub named_with : {A : Type 0} (script : Script) (steering : A → Steering) (helm : Option A) → names_with script helm ≡ names_with script (option_map steering helm)
 named_with script steering None = refl

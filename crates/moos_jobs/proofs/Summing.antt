@@ -12,7 +12,8 @@ use Rattle.moos_play.specs.Lawful.{IsLawful, heard_of, helm_number, iterations, 
 use Rattle.moos_post.specs.History.{History}
 use Rattle.moos_jobs.specs.Generating.{WasGenerated}
 use Rattle.moos_jobs.specs.Jobs.{IsLawfulWith, IsSummary, iterations_on}
-use Rattle.helm_files.specs.HelmFiles.{HelmFiles, steering_by}
+use Rattle.helm_files.specs.declared.loading.HelmFiles.{HelmFiles}
+use Rattle.helm_files.specs.HelmFiles.{steering_by}
 use Rattle.run_summary.specs.SoleHistory.{RisingIsSole}
 use Rattle.run_summary.specs.Summary.{summary_text}
 use Rattle.script_reader.specs.declared.script.Order.TheVariants.{Stamp}

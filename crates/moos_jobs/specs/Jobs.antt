@@ -1,8 +1,9 @@
 -- Which files a job reads, what is to be done with them, and what it may write.
 use Rattle.std.specs.Prelude.{◌≡◌, ℕ, List, [], ◌∷◌, codes, Option, Some, None, option_map, IfSome, Ok}
-use Rattle.bhv_reader.specs.Behaviors.{behaviors_of}
 use Rattle.ivp_cert.specs.Certificates.{best_decision}
-use Rattle.helm_files.specs.HelmFiles.{HelmFiles, setup_of, steering_by, with_few_ticks}
+use Rattle.helm_files.specs.declared.loading.HelmFiles.{HelmFiles}
+use Rattle.helm_files.specs.HelmFiles.{setup_of, steering_by}
+use Rattle.helm_files.specs.Loading.{helm_turn}
 use Rattle.helm_core.specs.Plans.{plan_made}
 use Rattle.helm_core.specs.Worths.{DecidesByWorth}
 use Rattle.ivp_cert.specs.declared.claim.Decision.{Decision}
@@ -11,15 +12,12 @@ use Rattle.ivp_cert.specs.Decisions.{decision_of}
 use Rattle.ivp_cert.specs.Problems.{problem_of}
 use Rattle.ivp_cert.specs.Texts.{decision_lines}
 use Rattle.ivp_problem.specs.Problems.{WeightedSum}
-use Rattle.mission_reader.specs.declared.mission.Mission.{Mission}
-use Rattle.mission_reader.specs.Missions.{mission_of}
 use Rattle.moos_post.specs.History.{History}
 use Rattle.moos_report.specs.Report.{report_text}
 use Rattle.mission_maker.specs.Generated.{generated_script}
 use Rattle.mission_maker.specs.Survey.{generated_behaviors, generated_mission}
 use Rattle.run_summary.specs.Summary.{summary_text}
 use Rattle.helm_core.specs.declared.iteration.Iteration.{Iteration}
-use Rattle.moos_text.specs.Refusals.{and_then}
 use Rattle.moos_play.specs.Lawful.{IsLawful, helm_number, heard_of, iterations, names_with}
 use Rattle.command_line.specs.Endings.{Outcomes}
 use Rattle.command_line.specs.Turns.{FileTurn, Ready, Wanted, turn_as, turn_behind}
@@ -27,7 +25,7 @@ use Rattle.command_line.specs.declared.job.Job.{Job}
 use Rattle.command_line.specs.declared.job.Job.TheVariants.{Play, Solve, Check, Generate, Share, Simulate}
 use Rattle.script_reader.specs.declared.script.Order.{Order}
 use Rattle.script_reader.specs.declared.script.Order.TheVariants.{Stamp}
-use Rattle.command_line.specs.declared.status.FileKind.TheVariants.{Script as ScriptFile, Mission as MissionFile, Behaviors as BehaviorsFile, Problem as ProblemFile, Decision as DecisionFile}
+use Rattle.command_line.specs.declared.status.FileKind.TheVariants.{Script as ScriptFile, Problem as ProblemFile, Decision as DecisionFile}
 use Rattle.command_line.specs.declared.status.Status.{Status}
 use Rattle.command_line.specs.declared.status.Status.TheVariants.{Done, CheckNo}
 use Rattle.script_reader.specs.declared.script.Script.{Script}
@@ -46,23 +44,14 @@ pub data Task : Type 0 where
   Sharing : ShareTask → Task
   Simulating : Simulation → Task
 
--- behind a script and a mission, by the bytes of the behaviour file
-abbrev pub behaviors_turn : Order → Script → Mission → List (List ℕ) → FileTurn Task
-behaviors_turn order script mission [] = Wanted BehaviorsFile mission.behaviors
-behaviors_turn order script mission (bytes ∷ more) =
-    turn_behind BehaviorsFile (λ file. Ready (Playing order script (Some (record { mission = mission; file = file }))))
-    (behaviors_of mission.domain bytes)
-
--- behind a script, by the bytes of the mission and what is behind it
-abbrev pub mission_turn : Order → Script → List ℕ → List (List ℕ) → FileTurn Task
-mission_turn order script name [] = Wanted MissionFile name
-mission_turn order script name (bytes ∷ more) =
-    turn_behind MissionFile (λ mission. behaviors_turn order script mission more) (and_then (with_few_ticks script) (mission_of bytes))
+-- a script and a helm are all that a play needs
+abbrev pub helm_played : Order → Script → HelmFiles → List (List ℕ) → FileTurn Task
+helm_played order script helm more = Ready (Playing order script (Some helm))
 
 -- behind a script, with a mission of this name or without one
 abbrev pub script_turn : Order → Script → Option (List ℕ) → List (List ℕ) → FileTurn Task
 script_turn order script None files = Ready (Playing order script None)
-script_turn order script (Some name) files = mission_turn order script name files
+script_turn order script (Some name) files = helm_turn (helm_played order script) script name files
 
 -- Where a job stands, by the bytes of the files that were loaded so far, in order: a script, its mission, and the behaviour file
 -- that the mission names; or the one file of another job, or none. The number of workers is no part of it.

@@ -49,6 +49,15 @@ whole_of_more : (before after : Option (List ℕ)) (text more : List ℕ) → 0 
 whole_of_more before after text more some took =
     (length text, omega (arith, some, length-append text more), subst (Took before after) (sym (take_at text more (length text) refl)) took)
 
+-- a play that goes on twice
+pub goes_on_twice : (before middle after : Playing) → GoesOnWith before middle → GoesOnWith middle after → GoesOnWith before after
+goes_on_twice before middle after one other = record {
+  script = other.script ∙ one.script;
+  order = other.order ∙ one.order;
+  names = other.names ∙ one.names;
+  helm = other.helm ∙ one.helm;
+}
+
 -- what a round brought stands behind what was printed before
 module _ (setup : Setup) (old new : Playing) (round : Round) (adds : PartsAddUp) (before : IsRunWell old) (after : IsRunWell new) (named : IsNamed old) (on : GoesOnWith old new) (stays : StaysSeated old new)
     (from : round.from ≡ length (history_in old)) (more : iterations_made new ≡ iterations_made old ++ round.iterations) where

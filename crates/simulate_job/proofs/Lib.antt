@@ -1,1 +1,2 @@
+pub mod Communities
 pub mod Reporting

@@ -1,10 +1,6 @@
 -- A play of a simulation: what is told of it is what the job may write.
-use Rattle.std.proofs.Common.{◌≡◌, ℕ, zero, suc, List, [], length, false, Option, None, Some, inl, inr, refl, ap, sym, ◌∙◌, subst}
+use Rattle.std.proofs.Common.{◌≡◌, ℕ, zero, suc, List, [], length, false, Option, None, Some, refl, ap, sym, ◌∙◌, subst}
 use Rattle.std.specs.Prelude.{Result, Err}
-use Rattle.command_line.specs.declared.status.Status.{Status}
-use Rattle.command_line.specs.declared.status.Status.TheVariants.{Done, CheckNo, Usage, LoadFault, WriteFault, Refused, NoMemory}
-use Rattle.command_line.specs.Endings.{Ended, Sinking, WroteFront}
-use Rattle.command_line.specs.Turns.{Ready}
 use Rattle.helm_core.specs.declared.iteration.Iteration.{Iteration}
 use Rattle.moos_play.specs.Lawful.{heard_of, iterations, Steering}
 use Rattle.moos_play.specs.Plays.{clients_in, GoesOnWith, helm_in, Playing, script_played}
@@ -16,14 +12,14 @@ use Rattle.moos_simulate.specs.declared.vehicle.Vehicle.{Vehicle}
 use Rattle.moos_simulate.specs.Sailing.{IsSimulating}
 use Rattle.moos_simulate.specs.Simulated.{IsSimulated, vehicle_names}
 use Rattle.moos_telling.proofs.Fetching.{IsNamed, named_beside}
-use Rattle.moos_telling.specs.Telling.{IsHelmNamed, Tells, ToldFront}
+use Rattle.moos_telling.specs.Telling.{IsHelmNamed}
 use Rattle.moos_text.specs.declared.cause.ReadFault.{ReadFault}
 use Rattle.moos_text.specs.declared.cause.ReadFault.TheVariants.{At, NoMemory as Unread}
 use Rattle.moos_text.specs.Refusals.{and_then, IsFirst}
 use Rattle.script_reader.specs.declared.script.Script.{Script}
 use Rattle.script_reader.specs.Validity.{IsValid}
 use Rattle.sim_vehicle.specs.declared.settings.CraftSettings.{CraftSettings}
-use Rattle.simulate_job.specs.Simulating.{helm_sailed, IsOfSimulation, IsVoyage, iterations_sailed, names_sailed, simulate_outcomes, Simulation}
+use Rattle.simulate_job.specs.Simulating.{helm_sailed, IsOfSimulation, IsSailed, IsVoyage, iterations_sailed, names_sailed, Simulation, voyage_text}
 
 -- none of the vehicle's clients has the helm's name
 no_helm : (client : ℕ) → is_helm vehicle_names client ≡ false
@@ -40,15 +36,6 @@ named_sailing vehicle play (helm, sailing) valid =
     alone : Some helm ≡ None → vehicle_names ≡ []
     alone none = cc
 
--- a play that goes on twice
-pub goes_on_twice : (before middle after : Playing) → GoesOnWith before middle → GoesOnWith middle after → GoesOnWith before after
-goes_on_twice before middle after one other = record {
-  script = other.script ∙ one.script;
-  order = other.order ∙ one.order;
-  names = other.names ∙ one.names;
-  helm = other.helm ∙ one.helm;
-}
-
 -- the same simulation goes on
 pub of_on : (task : Simulation) (setup : Setup) (craft craft' : CraftSettings) (old new : Playing) → GoesOnWith old new → craft' ≡ craft → IsOfSimulation task setup craft (script_played old) (helm_in old) (clients_in old)
     → IsOfSimulation task setup craft' (script_played new) (helm_in new) (clients_in new)
@@ -58,6 +45,7 @@ of_on task setup craft craft' old new on same of = record {
   same_names = on.names ∙ of.same_names;
   same_craft = same ∙ of.same_craft;
   same_setup = of.same_setup;
+  told = of.told;
   ranges = of.ranges;
   worth = of.worth;
 }
@@ -68,31 +56,23 @@ pub may_report : (task : Simulation) (setup : Setup) (craft : CraftSettings) (sc
     → IsVoyage task (report_text setup names history made)
 may_report task setup craft script helm names history made of simulated is = record {
   history = history;
-  sailed = subst (λ craft. IsSimulated task.script (Some (helm_sailed task)) craft (names_sailed task) history) of.same_craft
-      (subst (λ names. IsSimulated task.script (Some (helm_sailed task)) craft names history) of.same_names
-      (subst (λ helm. IsSimulated task.script helm craft names history) of.same_helm (subst (λ script. IsSimulated script helm craft names history) of.same_script simulated)));
-  printed = λ i. report_text (of.same_setup i) (of.same_names i) history (made_is i);
+  sailed = sailed;
+  printed = printed;
+  listed = λ other may also. of.told history other sailed may (sym also ∙ printed);
   ranges = of.ranges;
   worth = of.worth;
 }
   where
+    sailed : IsSailed task history
+    sailed = subst (λ craft. IsSimulated task.script (Some (helm_sailed task)) craft (names_sailed task) history) of.same_craft
+        (subst (λ names. IsSimulated task.script (Some (helm_sailed task)) craft names history) of.same_names
+        (subst (λ helm. IsSimulated task.script helm craft names history) of.same_helm (subst (λ script. IsSimulated script helm craft names history) of.same_script simulated)))
+
     made_is : made ≡ iterations_sailed task history
     made_is = sym is ∙ (λ i. iterations (of.same_helm i) (of.same_script i).stop (heard_of (of.same_names i) (length (of.same_script i).names) history))
 
--- what was told is what the job may write
-module _ (task : Simulation) (sink : Sinking) where
-  front_told : ToldFront (IsVoyage task) sink → WroteFront simulate_outcomes (Ready task) sink
-  front_told front = record { task = task; good = refl; status = Done; text = front.text; output = front.may; took = front.took }
-
-  pub told_ended : (status : Status) → Tells (IsVoyage task) sink status → Ended simulate_outcomes (Ready task) sink status
-  told_ended Done tells = record { task = task; good = refl; text = tells.text; output = tells.may; took = tells.took }
-  told_ended CheckNo tells = absurd tells
-  told_ended Usage tells = absurd tells
-  told_ended LoadFault tells = absurd tells
-  told_ended WriteFault tells = (front_told tells.0, tells.1)
-  told_ended (Refused refusal) tells = absurd tells
-  told_ended NoMemory (inl untouched) = inl untouched
-  told_ended NoMemory (inr front) = inr (front_told front, tt)
+    printed : report_text setup names history made ≡ voyage_text task history
+    printed = λ i. report_text (of.same_setup i) (of.same_names i) history (made_is i)
 
 -- the one refusal is the first
 pub the_first : {A : Type 0} (fault : ReadFault) (read : Result A ReadFault) → read ≡ Err fault → IsFirst fault read

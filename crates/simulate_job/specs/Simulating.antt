@@ -1,17 +1,16 @@
 -- Which files the job reads, what is to be simulated, and what may be written of it.
 use Rattle.std.specs.Prelude.{◌≡◌, ℕ, neg_ℤ, pos, List, [], ◌∷◌, ◌++◌, Option, Some, None, Result, Ok, Err}
-use Rattle.bhv_reader.specs.Behaviors.{behaviors_of}
 use Rattle.command_line.specs.Endings.{Outcomes}
 use Rattle.command_line.specs.Turns.{FileTurn, Ready, Wanted, turn_behind}
-use Rattle.command_line.specs.declared.status.FileKind.TheVariants.{Script as ScriptFile, Mission as MissionFile, Behaviors as BehaviorsFile, Vehicle as VehicleFile}
+use Rattle.command_line.specs.declared.status.FileKind.TheVariants.{Script as ScriptFile, Vehicle as VehicleFile}
 use Rattle.command_line.specs.declared.status.Status.{Status}
 use Rattle.command_line.specs.declared.status.Status.TheVariants.{Done}
 use Rattle.helm_core.specs.declared.iteration.Iteration.{Iteration}
 use Rattle.helm_core.specs.Plans.{plan_made}
 use Rattle.helm_core.specs.Worths.{DecidesByWorth}
-use Rattle.helm_files.specs.HelmFiles.{HelmFiles, setup_of, steering_by, with_few_ticks}
-use Rattle.mission_reader.specs.declared.mission.Mission.{Mission}
-use Rattle.mission_reader.specs.Missions.{mission_of}
+use Rattle.helm_files.specs.declared.loading.HelmFiles.{HelmFiles}
+use Rattle.helm_files.specs.HelmFiles.{setup_of, steering_by}
+use Rattle.helm_files.specs.Loading.{helm_turn}
 use Rattle.moos_play.specs.Lawful.{Steering, heard_of, helm_number, iterations, names_with}
 use Rattle.moos_post.specs.declared.value.Pair.{Pair}
 use Rattle.moos_post.specs.History.{History}
@@ -48,28 +47,17 @@ without_line (Some line) script = Err (At line S11)
 abbrev pub simulated_script : List ℕ → Result Script ReadFault
 simulated_script bytes = and_then (without_line (line_of_client vehicle_names bytes)) (script_of bytes)
 
--- behind a script, a mission and its behaviour file, by the bytes of the vehicle file of this name
-abbrev pub vehicle_turn : Script → HelmFiles → List ℕ → List (List ℕ) → FileTurn Simulation
-vehicle_turn script files vehicle [] = Wanted VehicleFile vehicle
-vehicle_turn script files vehicle (bytes ∷ more) = turn_behind VehicleFile (λ craft. Ready (record { script = script; files = files; craft = craft })) (vehicle_of bytes)
-
--- behind a script and a mission, by the bytes of the behaviour file and what is behind it
-abbrev pub behaviors_turn_simulated : Script → Mission → List ℕ → List (List ℕ) → FileTurn Simulation
-behaviors_turn_simulated script mission vehicle [] = Wanted BehaviorsFile mission.behaviors
-behaviors_turn_simulated script mission vehicle (bytes ∷ more) =
-    turn_behind BehaviorsFile (λ file. vehicle_turn script (record { mission = mission; file = file }) vehicle more) (behaviors_of mission.domain bytes)
-
--- behind a script, by the bytes of the mission of this name and what is behind it
-abbrev pub mission_turn_simulated : Script → List ℕ → List ℕ → List (List ℕ) → FileTurn Simulation
-mission_turn_simulated script mission vehicle [] = Wanted MissionFile mission
-mission_turn_simulated script mission vehicle (bytes ∷ more) =
-    turn_behind MissionFile (λ read. behaviors_turn_simulated script read vehicle more) (and_then (with_few_ticks script) (mission_of bytes))
+-- behind a script and a helm's files, by the bytes of the vehicle file of this name
+abbrev pub vehicle_turn : Script → List ℕ → HelmFiles → List (List ℕ) → FileTurn Simulation
+vehicle_turn script vehicle files [] = Wanted VehicleFile vehicle
+vehicle_turn script vehicle files (bytes ∷ more) = turn_behind VehicleFile (λ craft. Ready (record { script = script; files = files; craft = craft })) (vehicle_of bytes)
 
 -- Where the job stands, by the bytes of the files that were loaded so far, in order: a script, a mission, the behaviour file that the
 -- mission names, and a vehicle file.
 abbrev pub simulate_turn : List ℕ → List ℕ → List ℕ → List (List ℕ) → FileTurn Simulation
 simulate_turn script mission vehicle [] = Wanted ScriptFile script
-simulate_turn script mission vehicle (bytes ∷ more) = turn_behind ScriptFile (λ read. mission_turn_simulated read mission vehicle more) (simulated_script bytes)
+simulate_turn script mission vehicle (bytes ∷ more) =
+    turn_behind ScriptFile (λ read. helm_turn (vehicle_turn read vehicle) read mission more) (simulated_script bytes)
 
 -- ---- what may be written
 
@@ -89,6 +77,10 @@ IsSailed task history = IsSimulated task.script (Some (helm_sailed task)) task.c
 abbrev pub iterations_sailed : Simulation → History → List Iteration
 iterations_sailed task history = iterations (Some (helm_sailed task)) task.script.stop (heard_of (names_sailed task) (helm_number task.script) history)
 
+-- the report of a history, and of the helm's iterations in it
+abbrev pub voyage_text : Simulation → History → List ℕ
+voyage_text task history = report_text (setup_of (Some task.files)) (names_sailed task) history (iterations_sailed task history)
+
 -- Whatever was mailed to the vehicle's clients, what they post is in its range: the rudder within `max_rudder` either way, the thrust from 0
 -- to `max_thrust`, and the vehicle's place, heading, speed and depth.
 pub record KeepsInRange (craft : CraftSettings) : Type 0 where
@@ -96,12 +88,13 @@ pub record KeepsInRange (craft : CraftSettings) : Type 0 where
   pub thrust : (mails : List (List Pair)) → Lies (pos 0) craft.max_thrust (drive_by craft mails).thrust
   pub hull : (period : ℕ) (mails : List (List Pair)) → IsHull craft (hull_by craft period mails)
 
--- The text is the report of a history that the simulation may leave, and of the helm's iterations in it. What the vehicle's clients post in it
--- is in range, and what the helm decides is decided by worth.
+-- The text is the report of a history that the simulation may leave, which is the one that the text lists: no other one that it may leave has
+-- it. What the vehicle's clients post in it is in range, and what the helm decides is decided by worth.
 pub record IsVoyage (task : Simulation) (text : List ℕ) : Type 0 where
   pub history : History
   pub sailed : IsSailed task history
-  pub printed : text ≡ report_text (setup_of (Some task.files)) (names_sailed task) history (iterations_sailed task history)
+  pub printed : text ≡ voyage_text task history
+  pub listed : (other : History) → IsSailed task other → text ≡ voyage_text task other → other ≡ history
   pub ranges : KeepsInRange task.craft
   pub worth : DecidesByWorth (plan_made task.files.mission task.files.file)
 
@@ -116,13 +109,14 @@ simulate_outcomes = record { MayWrite = MayReport; IsWrittenAsItComes = λ task.
 
 -- ---- a play of a simulation; this serves `telling` alone
 
--- a script, a helm, names of clients, a vehicle and a setup that are those of this simulation, whose vehicle keeps in range and whose helm
--- decides by worth
+-- a script, a helm, names of clients, a vehicle and a setup that are those of this simulation, whose reports tell their histories, whose
+-- vehicle keeps in range and whose helm decides by worth
 pub record IsOfSimulation (task : Simulation) (setup : Setup) (craft : CraftSettings) (script : Script) (helm : Option Steering) (names : List (List ℕ)) : Type 0 where
   pub same_script : script ≡ task.script
   pub same_helm : helm ≡ Some (helm_sailed task)
   pub same_names : names ≡ names_sailed task
   pub same_craft : craft ≡ task.craft
   pub same_setup : setup ≡ setup_of (Some task.files)
+  pub told : (one other : History) → IsSailed task one → IsSailed task other → voyage_text task other ≡ voyage_text task one → other ≡ one
   pub ranges : KeepsInRange task.craft
   pub worth : DecidesByWorth (plan_made task.files.mission task.files.file)

@@ -8,9 +8,9 @@ use Rattle.moos_play.specs.Plays.{clients_in, GoesOnWith, HasCompletion, helm_in
 use Rattle.moos_report.specs.Parts.{front_text}
 use Rattle.command_line.specs.Endings.{sinking}
 use Rattle.moos_jobs.specs.Telling.{IsOfLawful}
-use Rattle.moos_jobs.proofs.Rounds.{alone_on, goes_on_twice, IsAlone, named_alone, none_made, of_lawful, run_as}
+use Rattle.moos_jobs.proofs.Rounds.{alone_on, IsAlone, named_alone, none_made, of_lawful, run_as}
 use Rattle.moos_telling.proofs.Fetching.{IsRunWell}
-use Rattle.moos_telling.proofs.Rounds.{end_told, told_front}
+use Rattle.moos_telling.proofs.Rounds.{end_told, goes_on_twice, told_front}
 use Rattle.moos_telling.specs.Telling.{IsToldSoFar, Tells}
 use Rattle.moos_jobs.proofs.telling.tell.Goals as goal
 

@@ -5,9 +5,10 @@ use Rattle.command_line.proofs.Loading.{last_ends, load_ends, refusal_ends, went
 use Rattle.command_line.specs.declared.status.FileKind.TheVariants.{Script as ScriptFile}
 use Rattle.command_line.specs.Endings.{surroundings}
 use Rattle.command_line.specs.Turns.{FileTurn, turn_behind}
+use Rattle.helm_files.specs.Loading.{helm_turn}
 use Rattle.moos_text.specs.Refusals.{IsFirst}
 use Rattle.script_reader.specs.declared.script.Script.{Script}
-use Rattle.simulate_job.specs.Simulating.{mission_turn_simulated, simulate_outcomes, simulate_turn, simulated_script, Simulation}
+use Rattle.simulate_job.specs.Simulating.{simulate_outcomes, simulate_turn, simulated_script, Simulation, vehicle_turn}
 use Rattle.simulate_job.proofs.files.simulate.Goals as goal
 
 pub returns-in-Err-clause-ends : goal.returns-in-Err-clause-ends
@@ -21,14 +22,14 @@ returns-in-Ok-read_simulated-clause-ends g c =
     let read : simulated_script bytes ≡ Ok c.in-Ok-read_simulated.script = ap simulated_script (sym c.deref.ensures.value) ∙ c.in-Ok-read_simulated.ensures.read in
     went_on simulate_outcomes (surroundings _ _ _ _ _) (surroundings _ _ _ _ _)
     (record { told = c.in-Ok.ensures.same.0; sure = c.in-Ok.ensures.same.1; sink = refl; before = c.in-Ok.ensures.later; after = refl })
-    (simulate_turn c.args.script.now c.args.mission.now c.args.vehicle.now) [] ScriptFile c.args.script.now _ bytes refl c.bytes.ensures.value c.in-Ok.ensures.content c.with_mission.result
-    (c.with_mission.ensures.ends (simulate_turn c.args.script.now c.args.mission.now c.args.vehicle.now) (bytes ∷ [])
-    (λ files. ap (turn_behind ScriptFile (λ script. mission_turn_simulated script c.args.mission.now c.args.vehicle.now files)) read))
+    (simulate_turn c.args.script.now c.args.mission.now c.args.vehicle.now) [] ScriptFile c.args.script.now _ bytes refl c.bytes.ensures.value c.in-Ok.ensures.content c.with_helm.result
+    (c.with_helm.ensures.ends (simulate_turn c.args.script.now c.args.mission.now c.args.vehicle.now) (bytes ∷ [])
+    (λ files. ap (turn_behind ScriptFile (λ script. helm_turn (vehicle_turn script c.args.vehicle.now) script c.args.mission.now files)) read))
 
 pub returns-clause-ends : goal.returns-clause-ends
 returns-clause-ends g c =
     let bytes = c.in-Ok.bytes.items in
-    let next : Script → FileTurn Simulation = λ script. mission_turn_simulated script c.args.mission.now c.args.vehicle.now [] in
+    let next : Script → FileTurn Simulation = λ script. helm_turn (vehicle_turn script c.args.vehicle.now) script c.args.mission.now [] in
     let first : IsFirst c.in-Err-read_simulated.fault (simulated_script bytes)
     = subst (λ bytes. IsFirst c.in-Err-read_simulated.fault (simulated_script bytes)) c.deref.ensures.value c.in-Err-read_simulated.ensures.refused in
     last_ends simulate_outcomes _ _ _ _ _ (simulate_turn c.args.script.now c.args.mission.now c.args.vehicle.now) [] ScriptFile c.args.script.now _ bytes _ c.refused.result refl c.bytes.ensures.value

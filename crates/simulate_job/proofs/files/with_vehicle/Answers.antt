@@ -18,7 +18,7 @@ returns-in-Err-clause-ends g c = λ turn front turns.
 pub returns-in-Ok-read-clause-ends : goal.returns-in-Ok-read-clause-ends
 returns-in-Ok-read-clause-ends g c = λ turn front turns.
     let bytes = c.in-Ok.bytes.items in
-    let next : CraftSettings → FileTurn Simulation = λ craft. Ready (record { script = c.args.script.now; files = record { mission = c.args.mission.now; file = c.args.file }; craft = craft }) in
+    let next : CraftSettings → FileTurn Simulation = λ craft. Ready (record { script = c.args.script.now; files = c.args.files; craft = craft }) in
     let read : vehicle_of bytes ≡ Ok c.in-Ok-read.craft = ap vehicle_of (sym c.deref.ensures.value) ∙ c.in-Ok-read.ensures.read in
     last_ends simulate_outcomes _ _ _ _ _ turn front VehicleFile c.args.name.now _ bytes _ c.sail_helm.result (ap turn (sym (append-nil front)) ∙ turns []) c.bytes.ensures.value
     c.in-Ok.ensures.content c.in-Ok.ensures.later (turns (bytes ∷ []) ∙ ap (turn_behind VehicleFile next) read) c.sail_helm.ensures
@@ -26,7 +26,7 @@ returns-in-Ok-read-clause-ends g c = λ turn front turns.
 pub returns-in-Err-read-clause-ends : goal.returns-in-Err-read-clause-ends
 returns-in-Err-read-clause-ends g c = λ turn front turns.
     let bytes = c.in-Ok.bytes.items in
-    let next : CraftSettings → FileTurn Simulation = λ craft. Ready (record { script = c.args.script.now; files = record { mission = c.args.mission.now; file = c.args.file }; craft = craft }) in
+    let next : CraftSettings → FileTurn Simulation = λ craft. Ready (record { script = c.args.script.now; files = c.args.files; craft = craft }) in
     let read : vehicle_of bytes ≡ Err c.in-Err-read.fault = ap vehicle_of (sym c.deref.ensures.value) ∙ c.in-Err-read.ensures.refused in
     last_ends simulate_outcomes _ _ _ _ _ turn front VehicleFile c.args.name.now _ bytes _ c.refused.result (ap turn (sym (append-nil front)) ∙ turns []) c.bytes.ensures.value
     c.in-Ok.ensures.content c.in-Ok.ensures.later (turns (bytes ∷ []))

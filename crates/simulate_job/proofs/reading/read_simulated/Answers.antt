@@ -17,6 +17,12 @@ returns-in-None-clause-read c =
     let none : line_of_client vehicle_names bytes ≡ None = ap (λ (names : List (List ℕ)). line_of_client names bytes) (sym c.in-Ok-vehicle_names.ensures) ∙ sym c.line_of_client.ensures ∙ c.in-None.is in
     ap (and_then (without_line (line_of_client vehicle_names bytes))) c.in-Ok.ensures.read ∙ ap (λ (line : Option ℕ). without_line line c.in-Ok.script) none
 
+pub returns-in-None-clause-apart : goal.returns-in-None-clause-apart
+returns-in-None-clause-apart c =
+    let bytes = c.args.bytes.now in
+    let none : line_of_client vehicle_names bytes ≡ None = ap (λ (names : List (List ℕ)). line_of_client names bytes) (sym c.in-Ok-vehicle_names.ensures) ∙ sym c.line_of_client.ensures ∙ c.in-None.is in
+    c.client_law.ensures vehicle_names bytes c.in-Ok.script c.in-Ok.ensures.read none
+
 pub returns-in-Some-clause-refused : goal.returns-in-Some-clause-refused
 returns-in-Some-clause-refused c =
     let bytes = c.args.bytes.now in

@@ -51,6 +51,7 @@ returns-in-Ok-launch g c = λ task of.
       same_names = on.names ∙ made.names ∙ ap (λ further. names_with c.args.script.now (Some c.args.helm) ++ further) c.in-Ok.ensures ∙ of.same_names;
       same_craft = c.in-Ok-launch.ensures.craft ∙ of.same_craft;
       same_setup = of.same_setup;
+      told = of.told;
       ranges = of.ranges;
       worth = of.worth;
     })

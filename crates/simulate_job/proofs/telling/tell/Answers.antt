@@ -7,9 +7,9 @@ use Rattle.moos_play.specs.Plays.{clients_in, GoesOnWith, helm_in, history_in, i
 use Rattle.moos_report.specs.Parts.{front_text}
 use Rattle.moos_simulate.specs.Sailing.{IsSailedOut, IsSimulating}
 use Rattle.moos_telling.proofs.Fetching.{IsRunWell}
-use Rattle.moos_telling.proofs.Rounds.{end_told, told_front}
+use Rattle.moos_telling.proofs.Rounds.{end_told, goes_on_twice, told_front}
 use Rattle.moos_telling.specs.Telling.{IsToldSoFar}
-use Rattle.simulate_job.proofs.Reporting.{goes_on_twice, may_report, named_sailing, of_on}
+use Rattle.simulate_job.proofs.Reporting.{may_report, named_sailing, of_on}
 use Rattle.simulate_job.specs.Simulating.{IsVoyage}
 use Rattle.simulate_job.proofs.telling.tell.Goals as goal
 
