@@ -12,6 +12,10 @@ use Rattle.moos_client.specs.Hearing.{fetches, heard_in, Mailed}
 abbrev pub entries_below : ℕ → History → History
 entries_below number history = filter (λ entry. nat_lt entry.client number) history
 
+-- the entries of the clients from a number on
+abbrev pub entries_from : ℕ → History → History
+entries_from number history = filter (λ entry. nat_le number entry.client) history
+
 -- whether all entries are of clients below a number
 abbrev pub clients_below : ℕ → History → Bool
 clients_below number history = list_all (λ entry. nat_lt entry.client number) history

@@ -4,11 +4,12 @@ use Rattle.script_reader.specs.declared.script.Order.TheVariants.{Stamp, Race}
 use Rattle.script_reader.specs.declared.script.Order.{Order}
 use Rattle.moos_step.specs.Steps.{CommunityLock, IsGathered, IsWhole, KnowsNothing}
 use Rattle.moos_play.proofs.Turns.{helm_part, opening_deaf, own_opening, start_is}
-use Rattle.moos_play.specs.Lawful.{heard_of, helm_number, iterations_of, mailed_in, names_with, opening, opening_of, Steering, ticks_of, ticks_to}
+use Rattle.moos_play.specs.Lawful.{heard_of, helm_number, iterations_of, mailed_in, names_with, opening, opening_of, Steering, steering_with, ticks_of, ticks_to}
 use Rattle.moos_play.specs.Plays.{helm_in, history_in}
-use Rattle.moos_play.specs.Runs.{IsAtPlay, IsPaused, shown_by}
+use Rattle.moos_play.specs.Runs.{IsPaused, shown_by}
 use Rattle.moos_play.specs.Schedules.{answerers, answering, schedule_with, tick_period}
-use Rattle.moos_play.specs.Steered.{HasOpened, helm_of, IsUnderWay, IsUnopened, left_for, parts, run_as, StandsAt, steering_of, Steers, told_in, turns_left}
+use Rattle.moos_play.specs.Steered.{HasOpened, helm_of, IsUnticked, IsUnderWay, iterations_in, left_for, parts, steering_of, Steers, ticks_in, turns_left}
+use Rattle.moos_play.proofs.Standing.{StandsAt}
 use Rattle.moos_post.specs.declared.entry.Entry.{Entry}
 use Rattle.moos_lawful.proofs.Stepping.{line_moment, race_rises, turns_rise}
 use Rattle.moos_lawful.proofs.Rising.{lower}
@@ -19,7 +20,7 @@ use Rattle.helm_core.specs.Ticks.{Tick}
 use Rattle.std.proofs.Math.Nat.{mul-le-mul}
 use Rattle.std.proofs.lemmas.Bool.Decides.{nat_tests}
 use Rattle.std.proofs.lemmas.Bool.{and_from}
-use Rattle.std.proofs.Common.{◌≡◌, ℕ, ◌+◌, ◌*◌, ◌^◌, ◌<◌, ◌≤◌, Bool, true, false, cond, List, [], ◌∷◌, ◌++◌, drop, length, length-append, Option, None, Some, nat_lt, refl, sym, ap, ◌∙◌, subst, arith, suc, ◌/◌, ◌==◌, ◌⊎◌, inl, inr, nat_le, append-nil, append_assoc, ◌-◌}
+use Rattle.std.proofs.Common.{◌≡◌, ℕ, ◌+◌, ◌*◌, ◌^◌, ◌<◌, ◌≤◌, Bool, true, false, cond, List, [], ◌∷◌, ◌++◌, length, length-append, Option, None, Some, nat_lt, refl, sym, ap, ◌∙◌, subst, arith, suc, ◌/◌, ◌==◌, ◌⊎◌, inl, inr, nat_le, append-nil, append_assoc, ◌-◌}
 use Rattle.std.proofs.lemmas.List.{drop_all}
 use Rattle.std.specs.Prelude.{IfSome, option_map, map}
 use Rattle.moos_play.specs.declared.stage.Stage.{Stage}
@@ -34,8 +35,9 @@ use Rattle.moos_post.specs.declared.registration.Reg.{Reg}
 use Rattle.moos_post.specs.declared.value.Pair.{Pair}
 use Rattle.moos_play.proofs.Below.{names_more}
 use Rattle.moos_client.proofs.Hearing.{heard_deaf}
+use Rattle.moos_play.proofs.Hearing.{iterations_many}
 use Rattle.script_reader.specs.declared.script.Script.{Script}
-use Rattle.script_reader.specs.Validity.{are_lines, keeps_limits}
+use Rattle.script_reader.specs.Validity.{are_lines, IsValid, keeps_limits}
 
 -- a client's lines have later and later moments
 lines_rise : (clients others n last stop : ℕ) (lines : List Entry) → are_lines clients last stop lines ≡ true → rises (suc others * last) (map (moment_in Stamp clients others) (entries_of n lines)) ≡ true
@@ -58,10 +60,43 @@ lines_rise clients others n last stop (line ∷ lines) valid =
         and_from (nat_le (suc others * last) m) (rises m (map (moment_in Stamp clients others) (entries_of n lines))) (grind (arith, nat_tests, is, less)) (subst (λ m. rises m (map (moment_in Stamp clients others) (entries_of n lines)) ≡ true) (sym is) rest)
     by false is less rest = lower (suc others * last) (suc others * line.stamp) (map (moment_in Stamp clients others) (entries_of n lines)) less rest
 
+-- a helm hears nothing at its opening
+opening_silent : (names : List (List ℕ)) (helm : Steering) → heard_of names helm.client (opening_of helm) ≡ []
+opening_silent names helm = heard_deaf (mailed_in names) helm.client [] (opening_of helm) (opening_deaf helm)
+
+-- the number of a helm that is run for the script
+run_number : (script : Script) (run : HelmRun) (s : Steersman) → Some (steering_of s) ≡ Some (steering_with script run) → s.number ≡ helm_number script
+run_number script run s is = let same : steering_of s ≡ steering_with script run = cc in ap (λ (helm : Steering). helm.client) same
+
+-- a helm that has made its opening alone stands where that has brought it
+new_stands : (script : Script) (helm : Option HelmRun) (lock : CommunityLock) (steersman : Option Steersman) (first : SeatState) → helm_of steersman ≡ option_map (steering_with script) helm → HasOpened lock steersman first
+    → StandsAt lock.base (helm_number script) steersman first.seen
+new_stands script helm lock None first is so = tt
+new_stands script None lock (Some s) first is so = absurd cc
+new_stands script (Some run) lock (Some s) first is so = (
+  run_number script run s is,
+  subst (λ (seen : History). Steers lock.base s seen) (sym so.opened) (record {
+    clock = subst (λ clock. clock ≤ s.ticks * s.period) (sym so.new.stands.clock) (omega arith);
+    stands = subst (StandsFor s.helm) (sym silent) so.new.stands;
+    many = ap length silent ∙ sym so.new.ticks;
+    own = own_opening helm ∙ sym (ap (λ n. opening_of helm ++ ticks_of helm (heard_of lock.base s.number (opening_of helm)) n) so.new.ticks ∙ append-nil (opening_of helm));
+    same = so.new.iterations ∙ sym (drop_all (s.ticks - length s.iterations) (iterations_of helm.plan (heard_of lock.base s.number (opening_of helm)) s.ticks) few);
+  }),
+)
+  where
+    helm : Steering
+    helm = steering_of s
+
+    silent : heard_of lock.base s.number (opening_of helm) ≡ []
+    silent = opening_silent lock.base helm
+
+    few : length (iterations_of helm.plan (heard_of lock.base s.number (opening_of helm)) s.ticks) ≤ s.ticks - length s.iterations
+    few = omega (arith, so.new.ticks, iterations_many helm.plan (heard_of lock.base s.number (opening_of helm)) s.ticks)
+
 -- before the first step: nothing is played, and all is left
 pub start_under : (order : Order) (script : Script) (lock : CommunityLock) (steersman : Option Steersman) (first : SeatState) → are_lines (length script.names) 0 script.stop script.lines ≡ true → parts script steersman ≤ length lock.base
-    → HasOpened lock (helm_number script) steersman first → IsUnderWay order script lock steersman 0 first
-start_under order script lock steersman first valid seats so = record {
+    → HasOpened lock steersman first → StandsAt lock.base (helm_number script) steersman first.seen → IsUnderWay order script lock steersman 0 first
+start_under order script lock steersman first valid seats so stands = record {
   gathered = so.gathered;
   whole = so.whole;
   within = omega arith;
@@ -69,15 +104,15 @@ start_under order script lock steersman first valid seats so = record {
   played = record {
     so_far = record {
       rest = [];
-      opened = so.opened ∙ start steersman so.steered ∙ sym (append-nil (schedule_with order script (helm_of steersman) lock.base).start);
+      opened = so.opened ∙ start steersman stands ∙ sym (append-nil (schedule_with order script (helm_of steersman) lock.base).start);
       left = left_for script steersman lock.base 0 first.seen;
-      own = λ n below. own steersman n below so.steered so.ticks (either (nat_lt n clients));
+      own = λ n below. own steersman n below stands so.new (either (nat_lt n clients));
       moments = λ n below. moments order n below (nat_lt n clients);
       named = refl;
     };
     left = λ n below. refl;
   };
-  steered = so.steered;
+  steered = stands;
 }
   where
     clients : ℕ
@@ -87,16 +122,16 @@ start_under order script lock steersman first valid seats so = record {
     start None stands = refl
     start (Some t) stands = sym (start_is clients (steering_of t) stands.0)
 
-    own : (s : Option Steersman) (n : ℕ) → n < parts script s → StandsAt lock.base (helm_number script) s first.seen → IfSome s (λ helm. (helm.ticks ≡ 0) × (1 ≤ helm.period)) → (nat_lt n clients ≡ true) ⊎ (nat_lt n clients ≡ false)
+    own : (s : Option Steersman) (n : ℕ) → n < parts script s → StandsAt lock.base (helm_number script) s first.seen → IfSome s IsUnticked → (nat_lt n clients ≡ true) ⊎ (nat_lt n clients ≡ false)
         → due_in (schedule_with order script (helm_of s) lock.base) n [] ≡ left_for script s lock.base 0 first.seen n
-    own s n below stands ticks (inl e) =
+    own s n below stands new (inl e) =
         ap (λ b. cond b (entries_of n script.lines) (answers_of (tick_period (helm_of s)) (suc (script.stop / tick_period (helm_of s))) clients (answerers (helm_of s)) n [])) e
         ∙ sym (ap (λ b. cond b (entries_of n script.lines) (turns_left script.stop s lock.base first.seen)) e)
-    own None n below stands ticks (inr e) = absurd (grind (arith, nat_tests, e, below))
-    own (Some t) n below stands ticks (inr e) =
+    own None n below stands new (inr e) = absurd (grind (arith, nat_tests, e, below))
+    own (Some t) n below stands new (inr e) =
         let same : n ≡ clients = grind (arith, nat_tests, e, below) in
         ap (λ n. due_in (schedule_with order script (Some (steering_of t)) lock.base) n []) same ∙ helm_part order script (steering_of t) lock.base [] stands.0
-        ∙ (λ i. turns_from (answering (steering_of t)) t.number t.period (sym (deaf (omega (arith, stands.1.many, ticks.0))) i) (sym ticks.0 i) (count (sym ticks.0) i))
+        ∙ (λ i. turns_from (answering (steering_of t)) t.number t.period (sym (deaf (omega (arith, stands.1.many, new.ticks))) i) (sym new.ticks i) (count (sym new.ticks) i))
         ∙ sym (ap (λ b. cond b (entries_of n script.lines) (turns_left script.stop (Some t) lock.base first.seen)) e)
       where
         count : 0 ≡ t.ticks → ticks_to script.stop (steering_of t) ≡ ticks_to script.stop (steering_of t) - t.ticks
@@ -119,33 +154,43 @@ start_under order script lock steersman first valid seats so = record {
         turns (Some t) = turns_rise (answering (steering_of t)) clients 1 t.number t.period (heard_of lock.base t.number first.seen) t.ticks (ticks_to script.stop (steering_of t) - t.ticks) 0 (omega arith)
 
 -- the helm has a seat
-pub new_within : (script : Script) (helm : Option HelmRun) (further : List (List ℕ)) (n : ℕ) (base : List (List ℕ)) (steersman : Option Steersman) → helm_of steersman ≡ option_map (run_as n) helm → IfSome steersman (IsUnopened n) → n ≡ length script.names
-    → base ≡ names_with script helm ++ further → IfSome steersman (λ s. IsUnopened n s × (n < length base))
-new_within script helm further n base None is new number names = tt
-new_within script None further n base (Some s) is new number names = absurd cc
-new_within script (Some run) further n base (Some s) is new number names = (new, omega (arith, number, ap length names, length-append (names_with script (Some run)) further, names_more script run))
+pub new_within : (script : Script) (helm : Option HelmRun) (further : List (List ℕ)) (base : List (List ℕ)) (steersman : Option Steersman) → helm_of steersman ≡ option_map (steering_with script) helm → IfSome steersman IsUnticked → base ≡ names_with script helm ++ further
+    → IfSome steersman (λ s. IsUnticked s × (s.number < length base))
+new_within script helm further base None is new names = tt
+new_within script None further base (Some s) is new names = absurd cc
+new_within script (Some run) further base (Some s) is new names = (new, omega (arith, run_number script run s is, ap length names, length-append (names_with script (Some run)) further, names_more script run))
 
 -- each client that is known from the start has a seat
-pub seats_made : (script : Script) (helm : Option HelmRun) (further : List (List ℕ)) (n : ℕ) (base : List (List ℕ)) (steersman : Option Steersman) → helm_of steersman ≡ option_map (run_as n) helm → base ≡ names_with script helm ++ further
+seats_made : (script : Script) (helm : Option HelmRun) (further : List (List ℕ)) (base : List (List ℕ)) (steersman : Option Steersman) → helm_of steersman ≡ option_map (steering_with script) helm → base ≡ names_with script helm ++ further
     → parts script steersman ≤ length base
-seats_made script None further n base None is names = omega (arith, ap length names, length-append script.names further)
-seats_made script None further n base (Some s) is names = absurd cc
-seats_made script (Some run) further n base None is names = absurd cc
-seats_made script (Some run) further n base (Some s) is names = omega (arith, ap length names, length-append (names_with script (Some run)) further, names_more script run)
+seats_made script None further base None is names = omega (arith, ap length names, length-append script.names further)
+seats_made script None further base (Some s) is names = absurd cc
+seats_made script (Some run) further base None is names = absurd cc
+seats_made script (Some run) further base (Some s) is names = omega (arith, ap length names, length-append (names_with script (Some run)) further, names_more script run)
 
 -- no tick is made yet
-pub ticks_begin : (stop : ℕ) (steersman : Option Steersman) → IfSome steersman (λ helm. (helm.ticks ≡ 0) × (1 ≤ helm.period)) → IfSome steersman (λ helm. (1 ≤ helm.period) × (helm.ticks ≤ ticks_to stop (steering_of helm)))
-ticks_begin stop None so = tt
-ticks_begin stop (Some s) so = (so.1, omega (arith, so.0))
+ticks_begin : (stop : ℕ) (steersman : Option Steersman) → IfSome steersman IsUnticked → IfSome steersman (λ helm. (1 ≤ helm.period) × (helm.ticks ≤ ticks_to stop (steering_of helm)))
+ticks_begin stop None new = tt
+ticks_begin stop (Some s) new = (new.period, omega (arith, new.ticks))
+
+-- and no iteration is kept
+new_untold : (steersman : Option Steersman) → IfSome steersman IsUnticked → iterations_in steersman ≡ []
+new_untold None new = refl
+new_untold (Some s) new = new.iterations
 
 -- the run that is made
-pub play_made : (script : Script) (helm : Option HelmRun) (further : List (List ℕ)) (n : ℕ) (steersman : Option Steersman) (play : Stage) → are_lines (length script.names) 0 script.stop script.lines ≡ true → n ≡ length script.names → helm_of play.steersman ≡ helm_of steersman
-    → helm_of steersman ≡ option_map (run_as n) helm → play.lock.base ≡ names_with script helm ++ further → HasOpened play.lock n play.steersman play.first.seat → length play.calls.items ≡ n → play.from ≡ 0 → IsAtPlay script play
-play_made script helm further n steersman play valid number same is names opened calls from = record {
-  under = subst (λ from. IsUnderWay play.order script play.lock play.steersman from play.first.seat) (sym from)
-      (start_under play.order script play.lock play.steersman play.first.seat valid (seats_made script helm further n play.lock.base play.steersman (same ∙ is) names) (subst (λ n. HasOpened play.lock n play.steersman play.first.seat) number opened));
-  calls = calls ∙ number;
-  period = ticks_begin script.stop play.steersman opened.ticks;
+pub play_made : (helm : Option HelmRun) (further : List (List ℕ)) (play : Stage) → IsValid play.script.now → helm_of play.steersman ≡ option_map (steering_with play.script.now) helm → play.lock.base ≡ names_with play.script.now helm ++ further
+    → HasOpened play.lock play.steersman play.first.seat → length play.calls.items ≡ length play.script.now.names → play.from ≡ 0 → IsPaused play
+play_made helm further play valid is names opened calls from = record {
+  at_play = record {
+    valid = valid;
+    under = subst (λ from. IsUnderWay play.order play.script.now play.lock play.steersman from play.first.seat) (sym from)
+        (start_under play.order play.script.now play.lock play.steersman play.first.seat valid.lines (seats_made play.script.now helm further play.lock.base play.steersman is names) opened
+        (new_stands play.script.now helm play.lock play.steersman play.first.seat is opened));
+    calls = calls;
+    period = ticks_begin play.script.now.stop play.steersman opened.new;
+  };
+  told = new_untold play.steersman opened.new;
 }
 
 -- the names are few where there are no further ones
@@ -153,18 +198,14 @@ pub few_names : (script : Script) (helm : Option HelmRun) (further : List (List 
 few_names script None further none few = omega (arith, length-append script.names further, ap length none, few)
 few_names script (Some run) further none few = omega (arith, length-append (names_with script (Some run)) further, ap length none, names_more script run, few)
 
--- a helm hears nothing at its opening
-opening_silent : (names : List (List ℕ)) (helm : Steering) → heard_of names helm.client (opening_of helm) ≡ []
-opening_silent names helm = heard_deaf (mailed_in names) helm.client [] (opening_of helm) (opening_deaf helm)
-
--- a run that has made just its opening has handed out nothing
-pub none_told : (play : Stage) → IsPaused play → history_in (shown_by play) ≡ opening (helm_in (shown_by play)) → told_in play.steersman ≡ 0
-none_told play between begun = by play.steersman between.told between.at_play.under.steered begun
+-- a run that has made just its opening has made no tick
+pub none_ticked : (play : Stage) → IsPaused play → history_in (shown_by play) ≡ opening (helm_in (shown_by play)) → ticks_in play.steersman ≡ 0
+none_ticked play between begun = by play.steersman between.at_play.under.steered begun
   where
-    by : (s : Option Steersman) → IfSome s (λ s. s.told ≡ s.ticks) → StandsAt play.lock.base (helm_number play.script.now) s play.first.seat.seen → play.first.seat.seen ≡ opening (helm_of s) → told_in s ≡ 0
-    by None told stands begun = refl
-    by (Some s) told stands begun =
-        told ∙ sym stands.1.many ∙ ap (λ history. length (heard_of play.lock.base s.number history)) begun ∙ ap length (opening_silent play.lock.base (steering_of s))
+    by : (s : Option Steersman) → StandsAt play.lock.base (helm_number play.script.now) s play.first.seat.seen → play.first.seat.seen ≡ opening (helm_of s) → ticks_in s ≡ 0
+    by None stands begun = refl
+    by (Some s) stands begun =
+        sym stands.1.many ∙ ap (λ history. length (heard_of play.lock.base s.number history)) begun ∙ ap length (opening_silent play.lock.base (steering_of s))
 
 -- nothing was seen, as nothing is known
 pub nothing_whole : (first : SeatState) → KnowsNothing first → IsWhole first
@@ -196,24 +237,12 @@ opens_alone old s regs pairs start after is regs_is pairs_is none first =
     less all is = let here : length all ≤ 0 = omega (arith, none, ap length is) in grind (arith, nat_tests)
 
 -- a helm that has made its opening, and nobody else an entry
-pub opened_first : (lock : CommunityLock) (number : ℕ) (old new : Steersman) (first after : SeatState) → KnowsNothing first → IsUnopened number old → new ≡ record old { calls = new.calls } → IsGathered lock after → IsWhole after → after.seen ≡ first.seen ++ opening_of (steering_of old)
-    → HasOpened lock number (Some new) after
-opened_first lock number old new first after nothing is new_is gathered whole seen =
-    subst (λ s. HasOpened lock number (Some s) after) (sym new_is)
-    (record { gathered = gathered; whole = whole; opened = opened; steered = (is.own, steers); ticks = (is.ticks, is.period); told = is.told })
-  where
-    helm : Steering
-    helm = steering_of old
-
-    opened : after.seen ≡ opening_of helm
-    opened = seen ∙ ap (λ front. front ++ opening_of helm) nothing.seen
-
-    steers : Steers lock.base (record old { calls = new.calls }) after.seen
-    steers = subst (λ (seen : History). Steers lock.base (record old { calls = new.calls }) seen) (sym opened) (record {
-      clock = subst (λ clock. clock ≤ old.ticks * old.period) (sym is.stands.clock) (omega arith);
-      stands = subst (StandsFor old.helm) (sym (opening_silent lock.base helm)) is.stands;
-      many = ap length (opening_silent lock.base helm) ∙ sym is.ticks;
-      own = own_opening helm ∙ sym (ap (λ n. opening_of helm ++ ticks_of helm (heard_of lock.base old.number (opening_of helm)) n) is.ticks ∙ append-nil (opening_of helm));
-      few = omega (arith, is.told);
-      same = is.iterations ∙ sym (ap (drop old.told) (ap (λ n. iterations_of (plan_of old.helm) (heard_of lock.base old.number (opening_of helm)) n) is.ticks) ∙ drop_all old.told [] (omega arith));
+pub opened_first : (lock : CommunityLock) (old new : Steersman) (first after : SeatState) → KnowsNothing first → IsUnticked old → new ≡ record old { calls = new.calls } → IsGathered lock after → IsWhole after → after.seen ≡ first.seen ++ opening_of (steering_of old)
+    → HasOpened lock (Some new) after
+opened_first lock old new first after nothing is new_is gathered whole seen =
+    subst (λ s. HasOpened lock (Some s) after) (sym new_is) (record {
+      gathered = gathered;
+      whole = whole;
+      opened = seen ∙ ap (λ front. front ++ opening_of (steering_of old)) nothing.seen;
+      new = record { ticks = is.ticks; iterations = is.iterations; stands = is.stands; period = is.period };
     })

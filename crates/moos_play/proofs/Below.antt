@@ -11,8 +11,9 @@ use Rattle.helm_core.specs.Ticks.{Tick}
 use Rattle.moos_client.specs.Calls.{entries_of}
 use Rattle.moos_post.specs.declared.entry.Entry.{Entry}
 use Rattle.moos_post.specs.History.{History}
-use Rattle.moos_lawful.specs.Schedules.{clients_below, entries_below}
-use Rattle.moos_play.specs.Lawful.{entries_from, heard_of, helm_number, IsLawful, IsLawfulBeside, KeepsOrder, known_clients, names_with, Steering, tick_entries, ticks}
+use Rattle.moos_lawful.proofs.Parts.{below_kept}
+use Rattle.moos_lawful.specs.Schedules.{clients_below, entries_below, entries_from}
+use Rattle.moos_play.specs.Lawful.{heard_of, helm_number, IsLawful, IsLawfulBeside, KeepsOrder, known_clients, names_with, Steering, tick_entries, ticks}
 use Rattle.moos_client.proofs.Histories.{all_kept, all_own, front_pass}
 use Rattle.script_reader.specs.declared.script.Order.{Order}
 use Rattle.script_reader.specs.declared.script.Script.{Script}
@@ -39,25 +40,12 @@ kept_pass p (x ∷ xs) = by (p x) refl (kept_pass p xs)
     by true here rest = and_from (p x) (list_all p (filter p xs)) here rest
     by false here rest = rest
 
--- what passes a test is kept whole
-kept_all : (p : Entry → Bool) (xs : History) → list_all p xs ≡ true → filter p xs ≡ xs
-kept_all p [] all = refl
-kept_all p (x ∷ xs) all = let tests = and_parts (p x) (list_all p xs) all in ap (λ b. cond b (x ∷ filter p xs) (filter p xs)) tests.0 ∙ ap (λ rest. x ∷ rest) (kept_all p xs tests.1)
-
 -- nothing is kept of what passes a test that excludes it
 pub kept_none : (p q : Entry → Bool) (xs : History) → ((x : Entry) → q x ≡ true → p x ≡ false) → list_all q xs ≡ true → filter p xs ≡ []
 kept_none p q [] other all = refl
 kept_none p q (x ∷ xs) other all =
     let tests = and_parts (q x) (list_all q xs) all in
     ap (λ b. cond b (x ∷ filter p xs) (filter p xs)) (other x tests.0) ∙ kept_none p q xs other tests.1
-
--- clients below a number are below a higher one
-pub below_raised : (low high : ℕ) (xs : History) → low ≤ high → clients_below low xs ≡ true → clients_below high xs ≡ true
-below_raised low high [] more all = refl
-below_raised low high (x ∷ xs) more all =
-    let tests = and_parts (nat_lt x.client low) (clients_below low xs) all in
-    let here = tests.0 in
-    and_from (nat_lt x.client high) (clients_below high xs) (grind (arith, nat_tests, here, more)) (below_raised low high xs more tests.1)
 
 -- those of one client are below each number above its own
 pub own_pass : (number n : ℕ) (xs : History) → n < number → clients_below number (entries_of n xs) ≡ true
@@ -103,10 +91,6 @@ own_below number n (x ∷ xs) less = by (nat_lt x.client number) refl (own_below
     by true here rest = ap (λ rest. cond (x.client == n) (x ∷ rest) rest) rest
     by false here rest = rest ∙ sym (ap (λ b. cond b (x ∷ entries_of n xs) (entries_of n xs)) (ne_eqb x.client n (λ e. grind (arith, nat_tests, here, e, less))))
 
--- and none of the client with the first number that isn't known
-pub none_below : (number : ℕ) (xs : History) → entries_of number (entries_below number xs) ≡ []
-none_below number xs = kept_none (λ entry. entry.client == number) (λ entry. nat_lt entry.client number) (entries_below number xs) (λ x less. ne_eqb x.client number (λ e. grind (arith, nat_tests, less, e))) (kept_pass (λ entry. nat_lt entry.client number) xs)
-
 -- where there are no further clients a history is lawful by itself
 pub lawful_alone : (order : Order) (script : Script) (helm : Option Steering) (names : List (List ℕ)) (history : History) → names ≡ names_with script helm → IsLawfulBeside order script helm names history → IsLawful order script helm names history
 lawful_alone order script helm names history is so = record {
@@ -118,4 +102,4 @@ lawful_alone order script helm names history is so = record {
 }
   where
     all : entries_below (known_clients script helm) so.rest ≡ so.rest
-    all = kept_all (λ entry. nat_lt entry.client (known_clients script helm)) so.rest (subst (λ (names : List (List ℕ)). clients_below (length names) so.rest ≡ true) is so.named)
+    all = below_kept (known_clients script helm) so.rest (subst (λ (names : List (List ℕ)). clients_below (length names) so.rest ≡ true) is so.named)

@@ -5,7 +5,8 @@ use Rattle.moos_play.specs.Lawful.{helm_number, iterations_of, known_clients, ma
 use Rattle.moos_play.specs.Plays.{IsFurther, iterations_made, iterations_by}
 use Rattle.moos_play.specs.Runs.{playing_of, IsPaused, shown_by}
 use Rattle.moos_play.specs.Schedules.{schedule_with}
-use Rattle.moos_play.specs.Steered.{HasPlayed, helm_of, IsUnderWay, parts, StandsAt, turns_left, ticks_in}
+use Rattle.moos_play.specs.Steered.{HasPlayed, helm_of, IsUnderWay, parts, turns_left, ticks_in}
+use Rattle.moos_play.proofs.Standing.{StandsAt}
 use Rattle.moos_lawful.proofs.Going.{further_on}
 use Rattle.moos_play.proofs.Finishing.{parts_known, plays}
 use Rattle.moos_play.proofs.Showing.{seated_at}
@@ -78,8 +79,8 @@ further_played (Ok _) order script names s from history entry played room stands
 pub entered_between : {A : Type 0} (result : Result A AllocError) (play : Stage) (w : Bool) (entry : Entry) (after : SeatState) → IsPaused play → IsFurther (playing_of play w) entry.client → IsGathered play.lock after → IsWhole after → after.seen ≡ play.first.seat.seen ++ added_by result entry
     → IsPaused (seated_at play after)
 entered_between result play w entry after between further gathered whole is = record {
-  valid = between.valid;
   at_play = record {
+    valid = between.at_play.valid;
     under = record {
       gathered = gathered;
       whole = whole;

@@ -26,8 +26,10 @@ use Rattle.moos_play.specs.declared.steersman.Steersman.{Steersman}
 use Rattle.moos_play.specs.Lawful.{heard_of, helm_number, mailed_in, opening_of, Steering, tick_entries, ticks_of, ticks_to}
 use Rattle.moos_play.specs.Runs.{MayPlay}
 use Rattle.moos_play.specs.Schedules.{answerers, answering, schedule_with}
-use Rattle.moos_play.specs.Steered.{HasHeard, HasPlayed, helm_of, IsBehind, IsStopped, IsUnderWay, left_for, StandsAt, steering_of, Steers, turns_left}
-use Rattle.moos_play.proofs.Below.{below_raised, beside_pass}
+use Rattle.moos_play.specs.Steered.{HasPlayed, helm_of, IsBehind, IsStopped, IsUnderWay, left_for, steering_of, Steers, turns_left}
+use Rattle.moos_play.proofs.Standing.{HasHeard, StandsAt}
+use Rattle.moos_lawful.proofs.Parts.{all_raised}
+use Rattle.moos_play.proofs.Below.{beside_pass}
 use Rattle.moos_play.proofs.Hearing.{ticks_stay}
 use Rattle.moos_play.proofs.Steering.{steered_on}
 use Rattle.moos_play.proofs.Stepping.{all_end, all_part, drop_late, has_played, helm_step, later_stamps, lines_clients, lines_step, MayCome, own_left}
@@ -91,7 +93,7 @@ tick_alone order script lock old new from first after under on steering count st
 
 -- what the clients of some lines make of them, and the helm beside them whatever it does
 helm_known : (script : Script) (lines later : List Entry) → clients_below (length script.names) lines ≡ true → ((n : ℕ) → n ≢ helm_number script → Begins (entries_of n lines) (entries_of n later)) → clients_below (length script.names + 1) later ≡ true
-helm_known script lines later below fronts = beside_pass (length script.names + 1) (helm_number script) lines later (omega arith) (below_raised (length script.names) (length script.names + 1) lines (omega arith) below) fronts
+helm_known script lines later below fronts = beside_pass (length script.names + 1) (helm_number script) lines later (omega arith) (all_raised (length script.names) (length script.names + 1) lines (omega arith) below) fronts
 
 -- lines that are left behind a tick
 pub behind_late : (clients last stop : ℕ) (lines : List Entry) (from stamp : ℕ) → are_lines clients last stop lines ≡ true → IsBehind (Some stamp) (drop from lines) → list_all (λ line. nat_le (suc stamp) line.stamp) (drop from lines) ≡ true

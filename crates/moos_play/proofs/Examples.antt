@@ -1,6 +1,6 @@
 -- A script with a helm worked by hand: what they may leave together, and what they may not.
 use Rattle.std.proofs.Common.{◌≡◌, ℕ, ◌==◌, Bool, cond, List, [], ◌∷◌, ◌++◌, length, None, Some, refl, sym, ap, arith, ne_eqb}
-use Rattle.std.specs.Prelude.{codes, IsTrue}
+use Rattle.std.specs.Prelude.{codes}
 use Rattle.std.proofs.lemmas.Bool.{false≢true}
 use Rattle.helm_core.specs.Iterations.{iteration_at}
 use Rattle.helm_core.specs.Plans.{Plan}
@@ -9,7 +9,7 @@ use Rattle.moos_client.specs.Calls.{entries_of, entry_of}
 use Rattle.moos_post.specs.declared.entry.Call.TheVariants.{Post as Posts, Fetch}
 use Rattle.moos_post.specs.declared.entry.Entry.{Entry}
 use Rattle.moos_post.specs.History.{History}
-use Rattle.moos_play.specs.Lawful.{heard_of, IsLawful, KeepsOrder, moment_of, never_falls, opening, opening_of, Steering, tick_entries, ticks, ticks_to}
+use Rattle.moos_play.specs.Lawful.{heard_of, IsLawful, KeepsOrder, opening, opening_of, Steering, tick_entries, ticks, ticks_to}
 use Rattle.moos_play.specs.Steered.{IsStopped}
 use Rattle.script_reader.specs.declared.script.Order.TheVariants.{Stamp, Race}
 use Rattle.script_reader.specs.declared.script.Script.{Script}
@@ -69,7 +69,7 @@ lawful = record {
     whole client b = cond (0 == client) (entry_of 0 0 Fetch ∷ ticked b) (ticked b)
 
 -- a tick before a client of its stamp isn't lawful in order Stamp, and may be in a race
-tick_first : IsTrue (never_falls (moment_of 1) 0 (entry_of 1 0 Fetch ∷ entry_of 0 0 Fetch ∷ [])) → ⊥
+tick_first : KeepsOrder Stamp 1 (entry_of 1 0 Fetch ∷ entry_of 0 0 Fetch ∷ []) → ⊥
 tick_first = false≢true
 
 race_is_open : KeepsOrder Race 1 (entry_of 1 0 Fetch ∷ entry_of 0 0 Fetch ∷ [])
@@ -95,8 +95,6 @@ opens_later later same = omega (arith, ap first_client same)
 stopped : IsStopped names helm 0 1 (opening_of helm ++ entry_of 0 0 Fetch ∷ entry_of 1 0 Fetch ∷ [])
 stopped = record {
   left = entry_of 1 0 (Posts (iteration_at plan heard 0).posts) ∷ [];
-  deaf = refl;
-  mine = refl;
   own = refl;
   made = omega arith;
   few = omega arith;

@@ -3,7 +3,7 @@ use Rattle.moos_play.proofs.Moving.{made_many}
 use Rattle.std.proofs.Common.{◌≡◌, ◌≢◌, ℕ, zero, suc, ◌+◌, ◌-◌, ◌*◌, ◌/◌, ◌<◌, ◌≤◌, ◌==◌, ◌⊎◌, inl, inr, Bool, true, false, cond, List, [], ◌∷◌, ◌++◌, length, drop, Option, None, Some, nat_le, nat_lt, refl, sym, ap, ◌∙◌, subst, arith, append-nil, eq-eqb, ne_eqb}
 use Rattle.std.specs.Prelude.{map, option_map, IfSome}
 use Rattle.std.specs.List.{list_all}
-use Rattle.std.proofs.lemmas.Bool.{and_from, and_parts}
+use Rattle.std.proofs.lemmas.Bool.{and_from}
 use Rattle.std.proofs.lemmas.Bool.Decides.{nat_tests}
 use Rattle.std.proofs.lemmas.List.{drop_all}
 use Rattle.helm_core.specs.Ticks.{Tick}
@@ -11,24 +11,25 @@ use Rattle.moos_client.specs.Calls.{entries_of}
 use Rattle.moos_client.specs.Hearing.{fetches, heard_in}
 use Rattle.moos_client.proofs.Hearing.{heard_many}
 use Rattle.moos_lawful.specs.Answering.{answers_of, moment_in, openings, turns_from}
-use Rattle.moos_lawful.specs.Schedules.{clients_below, entries_below, IsLawfulFor, IsLawfulSoFar, IsPlayable, rises}
+use Rattle.moos_lawful.specs.Schedules.{clients_below, entries_below, IsLawfulFor, IsPlayable, rises}
 use Rattle.moos_lawful.proofs.Going.{completion, lawful_then}
-use Rattle.moos_lawful.proofs.Parts.{either}
+use Rattle.moos_lawful.proofs.Parts.{either, none_of}
 use Rattle.moos_lawful.proofs.Playable.{is_playable}
-use Rattle.moos_lawful.proofs.Rising.{true_le}
+use Rattle.moos_lawful.proofs.Widening.{rises_from}
 use Rattle.moos_post.specs.declared.entry.Entry.{Entry}
 use Rattle.moos_post.specs.History.{History}
 use Rattle.moos_play.specs.declared.stage.Stage.{Stage}
-use Rattle.moos_play.specs.declared.steersman.Steersman.{Steersman}
-use Rattle.moos_play.specs.Lawful.{heard_of, helm_number, IsLawful, IsLawfulBeside, KeepsOrder, known_clients, mailed_in, moment_of, names_with, never_falls, opening_of, Steering, steering_with, ticks_of, ticks_to}
-use Rattle.moos_play.specs.Plays.{IsRunFor, iterations_made, HasCompletion, HasSteeredSoFar, HasTicked, history_in, IsPlayedOut, left_in, schedule_in, ticks_behind, iterations_by}
-use Rattle.moos_play.specs.Runs.{playing_of, IsAtPlay, IsCutOff, IsPaused, left_of, shown_by}
-use Rattle.moos_play.specs.Schedules.{answerers, answering, schedule_with, tick_period}
-use Rattle.moos_play.specs.Steered.{HasHeard, helm_of, parts, StandsAt, steering_of, turns_left, ticks_in}
 use Rattle.moos_play.specs.declared.run.HelmRun.{HelmRun}
-use Rattle.moos_play.proofs.Below.{kept_pass, lawful_alone, names_more, none_below, own_below}
+use Rattle.moos_play.specs.declared.steersman.Steersman.{Steersman}
+use Rattle.moos_play.specs.Lawful.{heard_of, helm_number, IsLawful, IsLawfulBeside, iterations, KeepsOrder, known_clients, mailed_in, moment_of, names_with, opening_of, Steering, steering_with, ticks_of, ticks_to}
+use Rattle.moos_play.specs.Plays.{clients_in, GoesOnWith, HasCompletion, HasSteeredSoFar, HasTicked, helm_in, history_in, IsPlayedOut, IsRunFor, iterations_by, iterations_made, left_in, order_played, Playing, script_played, ticks_behind}
+use Rattle.moos_play.specs.Runs.{IsAtPlay, IsCutOff, IsPaused, playing_of, shown_by}
+use Rattle.moos_play.specs.Schedules.{answerers, answering, schedule_with, tick_period}
+use Rattle.moos_play.specs.Steered.{helm_of, parts, steering_of, turns_left, ticks_in}
+use Rattle.moos_play.proofs.Standing.{HasHeard, StandsAt}
+use Rattle.moos_play.proofs.Below.{kept_pass, lawful_alone, names_more, own_below}
 use Rattle.moos_play.proofs.Coming.{has_heard}
-use Rattle.moos_play.proofs.Ending.{made_over, over_ticks}
+use Rattle.moos_play.proofs.Ending.{made_over}
 use Rattle.moos_play.proofs.Handing.{iterations_more}
 use Rattle.moos_play.proofs.Stepping.{lines_clients}
 use Rattle.moos_play.proofs.Turns.{heard_rest, start_is, turns_are}
@@ -42,21 +43,10 @@ fetches_turns : (helm : Steering) (heard : List Tick) (i count : ℕ) → fetche
 fetches_turns helm heard i zero = refl
 fetches_turns helm heard i (suc count) = ap suc (fetches_turns helm heard (suc i) count)
 
--- moments that rise by one measure don't fall by another that keeps its order
-last_falls : (p : Entry → Bool) (old new : Entry → ℕ) → ((x y : Entry) → p x ≡ true → p y ≡ true → new x ≤ new y → old x ≤ old y) → (x : Entry) → p x ≡ true → (xs : List Entry) → list_all p xs ≡ true → rises (new x) (map new xs) ≡ true → never_falls old (old x) xs ≡ true
-last_falls p old new keeps x px [] all h = refl
-last_falls p old new keeps x px (y ∷ xs) all h =
-    let tests = and_parts (p y) (list_all p xs) all in
-    let parts = and_parts (nat_le (new x) (new y)) (rises (new y) (map new xs)) h in
-    let so : old x ≤ old y = keeps x y px tests.0 (true_le (new x) (new y) parts.0) in
-    and_from (nat_le (old x) (old y)) (never_falls old (old y) xs) (grind (arith, nat_tests, so)) (last_falls p old new keeps y tests.0 xs tests.1 parts.1)
-
-falls_by : (p : Entry → Bool) (old new : Entry → ℕ) → ((x y : Entry) → p x ≡ true → p y ≡ true → new x ≤ new y → old x ≤ old y) → (xs : List Entry) → list_all p xs ≡ true → rises 0 (map new xs) ≡ true → never_falls old 0 xs ≡ true
-falls_by p old new keeps [] all h = refl
-falls_by p old new keeps (x ∷ xs) all h =
-    let tests = and_parts (p x) (list_all p xs) all in
-    let parts = and_parts (nat_le 0 (new x)) (rises (new x) (map new xs)) h in
-    and_from (nat_le 0 (old x)) (never_falls old (old x) xs) (grind (arith, nat_tests)) (last_falls p old new keeps x tests.0 xs tests.1 parts.1)
+-- no number is below 0
+from_none : (key : Entry → ℕ) (xs : List Entry) → list_all (λ entry. nat_le 0 (key entry)) xs ≡ true
+from_none key [] = refl
+from_none key (x ∷ xs) = and_from (nat_le 0 (key x)) (list_all (λ entry. nat_le 0 (key entry)) xs) (grind (arith, nat_tests)) (from_none key xs)
 
 -- nobody from a number on is below it
 past_below : (known n : ℕ) (xs : History) → known ≤ n → entries_of n (entries_below known xs) ≡ []
@@ -68,14 +58,6 @@ past_below known n (x ∷ xs) past = by (nat_lt x.client known) refl (past_below
         let below : x.client < known = grind (arith, nat_tests, e) in
         ap (λ b. cond b (x ∷ entries_of n (entries_below known xs)) (entries_of n (entries_below known xs))) (ne_eqb x.client n (λ is. absurd (omega (arith, is, below, past)))) ∙ rest
     by false e rest = rest
-
-past_lines : (clients n : ℕ) (lines : List Entry) → list_all (λ line. nat_lt line.client clients) lines ≡ true → clients ≤ n → entries_of n lines ≡ []
-past_lines clients n [] all past = refl
-past_lines clients n (line ∷ lines) all past =
-    let tests = and_parts (nat_lt line.client clients) (list_all (λ line. nat_lt line.client clients) lines) all in
-    let here = tests.0 in
-    let below : line.client < clients = grind (arith, nat_tests) in
-    ap (λ b. cond b (line ∷ entries_of n lines) (entries_of n lines)) (ne_eqb line.client n (λ is. absurd (omega (arith, is, below, past)))) ∙ past_lines clients n lines tests.1 past
 
 -- the moment of a client that is known: as before
 pub moment_new : (clients : ℕ) (entry : Entry) → nat_lt entry.client (clients + 1) ≡ true → moment_in Stamp clients 1 entry ≡ moment_of clients entry
@@ -148,7 +130,7 @@ lawful_helm order script helm names history number lines so = record {
         ∙ ap (λ b. cond b (entries_of n script.lines) (answers_of helm.period ticks clients (answering helm ∷ []) n (heard_in (mailed_in names) n (openings clients (answering helm ∷ [])) so.rest))) e
     own n other (inr e) =
         let past : clients ≤ n = grind (arith, nat_tests, e) in
-        past_below known n so.rest (above past) ∙ sym (past_lines clients n script.lines lines past)
+        past_below known n so.rest (above past) ∙ sym (none_of clients n script.lines past lines)
       where
         above : clients ≤ n → known ≤ n
         above past = omega (arith, past, known_is, other)
@@ -159,8 +141,8 @@ lawful_helm order script helm names history number lines so = record {
     moments : (order : Order) → rises 0 (map (moment_in order clients 1) (entries_below (clients + 1) so.rest ++ [])) ≡ true → KeepsOrder order clients (entries_below known so.rest)
     moments Race h = tt
     moments Stamp h =
-        falls_by (λ entry. nat_lt entry.client (clients + 1)) (moment_of clients) (moment_in Stamp clients 1)
-        (λ x y px py less. subst (λ m. m ≤ moment_of clients y) (moment_new clients x px) (subst (λ m. moment_in Stamp clients 1 x ≤ m) (moment_new clients y py) less)) (entries_below known so.rest) below_all
+        rises_from (λ entry. nat_lt entry.client (clients + 1)) (moment_in Stamp clients 1) (moment_of clients)
+        (λ x y px py less. subst (λ m. m ≤ moment_of clients y) (moment_new clients x px) (subst (λ m. moment_in Stamp clients 1 x ≤ m) (moment_new clients y py) less)) 0 (entries_below known so.rest) below_all (from_none (moment_of clients) (entries_below known so.rest))
         (subst (λ k. rises 0 (map (moment_in Stamp clients 1) (entries_below k so.rest)) ≡ true) (sym known_is) (subst (λ all. rises 0 (map (moment_in Stamp clients 1) all) ≡ true) (append-nil (entries_below (clients + 1) so.rest)) h))
 
 -- and without one
@@ -168,7 +150,7 @@ lawful_lines : (order : Order) (script : Script) (names : List (List ℕ)) (hist
 lawful_lines order script names history lines so = record {
   rest = so.rest;
   opened = so.opened;
-  steered = none_below clients so.rest;
+  steered = past_below clients clients so.rest (omega arith);
   own = λ n other. own n other (either (nat_lt n clients));
   moments = moments order so.moments;
   named = so.named;
@@ -186,7 +168,7 @@ lawful_lines order script names history lines so = record {
         own_below clients n so.rest less ∙ so.own n (omega (arith, less)) ∙ ap (λ b. cond b (entries_of n script.lines) []) e
     own n other (inr e) =
         let past : clients ≤ n = grind (arith, nat_tests, e) in
-        past_below clients n so.rest past ∙ sym (past_lines clients n script.lines lines past)
+        past_below clients n so.rest past ∙ sym (none_of clients n script.lines past lines)
 
     keeps : (x y : Entry) → nat_lt x.client clients ≡ true → nat_lt y.client clients ≡ true → moment_in Stamp clients 0 x ≤ moment_in Stamp clients 0 y → moment_of clients x ≤ moment_of clients y
     keeps x y px py less = omega (arith, line_stamp x px, line_stamp y py, less, first_moment x px, first_moment y py)
@@ -200,7 +182,7 @@ lawful_lines order script names history lines so = record {
     moments : (order : Order) → rises 0 (map (moment_in order clients 0) (entries_below (clients + 0) so.rest ++ [])) ≡ true → KeepsOrder order clients (entries_below clients so.rest)
     moments Race h = tt
     moments Stamp h =
-        falls_by (λ entry. nat_lt entry.client clients) (moment_of clients) (moment_in Stamp clients 0) keeps (entries_below clients so.rest) (kept_pass (λ entry. nat_lt entry.client clients) so.rest)
+        rises_from (λ entry. nat_lt entry.client clients) (moment_in Stamp clients 0) (moment_of clients) keeps 0 (entries_below clients so.rest) (kept_pass (λ entry. nat_lt entry.client clients) so.rest) (from_none (moment_of clients) (entries_below clients so.rest))
         (subst (λ k. rises 0 (map (moment_in Stamp clients 0) (entries_below k so.rest)) ≡ true) no_more (subst (λ all. rises 0 (map (moment_in Stamp clients 0) all) ≡ true) (append-nil (entries_below (clients + 0) so.rest)) h))
 
 -- A HISTORY THAT IS LAWFUL FOR THE SCHEDULE of a script and its helm is lawful beside the entries of further clients.
@@ -218,16 +200,8 @@ pub parts_known : (script : Script) (s : Option Steersman) → parts script s �
 parts_known script None = omega arith
 parts_known script (Some s) = sym (names_more script (steering_of s))
 
--- the lines of a script are good
-abbrev pub ValidLines : Script → Type 0
-ValidLines script = are_lines (length script.names) 0 script.stop script.lines ≡ true
-
--- the history of a run that was cut off is lawful so far
-pub cut_so_far : (play : Stage) → IsCutOff play.script.now play → IsLawfulSoFar (schedule_in (shown_by play)) (history_in (shown_by play))
-cut_so_far play cut = cut.so_far
-
 -- a run that was cut off can be completed
-pub completed : (play : Stage) (w : Bool) → are_lines (length play.script.now.names) 0 play.script.now.stop play.script.now.lines ≡ true → IsCutOff play.script.now play → HasCompletion (playing_of play w)
+pub completed : (play : Stage) (w : Bool) → are_lines (length play.script.now.names) 0 play.script.now.stop play.script.now.lines ≡ true → IsCutOff play → HasCompletion (playing_of play w)
 completed play w valid cut =
     let whole = completion (schedule_with play.order play.script.now (helm_of play.steersman) play.lock.base) (plays play.order play.script.now play.steersman play.lock.base cut.room) play.first.seat.seen cut.so_far in
     let made = iterations_more play.lock.base (helm_number play.script.now) play.script.now.stop play.steersman play.first.seat.seen whole.rest cut.heard in
@@ -243,55 +217,56 @@ completed play w valid cut =
 
 -- so can one between two rounds
 pub has_completion : (play : Stage) (w : Bool) → IsPaused play → HasCompletion (playing_of play w)
-has_completion play w between = completed play w between.valid.lines (record {
+has_completion play w between = completed play w between.at_play.valid.lines (record {
   so_far = between.at_play.under.played.so_far;
   room = between.at_play.under.seats;
   heard = has_heard play.lock.base (helm_number play.script.now) play.script.now.stop play.steersman play.first.seat.seen between.at_play.under.steered between.at_play.period;
 })
 
 -- a run in which nothing is left
-pub lawful_end : (script : Script) (play : Stage) → are_lines (length script.names) 0 script.stop script.lines ≡ true → IsAtPlay script play → left_of script play ≡ 0 → IsLawfulBeside play.order script (helm_of play.steersman) play.lock.base play.first.seat.seen
-lawful_end script play valid at none =
-    lawful_beside play.order script play.steersman play.lock.base play.first.seat.seen play.first.seat.seen valid (has_heard play.lock.base (helm_number script) script.stop play.steersman play.first.seat.seen at.under.steered at.period)
-    (lawful_then (schedule_with play.order script (helm_of play.steersman) play.lock.base) (plays play.order script play.steersman play.lock.base at.under.seats) play.first.seat.seen at.under.played.so_far (λ n below. at.under.played.left n below ∙ by n (nat_lt n (length script.names))))
+lawful_end : (play : Stage) → IsAtPlay play → left_in (shown_by play) ≡ 0 → IsLawfulBeside play.order play.script.now (helm_of play.steersman) play.lock.base play.first.seat.seen
+lawful_end play at none =
+    lawful_beside play.order play.script.now play.steersman play.lock.base play.first.seat.seen play.first.seat.seen at.valid.lines (has_heard play.lock.base (helm_number play.script.now) play.script.now.stop play.steersman play.first.seat.seen at.under.steered at.period)
+    (lawful_then (schedule_with play.order play.script.now (helm_of play.steersman) play.lock.base) (plays play.order play.script.now play.steersman play.lock.base at.under.seats) play.first.seat.seen at.under.played.so_far (λ n below. at.under.played.left n below ∙ by n (nat_lt n (length play.script.now.names))))
   where
-    no_lines : drop play.from script.lines ≡ []
-    no_lines = drop_all play.from script.lines (omega (arith, none))
+    no_lines : drop play.from play.script.now.lines ≡ []
+    no_lines = drop_all play.from play.script.now.lines (omega (arith, none))
 
-    no_turns : (s : Option Steersman) → ticks_behind script.stop (helm_of s) (ticks_in s) ≡ 0 → turns_left script.stop s play.lock.base play.first.seat.seen ≡ []
+    no_turns : (s : Option Steersman) → ticks_behind play.script.now.stop (helm_of s) (ticks_in s) ≡ 0 → turns_left play.script.now.stop s play.lock.base play.first.seat.seen ≡ []
     no_turns None none = refl
     no_turns (Some s) none = ap (turns_from (answering (steering_of s)) s.number s.period (heard_of play.lock.base s.number play.first.seat.seen) s.ticks) none
 
-    by : (n : ℕ) (b : Bool) → cond b (entries_of n (drop play.from script.lines)) (turns_left script.stop play.steersman play.lock.base play.first.seat.seen) ≡ []
+    by : (n : ℕ) (b : Bool) → cond b (entries_of n (drop play.from play.script.now.lines)) (turns_left play.script.now.stop play.steersman play.lock.base play.first.seat.seen) ≡ []
     by n true = ap (entries_of n) no_lines
     by n false = no_turns play.steersman (omega (arith, none))
 
--- a run without further clients, in which nothing is left
-pub lawful_whole : (order : Order) (script : Script) (play : Stage) (helm : Option HelmRun) (names : List (List ℕ)) (history : History) → are_lines (length script.names) 0 script.stop script.lines ≡ true → IsAtPlay script play → left_of script play ≡ 0 → play.order ≡ order
-    → helm_of play.steersman ≡ option_map (steering_with script) helm → names ≡ play.lock.base → history ≡ play.first.seat.seen → names ≡ names_with script helm → IsLawful order script (option_map (steering_with script) helm) names history
-lawful_whole order script play helm names history valid at none order_is helm_is names_is history_is named =
-    lawful_alone order script (option_map (steering_with script) helm) names history (named ∙ same helm)
-    (subst (λ order. IsLawfulBeside order script (option_map (steering_with script) helm) names history) order_is
-    (subst (λ helm. IsLawfulBeside play.order script helm names history) helm_is
-    (subst (λ names. IsLawfulBeside play.order script (helm_of play.steersman) names history) (sym names_is)
-    (subst (IsLawfulBeside play.order script (helm_of play.steersman) play.lock.base) (sym history_is) (lawful_end script play valid at none)))))
-  where
-    same : (helm : Option HelmRun) → names_with script helm ≡ names_with script (option_map (steering_with script) helm)
-    same None = refl
-    same (Some run) = refl
-
--- the end of a run that is played round by round
-pub over_now : (play : Stage) (w : Bool) → IsPaused play → left_in (shown_by play) ≡ 0 → IsPlayedOut (playing_of play w)
-over_now play w between none = record {
+-- so its history is lawful, and by itself where there are no further clients, and its iterations are those of this history
+pub over_now : (play : Stage) (w : Bool) → IsAtPlay play → left_in (shown_by play) ≡ 0 → IsPlayedOut (playing_of play w)
+over_now play w at none = record {
   lawful = lawful;
   alone = λ named. lawful_alone play.order play.script.now (helm_of play.steersman) play.lock.base play.first.seat.seen named lawful;
-  iterations =
-      made_over play.lock.base (helm_number play.script.now) play.script.now.stop play.first.seat.seen play.steersman between.at_play.under.steered
-      (over_ticks play.script.now play play.steersman between.at_play.period (omega (arith, none)));
+  iterations = made_over play.lock.base (helm_number play.script.now) play.script.now.stop play.first.seat.seen play.steersman at.under.steered at.period (omega (arith, none));
 }
   where
     lawful : IsLawfulBeside play.order play.script.now (helm_of play.steersman) play.lock.base play.first.seat.seen
-    lawful = lawful_end play.script.now play between.valid.lines between.at_play none
+    lawful = lawful_end play at none
+
+-- the same of a run without further clients, where what it was begun with has other names
+pub over_as : (start play : Playing) (order : Order) (script : Script) (helm : Option HelmRun) (names : List (List ℕ)) (history : History) → IsPlayedOut play → GoesOnWith start play → order_played start ≡ order → script_played start ≡ script
+    → helm_in start ≡ option_map (steering_with script) helm → clients_in start ≡ names_with script helm → clients_in play ≡ names → history_in play ≡ history → IsLawful order script (option_map (steering_with script) helm) names history
+    × (iterations_made play ≡ iterations (option_map (steering_with script) helm) script.stop (heard_of names (helm_number script) history))
+over_as start play order script helm names history out on order_is script_is helm_is named names_is history_is = (
+  subst (λ (p : Playing). IsLawful (order_played p) (script_played p) (helm_in p) (clients_in p) (history_in p)) is
+      (out.alone (on.names ∙ named ∙ same helm ∙ (λ i. names_with (sym (on.script ∙ script_is) i) (sym (on.helm ∙ helm_is) i)))),
+  out.iterations ∙ ap (λ (p : Playing). iterations (helm_in p) (script_played p).stop (heard_of (clients_in p) (helm_number (script_played p)) (history_in p))) is,
+)
+  where
+    is : play ≡ record play { order = order; script = script; helm = option_map (steering_with script) helm; names = names; history = history }
+    is = λ i. record play { order = (on.order ∙ order_is) i; script = (on.script ∙ script_is) i; helm = (on.helm ∙ helm_is) i; names = names_is i; history = history_is i }
+
+    same : (helm : Option HelmRun) → names_with script helm ≡ names_with script (option_map (steering_with script) helm)
+    same None = refl
+    same (Some run) = refl
 
 -- between two rounds the helm has made as many ticks as there are iterations, and heard as many mails
 pub has_steered : (play : Stage) (w : Bool) → IsPaused play → HasSteeredSoFar (playing_of play w)

@@ -1,6 +1,6 @@
 -- The iterations of a round, and a run after they were handed out.
-use Rattle.std.proofs.Common.{◌≡◌, ℕ, zero, suc, ◌+◌, ◌-◌, inl, inr, ◌≤◌, List, [], ◌∷◌, ◌++◌, length, take, drop, Bool, true, false, nat_le, Option, None, Some, refl, sym, ap, ◌∙◌, subst, arith, append_assoc}
-use Rattle.std.specs.Prelude.{option_map, slice_get, IfSome}
+use Rattle.std.proofs.Common.{◌≡◌, ℕ, zero, suc, ◌+◌, ◌-◌, ◌≤◌, List, [], ◌∷◌, ◌++◌, length, take, drop, Bool, true, false, nat_le, Option, None, Some, refl, sym, ap, ◌∙◌, subst, arith, append_assoc}
+use Rattle.std.specs.Prelude.{option_map, IfSome}
 use Rattle.std.proofs.lemmas.Bool.Decides.{nat_tests}
 use Rattle.std.proofs.lemmas.List.{drop_all, take-append-drop, take-append-le, take_all}
 use Rattle.helm_core.specs.declared.iteration.Iteration.{Iteration}
@@ -9,21 +9,20 @@ use Rattle.helm_core.specs.Iterations.{iteration_at}
 use Rattle.helm_core.specs.Plans.{Plan}
 use Rattle.helm_core.specs.Ticks.{Tick}
 use Rattle.moos_client.specs.Calls.{SeatState}
-use Rattle.moos_post.specs.declared.entry.Entry.{Entry}
 use Rattle.moos_post.specs.History.{History}
 use Rattle.moos_play.specs.declared.stage.Stage.{Stage}
 use Rattle.moos_play.specs.declared.steersman.Steersman.{Steersman}
 use Rattle.moos_client.specs.Hearing.{heard_in}
 use Rattle.moos_play.specs.Lawful.{heard_of, helm_number, iterations, iterations_of, mailed_in, Steering, ticks_to}
-use Rattle.moos_play.specs.Plays.{IsStampOver, iterations_made, stamp_next, ticks_behind, iterations_by}
-use Rattle.moos_play.specs.Runs.{handed, handed_of, IsAtPlay, IsPaused, KeepsRun, KeepsSeats, shown_by}
-use Rattle.moos_play.specs.Steered.{HasHeard, helm_of, IsUnderWay, iterations_in, StandsAt, steering_of, Steers, tick_due, told_in, ticks_in}
+use Rattle.moos_play.specs.Plays.{GoesOnWith, iterations_by, iterations_made, Playing}
+use Rattle.moos_play.specs.Runs.{handed, IsAtPlay, IsPaused, KeepsSeats, shown_by}
+use Rattle.moos_play.specs.Steered.{helm_of, IsUnderWay, iterations_in, KeepsEach, steering_of, Steers, ticks_in}
+use Rattle.moos_play.proofs.Standing.{HasHeard, StandsAt}
 use Rattle.moos_step.specs.Steps.{CommunityLock}
 use Rattle.moos_client.proofs.Hearing.{heard_append}
 use Rattle.moos_play.proofs.Hearing.{iterations_many, iterations_stay}
 use Rattle.script_reader.specs.declared.script.Order.{Order}
 use Rattle.script_reader.specs.declared.script.Script.{Script}
-use Rattle.script_reader.specs.Validity.{IsValid}
 
 -- the first of the iterations
 iterations_front : (plan : Plan) (heard : List Tick) (n m : ℕ) → n ≤ m → take n (iterations_of plan heard m) ≡ iterations_of plan heard n
@@ -48,19 +47,20 @@ iterations_before names plan client n m history rest below many =
     ∙ iterations_stay plan (heard_of names client history) (heard_in (mailed_in names) client history rest) n (omega (arith, many))
 
 -- the iterations over a history that goes on: those before, and those behind them
-told_on : (names : List (List ℕ)) (s t : Steersman) (history rest : History) → steering_of t ≡ steering_of s → s.told ≡ s.ticks → t.told ≡ s.told → Steers names s history → Steers names t (history ++ rest)
+told_on : (names : List (List ℕ)) (s t : Steersman) (history rest : History) → steering_of t ≡ steering_of s → s.iterations ≡ [] → KeepsEach (Some s) (Some t) → Steers names s history → Steers names t (history ++ rest)
     → iterations_by names (history ++ rest) (helm_of (Some t)) (ticks_in (Some t)) ≡ iterations_by names history (helm_of (Some s)) (ticks_in (Some s)) ++ t.iterations
-told_on names s t history rest same told kept before after =
+told_on names s t history rest same none kept before after =
     let done = iterations_of (plan_of s.helm) (heard_of names s.number (history ++ rest)) t.ticks in
     let is : iterations_of (plan_of t.helm) (heard_of names t.number (history ++ rest)) t.ticks ≡ done = ap (λ (helm : Steering). iterations_of helm.plan (heard_of names helm.client (history ++ rest)) t.ticks) same in
-    let count : t.told ≡ s.ticks = kept ∙ told in
-    let front : take t.told done ≡ iterations_of (plan_of s.helm) (heard_of names s.number history) s.ticks =
-    ap (λ n. take n done) count ∙ iterations_before names (plan_of s.helm) s.number s.ticks t.ticks history rest (omega (arith, count, after.few)) (omega (arith, before.many)) in
-    is ∙ sym (take-append-drop t.told done) ∙ ap (λ first. first ++ drop t.told done) front
-    ∙ ap (λ last. iterations_of (plan_of s.helm) (heard_of names s.number history) s.ticks ++ last) (ap (drop t.told) (sym is) ∙ sym after.same)
+    let told : ℕ = t.ticks - length t.iterations in
+    let count : told ≡ s.ticks = omega (arith, kept, ap length none) in
+    let front : take told done ≡ iterations_of (plan_of s.helm) (heard_of names s.number history) s.ticks =
+    ap (λ n. take n done) count ∙ iterations_before names (plan_of s.helm) s.number s.ticks t.ticks history rest (omega (arith, count)) (omega (arith, before.many)) in
+    is ∙ sym (take-append-drop told done) ∙ ap (λ first. first ++ drop told done) front
+    ∙ ap (λ last. iterations_of (plan_of s.helm) (heard_of names s.number history) s.ticks ++ last) (ap (drop told) (sym is) ∙ sym after.same)
 
 -- the same of a run with a helm or without
-pub made_on : (names : List (List ℕ)) (number : ℕ) (before after : Option Steersman) (history later rest : History) → later ≡ history ++ rest → helm_of after ≡ helm_of before → IfSome before (λ s. s.told ≡ s.ticks) → told_in after ≡ told_in before
+pub made_on : (names : List (List ℕ)) (number : ℕ) (before after : Option Steersman) (history later rest : History) → later ≡ history ++ rest → helm_of after ≡ helm_of before → iterations_in before ≡ [] → KeepsEach before after
     → StandsAt names number before history → StandsAt names number after later → iterations_by names later (helm_of after) (ticks_in after) ≡ iterations_by names history (helm_of before) (ticks_in before) ++ iterations_in after
 made_on names number None None history later rest is same told kept stood stands = refl
 made_on names number None (Some t) history later rest is same told kept stood stands = absurd cc
@@ -69,15 +69,17 @@ made_on names number (Some s) (Some t) history later rest is same told kept stoo
     subst (λ later. iterations_by names later (helm_of (Some t)) (ticks_in (Some t)) ≡ iterations_by names history (helm_of (Some s)) (ticks_in (Some s)) ++ t.iterations) (sym is)
     (told_on names s t history rest (cc) told kept stood.1 (subst (Steers names t) is stands.1))
 
--- a helm whose iterations are handed out stands where it stood
+-- the helm once its iterations so far are handed out
+abbrev pub handed_of : Steersman → Steersman
+handed_of helm = record helm { iterations = [] }
+
 handed_steers : (names : List (List ℕ)) (s : Steersman) (history : History) → Steers names s history → Steers names (handed_of s) history
 handed_steers names s history so = record {
   clock = so.clock;
   stands = so.stands;
   many = so.many;
   own = so.own;
-  few = omega arith;
-  same = sym (drop_all s.ticks (iterations_of (plan_of s.helm) (heard_of names s.number history) s.ticks) (omega (arith, iterations_many (plan_of s.helm) (heard_of names s.number history) s.ticks)));
+  same = sym (drop_all (s.ticks - 0) (iterations_of (plan_of s.helm) (heard_of names s.number history) s.ticks) (omega (arith, iterations_many (plan_of s.helm) (heard_of names s.number history) s.ticks)));
 }
 
 handed_under : (order : Order) (script : Script) (lock : CommunityLock) (steersman : Option Steersman) (from : ℕ) (first : SeatState) → IsUnderWay order script lock steersman from first
@@ -92,38 +94,34 @@ handed_under order script lock (Some s) from first under = record {
   steered = (under.steered.0, handed_steers lock.base s first.seen under.steered.1);
 }
 
--- so does the run
-pub handed_at_play : (script : Script) (play : Stage) → IsAtPlay script play → IsAtPlay script (handed play)
-handed_at_play script play at = record {
-  under = handed_under play.order script play.lock play.steersman play.from play.first.seat at.under;
-  calls = at.calls;
-  period = period play.steersman at.period;
+-- the run stands between two rounds once they are
+pub handed_between : (play : Stage) → IsAtPlay play → IsPaused (handed play)
+handed_between play at = record {
+  at_play = record {
+    valid = at.valid;
+    under = handed_under play.order play.script.now play.lock play.steersman play.from play.first.seat at.under;
+    calls = at.calls;
+    period = period play.steersman at.period;
+  };
+  told = told play.steersman;
 }
   where
-    period : (s : Option Steersman) → IfSome s (λ helm. (1 ≤ helm.period) × (helm.ticks ≤ ticks_to script.stop (steering_of helm)))
-        → IfSome (option_map handed_of s) (λ helm. (1 ≤ helm.period) × (helm.ticks ≤ ticks_to script.stop (steering_of helm)))
+    period : (s : Option Steersman) → IfSome s (λ helm. (1 ≤ helm.period) × (helm.ticks ≤ ticks_to play.script.now.stop (steering_of helm)))
+        → IfSome (option_map handed_of s) (λ helm. (1 ≤ helm.period) × (helm.ticks ≤ ticks_to play.script.now.stop (steering_of helm)))
     period None so = tt
     period (Some s) so = so
 
--- before the first tick there are none to hand out
-pub told_begin : (steersman : Option Steersman) → IfSome steersman (λ helm. (helm.ticks ≡ 0) × (1 ≤ helm.period)) → IfSome steersman (λ helm. helm.told ≡ 0) → IfSome steersman (λ helm. helm.told ≡ helm.ticks)
-told_begin None ticks told = tt
-told_begin (Some s) ticks told = told ∙ sym ticks.0
+    told : (s : Option Steersman) → iterations_in (option_map handed_of s) ≡ []
+    told None = refl
+    told (Some s) = refl
 
--- all of them are handed out
-pub handed_told : (steersman : Option Steersman) → IfSome (option_map handed_of steersman) (λ helm. helm.told ≡ helm.ticks)
-handed_told None = tt
-handed_told (Some s) = refl
-
--- how the helm is run stays the same
-helm_handed : (steersman : Option Steersman) → helm_of (option_map handed_of steersman) ≡ helm_of steersman
-helm_handed None = refl
-helm_handed (Some s) = refl
-
--- and so are the iterations so far
-made_handed : (names : List (List ℕ)) (history : History) (steersman : Option Steersman) → iterations_by names history (helm_of (option_map handed_of steersman)) (ticks_in (option_map handed_of steersman)) ≡ iterations_by names history (helm_of steersman) (ticks_in steersman)
-made_handed names history None = refl
-made_handed names history (Some s) = refl
+-- and it shows what it showed
+pub last_shown : (play last : Stage) → last ≡ handed play → shown_by play ≡ shown_by last
+last_shown play last is = sym (ap shown_by is ∙ by play.steersman)
+  where
+    by : (s : Option Steersman) → shown_by (record play { steersman = option_map handed_of s }) ≡ shown_by (record play { steersman = s })
+    by None = refl
+    by (Some s) = refl
 
 -- a run that goes on twice
 pub stays_twice : (before middle after : Stage) → KeepsSeats before middle → KeepsSeats middle after → KeepsSeats before after
@@ -133,52 +131,23 @@ stays_twice before middle after one other = record {
   later = (one.later.0 ++ other.later.0, other.later.1 ∙ ap (λ front. front ++ other.later.0) one.later.1 ∙ append_assoc before.first.seat.seen one.later.0 other.later.0);
 }
 
-pub goes_on_twice : (before middle after : Stage) → KeepsRun before middle → KeepsRun middle after → KeepsRun before after
+pub goes_on_twice : (before middle after : Playing) → GoesOnWith before middle → GoesOnWith middle after → GoesOnWith before after
 goes_on_twice before middle after one other = record {
   script = other.script ∙ one.script;
-  lock = other.lock ∙ one.lock;
   order = other.order ∙ one.order;
+  names = other.names ∙ one.names;
   helm = other.helm ∙ one.helm;
 }
 
--- what was handed out changes nothing of the rest
-pub stays_handed : (before after : Stage) → KeepsSeats before after → KeepsSeats before (handed after)
-stays_handed before after stays = record {
-  seated = record { gathered = stays.seated.gathered; whole = stays.seated.whole };
-  lock = stays.lock;
-  later = stays.later;
-}
-
-pub goes_on_handed : (before after : Stage) → KeepsRun before after → KeepsRun before (handed after)
-goes_on_handed before after on = record { script = on.script; lock = on.lock; order = on.order; helm = helm_handed after.steersman ∙ on.helm }
-
-pub left_handed : (script : Script) (from : ℕ) (steersman : Option Steersman) → length script.lines - from + ticks_behind script.stop (helm_of (option_map handed_of steersman)) (ticks_in (option_map handed_of steersman)) ≡ length script.lines - from + ticks_behind script.stop (helm_of steersman) (ticks_in steersman)
-left_handed script from None = refl
-left_handed script from (Some s) = refl
-
-pub next_handed : (order : Order) (stop : ℕ) (line : Option ℕ) (steersman : Option Steersman) → stamp_next order stop (tick_due stop (option_map handed_of steersman)) line ≡ stamp_next order stop (tick_due stop steersman) line
-next_handed order stop line None = refl
-next_handed order stop line (Some s) = refl
-
-pub finished_handed : (play : Stage) (stamp : ℕ) → IsStampOver (shown_by play) stamp → IsStampOver (shown_by (handed play)) stamp
-finished_handed play stamp (inl none) = inl (left_handed play.script.now play.from play.steersman ∙ none)
-finished_handed play stamp (inr other) =
-    inr (λ same. other (sym (next_handed play.order play.script.now.stop (option_map (λ (line : Entry). line.stamp) (slice_get play.script.now.lines play.from)) play.steersman) ∙ same))
-
--- the run between two rounds, once all iterations are handed out
-pub handed_between : (play : Stage) → IsValid play.script.now → IsAtPlay play.script.now play → IsPaused (handed play)
-handed_between play valid at = record { valid = valid; at_play = handed_at_play play.script.now play at; told = handed_told play.steersman }
-
 -- the iterations of a round follow those before
-pub round_iterations : (before after : Stage) → IsPaused before → IsAtPlay after.script.now after → KeepsSeats before after → KeepsRun before after → told_in after.steersman ≡ told_in before.steersman
-    → iterations_made (shown_by (handed after)) ≡ iterations_made (shown_by before) ++ iterations_in after.steersman
-round_iterations before after between at stays on told =
-    made_handed after.lock.base after.first.seat.seen after.steersman
-    ∙ ap (λ names. iterations_by names after.first.seat.seen (helm_of after.steersman) (ticks_in after.steersman)) (ap (λ (lock : CommunityLock). lock.base) on.lock)
-    ∙ made_on before.lock.base (helm_number before.script.now) before.steersman after.steersman before.first.seat.seen after.first.seat.seen stays.later.0 stays.later.1 on.helm between.told told
+pub round_iterations : (before after : Stage) → IsPaused before → IsAtPlay after → KeepsSeats before after → GoesOnWith (shown_by before) (shown_by after) → KeepsEach before.steersman after.steersman
+    → iterations_made (shown_by after) ≡ iterations_made (shown_by before) ++ iterations_in after.steersman
+round_iterations before after between at stays on kept =
+    ap (λ names. iterations_by names after.first.seat.seen (helm_of after.steersman) (ticks_in after.steersman)) on.names
+    ∙ made_on before.lock.base (helm_number before.script.now) before.steersman after.steersman before.first.seat.seen after.first.seat.seen stays.later.0 stays.later.1 on.helm between.told kept
     between.at_play.under.steered
     (subst (λ (script : Script). StandsAt before.lock.base (helm_number script) after.steersman after.first.seat.seen) on.script
-    (subst (λ (lock : CommunityLock). StandsAt lock.base (helm_number after.script.now) after.steersman after.first.seat.seen) on.lock at.under.steered))
+    (subst (λ names. StandsAt names (helm_number after.script.now) after.steersman after.first.seat.seen) on.names at.under.steered))
 
 -- the iterations of a history that goes on begin with those so far
 pub iterations_more : (names : List (List ℕ)) (number stop : ℕ) (steersman : Option Steersman) (history rest : History) → HasHeard names number stop steersman history

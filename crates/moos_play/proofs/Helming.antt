@@ -29,15 +29,16 @@ fetch_next client seat after names stamp mail is own fetched =
 number_on : (seat after : SeatState) (stamp : ℕ) (call : Call) → IsCalled seat after stamp call → after.number ≡ seat.number
 number_on seat after stamp call called = ap (λ s. s.number) called.after
 
--- a tick
-pub ticks_once : (names : List (List ℕ)) (s t : Steersman) (helm : Helm) (seat between after : SeatState) (stamp : ℕ) (mail : List Letter) (iteration : Iteration) (posts : List Pair) (done : List Iteration)
-    → t ≡ record s { helm = helm; calls = t.calls } → done ≡ t.iterations ++ iteration ∷ [] → stamp ≡ s.ticks * s.period → Steers names s seat.seen → seat.number ≡ s.number → HasOwn seat
-    → IsFetched seat between names stamp mail → IsTicked s.helm helm stamp mail iteration → IsCalled between after stamp (Posts posts) → posts ≡ iteration.posts → Steers names (record t { ticks = t.ticks + 1; iterations = done }) after.seen
-ticks_once names s t helm seat between after stamp mail iteration posts done is done_is stamp_is so number own fetched ticked posted posts_is =
-    subst (λ done. Steers names (record t { ticks = t.ticks + 1; iterations = done }) after.seen) (sym done_is)
-    (subst (λ (u : Steersman). Steers names (record u { ticks = u.ticks + 1; iterations = u.iterations ++ iteration ∷ [] }) after.seen) (sym is)
-    (subst (λ n. Steers names (record s { helm = helm; calls = t.calls; ticks = n; iterations = s.iterations ++ iteration ∷ [] }) after.seen) count
-    (ticked_on names s helm t.calls seat.seen between.seen after.seen mail iteration so first.0 first.1 (subst (λ stamp. IsTicked s.helm helm stamp mail iteration) stamp_is ticked) last)))
+-- a tick, with the steersman before its first call and before its last
+pub ticks_once : (names : List (List ℕ)) (s t u : Steersman) (helm : Helm) (seat between after : SeatState) (stamp : ℕ) (mail : List Letter) (iteration : Iteration) (posts : List Pair) (done : List Iteration)
+    → t ≡ record s { calls = t.calls } → u ≡ record t { helm = helm; calls = u.calls } → done ≡ u.iterations ++ iteration ∷ [] → stamp ≡ s.ticks * s.period → Steers names s seat.seen → seat.number ≡ s.number → HasOwn seat
+    → IsFetched seat between names stamp mail → IsTicked t.helm helm stamp mail iteration → IsCalled between after stamp (Posts posts) → posts ≡ iteration.posts → Steers names (record u { ticks = u.ticks + 1; iterations = done }) after.seen
+ticks_once names s t u helm seat between after stamp mail iteration posts done counted is done_is stamp_is so number own fetched ticked posted posts_is =
+    subst (λ done. Steers names (record u { ticks = u.ticks + 1; iterations = done }) after.seen) (sym done_is)
+    (subst (λ (u : Steersman). Steers names (record u { ticks = u.ticks + 1; iterations = u.iterations ++ iteration ∷ [] }) after.seen) (sym (is ∙ ap (λ (t : Steersman). record t { helm = helm; calls = u.calls }) counted))
+    (subst (λ n. Steers names (record s { helm = helm; calls = u.calls; ticks = n; iterations = s.iterations ++ iteration ∷ [] }) after.seen) count
+    (ticked_on names s helm u.calls seat.seen between.seen after.seen mail iteration so first.0 first.1
+    (subst (λ stamp. IsTicked s.helm helm stamp mail iteration) stamp_is (subst (λ (t : Steersman). IsTicked t.helm helm stamp mail iteration) counted ticked)) last)))
   where
     count : suc s.ticks ≡ s.ticks + 1
     count = omega arith

@@ -1,5 +1,5 @@
 -- The helm once the first seat has seen all that it made.
-use Rattle.std.proofs.Common.{◌≡◌, ℕ, ◌<◌, ◌==◌, cond, ne_eqb, List, [], Ok, Err, OnOk, Result, refl, sym, ap, ◌∙◌, subst, arith, append-nil}
+use Rattle.std.proofs.Common.{◌≡◌, ℕ, ◌<◌, ◌==◌, cond, ne_eqb, List, [], Some, Ok, Err, OnOk, Result, refl, sym, ap, ◌∙◌, subst, arith, append-nil}
 use Rattle.std.specs.Prelude.{OnErr}
 use Rattle.std.proofs.lemmas.List.{append_cancel_left}
 use Rattle.std.proofs.lemmas.List.Elements.{filter-append}
@@ -12,7 +12,7 @@ use Rattle.moos_step.proofs.Leading.{alone_idle, alone_made, IsLed, known_first,
 use Rattle.moos_step.proofs.Taking.{at_ok, seen_gathered, seen_whole}
 use Rattle.moos_step.specs.Steps.{CommunityLock, HasSeenAll, IsAlone, IsWhole}
 use Rattle.moos_play.specs.Lawful.{Steering}
-use Rattle.moos_play.specs.Steered.{HasLed, HasOwn, HasSteered, HasStopped, IsStopped, MayLead, MaySteer, steering_of, Steers}
+use Rattle.moos_play.specs.Steered.{HasLed, HasOwn, HasSteered, HasStopped, IsStopped, KeepsEach, MayLead, MaySteer, steering_of, Steers}
 use Rattle.moos_play.specs.declared.steersman.Steersman.{Steersman}
 use Rattle.turn_lock.proofs.Fronts.{begins_on}
 use Rattle.turn_lock.specs.Passes.{Begins, beside, events_in, known_of, met_with, without_number}
@@ -64,7 +64,7 @@ has_led lock may ticks before first final seat played old new answer result led 
   gathered = seen_gathered lock first final seen (led_gathered lock may before first led);
   goes_on = led_on lock may before first final led seen;
   same = so.same;
-  told = so.told;
+  told = told answer ok;
   steered = steered answer ok;
   reached = reached answer ok;
   stopped = stopped answer;
@@ -86,6 +86,10 @@ has_led lock may ticks before first final seat played old new answer result led 
     reached : (a : Result (Unit {0}) AllocError) → OnOk a (result ≡ Ok tt) → OnOk a (new.ticks ≡ ticks)
     reached (Ok _) ok = at_ok result (new.ticks ≡ ticks) ok so.reached
     reached (Err _) ok = tt
+
+    told : (a : Result (Unit {0}) AllocError) → OnOk a (result ≡ Ok tt) → OnOk a (KeepsEach (Some old) (Some new))
+    told (Ok _) ok = at_ok result (KeepsEach (Some old) (Some new)) ok so.told
+    told (Err _) ok = tt
 
     here : (r : Result (Unit {0}) AllocError) → OnOk r (HasOwn played) → OnOk r (Steers lock.base new played.seen) → OnOk r (new.ticks ≡ ticks) → OnErr r (HasStopped lock.base (steering_of old) new.ticks ticks played) → HasStopped lock.base (steering_of old) new.ticks ticks played
     here (Ok _) own steers reached stopped = all_stops lock.base (steering_of old) new ticks played so.same own steers reached

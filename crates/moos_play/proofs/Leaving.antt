@@ -10,13 +10,13 @@ use Rattle.moos_client.specs.Calls.{entries_of}
 use Rattle.moos_client.proofs.Histories.{all_kept}
 use Rattle.moos_lawful.specs.Answering.{Answerer, turns_from}
 use Rattle.moos_lawful.specs.Schedules.{due_in, IsLawfulSoFar, Schedule}
-use Rattle.moos_play.proofs.Below.{names_more}
+use Rattle.moos_play.proofs.Finishing.{parts_known}
 use Rattle.moos_play.proofs.Coming.{behind_late}
 use Rattle.moos_play.proofs.Moving.{least_line, least_tick}
 use Rattle.moos_play.proofs.Stamping.{next_line}
 use Rattle.moos_play.specs.declared.stage.Stage.{Stage}
 use Rattle.moos_play.specs.declared.steersman.Steersman.{Steersman}
-use Rattle.moos_play.specs.Lawful.{heard_of, known_clients, ticks_to}
+use Rattle.moos_play.specs.Lawful.{heard_of, ticks_to}
 use Rattle.moos_play.specs.Plays.{earliest, history_in, IsLeft, KeepsLeft, known_clients_in, schedule_in, stamp_next, ticks_behind}
 use Rattle.moos_play.specs.Runs.{IsPaused, playing_of}
 use Rattle.moos_play.specs.Schedules.{answering}
@@ -114,10 +114,6 @@ none_left script names from s history n none = by (nat_lt n (length script.names
     by true = ap (entries_of n) lines
     by false = turns s (omega (arith, none))
 
-known_parts : (script : Script) (s : Option Steersman) → known_clients script (helm_of s) ≡ parts script s
-known_parts script None = omega arith
-known_parts script (Some s) = names_more script (steering_of s)
-
 -- WHAT IS LEFT FOR A CLIENT of a run between two rounds
 pub is_left : (play : Stage) (whole : Bool) → IsPaused play → (so : IsLawfulSoFar (schedule_in (playing_of play whole)) (history_in (playing_of play whole))) (n : ℕ) → n < known_clients_in (playing_of play whole) → IsLeft (playing_of play whole) (so.left n)
 is_left play whole between so n below = record {
@@ -126,7 +122,7 @@ is_left play whole between so n below = record {
 }
   where
     known : n < parts play.script.now play.steersman
-    known = omega (arith, below, known_parts play.script.now play.steersman)
+    known = omega (arith, below, parts_known play.script.now play.steersman)
 
     same : so.left n ≡ left_for play.script.now play.steersman play.lock.base play.from play.first.seat.seen n
     same = left_one (schedule_in (playing_of play whole)) (history_in (playing_of play whole)) so between.at_play.under.played.so_far n known ∙ between.at_play.under.played.left n known
@@ -139,4 +135,4 @@ is_left play whole between so n below = record {
 
     late : (order : Order) → play.order ≡ order → KeepsLeft order (stamp_next order play.script.now.stop tick line) (so.left n)
     late Race is = tt
-    late Stamp is = subst (λ left. list_all (λ entry. nat_le (earliest play.script.now.stop tick line) entry.stamp) left ≡ true) (sym same) (all_late play.script.now play.lock.base play.from play.steersman play.first.seat.seen n between.valid.lines)
+    late Stamp is = subst (λ left. list_all (λ entry. nat_le (earliest play.script.now.stop tick line) entry.stamp) left ≡ true) (sym same) (all_late play.script.now play.lock.base play.from play.steersman play.first.seat.seen n between.at_play.valid.lines)

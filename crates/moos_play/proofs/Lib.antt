@@ -17,6 +17,7 @@ pub mod Leaving
 pub mod Showing
 pub mod Calling
 pub mod Rounding
+pub mod Standing
 pub mod Stamping
 pub mod Moving
 pub mod Stepped

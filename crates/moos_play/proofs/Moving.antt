@@ -1,6 +1,6 @@
 -- How a run moves on in order Stamp: its stamps don't go back, and the helm makes one tick a stamp.
 use Rattle.moos_play.specs.Schedules.{tick_period}
-use Rattle.std.proofs.Common.{◌≡◌, ◌≢◌, ◌⊎◌, ℕ, zero, suc, ◌+◌, ◌-◌, ◌*◌, ◌/◌, ◌<◌, ◌≤◌, Bool, true, false, cond, inl, inr, List, [], ◌∷◌, ◌++◌, length, length-append, drop, Option, None, Some, Ok, Err, OnOk, Result, nat_le, nat_lt, refl, sym, ap, ◌∙◌, subst, arith}
+use Rattle.std.proofs.Common.{◌≡◌, ◌≢◌, ◌⊎◌, ℕ, zero, suc, ◌+◌, ◌-◌, ◌*◌, ◌/◌, ◌<◌, ◌≤◌, Bool, true, false, cond, inl, inr, List, [], ◌∷◌, length, drop, Option, None, Some, Ok, Err, OnOk, Result, nat_le, nat_lt, refl, sym, ap, ◌∙◌, subst, arith}
 use Rattle.std.specs.Prelude.{IfSome, option_map, slice_get}
 use Rattle.std.specs.declared.alloc.AllocError.{AllocError}
 use Rattle.std.proofs.lemmas.Bool.Decides.{nat_tests}
@@ -13,10 +13,9 @@ use Rattle.moos_play.specs.declared.stage.Stage.{Stage}
 use Rattle.moos_play.specs.declared.round_made.Round.{Round}
 use Rattle.moos_play.specs.declared.steersman.Steersman.{Steersman}
 use Rattle.moos_play.specs.Lawful.{heard_of, Steering, ticks_to}
-use Rattle.moos_play.specs.Plays.{earliest, HasNoTick, HasTick, HasTurn, IsStampOver, iterations_made, left_in, next_stamp, stamp_next, ticks_behind, iterations_by}
-use Rattle.moos_play.specs.Runs.{playing_of, handed, IsPaused, KeepsMoves, KeepsRun, left_of, MovesAt, shown_by, stamp_due}
+use Rattle.moos_play.specs.Plays.{earliest, GoesOnWith, HasNoTick, HasTick, HasTurn, IsStampOver, iterations_made, left_in, next_stamp, stamp_next, ticks_behind, iterations_by}
+use Rattle.moos_play.specs.Runs.{IsPaused, KeepsMoves, MovesAt, playing_of, shown_by}
 use Rattle.moos_play.specs.Steered.{helm_of, IsBehind, steering_of, tick_due, ticks_in}
-use Rattle.moos_play.proofs.Handing.{left_handed, next_handed}
 use Rattle.moos_play.proofs.Hearing.{iterations_many}
 use Rattle.moos_play.proofs.Rounding.{due_is}
 use Rattle.moos_play.proofs.Stamping.{tick_stamp}
@@ -157,11 +156,22 @@ none_next script from s tick line = omega (arith, lines (slice_get script.lines 
         by false e h = grind (arith, nat_tests)
 
 -- so the stamp of what is next doesn't go back
-stamps_on : (script : Script) (before after : Stage) (stamp : ℕ) → are_lines (length script.names) 0 script.stop script.lines ≡ true → KeepsRun before after → MovesAt stamp before after → before.order ≡ Stamp
-    → (left_of script after ≡ 0) ⊎ (stamp_due script before ≤ stamp_due script after)
-stamps_on script before after stamp valid on moves order =
-    by (least_on script.stop tick line tick' line' (ticks_on script.stop before.steersman after.steersman on.helm (more moves.ticks)) lines)
+pub stamps_on : (before after : Stage) (stamp : ℕ) → are_lines (length before.script.now.names) 0 before.script.now.stop before.script.now.lines ≡ true → GoesOnWith (shown_by before) (shown_by after) → MovesAt stamp before after → before.order ≡ Stamp
+    → (left_in (shown_by after) ≡ 0) ⊎ (next_stamp (shown_by before) ≤ next_stamp (shown_by after))
+stamps_on before after stamp valid on moves order =
+    subst (λ script. (left script ≡ 0) ⊎ (next_stamp (shown_by before) ≤ next script)) (sym on.script)
+    (by (least_on script.stop tick line tick' line' (ticks_on script.stop before.steersman after.steersman on.helm (more moves.ticks)) lines))
   where
+    script : Script
+    script = before.script.now
+
+    -- by the script that both play
+    left : Script → ℕ
+    left script = length script.lines - after.from + ticks_behind script.stop (helm_of after.steersman) (ticks_in after.steersman)
+
+    next : Script → ℕ
+    next script = stamp_next after.order script.stop (tick_due script.stop after.steersman) (option_map (λ (line : Entry). line.stamp) (slice_get script.lines after.from))
+
     tick : Option ℕ
     tick = tick_due script.stop before.steersman
 
@@ -188,7 +198,7 @@ stamps_on script before after stamp valid on moves order =
             let same : l.stamp ≡ y = cc in
             (first.0.stamp, ap (option_map (λ (line : Entry). line.stamp)) first.1, omega (arith, first.2, same))
 
-    by : ((tick' ≡ None) × (line' ≡ None)) ⊎ (earliest script.stop tick line ≤ earliest script.stop tick' line') → (left_of script after ≡ 0) ⊎ (stamp_due script before ≤ stamp_due script after)
+    by : ((tick' ≡ None) × (line' ≡ None)) ⊎ (earliest script.stop tick line ≤ earliest script.stop tick' line') → (left script ≡ 0) ⊎ (next_stamp (shown_by before) ≤ next script)
     by (inl none) = inl (none_next script after.from after.steersman none.0 none.1)
     by (inr less) = inr (subst (λ order. stamp_next order script.stop tick line ≤ stamp_next after.order script.stop tick' line') (sym order)
         (subst (λ order. earliest script.stop tick line ≤ stamp_next order script.stop tick' line') (sym (on.order ∙ order)) less))
@@ -211,21 +221,21 @@ moves_race Stamp stamp before after race = absurd cc
 moves_race Race stamp before after race = tt
 
 -- a tick that is due
-pub moves_tick : (script : Script) (play after : Stage) (old new : Steersman) (result : Result (Unit {0}) AllocError) → play.steersman ≡ Some old → after.steersman ≡ Some new → after.from ≡ play.from → tick_due script.stop play.steersman ≢ None → IsBehind (tick_due script.stop play.steersman) (drop play.from script.lines)
-    → OnOk result (new.ticks ≡ old.ticks + 1) → OnOk result (KeepsMoves play.order (stamp_due script play) play after)
-moves_tick script play after old new (Err _) is is' from due behind reached = tt
-moves_tick script play after old new (Ok _) is is' from due behind reached = by play.order
+pub moves_tick : (play after : Stage) (old new : Steersman) (result : Result (Unit {0}) AllocError) → play.steersman ≡ Some old → after.steersman ≡ Some new → after.from ≡ play.from → tick_due play.script.now.stop play.steersman ≢ None → IsBehind (tick_due play.script.now.stop play.steersman) (drop play.from play.script.now.lines)
+    → OnOk result (new.ticks ≡ old.ticks + 1) → OnOk result (KeepsMoves play.order (next_stamp (shown_by play)) play after)
+moves_tick play after old new (Err _) is is' from due behind reached = tt
+moves_tick play after old new (Ok _) is is' from due behind reached = by play.order
   where
-    tick : tick_due script.stop play.steersman ≡ Some (old.ticks * old.period)
-    tick = ap (tick_due script.stop) is ∙ due_is script.stop old (subst (λ (s : Option Steersman). tick_due script.stop s ≢ None) is due)
+    tick : tick_due play.script.now.stop play.steersman ≡ Some (old.ticks * old.period)
+    tick = ap (tick_due play.script.now.stop) is ∙ due_is play.script.now.stop old (subst (λ (s : Option Steersman). tick_due play.script.now.stop s ≢ None) is due)
 
     line : Option ℕ
-    line = option_map (λ (line : Entry). line.stamp) (slice_get script.lines play.from)
+    line = option_map (λ (line : Entry). line.stamp) (slice_get play.script.now.lines play.from)
 
-    stamp : earliest script.stop (tick_due script.stop play.steersman) line ≡ old.ticks * old.period
-    stamp = ap (λ tick. earliest script.stop tick line) tick ∙ tick_stamp script.lines (old.ticks * old.period) script.stop play.from (subst (λ tick. IsBehind tick (drop play.from script.lines)) tick behind)
+    stamp : earliest play.script.now.stop (tick_due play.script.now.stop play.steersman) line ≡ old.ticks * old.period
+    stamp = ap (λ tick. earliest play.script.now.stop tick line) tick ∙ tick_stamp play.script.now.lines (old.ticks * old.period) play.script.now.stop play.from (subst (λ tick. IsBehind tick (drop play.from play.script.now.lines)) tick behind)
 
-    by : (order : Order) → KeepsMoves order (stamp_next order script.stop (tick_due script.stop play.steersman) line) play after
+    by : (order : Order) → KeepsMoves order (stamp_next order play.script.now.stop (tick_due play.script.now.stop play.steersman) line) play after
     by Stamp = record {
       lines = omega (arith, from);
       ticks = inr (
@@ -236,7 +246,7 @@ moves_tick script play after old new (Ok _) is is' from due behind reached = by 
     by Race = tt
 
 -- one part behind another
-pub moves_twice : (order : Order) (stamp : ℕ) (before middle after : Stage) → KeepsRun before middle → IfSome before.steersman (λ helm. 1 ≤ helm.period) → KeepsMoves order stamp before middle → KeepsMoves order stamp middle after → KeepsMoves order stamp before after
+pub moves_twice : (order : Order) (stamp : ℕ) (before middle after : Stage) → GoesOnWith (shown_by before) (shown_by middle) → IfSome before.steersman (λ helm. 1 ≤ helm.period) → KeepsMoves order stamp before middle → KeepsMoves order stamp middle after → KeepsMoves order stamp before after
 moves_twice Race stamp before middle after on period one other = tt
 moves_twice Stamp stamp before middle after on period one other = record { lines = omega (arith, one.lines, other.lines); ticks = by one.ticks other.ticks }
   where
@@ -346,54 +356,25 @@ pub some_period : (stop : ℕ) (s : Option Steersman) → IfSome s (λ helm. (1 
 some_period stop None so = tt
 some_period stop (Some s) so = so.0
 
--- what was handed out are no ticks
-ticks_handed : (s : Option Steersman) → ticks_in (option_map (λ (helm : Steersman). record helm { told = helm.ticks; iterations = [] }) s) ≡ ticks_in s
-ticks_handed None = refl
-ticks_handed (Some s) = refl
-
 -- the turn of a round
-pub turn_here : (before after : Stage) (w v : Bool) (round : Round) → IsPaused before → KeepsRun before after → KeepsMoves before.order round.stamp before after → IsStampOver (shown_by after) round.stamp
-    → round.stamp ≡ next_stamp (shown_by before) → iterations_made (shown_by (handed after)) ≡ iterations_made (shown_by before) ++ round.iterations → HasTurn before.order (playing_of before w) (playing_of (handed after) v) round
-turn_here before after w v round between on kept over stamp made = by before.order refl
+pub turn_here : (before after : Stage) (w v : Bool) (round : Round) → IsPaused before → GoesOnWith (shown_by before) (shown_by after) → KeepsMoves before.order round.stamp before after → IsStampOver (shown_by after) round.stamp
+    → round.stamp ≡ next_stamp (shown_by before) → length round.iterations + ticks_in before.steersman ≡ ticks_in after.steersman → HasTurn before.order (playing_of before w) (playing_of after v) round
+turn_here before after w v round between on kept over stamp many = by before.order refl
   where
-    by : (order : Order) → before.order ≡ order → HasTurn order (playing_of before w) (playing_of (handed after) v) round
+    by : (order : Order) → before.order ≡ order → HasTurn order (playing_of before w) (playing_of after v) round
     by Race order = tt
-    by Stamp order = record {
-      later = handed_later later;
-      ticked = turn_of before after round round.stamp moves refl later on.helm on.script (on.order ∙ order) many;
-    }
+    by Stamp order = record { later = later; ticked = turn_of before after round round.stamp moves refl later on.helm on.script (on.order ∙ order) many }
       where
-        script : Script
-        script = before.script.now
-
         moves : MovesAt round.stamp before after
         moves = subst (λ order. KeepsMoves order round.stamp before after) order kept
 
-        due_same : stamp_due script after ≡ next_stamp (shown_by after)
-        due_same = ap (λ script. stamp_due script after) (sym on.script)
-
-        left_same : left_of script after ≡ left_in (shown_by after)
-        left_same = ap (λ script. left_of script after) (sym on.script)
-
-        later_by : IsStampOver (shown_by after) round.stamp → (left_of script after ≡ 0) ⊎ (stamp_due script before ≤ stamp_due script after) → (left_in (shown_by after) ≡ 0) ⊎ (round.stamp < next_stamp (shown_by after))
+        later_by : IsStampOver (shown_by after) round.stamp → (left_in (shown_by after) ≡ 0) ⊎ (next_stamp (shown_by before) ≤ next_stamp (shown_by after)) → (left_in (shown_by after) ≡ 0) ⊎ (round.stamp < next_stamp (shown_by after))
         later_by (inl none) on = inl none
-        later_by (inr apart) (inl none) = inl (sym left_same ∙ none)
-        later_by (inr apart) (inr less) = inr (strict (next_stamp (shown_by after)) (omega (arith, less, stamp, due_same)) apart)
+        later_by (inr apart) (inl none) = inl none
+        later_by (inr apart) (inr less) = inr (strict (next_stamp (shown_by after)) (omega (arith, less, stamp)) apart)
           where
             strict : (next : ℕ) → round.stamp ≤ next → next ≢ round.stamp → round.stamp < next
             strict next less apart = omega (arith, less, apart)
 
         later : (left_in (shown_by after) ≡ 0) ⊎ (round.stamp < next_stamp (shown_by after))
-        later = later_by over (stamps_on script before after round.stamp between.valid.lines on moves order)
-
-        handed_later : (left_in (shown_by after) ≡ 0) ⊎ (round.stamp < next_stamp (shown_by after)) → (left_in (shown_by (handed after)) ≡ 0) ⊎ (round.stamp < next_stamp (shown_by (handed after)))
-        handed_later (inl none) = inl (left_handed after.script.now after.from after.steersman ∙ none)
-        handed_later (inr less) =
-            inr (subst (λ n. round.stamp < n) (sym (next_handed after.order after.script.now.stop (option_map (λ (line : Entry). line.stamp) (slice_get after.script.now.lines after.from)) after.steersman)) less)
-
-        many : length round.iterations + ticks_in before.steersman ≡ ticks_in after.steersman
-        many =
-            let all = sym (ap length made) ∙ made_many (handed after).lock.base (handed after).first.seat.seen (handed after).steersman ∙ ticks_handed after.steersman in
-            let both = length-append (iterations_made (shown_by before)) round.iterations in
-            let start = made_many before.lock.base before.first.seat.seen before.steersman in
-            omega (arith, all, both, start)
+        later = later_by over (stamps_on before after round.stamp between.at_play.valid.lines on moves order)

@@ -1,12 +1,13 @@
 -- A run after one of its rounds.
-use Rattle.moos_client.specs.Calls.{SeatState}
 use Rattle.moos_post.specs.History.{History}
 use Rattle.script_reader.specs.declared.script.Order.TheVariants.{Race}
 use Rattle.moos_lawful.specs.Schedules.{IsLawfulSoFar}
 use Rattle.moos_play.specs.Lawful.{heard_of, helm_number, Steering, ticks_to}
-use Rattle.moos_play.specs.Runs.{IsAtPlay, IsCutOff}
+use Rattle.moos_play.specs.Plays.{left_in, ticks_behind}
+use Rattle.moos_play.specs.Runs.{IsAtPlay, IsCutOff, shown_by}
 use Rattle.moos_play.specs.Schedules.{schedule_with}
-use Rattle.moos_play.specs.Steered.{HasHeard, HasLed, IsBehind, IsStopped, IsUnderWay, parts, steering_of, tick_due}
+use Rattle.moos_play.specs.Steered.{HasLed, helm_of, IsBehind, IsStopped, IsUnderWay, steering_of, tick_due, ticks_in}
+use Rattle.moos_play.proofs.Standing.{HasHeard}
 use Rattle.std.proofs.Common.{◌≡◌, ◌≢◌, ℕ, suc, ◌+◌, ◌*◌, ◌/◌, ◌<◌, ◌≤◌, Bool, true, false, cond, List, [], ◌∷◌, ◌++◌, length, length-append, take, drop, Option, None, Some, Ok, Err, OnOk, Result, nat_le, nat_lt, refl, sym, ap, subst, arith, ◌∙◌, ◌-◌}
 use Rattle.std.specs.Prelude.{IfSome, OnErr}
 use Rattle.std.specs.List.{list_all}
@@ -21,8 +22,6 @@ use Rattle.moos_play.specs.declared.stage.Stage.{Stage}
 use Rattle.moos_play.specs.declared.steersman.Steersman.{Steersman}
 use Rattle.moos_step.specs.Steps.{GoesOn, IsAlone, IsPlayedBeside}
 use Rattle.moos_play.proofs.Coming.{race_cut, tick_cut, tick_next}
-use Rattle.script_reader.specs.declared.script.Script.{Script}
-use Rattle.script_reader.specs.Validity.{are_lines}
 
 -- a tick that is due is one of those up to the last stamp
 pub due_left : (stop : ℕ) (s : Steersman) → tick_due stop (Some s) ≢ None → s.ticks < ticks_to stop (steering_of s)
@@ -56,17 +55,27 @@ pub some_client : (clients : ℕ) (lines : List Entry) (from : ℕ) → list_all
 some_client clients [] from all some = absurd (omega (arith, some))
 some_client clients (line ∷ lines) from all some = let here = (and_parts (nat_lt line.client clients) (list_all (λ line. nat_lt line.client clients) lines) all).0 in grind (arith, nat_tests)
 
+-- a tick less is left
+pub tick_less : (play : Stage) (first : Player) (old new : Steersman) (result : Result (Unit {0}) AllocError) → play.steersman ≡ Some old → tick_due play.script.now.stop play.steersman ≢ None → steering_of new ≡ steering_of old → OnOk result (new.ticks ≡ old.ticks + 1)
+    → OnOk result (left_in (shown_by (record play { first = first; steersman = Some new })) < left_in (shown_by play))
+tick_less play first old new (Err _) is due same reached = tt
+tick_less play first old new (Ok _) is due same reached =
+    let stop = play.script.now.stop in
+    let left = due_left stop old (subst (λ (s : Option Steersman). tick_due stop s ≢ None) is due) in
+    omega (arith, left, reached, ap (λ (helm : Steering). ticks_to stop helm) same, ap (λ s. ticks_behind stop (helm_of s) (ticks_in s)) is)
+
 -- the run after a tick
-pub tick_at_play : (script : Script) (play : Stage) (first : Player) (old new : Steersman) (result : Result (Unit {0}) AllocError) → are_lines (length script.names) 0 script.stop script.lines ≡ true → IsAtPlay script play → play.steersman ≡ Some old
-    → tick_due script.stop play.steersman ≢ None → IsBehind (tick_due script.stop play.steersman) (drop play.from script.lines) → HasLed play.lock (IsAlone old.number) (old.ticks + 1) play.first.seat first.seat old new result
-    → OnOk result (IsAtPlay script (record play { first = first; steersman = Some new }))
-tick_at_play script play first old new (Err _) valid at is due behind led = tt
-tick_at_play script play first old new (Ok _) valid at is due behind led =
+pub tick_at_play : (play : Stage) (first : Player) (old new : Steersman) (result : Result (Unit {0}) AllocError) → IsAtPlay play → play.steersman ≡ Some old → tick_due play.script.now.stop play.steersman ≢ None
+    → IsBehind (tick_due play.script.now.stop play.steersman) (drop play.from play.script.now.lines) → HasLed play.lock (IsAlone old.number) (old.ticks + 1) play.first.seat first.seat old new result → OnOk result (IsAtPlay (record play { first = first; steersman = Some new }))
+tick_at_play play first old new (Err _) at is due behind led = tt
+tick_at_play play first old new (Ok _) at is due behind led =
+    let script = play.script.now in
     let some = subst (λ (s : Option Steersman). tick_due script.stop s ≢ None) is due in
     let left = due_left script.stop old some in
     let period = subst (λ s. IfSome s (λ helm. (1 ≤ helm.period) × (helm.ticks ≤ ticks_to script.stop (steering_of helm)))) is at.period in
     record {
-      under = tick_next play.order script play.lock valid old new play.from play.first.seat first.seat (subst (λ s. IsUnderWay play.order script play.lock s play.from play.first.seat) is at.under) led.gathered led.goes_on led.same led.reached led.steered left
+      valid = at.valid;
+      under = tick_next play.order script play.lock at.valid.lines old new play.from play.first.seat first.seat (subst (λ s. IsUnderWay play.order script play.lock s play.from play.first.seat) is at.under) led.gathered led.goes_on led.same led.reached led.steered left
           (subst (λ tick. IsBehind tick (drop play.from script.lines)) (due_is script.stop old some) (subst (λ s. IsBehind (tick_due script.stop s) (drop play.from script.lines)) is behind));
       calls = at.calls;
       period = (
@@ -85,36 +94,35 @@ stopped_heard names number stop most old new history steering is stopped few = (
 )
 
 -- the run after a tick that was cut off
-pub tick_stops : (script : Script) (play : Stage) (first : Player) (old new : Steersman) (result : Result (Unit {0}) AllocError) → are_lines (length script.names) 0 script.stop script.lines ≡ true → IsAtPlay script play → play.steersman ≡ Some old
-    → tick_due script.stop play.steersman ≢ None → IsBehind (tick_due script.stop play.steersman) (drop play.from script.lines) → HasLed play.lock (IsAlone old.number) (old.ticks + 1) play.first.seat first.seat old new result
-    → OnErr result (IsCutOff script (record play { first = first; steersman = Some new }))
-tick_stops script play first old new (Ok _) valid at is due behind led = tt
-tick_stops script play first old new (Err _) valid at is due behind led =
+pub tick_stops : (play : Stage) (first : Player) (old new : Steersman) (result : Result (Unit {0}) AllocError) → IsAtPlay play → play.steersman ≡ Some old → tick_due play.script.now.stop play.steersman ≢ None
+    → IsBehind (tick_due play.script.now.stop play.steersman) (drop play.from play.script.now.lines) → HasLed play.lock (IsAlone old.number) (old.ticks + 1) play.first.seat first.seat old new result → OnErr result (IsCutOff (record play { first = first; steersman = Some new }))
+tick_stops play first old new (Ok _) at is due behind led = tt
+tick_stops play first old new (Err _) at is due behind led =
+    let script = play.script.now in
     let under = subst (λ s. IsUnderWay play.order script play.lock s play.from play.first.seat) is at.under in
     let some = subst (λ (s : Option Steersman). tick_due script.stop s ≢ None) is due in
     let left = due_left script.stop old some in
     record {
       so_far = subst (λ helm. IsLawfulSoFar (schedule_with play.order script (Some helm) play.lock.base) first.seat.seen) (sym led.same)
-          (tick_cut play.order script play.lock valid old new play.from play.first.seat first.seat under led.goes_on led.stopped left
+          (tick_cut play.order script play.lock at.valid.lines old new play.from play.first.seat first.seat under led.goes_on led.stopped left
           (subst (λ tick. IsBehind tick (drop play.from script.lines)) (due_is script.stop old some) (subst (λ s. IsBehind (tick_due script.stop s) (drop play.from script.lines)) is behind)));
       room = under.seats;
       heard = stopped_heard play.lock.base (helm_number script) script.stop (old.ticks + 1) old new first.seat.seen led.same under.steered.0 led.stopped (omega (arith, left));
     }
 
 -- and after a race
-pub race_stops : {E : Type 0} {result : Result (Unit {0}) E} (script : Script) (play : Stage) (after : SeatState) (old new : Steersman) (to most : ℕ) (all : List Entry) → play.order ≡ Race → are_lines (length script.names) 0 script.stop script.lines ≡ true → IsAtPlay script play
-    → play.steersman ≡ Some old → all ≡ script.lines → play.from ≤ to → GoesOn (IsPlayedBeside old.number (take (to - play.from) (drop play.from all)) result) play.first.seat after → steering_of new ≡ steering_of old
-    → IsStopped play.lock.base (steering_of old) new.ticks most after.seen → most ≤ ticks_to script.stop (steering_of old)
-    → IsLawfulSoFar (schedule_with play.order script (Some (steering_of new)) play.lock.base) after.seen × (parts script (Some new) ≤ length play.lock.base) × HasHeard play.lock.base (helm_number script) script.stop (Some new) after.seen
-race_stops script play after old new to most all race valid at is same more went steering stopped few = (
-  subst (λ helm. IsLawfulSoFar (schedule_with play.order script (Some helm) play.lock.base) after.seen) (sym steering)
-      (race_cut play.order script play.lock valid old play.from to new.ticks most all play.first.seat after race under same more went stopped few),
-  under.seats,
-  stopped_heard play.lock.base (helm_number script) script.stop most old new after.seen steering under.steered.0 stopped few,
-)
+pub race_stops : {result : Result (Unit {0}) AllocError} (play : Stage) (first : Player) (old new : Steersman) (to most : ℕ) (all : List Entry) → play.order ≡ Race → IsAtPlay play → play.steersman ≡ Some old → all ≡ play.script.now.lines → play.from ≤ to
+    → GoesOn (IsPlayedBeside old.number (take (to - play.from) (drop play.from all)) result) play.first.seat first.seat → steering_of new ≡ steering_of old → IsStopped play.lock.base (steering_of old) new.ticks most first.seat.seen → most ≤ ticks_to play.script.now.stop (steering_of old)
+    → IsCutOff (record play { first = first; steersman = Some new })
+race_stops play first old new to most all race at is same more went steering stopped few = record {
+  so_far = subst (λ helm. IsLawfulSoFar (schedule_with play.order play.script.now (Some helm) play.lock.base) first.seat.seen) (sym steering)
+      (race_cut play.order play.script.now play.lock at.valid.lines old play.from to new.ticks most all play.first.seat first.seat race under same more went stopped few);
+  room = under.seats;
+  heard = stopped_heard play.lock.base (helm_number play.script.now) play.script.now.stop most old new first.seat.seen steering under.steered.0 stopped few;
+}
   where
-    under : IsUnderWay play.order script play.lock (Some old) play.from play.first.seat
-    under = subst (λ s. IsUnderWay play.order script play.lock s play.from play.first.seat) is at.under
+    under : IsUnderWay play.order play.script.now play.lock (Some old) play.from play.first.seat
+    under = subst (λ s. IsUnderWay play.order play.script.now play.lock s play.from play.first.seat) is at.under
 
 -- as many counts of calls as before
 pub as_many : (n : ℕ) (before after : List ℕ) → length after ≡ length before → n ≡ length before → length (take n (after ++ drop (length after) before)) ≡ n

@@ -4,7 +4,7 @@ use Rattle.moos_client.specs.Calls.{SeatState}
 use Rattle.moos_post.specs.History.{History}
 use Rattle.moos_play.specs.declared.stage.Stage.{Stage}
 use Rattle.moos_play.specs.Plays.{GoesOnWith, IsBetween, IsLentAs, IsSeated, Playing, returned, StaysSeated}
-use Rattle.moos_play.specs.Runs.{given_back, HasAllSeats, IsPaused, IsCoherent, KeepsRun, KeepsSeats, playing_of}
+use Rattle.moos_play.specs.Runs.{given_back, HasAllSeats, IsPaused, IsCoherent, KeepsSeats, playing_of, shown_by}
 use Rattle.moos_step.proofs.Growing.{closed_same}
 use Rattle.turn_lock.specs.Passes.{Begins, HasAll, IsFree, IsOf, KnowsAll, WasLent}
 
@@ -70,8 +70,8 @@ was_lent run whole number history sound lent = record { number_is = lent.first �
 pub stays_shown : (before after : Stage) (w v : Bool) → KeepsSeats before after → StaysSeated (playing_of before w) (playing_of after v)
 stays_shown before after w v stays = record { seated = stays.seated.gathered.may.free; names = ap (λ lock. lock.base) stays.lock; later = stays.later }
 
-pub goes_shown : (before after : Stage) (w v : Bool) → KeepsRun before after → GoesOnWith (playing_of before w) (playing_of after v)
-goes_shown before after w v on = record { script = on.script; order = on.order; names = ap (λ lock. lock.base) on.lock; helm = on.helm }
+pub goes_shown : (before after : Stage) (w v : Bool) → GoesOnWith (shown_by before) (shown_by after) → GoesOnWith (playing_of before w) (playing_of after v)
+goes_shown before after w v on = record { script = on.script; order = on.order; names = on.names; helm = on.helm }
 
 -- a run that is as it was between two rounds shows what it showed
 pub shown_same : (run last : Stage) (whole : Bool) (play : Playing) → playing_of run whole ≡ play → play.whole ≡ true → last ≡ run → playing_of last true ≡ play

@@ -15,13 +15,14 @@ use Rattle.moos_post.specs.declared.entry.Entry.{Entry}
 use Rattle.moos_post.specs.History.{History}
 use Rattle.moos_play.specs.declared.stage.Stage.{Stage}
 use Rattle.moos_play.specs.declared.steersman.Steersman.{Steersman}
-use Rattle.moos_lawful.specs.Schedules.{clients_below}
-use Rattle.moos_play.specs.Lawful.{entries_from, heard_of, helm_number, KeepsStamp, known_clients, Steering, tick_entries}
-use Rattle.moos_play.specs.Plays.{AddsAt, earliest, further_in, helm_in, history_in, known_clients_in, next_stamp, stamp_next}
-use Rattle.moos_play.specs.Runs.{KeepsRun, MayPlay, next_tick, shown_by, stamp_due}
+use Rattle.moos_lawful.specs.Schedules.{clients_below, entries_from}
+use Rattle.moos_play.specs.Lawful.{heard_of, helm_number, KeepsStamp, known_clients, Steering, tick_entries}
+use Rattle.moos_play.specs.Plays.{AddsAt, earliest, GoesOnWith, history_in, known_clients_in, next_stamp, order_played, Playing, stamp_next}
+use Rattle.moos_play.specs.Runs.{MayPlay, shown_by}
 use Rattle.moos_play.specs.Steered.{comes_before, HasLed, helm_of, IsBehind, IsDue, IsStopped, IsUnderWay, steering_of, Steers, tick_due}
 use Rattle.moos_step.specs.Steps.{GoesOn, IsAlone, IsPlayed, IsPlayedBeside, IsWhole}
-use Rattle.moos_play.proofs.Below.{below_raised, both_below, from_more, known_helm, known_more, tick_below, beside_pass}
+use Rattle.moos_lawful.proofs.Parts.{all_raised}
+use Rattle.moos_play.proofs.Below.{both_below, from_more, known_helm, known_more, tick_below, beside_pass}
 use Rattle.moos_play.proofs.Stepping.{all_part, lines_clients}
 use Rattle.moos_play.proofs.Coming.{tick_alone}
 use Rattle.moos_step.proofs.Growing.{grown}
@@ -60,16 +61,16 @@ all_stamped order stamp number from before after all adds =
     subst (KeepsStamp order stamp) (sym (ap (λ n. drop n after) all ∙ ap (drop (length before)) adds.later.1 ∙ drop-append_seam before adds.later.0)) adds.stamped
 
 -- no further client's entry is among it
-pub none_further : (before after : Stage) (stamp : ℕ) → KeepsRun before after → AddsAt before.order stamp (known_clients_in (shown_by before)) (history_in (shown_by before)) (history_in (shown_by after)) → further_in (shown_by after) ≡ further_in (shown_by before)
+pub none_further : (before after : Playing) (stamp : ℕ) → GoesOnWith before after → AddsAt (order_played before) stamp (known_clients_in before) (history_in before) (history_in after) → entries_from (known_clients_in after) (history_in after) ≡ entries_from (known_clients_in before) (history_in before)
 none_further before after stamp on adds =
-    (λ i. entries_from (known_clients (on.script i) (on.helm i)) (history_in (shown_by after))) ∙ ap (entries_from (known_clients_in (shown_by before))) adds.later.1 ∙ from_more (known_clients_in (shown_by before)) (history_in (shown_by before)) adds.later.0 adds.known
+    (λ i. entries_from (known_clients (on.script i) (on.helm i)) (history_in after)) ∙ ap (entries_from (known_clients_in before)) adds.later.1 ∙ from_more (known_clients_in before) (history_in before) adds.later.0 adds.known
 
 -- lines are entries of the script's clients
 lines_known : {E : Type 0} (script : Script) (helm : Option Steering) (from n : ℕ) (result : Result (Unit {0}) E) (first after : SeatState) → are_lines (length script.names) 0 script.stop script.lines ≡ true → IsWhole first
     → (on : GoesOn (IsPlayed (take n (drop from script.lines)) result) first after) → clients_below (known_clients script helm) on.later.0 ≡ true
 lines_known script helm from n result first after valid whole on =
     fronts_pass (λ entry. nat_lt entry.client (known_clients script helm)) (take n (drop from script.lines)) on.later.0 (λ m. (grown (IsPlayed (take n (drop from script.lines)) result) first after whole on m).front)
-    (below_raised (helm_number script) (known_clients script helm) (take n (drop from script.lines)) (known_more script helm)
+    (all_raised (helm_number script) (known_clients script helm) (take n (drop from script.lines)) (known_more script helm)
     (all_part (λ line. nat_lt line.client (helm_number script)) script.lines from n (lines_clients (length script.names) 0 script.stop script.lines valid)))
 
 -- the first of the lines that are left is the next one
@@ -123,10 +124,10 @@ lines_add {result = result} play to all after valid whole same went may some =
     on : GoesOn (IsPlayed lines result) play.first.seat after
     on = subst (λ all. GoesOn (IsPlayed (take (to - play.from) (drop play.from all)) result) play.first.seat after) same went
 
-    stamped : (order : Order) → MayPlay order play to → KeepsStamp order (stamp_next order script.stop (next_tick play) (option_map (λ line. line.stamp) (slice_get script.lines play.from))) on.later.0
+    stamped : (order : Order) → MayPlay order play to → KeepsStamp order (stamp_next order script.stop (tick_due play.script.now.stop play.steersman) (option_map (λ line. line.stamp) (slice_get script.lines play.from))) on.later.0
     stamped Race may = tt
     stamped Stamp due =
-        subst (λ stamp. list_all (λ (entry : Entry). entry.stamp == stamp) on.later.0 ≡ true) (sym (due_stamp script.lines (next_tick play) script.stop play.from to due some))
+        subst (λ stamp. list_all (λ (entry : Entry). entry.stamp == stamp) on.later.0 ≡ true) (sym (due_stamp script.lines (tick_due play.script.now.stop play.steersman) script.stop play.from to due some))
         (fronts_pass (λ entry. entry.stamp == due.stamp) lines on.later.0 (λ n. (grown (IsPlayed lines result) play.first.seat after whole on n).front) due.one)
 
 -- in a race the entries may have any stamp
@@ -144,38 +145,38 @@ race_add {result = result} order script s stamp from to all first after race val
       stamped = any_stamp order stamp on.later.0 race;
       known =
           beside_pass (known_clients script (Some s)) s.number lines on.later.0 (omega (arith, number, known_helm script s))
-          (below_raised (helm_number script) (known_clients script (Some s)) lines (known_more script (Some s))
+          (all_raised (helm_number script) (known_clients script (Some s)) lines (known_more script (Some s))
           (all_part (λ line. nat_lt line.client (helm_number script)) script.lines from (to - from) (lines_clients (length script.names) 0 script.stop script.lines valid)))
           (λ n other. (grown (IsPlayedBeside s.number lines result) first after whole on n other).front);
     }
 
 -- a front of the tick that is due
-tick_begins : (script : Script) (play : Stage) (old : Steersman) (after heard : History) → IsUnderWay play.order script play.lock (Some old) play.from play.first.seat → tick_due script.stop play.steersman ≡ Some (old.ticks * old.period) → play.steersman ≡ Some old
-    → IsBehind (Some (old.ticks * old.period)) (drop play.from script.lines) → (later : Begins after play.first.seat.seen) → Begins heard later.0 → list_all (λ entry. entry.stamp == old.ticks * old.period) heard ≡ true → clients_below (known_clients script (Some old)) heard ≡ true
-    → AddsAt play.order (stamp_due script play) (known_clients script (helm_in (shown_by play))) play.first.seat.seen after
-tick_begins script play old after tick under due is behind later begins one known = record {
+tick_begins : (play : Stage) (old : Steersman) (after heard : History) → IsUnderWay play.order play.script.now play.lock (Some old) play.from play.first.seat → tick_due play.script.now.stop play.steersman ≡ Some (old.ticks * old.period) → play.steersman ≡ Some old
+    → IsBehind (Some (old.ticks * old.period)) (drop play.from play.script.now.lines) → (later : Begins after play.first.seat.seen) → Begins heard later.0 → list_all (λ entry. entry.stamp == old.ticks * old.period) heard ≡ true → clients_below (known_clients play.script.now (Some old)) heard ≡ true
+    → AddsAt play.order (next_stamp (shown_by play)) (known_clients_in (shown_by play)) play.first.seat.seen after
+tick_begins play old after tick under due is behind later begins one known = record {
   later = later;
-  stamped = subst (λ tick. KeepsStamp play.order (stamp_next play.order script.stop tick line) later.0) (sym due) (stamped play.order);
-  known = subst (λ (s : Option Steersman). clients_below (known_clients script (helm_of s)) later.0 ≡ true) (sym is) (front_pass (λ entry. nat_lt entry.client (known_clients script (Some old))) tick later.0 begins known);
+  stamped = subst (λ tick. KeepsStamp play.order (stamp_next play.order play.script.now.stop tick line) later.0) (sym due) (stamped play.order);
+  known = subst (λ (s : Option Steersman). clients_below (known_clients play.script.now (helm_of s)) later.0 ≡ true) (sym is) (front_pass (λ entry. nat_lt entry.client (known_clients play.script.now (Some old))) tick later.0 begins known);
 }
   where
     line : Option ℕ
-    line = option_map (λ line. line.stamp) (slice_get script.lines play.from)
+    line = option_map (λ line. line.stamp) (slice_get play.script.now.lines play.from)
 
-    stamped : (order : Order) → KeepsStamp order (stamp_next order script.stop (Some (old.ticks * old.period)) line) later.0
+    stamped : (order : Order) → KeepsStamp order (stamp_next order play.script.now.stop (Some (old.ticks * old.period)) line) later.0
     stamped Race = tt
     stamped Stamp =
-        subst (λ stamp. list_all (λ (entry : Entry). entry.stamp == stamp) later.0 ≡ true) (sym (tick_stamp script.lines (old.ticks * old.period) script.stop play.from behind))
+        subst (λ stamp. list_all (λ (entry : Entry). entry.stamp == stamp) later.0 ≡ true) (sym (tick_stamp play.script.now.lines (old.ticks * old.period) play.script.now.stop play.from behind))
         (front_pass (λ entry. entry.stamp == old.ticks * old.period) tick later.0 begins one)
 
 -- the tick that is due is made, or a front of it
-pub tick_adds : (script : Script) (play : Stage) (old new : Steersman) (after : SeatState) (result : Result (Unit {0}) AllocError) → IsUnderWay play.order script play.lock play.steersman play.from play.first.seat → play.steersman ≡ Some old
-    → tick_due script.stop play.steersman ≢ None → IsBehind (tick_due script.stop play.steersman) (drop play.from script.lines) → HasLed play.lock (IsAlone old.number) (old.ticks + 1) play.first.seat after old new result
-    → AddsAt play.order (stamp_due script play) (known_clients script (helm_in (shown_by play))) play.first.seat.seen after.seen
-tick_adds script play old new after result under is due behind led =
-    tick_begins script play old after.seen (tick_entries helm heard old.ticks) here tick is (subst (λ tick. IsBehind tick (drop play.from script.lines)) tick behind) on.later (begins result led.steered led.reached led.stopped)
+pub tick_adds : (play : Stage) (old new : Steersman) (after : SeatState) (result : Result (Unit {0}) AllocError) → IsUnderWay play.order play.script.now play.lock play.steersman play.from play.first.seat → play.steersman ≡ Some old
+    → tick_due play.script.now.stop play.steersman ≢ None → IsBehind (tick_due play.script.now.stop play.steersman) (drop play.from play.script.now.lines) → HasLed play.lock (IsAlone old.number) (old.ticks + 1) play.first.seat after old new result
+    → AddsAt play.order (next_stamp (shown_by play)) (known_clients_in (shown_by play)) play.first.seat.seen after.seen
+tick_adds play old new after result under is due behind led =
+    tick_begins play old after.seen (tick_entries helm heard old.ticks) here tick is (subst (λ tick. IsBehind tick (drop play.from play.script.now.lines)) tick behind) on.later (begins result led.steered led.reached led.stopped)
     (and_from (old.ticks * old.period == old.ticks * old.period) ((old.ticks * old.period == old.ticks * old.period) && true) same (and_from (old.ticks * old.period == old.ticks * old.period) true same refl))
-    (tick_below helm (known_clients script (Some old)) heard old.ticks (omega (arith, here.steered.0, known_helm script old)))
+    (tick_below helm (known_clients play.script.now (Some old)) heard old.ticks (omega (arith, here.steered.0, known_helm play.script.now old)))
   where
     helm : Steering
     helm = steering_of old
@@ -183,8 +184,8 @@ tick_adds script play old new after result under is due behind led =
     on : GoesOn (IsAlone old.number) play.first.seat after
     on = led.goes_on
 
-    here : IsUnderWay play.order script play.lock (Some old) play.from play.first.seat
-    here = subst (λ s. IsUnderWay play.order script play.lock s play.from play.first.seat) is under
+    here : IsUnderWay play.order play.script.now play.lock (Some old) play.from play.first.seat
+    here = subst (λ s. IsUnderWay play.order play.script.now play.lock s play.from play.first.seat) is under
 
     heard : List Tick
     heard = heard_of play.lock.base old.number (play.first.seat.seen ++ on.later.0)
@@ -192,23 +193,22 @@ tick_adds script play old new after result under is due behind led =
     same : (old.ticks * old.period == old.ticks * old.period) ≡ true
     same = eq-eqb (old.ticks * old.period) (old.ticks * old.period) refl
 
-    tick : tick_due script.stop play.steersman ≡ Some (old.ticks * old.period)
-    tick = ap (tick_due script.stop) is ∙ due_is script.stop old (subst (λ (s : Option Steersman). tick_due script.stop s ≢ None) is due)
+    tick : tick_due play.script.now.stop play.steersman ≡ Some (old.ticks * old.period)
+    tick = ap (tick_due play.script.now.stop) is ∙ due_is play.script.now.stop old (subst (λ (s : Option Steersman). tick_due play.script.now.stop s ≢ None) is due)
 
     alone : on.later.0 ≡ entries_of old.number on.later.0
     alone = only_own old.number on.later.0 (λ n other. grown (IsAlone old.number) play.first.seat after under.whole on n other)
 
     begins : (r : Result (Unit {0}) AllocError) → OnOk r (Steers play.lock.base new after.seen) → OnOk r (new.ticks ≡ old.ticks + 1) → OnErr r (IsStopped play.lock.base helm new.ticks (old.ticks + 1) after.seen) → Begins (tick_entries helm heard old.ticks) on.later.0
-    begins (Ok _) steers reached stops = ([], sym (append-nil on.later.0 ∙ tick_alone play.order script play.lock old new play.from play.first.seat after here on led.same reached steers))
+    begins (Ok _) steers reached stops = ([], sym (append-nil on.later.0 ∙ tick_alone play.order play.script.now play.lock old new play.from play.first.seat after here on led.same reached steers))
     begins (Err _) steers reached stops =
         let stopped : IsStopped play.lock.base helm new.ticks (old.ticks + 1) (play.first.seat.seen ++ on.later.0) = subst (IsStopped play.lock.base helm new.ticks (old.ticks + 1)) on.later.1 stops in
         begun_front play.lock.base helm old.ticks play.first.seat.seen on.later.0 stopped.left
         (has_begun play.lock.base helm old.ticks new.ticks play.first.seat.seen on.later.0 here.steered.1.many here.steered.1.own alone stopped)
 
 -- steps at one stamp behind others
-pub adds_on : (play before after : Stage) (stamp : ℕ) → KeepsRun play before → AddsAt play.order stamp (known_clients_in (shown_by play)) (history_in (shown_by play)) (history_in (shown_by before))
-    → AddsAt before.order stamp (known_clients_in (shown_by before)) (history_in (shown_by before)) (history_in (shown_by after)) → AddsAt play.order stamp (known_clients_in (shown_by play)) (history_in (shown_by play)) (history_in (shown_by after))
-adds_on play before after stamp same one other =
-    adds_twice play.order stamp (known_clients_in (shown_by play)) (history_in (shown_by play)) (history_in (shown_by before)) (history_in (shown_by after)) one
-    (subst (λ number. AddsAt play.order stamp number (history_in (shown_by before)) (history_in (shown_by after))) (λ i. known_clients (same.script i) (same.helm i))
-    (subst (λ order. AddsAt order stamp (known_clients_in (shown_by before)) (history_in (shown_by before)) (history_in (shown_by after))) same.order other))
+pub adds_on : (play before : Playing) (stamp : ℕ) (after : History) → GoesOnWith play before → AddsAt (order_played play) stamp (known_clients_in play) (history_in play) (history_in before)
+    → AddsAt (order_played before) stamp (known_clients_in before) (history_in before) after → AddsAt (order_played play) stamp (known_clients_in play) (history_in play) after
+adds_on play before stamp after same one other =
+    adds_twice (order_played play) stamp (known_clients_in play) (history_in play) (history_in before) after one
+    (subst (λ number. AddsAt (order_played play) stamp number (history_in before) after) (λ i. known_clients (same.script i) (same.helm i)) (subst (λ order. AddsAt order stamp (known_clients_in before) (history_in before) after) same.order other))

@@ -1,5 +1,5 @@
 -- The helm's calls at its seat, one after the other.
-use Rattle.std.proofs.Common.{◌≡◌, ℕ, suc, ◌≤◌, ◌==◌, ◌*◌, true, cond, List, [], ◌∷◌, ◌++◌, length, length-append, drop, refl, sym, ap, ◌∙◌, subst, arith, append-nil, append_assoc}
+use Rattle.std.proofs.Common.{◌≡◌, ℕ, suc, ◌-◌, ◌≤◌, ◌==◌, ◌*◌, true, cond, List, [], ◌∷◌, ◌++◌, length, length-append, drop, refl, sym, ap, ◌∙◌, subst, arith, append-nil, append_assoc}
 use Rattle.std.proofs.lemmas.List.{append_cancel_left, drop-append-le}
 use Rattle.std.proofs.lemmas.List.Elements.{filter-append}
 use Rattle.std.proofs.lemmas.Bool.Decides.{nat_tests}
@@ -74,13 +74,8 @@ steered_on names s history rest so none =
       many = ap length (sym heard) ∙ so.many;
       own = filter-append (λ entry. entry.client == s.number) history rest ∙ ap (λ end. entries_of s.number history ++ end) none ∙ append-nil (entries_of s.number history)
           ∙ so.own ∙ ap (λ heard. opening_of (steering_of s) ++ ticks_of (steering_of s) heard s.ticks) heard;
-      few = so.few;
-      same = so.same ∙ ap (λ heard. drop s.told (iterations_of (plan_of s.helm) heard s.ticks)) heard;
+      same = so.same ∙ ap (λ heard. drop (s.ticks - length s.iterations) (iterations_of (plan_of s.helm) heard s.ticks)) heard;
     }
-
--- the calls that it counts say nothing of that
-pub recounted : (names : List (List ℕ)) (s t : Steersman) (history : History) → t ≡ record s { calls = t.calls } → Steers names s history → Steers names t history
-recounted names s t history is so = subst (λ (t : Steersman). Steers names t history) (sym is) (record { clock = so.clock; stands = so.stands; many = so.many; own = so.own; few = so.few; same = so.same })
 
 -- one tick more
 pub ticked_on : (names : List (List ℕ)) (s : Steersman) (new : Helm) (calls : ℕ) (before between after : History) (mail : List Letter) (iteration : Iteration) → Steers names s before
@@ -95,15 +90,18 @@ ticked_on names s new calls before between after mail iteration so fetched mail_
       ∙ append_assoc (entries_of s.number before) (fetching ∷ []) (posting ∷ []) ∙ ap (λ front. front ++ fetching ∷ posting ∷ []) so.own
       ∙ append_assoc (opening_of helm) (ticks_of helm start s.ticks) (fetching ∷ posting ∷ [])
       ∙ ap (λ ticks. opening_of helm ++ ticks) (ap (λ front. front ++ fetching ∷ posting ∷ []) ticks ∙ ap (λ (iteration : Iteration). ticks_of helm now s.ticks ++ fetching ∷ entry_of s.number (s.ticks * s.period) (Posts iteration.posts) ∷ []) answer));
-  few = omega (arith, so.few);
-  same = subst (λ (plan : Plan). s.iterations ++ iteration ∷ [] ≡ drop s.told (iterations_of plan now (suc s.ticks))) (sym ticked.plan)
-      (ap (λ front. front ++ iteration ∷ []) (so.same ∙ ap (drop s.told) (sym (ap (λ heard. iterations_of helm.plan heard s.ticks) heard ∙ iterations_stay helm.plan start (tick ∷ []) s.ticks enough)))
-      ∙ ap (λ iteration. drop s.told (iterations_of helm.plan now s.ticks) ++ iteration ∷ []) answer
-      ∙ sym (drop-append-le s.told (iterations_of helm.plan now s.ticks) (iteration_at helm.plan now s.ticks ∷ []) (omega (arith, so.few, iterations_many helm.plan now s.ticks))));
+  same = subst (λ (plan : Plan). s.iterations ++ iteration ∷ [] ≡ drop (suc s.ticks - length (s.iterations ++ iteration ∷ [])) (iterations_of plan now (suc s.ticks))) (sym ticked.plan)
+      (ap (λ front. front ++ iteration ∷ []) (so.same ∙ ap (drop told) (sym (ap (λ heard. iterations_of helm.plan heard s.ticks) heard ∙ iterations_stay helm.plan start (tick ∷ []) s.ticks enough)))
+      ∙ ap (λ iteration. drop told (iterations_of helm.plan now s.ticks) ++ iteration ∷ []) answer
+      ∙ sym (drop-append-le told (iterations_of helm.plan now s.ticks) (iteration_at helm.plan now s.ticks ∷ []) (omega (arith, iterations_many helm.plan now s.ticks)))
+      ∙ ap (λ n. drop n (iterations_of helm.plan now (suc s.ticks))) (omega (arith, length-append s.iterations (iteration ∷ []))));
 }
   where
     helm : Steering
     helm = steering_of s
+
+    told : ℕ
+    told = s.ticks - length s.iterations
 
     run : Plan → Steering
     run plan = record { client = s.number; plan = plan; period = s.period }

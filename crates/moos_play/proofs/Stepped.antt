@@ -1,20 +1,14 @@
 -- Steps of a run, one after another.
-use Rattle.std.proofs.Common.{◌≡◌, ◌∙◌, ℕ, Ok, Err, OnOk, Result, refl, subst}
-use Rattle.std.specs.Prelude.{OnErr}
+use Rattle.std.proofs.Common.{◌≡◌, ℕ, Ok, Err, OnOk, Result, arith, refl, subst}
 use Rattle.std.specs.declared.alloc.AllocError.{AllocError}
 use Rattle.moos_play.specs.declared.stage.Stage.{Stage}
-use Rattle.moos_play.specs.Plays.{history_in, known_clients_in}
-use Rattle.moos_play.specs.Runs.{HasPlayedOn, IsAtPlay, IsCutOff, KeepsMoves, shown_by}
-use Rattle.moos_play.specs.Steered.{told_in}
+use Rattle.moos_play.specs.Plays.{known_clients_in}
+use Rattle.moos_play.specs.Runs.{HasPlayedOn, IsAtPlay, KeepsMoves, shown_by}
+use Rattle.moos_play.specs.Steered.{KeepsEach}
 use Rattle.moos_play.proofs.Handing.{goes_on_twice, stays_twice}
 use Rattle.moos_play.proofs.Moving.{moves_none, moves_twice, some_period}
 use Rattle.moos_play.proofs.Stamping.{adds_none, adds_on}
 use Rattle.turn_lock.proofs.Fronts.{begins_itself}
-
--- what holds is so whatever was answered
-pub ok_any : {A : Type 0} (result : Result A AllocError) {P : Type 0} → P → OnOk result P
-ok_any (Ok x) so = so
-ok_any (Err _) so = tt
 
 -- a step that answers something else
 pub stepped_ok : {A B : Type 0} {x : A} {y : B} (stamp : ℕ) (before after : Stage) → HasPlayedOn {E = AllocError} stamp before after (Ok x) → HasPlayedOn {E = AllocError} stamp before after (Ok y)
@@ -26,11 +20,11 @@ stepped_err (Ok _) stamp before after none so = absurd none
 stepped_err (Err _) stamp before after none so = record { same = so.same; seated = so.seated; stamped = so.stamped; front = so.front; at_play = tt; told = tt; moves = tt }
 
 -- no step
-pub stepped_none : {A : Type 0} {x : A} (stamp : ℕ) (play : Stage) → IsAtPlay play.script.now play → HasPlayedOn {E = AllocError} stamp play play (Ok x)
+pub stepped_none : {A : Type 0} {x : A} (stamp : ℕ) (play : Stage) → IsAtPlay play → HasPlayedOn {E = AllocError} stamp play play (Ok x)
 stepped_none stamp play at = record {
-  same = record { script = refl; lock = refl; order = refl; helm = refl };
+  same = record { script = refl; order = refl; names = refl; helm = refl };
   seated = record { seated = record { gathered = at.under.gathered; whole = at.under.whole }; lock = refl; later = begins_itself play.first.seat.seen };
-  stamped = adds_none play.order stamp (known_clients_in (shown_by play)) (history_in (shown_by play));
+  stamped = adds_none play.order stamp (known_clients_in (shown_by play)) play.first.seat.seen;
   front = tt;
   at_play = at;
   told = refl;
@@ -42,27 +36,19 @@ pub stepped_at : {A E : Type 0} {r : Result A E} {stamp other : ℕ} {before aft
 stepped_at {r = r} {before = before} {after = after} same so = subst (λ stamp. HasPlayedOn stamp before after r) same so
 
 -- steps at one stamp behind others
-pub stepped_twice : {A B : Type 0} {x : A} (result : Result B AllocError) (stamp : ℕ) (before middle after : Stage) → IsAtPlay before.script.now before → HasPlayedOn {E = AllocError} stamp before middle (Ok x) → HasPlayedOn stamp middle after result → HasPlayedOn stamp before after result
+pub stepped_twice : {A B : Type 0} {x : A} (result : Result B AllocError) (stamp : ℕ) (before middle after : Stage) → IsAtPlay before → HasPlayedOn {E = AllocError} stamp before middle (Ok x) → HasPlayedOn stamp middle after result → HasPlayedOn stamp before after result
 stepped_twice {B = B} result stamp before middle after at one other = record {
-  same = goes_on_twice before middle after one.same other.same;
+  same = goes_on_twice (shown_by before) (shown_by middle) (shown_by after) one.same other.same;
   seated = stays_twice before middle after one.seated other.seated;
-  stamped = adds_on before middle after stamp one.same one.stamped other.stamped;
-  front = front result other.front;
-  at_play = at_play result other.at_play;
+  stamped = adds_on (shown_by before) (shown_by middle) stamp after.first.seat.seen one.same one.stamped other.stamped;
+  front = other.front;
+  at_play = other.at_play;
   told = told result other.told;
   moves = moves result other.moves;
 }
   where
-    front : (r : Result B AllocError) → OnErr r (IsCutOff middle.script.now after) → OnErr r (IsCutOff before.script.now after)
-    front (Ok _) so = tt
-    front (Err _) so = subst (λ script. IsCutOff script after) one.same.script so
-
-    at_play : (r : Result B AllocError) → OnOk r (IsAtPlay middle.script.now after) → OnOk r (IsAtPlay before.script.now after)
-    at_play (Ok _) so = subst (λ script. IsAtPlay script after) one.same.script so
-    at_play (Err _) so = tt
-
-    told : (r : Result B AllocError) → OnOk r (told_in after.steersman ≡ told_in middle.steersman) → OnOk r (told_in after.steersman ≡ told_in before.steersman)
-    told (Ok _) so = so ∙ one.told
+    told : (r : Result B AllocError) → OnOk r (KeepsEach middle.steersman after.steersman) → OnOk r (KeepsEach before.steersman after.steersman)
+    told (Ok _) so = omega (arith, so, one.told)
     told (Err _) so = tt
 
     moves : (r : Result B AllocError) → OnOk r (KeepsMoves middle.order stamp middle after) → OnOk r (KeepsMoves before.order stamp before after)

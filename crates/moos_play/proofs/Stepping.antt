@@ -20,7 +20,8 @@ use Rattle.moos_post.specs.History.{History}
 use Rattle.moos_play.specs.declared.steersman.Steersman.{Steersman}
 use Rattle.moos_play.specs.Lawful.{heard_of, mailed_in, Steering, ticks_to}
 use Rattle.moos_play.specs.Schedules.{answerers, answering, schedule_with, tick_period}
-use Rattle.moos_play.specs.Steered.{comes_before, HasPlayed, helm_of, left_for, parts, StandsAt, steering_of, tick_due, turns_left}
+use Rattle.moos_play.specs.Steered.{comes_before, HasPlayed, helm_of, left_for, parts, steering_of, tick_due, turns_left}
+use Rattle.moos_play.proofs.Standing.{StandsAt}
 use Rattle.script_reader.specs.declared.script.Order.{Order}
 use Rattle.script_reader.specs.declared.script.Order.TheVariants.{Stamp, Race}
 use Rattle.script_reader.specs.declared.script.Script.{Script}

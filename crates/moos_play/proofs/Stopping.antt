@@ -1,5 +1,5 @@
 -- The helm that found no memory on the way: at its seat, and once the first seat has seen the whole history.
-use Rattle.std.proofs.Common.{◌≡◌, ℕ, suc, ◌+◌, ◌*◌, ◌≤◌, ◌==◌, cond, List, [], ◌∷◌, ◌++◌, length, length-append, refl, sym, ap, ◌∙◌, subst, arith, append-nil, append_assoc, eq-eqb}
+use Rattle.std.proofs.Common.{◌≡◌, ℕ, suc, ◌+◌, ◌*◌, ◌≤◌, ◌==◌, List, [], ◌∷◌, ◌++◌, length, length-append, sym, ap, ◌∙◌, subst, arith, append-nil, append_assoc}
 use Rattle.std.proofs.lemmas.List.{append_cancel_left}
 use Rattle.std.proofs.lemmas.List.Elements.{filter-append}
 use Rattle.helm_core.specs.Iterations.{iteration_at}
@@ -23,8 +23,6 @@ use Rattle.turn_lock.specs.Passes.{Begins, known_of}
 pub steered_stops : (names : List (List ℕ)) (s : Steersman) (whole most : ℕ) (history : History) → Steers names s history → whole ≤ s.ticks → s.ticks ≤ most → IsStopped names (steering_of s) whole most history
 steered_stops names s whole most history so made few = record {
   left = [];
-  deaf = refl;
-  mine = refl;
   own = append-nil (entries_of s.number history) ∙ so.own ∙ ap (λ n. opening_of (steering_of s) ++ ticks_of (steering_of s) (heard_of names s.number history) n) (sym so.many);
   made = omega (arith, made, so.many);
   few = omega (arith, few, so.many);
@@ -34,8 +32,6 @@ steered_stops names s whole most history so made few = record {
 pub fetched_stops : (names : List (List ℕ)) (s : Steersman) (old new : History) → Steers names s old → IsNext s.number old new (entry_of s.number (s.ticks * s.period) Fetch) → IsStopped names (steering_of s) s.ticks (s.ticks + 1) new
 fetched_stops names s old new so next = record {
   left = posting ∷ [];
-  deaf = refl;
-  mine = ap (λ b. cond b (posting ∷ []) []) (eq-eqb s.number s.number refl);
   own = ap (λ front. front ++ posting ∷ []) (entries_next s.number old new fetching next ∙ ap (λ front. front ++ fetching ∷ []) so.own)
       ∙ append_assoc (opening_of helm ++ ticks_of helm start count) (fetching ∷ []) (posting ∷ []) ∙ append_assoc (opening_of helm) (ticks_of helm start count) (fetching ∷ posting ∷ [])
       ∙ ap (λ ticks. opening_of helm ++ (ticks ++ fetching ∷ posting ∷ [])) ticks ∙ ap (λ n. opening_of helm ++ ticks_of helm now n) (sym many);
@@ -104,15 +100,13 @@ stops_within names one other whole made most more seat same count raised so =
       before = so.before;
       later = so.later;
       own = so.own;
-      stopped = record { left = so.stopped.left; deaf = so.stopped.deaf; mine = so.stopped.mine; own = so.stopped.own; made = so.stopped.made; few = omega (arith, so.stopped.few, raised) };
+      stopped = record { left = so.stopped.left; own = so.stopped.own; made = so.stopped.made; few = omega (arith, so.stopped.few, raised) };
     }))
 
 -- others go on
 pub stops_on : (names : List (List ℕ)) (helm : Steering) (whole most : ℕ) (history rest : History) → IsStopped names helm whole most history → entries_of helm.client rest ≡ [] → IsStopped names helm whole most (history ++ rest)
 stops_on names helm whole most history rest so none = record {
   left = so.left;
-  deaf = so.deaf;
-  mine = so.mine;
   own = ap (λ entries. entries ++ so.left) (filter-append (λ entry. entry.client == helm.client) history rest ∙ ap (λ end. entries_of helm.client history ++ end) none ∙ append-nil (entries_of helm.client history))
       ∙ so.own ∙ ap (λ heard. opening_of helm ++ ticks_of helm heard (length heard)) (sym heard);
   made = omega (arith, so.made, ap length heard);

@@ -1,5 +1,5 @@
 -- A tick in two parts: the helm has its iteration or found no memory on the way, and then has posted and kept it or hasn't.
-use Rattle.std.proofs.Common.{◌≡◌, ℕ, ◌+◌, ◌*◌, ◌^◌, ◌<◌, ◌≤◌, inl, inr, List, [], ◌∷◌, ◌++◌, OnOk, Result, Ok, Err, refl, sym, ap, subst, arith, ◌∙◌, append-nil}
+use Rattle.std.proofs.Common.{◌≡◌, ℕ, ◌+◌, ◌*◌, ◌^◌, ◌<◌, ◌≤◌, inl, inr, List, [], ◌∷◌, ◌++◌, OnOk, Result, Some, Ok, Err, refl, sym, ap, subst, arith, ◌∙◌, append-nil}
 use Rattle.std.proofs.Math.Nat.{mul-le-mul}
 use Rattle.std.specs.Prelude.{IfOk, OnErr}
 use Rattle.std.specs.declared.alloc.AllocError.{AllocError}
@@ -14,7 +14,7 @@ use Rattle.moos_post.specs.declared.entry.Call.TheVariants.{Post as Posts, Fetch
 use Rattle.moos_play.specs.declared.steersman.Steersman.{Steersman}
 use Rattle.moos_step.specs.Steps.{Anything, CommunityLock, HasMade, Makes}
 use Rattle.moos_play.specs.Lawful.{Steering}
-use Rattle.moos_play.specs.Steered.{HasIterated, HasOwn, HasSteered, HasStopped, MayHaveCalled, MaySteer, steering_of, Steers}
+use Rattle.moos_play.specs.Steered.{HasIterated, HasOwn, HasSteered, HasStopped, KeepsEach, MayHaveCalled, MaySteer, steering_of, Steers}
 use Rattle.moos_play.proofs.Helming.{ticks_once}
 use Rattle.moos_step.proofs.Lines.{made_more, made_none}
 use Rattle.moos_play.proofs.Steering.{anything, called_of, called_own}
@@ -59,7 +59,7 @@ telling_stops names s helm seat between after stamp iteration so number own stam
 telling_stops names s helm seat between after stamp iteration so number own stamp_is made (inr posted) =
     posted_stops names s (record s { helm = helm; ticks = s.ticks + 1; iterations = s.iterations ++ iteration ∷ [] }) after (ap {A = Plan} (λ plan. record { client = s.number; plan = plan; period = s.period }) made.ticked.plan) refl
     (called_own between after stamp (Posts iteration.posts) posted)
-    (ticks_once names s (record s { helm = helm }) helm seat between after stamp made.mail iteration iteration.posts (s.iterations ++ iteration ∷ []) refl refl stamp_is so number own made.fetched made.ticked posted refl)
+    (ticks_once names s s (record s { helm = helm }) helm seat between after stamp made.mail iteration iteration.posts (s.iterations ++ iteration ∷ []) refl refl refl stamp_is so number own made.fetched made.ticked posted refl)
 
 -- no tick, as many as the helm has made
 pub steered_none : (lock : CommunityLock) (seat : SeatState) (s : Steersman) (ticks workers : ℕ) → MaySteer lock seat s ticks workers → HasSteered {E = AllocError} lock s.ticks seat seat s s (Ok tt)
@@ -86,13 +86,17 @@ pub steered_more : (lock : CommunityLock) (before seat after : SeatState) (old s
 steered_more lock before seat after old s t ticks most result one other last within = record {
   made = makes_more before seat after one.made other.made;
   same = other.same ∙ one.same;
-  told = other.told ∙ one.told;
+  told = told result other.told;
   own = other.own;
   steered = other.steered;
   reached = reached result other.reached last;
   stopped = stopped result other.stopped;
 }
   where
+    told : (r : Result (Unit {0}) AllocError) → OnOk r (KeepsEach (Some s) (Some t)) → OnOk r (KeepsEach (Some old) (Some t))
+    told (Ok _) so = omega (arith, so, one.told)
+    told (Err _) so = tt
+
     reached : (r : Result (Unit {0}) AllocError) → OnOk r (t.ticks ≡ ticks) → OnOk r (ticks ≡ most) → OnOk r (t.ticks ≡ most)
     reached (Ok _) so last = so ∙ last
     reached (Err _) so last = tt
@@ -101,10 +105,10 @@ steered_more lock before seat after old s t ticks most result one other last wit
     stopped (Ok _) so = tt
     stopped (Err _) so = stops_within lock.base (steering_of s) (steering_of old) t.ticks t.ticks ticks most after one.same refl within so
 
--- how the helm is run stays the same, and what was handed out and the count of ticks until it is raised
-pub ticked_same : (s t u : Steersman) (helm : Helm) → t ≡ record s { calls = t.calls } → u ≡ record t { helm = helm; calls = u.calls } → plan_of helm ≡ plan_of t.helm → (steering_of u ≡ steering_of s) × (u.told ≡ s.told) × (u.ticks ≡ s.ticks)
+-- how the helm is run stays the same, and its iterations, and the count of ticks until it is raised
+pub ticked_same : (s t u : Steersman) (helm : Helm) → t ≡ record s { calls = t.calls } → u ≡ record t { helm = helm; calls = u.calls } → plan_of helm ≡ plan_of t.helm → (steering_of u ≡ steering_of s) × (u.iterations ≡ s.iterations) × (u.ticks ≡ s.ticks)
 ticked_same s t u helm first second plan = (
   ap {A = Steersman} steering_of second ∙ ap {A = Plan} (λ plan. record { client = t.number; plan = plan; period = t.period }) plan ∙ ap {A = Steersman} steering_of first,
-  ap (λ (s : Steersman). s.told) second ∙ ap (λ (s : Steersman). s.told) first,
+  ap (λ (s : Steersman). s.iterations) second ∙ ap (λ (s : Steersman). s.iterations) first,
   ap (λ (s : Steersman). s.ticks) second ∙ ap (λ (s : Steersman). s.ticks) first,
 )

@@ -1,6 +1,6 @@
 -- Which histories the clients of a script and its helm may leave, whatever the threads did, and what the helm's iterations
 -- are then.
-use Rattle.std.specs.Prelude.{◌≡◌, ◌≢◌, ℕ, zero, suc, ◌*◌, ◌/◌, ◌==◌, ◌&&◌, ◌≤◌, Bool, true, nat_le, nat_lt, if◌then◌else◌, List, [], ◌∷◌, ◌++◌, filter, length, Option, None, Some, codes, IsTrue}
+use Rattle.std.specs.Prelude.{◌≡◌, ◌≢◌, ℕ, zero, suc, ◌*◌, ◌/◌, ◌==◌, ◌≤◌, nat_lt, if◌then◌else◌, List, [], ◌∷◌, ◌++◌, length, map, Option, None, Some, codes, IsTrue}
 use Rattle.std.specs.List.{list_all}
 use Rattle.moos_post.specs.declared.entry.Call.TheVariants.{Register, Post as Posts, Fetch}
 use Rattle.moos_post.specs.declared.entry.Entry.{Entry}
@@ -13,7 +13,7 @@ use Rattle.helm_core.specs.declared.iteration.Iteration.{Iteration}
 use Rattle.helm_core.specs.Iterations.{iteration_at}
 use Rattle.helm_core.specs.Plans.{Plan, wants_of}
 use Rattle.helm_core.specs.Ticks.{Tick, tick_of}
-use Rattle.moos_lawful.specs.Schedules.{clients_below, entries_below}
+use Rattle.moos_lawful.specs.Schedules.{clients_below, entries_below, rises}
 use Rattle.moos_play.specs.declared.run.HelmRun.{HelmRun}
 use Rattle.script_reader.specs.declared.script.Order.{Order}
 use Rattle.script_reader.specs.declared.script.Order.TheVariants.{Stamp, Race}
@@ -79,15 +79,10 @@ iterations (Some helm) stop heard = iterations_of helm.plan heard (ticks_to stop
 abbrev pub moment_of : ℕ → Entry → ℕ
 moment_of helm entry = if entry.client == helm then suc (2 * entry.stamp) else 2 * entry.stamp
 
--- no entry's key is below that of the one before
-abbrev pub never_falls : (Entry → ℕ) → ℕ → History → Bool
-never_falls key last [] = true
-never_falls key last (entry ∷ later) = nat_le last (key entry) && never_falls key (key entry) later
-
 -- What an order asks of the entries behind the helm's opening: by their stamps none stands behind one of a later moment,
 -- and in a race they may stand in any order.
 abbrev pub KeepsOrder : Order → ℕ → History → Type 0
-KeepsOrder Stamp helm history = IsTrue (never_falls (moment_of helm) 0 history)
+KeepsOrder Stamp helm history = IsTrue (rises 0 (map (moment_of helm) history))
 KeepsOrder Race helm history = Unit {0}
 
 -- What an order asks of the entries of a round: by their stamps they have that of the round, and in a race they may have any.
@@ -127,10 +122,6 @@ pub record IsLawful (order : Order) (script : Script) (helm : Option Steering) (
 -- how many clients are known from the start: the script's, and the helm where there is one
 abbrev pub known_clients : {A : Type 0} → Script → Option A → ℕ
 known_clients script helm = length (names_with script helm)
-
--- the entries of the clients from a number on
-abbrev pub entries_from : ℕ → History → History
-entries_from number history = filter (λ entry. nat_le number entry.client) history
 
 -- A history is lawful beside the entries of further clients, whose numbers follow those of the clients known from the start:
 -- It begins with the helm's opening, and what stands behind that is lawful once the further clients' entries are left out.

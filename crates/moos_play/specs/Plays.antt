@@ -4,11 +4,11 @@ use Rattle.std.specs.List.{list_all}
 use Rattle.helm_core.specs.declared.iteration.Iteration.{Iteration}
 use Rattle.helm_core.specs.Ticks.{Tick}
 use Rattle.moos_client.specs.Calls.{entries_of}
-use Rattle.moos_lawful.specs.Schedules.{clients_below, Schedule}
+use Rattle.moos_lawful.specs.Schedules.{clients_below, entries_from, Schedule}
 use Rattle.moos_post.specs.declared.entry.Entry.{Entry}
 use Rattle.moos_post.specs.History.{History}
 use Rattle.moos_play.specs.declared.round_made.Round.{Round}
-use Rattle.moos_play.specs.Lawful.{entries_from, heard_of, helm_number, IsLawful, IsLawfulBeside, iterations, iterations_of, KeepsStamp, known_clients, names_with, Steering, opening_of, ticks_of, ticks_to}
+use Rattle.moos_play.specs.Lawful.{heard_of, helm_number, IsLawful, IsLawfulBeside, iterations, iterations_of, KeepsStamp, known_clients, names_with, Steering, opening_of, ticks_of, ticks_to}
 use Rattle.moos_play.specs.Schedules.{schedule_with}
 use Rattle.script_reader.specs.declared.script.Order.{Order}
 use Rattle.script_reader.specs.declared.script.Order.TheVariants.{Stamp, Race}
@@ -57,10 +57,6 @@ known_clients_in play = known_clients (script_played play) (helm_in play)
 pub record IsFurther (play : Playing) (client : ℕ) : Type 0 where
   pub past : known_clients_in play ≤ client
   pub named : client < length (clients_in play)
-
--- the entries of further clients so far
-abbrev pub further_in : Playing → History
-further_in play = entries_from (known_clients_in play) (history_in play)
 
 -- the iterations of a helm's first ticks, so many, over what it has heard in a history; none without a helm
 abbrev pub iterations_by : List (List ℕ) → History → Option Steering → ℕ → List Iteration
@@ -145,7 +141,7 @@ pub record IsRound (before after : Playing) (round : Round) : Type 0 where
   pub from : round.from ≡ length (history_in before)
   pub stamp : round.stamp ≡ next_stamp before
   pub stamped : KeepsStamp (order_played before) round.stamp (drop round.from (history_in after))
-  pub further : further_in after ≡ further_in before
+  pub further : entries_from (known_clients_in after) (history_in after) ≡ entries_from (known_clients_in before) (history_in before)
   pub finished : IsStampOver after round.stamp
   pub iterations : iterations_made after ≡ iterations_made before ++ round.iterations
 

@@ -1,16 +1,15 @@
 -- A run from one step to the next, with the lock and the seats behind it.
-use Rattle.std.specs.Prelude.{◌≡◌, ◌⊎◌, ℕ, ◌+◌, ◌-◌, ◌*◌, ◌≤◌, Bool, true, suc, [], length, Option, None, IfSome, OnErr, OnOk, option_map, Result, slice_get}
+use Rattle.std.specs.Prelude.{◌≡◌, ◌⊎◌, ℕ, ◌*◌, ◌≤◌, Bool, true, suc, [], length, None, IfSome, OnErr, OnOk, option_map, Result}
 use Rattle.moos_lawful.specs.Schedules.{IsLawfulSoFar}
 use Rattle.moos_play.specs.declared.stage.Stage.{Stage}
 use Rattle.moos_play.specs.declared.steersman.Steersman.{Steersman}
-use Rattle.moos_play.specs.Lawful.{helm_number, known_clients, ticks_to}
-use Rattle.moos_play.specs.Plays.{AddsAt, Playing, stamp_next, ticks_behind}
+use Rattle.moos_play.specs.Lawful.{heard_of, helm_number, ticks_to}
+use Rattle.moos_play.specs.Plays.{AddsAt, GoesOnWith, known_clients_in, Playing}
 use Rattle.moos_play.specs.Schedules.{schedule_with, tick_period}
-use Rattle.moos_play.specs.Steered.{HasHeard, helm_of, IsDue, IsUnderWay, parts, steering_of, tick_due, ticks_in, told_in}
+use Rattle.moos_play.specs.Steered.{helm_of, IsDue, IsUnderWay, iterations_in, KeepsEach, parts, steering_of, tick_due, ticks_in}
 use Rattle.moos_step.specs.Steps.{IsGathered, IsWhole}
 use Rattle.script_reader.specs.declared.script.Order.{Order}
 use Rattle.script_reader.specs.declared.script.Order.TheVariants.{Stamp, Race}
-use Rattle.script_reader.specs.declared.script.Script.{Script}
 use Rattle.script_reader.specs.Validity.{IsValid}
 use Rattle.turn_lock.specs.Passes.{Begins}
 
@@ -32,25 +31,9 @@ playing_of run whole = record {
 abbrev pub shown_by : Stage → Playing
 shown_by run = playing_of run true
 
--- how many lines and ticks are left of a run, where this is its script
-abbrev pub left_of : Script → Stage → ℕ
-left_of script run = length script.lines - run.from + ticks_behind script.stop (helm_of run.steersman) (ticks_in run.steersman)
-
--- the stamp of its next round, where this is its script
-abbrev pub stamp_due : Script → Stage → ℕ
-stamp_due script run = stamp_next run.order script.stop (tick_due script.stop run.steersman) (option_map (λ line. line.stamp) (slice_get script.lines run.from))
-
--- the stamp of the helm's next tick, where one is left
-abbrev pub next_tick : Stage → Option ℕ
-next_tick run = tick_due run.script.now.stop run.steersman
-
--- a helm whose iterations so far are handed out
-abbrev pub handed_of : Steersman → Steersman
-handed_of helm = record helm { told = helm.ticks; iterations = [] }
-
--- the run once they are
+-- the run once the helm's iterations so far are handed out
 abbrev pub handed : Stage → Stage
-handed run = record run { steersman = option_map handed_of run.steersman }
+handed run = record run { steersman = option_map (λ (helm : Steersman). record helm { iterations = [] }) run.steersman }
 
 -- the run once its database is put back as it was
 abbrev pub given_back : Stage → Stage
@@ -61,17 +44,17 @@ pub record HasAllSeats (run : Stage) : Type 0 where
   pub gathered : IsGathered run.lock run.first.seat
   pub whole : IsWhole run.first.seat
 
--- A run of a script between two steps, with a count of calls for each of its clients.
-pub record IsAtPlay (script : Script) (run : Stage) : Type 0 where
-  pub under : IsUnderWay run.order script run.lock run.steersman run.from run.first.seat
-  pub calls : length run.calls.items ≡ length script.names
-  pub period : IfSome run.steersman (λ helm. (1 ≤ helm.period) × (helm.ticks ≤ ticks_to script.stop (steering_of helm)))
+-- A run between two steps, with a count of calls for each client of its script.
+pub record IsAtPlay (run : Stage) : Type 0 where
+  pub valid : IsValid run.script.now
+  pub under : IsUnderWay run.order run.script.now run.lock run.steersman run.from run.first.seat
+  pub calls : length run.calls.items ≡ length run.script.now.names
+  pub period : IfSome run.steersman (λ helm. (1 ≤ helm.period) × (helm.ticks ≤ ticks_to run.script.now.stop (steering_of helm)))
 
 -- a run between two rounds: what was played is lawful as far as it goes, and all iterations are handed out
 pub record IsPaused (run : Stage) : Type 0 where
-  pub valid : IsValid run.script.now
-  pub at_play : IsAtPlay run.script.now run
-  pub told : IfSome run.steersman (λ helm. helm.told ≡ helm.ticks)
+  pub at_play : IsAtPlay run
+  pub told : iterations_in run.steersman ≡ []
 
 -- Once the database is put back, the first seat has all others again; and the run stands between two rounds where each was
 -- played to its end.
@@ -84,13 +67,6 @@ pub record KeepsSeats (before after : Stage) : Type 0 where
   pub seated : HasAllSeats after
   pub lock : after.lock ≡ before.lock
   pub later : Begins after.first.seat.seen before.first.seat.seen
-
--- what stays the same from step to step
-pub record KeepsRun (before after : Stage) : Type 0 where
-  pub script : after.script.now ≡ before.script.now
-  pub lock : after.lock ≡ before.lock
-  pub order : after.order ≡ before.order
-  pub helm : helm_of after.steersman ≡ helm_of before.steersman
 
 -- Steps of a run at this stamp: no line is taken back, and the helm makes one tick at most, its next one, which has this stamp.
 pub record MovesAt (stamp : ℕ) (before after : Stage) : Type 0 where
@@ -105,29 +81,28 @@ KeepsMoves Race stamp before after = Unit {0}
 
 -- A run that found no memory: its history is lawful so far, each client that has a part has a name, and the helm, where there is
 -- one, has heard at least as many mails as it has made ticks.
-pub record IsCutOff (script : Script) (run : Stage) : Type 0 where
-  pub so_far : IsLawfulSoFar (schedule_with run.order script (helm_of run.steersman) run.lock.base) run.first.seat.seen
-  pub room : parts script run.steersman ≤ length run.lock.base
-  pub heard : HasHeard run.lock.base (helm_number script) script.stop run.steersman run.first.seat.seen
+pub record IsCutOff (run : Stage) : Type 0 where
+  pub so_far : IsLawfulSoFar (schedule_with run.order run.script.now (helm_of run.steersman) run.lock.base) run.first.seat.seen
+  pub room : parts run.script.now run.steersman ≤ length run.lock.base
+  pub heard : IfSome run.steersman (λ s. (s.number ≡ helm_number run.script.now) × (s.ticks ≤ length (heard_of run.lock.base s.number run.first.seat.seen)) × (s.ticks ≤ ticks_to run.script.now.stop (steering_of s)))
 
 -- the next step may be played, with 1 to 16 workers for what the helm solves
 pub record MayGoOn (run : Stage) (workers : ℕ) : Type 0 where
-  pub valid : IsValid run.script.now
-  pub at_play : IsAtPlay run.script.now run
+  pub at_play : IsAtPlay run
   pub few : (1 ≤ workers) × (workers ≤ 16)
 
 -- the lines before a place may be played: in order Stamp those that are due, and in a race any
 abbrev pub MayPlay : Order → Stage → ℕ → Type 0
-MayPlay Stamp run to = IsDue run.script.now.lines (next_tick run) run.from to
+MayPlay Stamp run to = IsDue run.script.now.lines (tick_due run.script.now.stop run.steersman) run.from to
 MayPlay Race run to = to ≤ length run.script.now.lines
 
 -- Steps at this stamp. Whatever came of them the run goes on, and what they add has this stamp; where a step found no memory the
 -- history is lawful so far, and else the run may go on with its next step.
 pub record HasPlayedOn {A E : Type 0} (stamp : ℕ) (before after : Stage) (result : Result A E) : Type 0 where
-  pub same : KeepsRun before after
+  pub same : GoesOnWith (shown_by before) (shown_by after)
   pub seated : KeepsSeats before after
-  pub stamped : AddsAt before.order stamp (known_clients before.script.now (helm_of before.steersman)) before.first.seat.seen after.first.seat.seen
-  pub front : OnErr result (IsCutOff before.script.now after)
-  pub at_play : OnOk result (IsAtPlay before.script.now after)
-  pub told : OnOk result (told_in after.steersman ≡ told_in before.steersman)
+  pub stamped : AddsAt before.order stamp (known_clients_in (shown_by before)) before.first.seat.seen after.first.seat.seen
+  pub front : OnErr result (IsCutOff after)
+  pub at_play : OnOk result (IsAtPlay after)
+  pub told : OnOk result (KeepsEach before.steersman after.steersman)
   pub moves : OnOk result (KeepsMoves before.order stamp before after)

@@ -1,7 +1,6 @@
 -- The helm at its seat, and where a run stands between two rounds.
-use Rattle.std.specs.Prelude.{◌≡◌, ◌⊎◌, ℕ, ◌+◌, ◌-◌, ◌*◌, ◌^◌, ◌==◌, ◌≤◌, ◌<◌, Bool, false, not, nat_lt, if◌then◌else◌, List, [], ◌∷◌, ◌++◌, length, drop, take, Option, None, Some, option_map, IfSome, IsTrue, OnErr, OnOk, Result}
+use Rattle.std.specs.Prelude.{◌≡◌, ◌⊎◌, ℕ, ◌+◌, ◌-◌, ◌*◌, ◌^◌, ◌==◌, ◌≤◌, ◌<◌, Bool, false, nat_lt, if◌then◌else◌, List, [], ◌∷◌, ◌++◌, length, drop, take, Option, None, Some, option_map, IfSome, IsTrue, OnErr, OnOk, Result}
 use Rattle.std.specs.List.{list_all}
-use Rattle.moos_post.specs.Delivery.{is_fetch}
 use Rattle.moos_post.specs.History.{History}
 use Rattle.moos_post.specs.declared.entry.Call.{Call}
 use Rattle.moos_post.specs.declared.entry.Entry.{Entry}
@@ -14,7 +13,6 @@ use Rattle.moos_lawful.specs.Answering.{turns_from}
 use Rattle.moos_lawful.specs.Schedules.{IsLawfulSoFar}
 use Rattle.moos_play.specs.Plays.{tick_at}
 use Rattle.moos_play.specs.Schedules.{answerers, answering, schedule_with}
-use Rattle.moos_play.specs.declared.run.HelmRun.{HelmRun}
 use Rattle.moos_play.specs.declared.steersman.Steersman.{Steersman}
 use Rattle.moos_play.specs.Lawful.{Steering, heard_of, helm_number, iterations_of, opening, opening_of, ticks_of, ticks_to}
 use Rattle.moos_step.specs.Steps.{Anything, CommunityLock, GoesOn, IsGathered, IsWhole, Makes}
@@ -33,8 +31,7 @@ pub record Steers (names : List (List ℕ)) (s : Steersman) (history : History) 
   pub stands : StandsFor s.helm (heard_of names s.number history)
   pub many : length (heard_of names s.number history) ≡ s.ticks
   pub own : entries_of s.number history ≡ opening_of (steering_of s) ++ ticks_of (steering_of s) (heard_of names s.number history) s.ticks
-  pub few : s.told ≤ s.ticks
-  pub same : s.iterations ≡ drop s.told (iterations_of (plan_of s.helm) (heard_of names s.number history) s.ticks)
+  pub same : s.iterations ≡ drop (s.ticks - length s.iterations) (iterations_of (plan_of s.helm) (heard_of names s.number history) s.ticks)
 
 -- the history of the seat has of its own number just the seat's entries
 abbrev pub HasOwn : SeatState → Type 0
@@ -71,13 +68,10 @@ pub record MayLead (lock : CommunityLock) (first : SeatState) (s : Steersman) (t
   pub client : s.number < length lock.base
   pub tick : MayTick lock.base s first.seen ticks workers
 
--- A helm that found no memory behind so many whole ticks, between two ticks or within one. With what is left of that tick,
--- which isn't a fetch, its entries in a history are its opening and those of as many ticks as it has heard there, which are
--- no more than so many.
+-- A helm that found no memory behind so many whole ticks, between two ticks or within one. With what is left of that tick its
+-- entries in a history are its opening and those of as many ticks as it has heard there, which are no more than so many.
 pub record IsStopped (names : List (List ℕ)) (helm : Steering) (whole most : ℕ) (history : History) : Type 0 where
   pub left : List Entry
-  pub deaf : IsTrue (list_all (λ entry. not (is_fetch entry.call)) left)
-  pub mine : entries_of helm.client left ≡ left
   pub own : entries_of helm.client history ++ left ≡ opening_of helm ++ ticks_of helm (heard_of names helm.client history) (length (heard_of names helm.client history))
   pub made : whole ≤ length (heard_of names helm.client history)
   pub few : length (heard_of names helm.client history) ≤ most
@@ -89,11 +83,25 @@ pub record HasStopped (names : List (List ℕ)) (helm : Steering) (whole most : 
   pub own : entries_of seat.number before ≡ seat.mine
   pub stopped : IsStopped names helm whole most before
 
+-- how many ticks the helm has made, none without one
+abbrev pub ticks_in : Option Steersman → ℕ
+ticks_in None = 0
+ticks_in (Some steersman) = steersman.ticks
+
+-- the helm's iterations that weren't handed out, none without a helm
+abbrev pub iterations_in : Option Steersman → List Iteration
+iterations_in None = []
+iterations_in (Some steersman) = steersman.iterations
+
+-- the helm keeps an iteration a tick
+abbrev pub KeepsEach : Option Steersman → Option Steersman → Type 0
+KeepsEach before after = length (iterations_in after) + ticks_in before ≡ length (iterations_in before) + ticks_in after
+
 -- The helm has made its ticks at the seat up to so many, or has stopped on the way where it found no memory.
 pub record HasSteered {E : Type 0} (lock : CommunityLock) (ticks : ℕ) (before after : SeatState) (old new : Steersman) (result : Result (Unit {0}) E) : Type 0 where
   pub made : Makes Anything before after
   pub same : steering_of new ≡ steering_of old
-  pub told : new.told ≡ old.told
+  pub told : OnOk result (KeepsEach (Some old) (Some new))
   pub own : OnOk result (HasOwn after)
   pub steered : OnOk result (Steers lock.base new after.seen)
   pub reached : OnOk result (new.ticks ≡ ticks)
@@ -104,7 +112,7 @@ pub record HasLed {E : Type 0} (lock : CommunityLock) (may : ℕ → List Entry 
   pub gathered : IsGathered lock after
   pub goes_on : GoesOn may before after
   pub same : steering_of new ≡ steering_of old
-  pub told : new.told ≡ old.told
+  pub told : OnOk result (KeepsEach (Some old) (Some new))
   pub steered : OnOk result (Steers lock.base new after.seen)
   pub reached : OnOk result (new.ticks ≡ ticks)
   pub stopped : OnErr result (IsStopped lock.base (steering_of old) new.ticks ticks after.seen)
@@ -112,11 +120,6 @@ pub record HasLed {E : Type 0} (lock : CommunityLock) (may : ℕ → List Entry 
 -- the helm that is run, where one is
 abbrev pub helm_of : Option Steersman → Option Steering
 helm_of steersman = option_map steering_of steersman
-
--- a helm, where there is one, has this number, and stands where the history has brought it
-abbrev pub StandsAt : List (List ℕ) → ℕ → Option Steersman → History → Type 0
-StandsAt names number None history = Unit {0}
-StandsAt names number (Some steersman) history = (steersman.number ≡ number) × Steers names steersman history
 
 -- the turns that are left for the helm, where there is one, over what it has heard
 abbrev pub turns_left : ℕ → Option Steersman → List (List ℕ) → History → List Entry
@@ -146,18 +149,7 @@ pub record IsUnderWay (order : Order) (script : Script) (lock : CommunityLock) (
   pub within : from ≤ length script.lines
   pub seats : parts script steersman ≤ length lock.base
   pub played : HasPlayed order script lock.base steersman from first.seen
-  pub steered : StandsAt lock.base (helm_number script) steersman first.seen
-
--- the helm, where there is one, has heard at least as many mails as it has made ticks, which are no more than there are
-abbrev pub HasHeard : List (List ℕ) → ℕ → ℕ → Option Steersman → History → Type 0
-HasHeard names number stop None history = Unit {0}
-HasHeard names number stop (Some steersman) history =
-    (steersman.number ≡ number) × (steersman.ticks ≤ length (heard_of names steersman.number history)) × (steersman.ticks ≤ ticks_to stop (steering_of steersman))
-
--- how many ticks the helm has made, none without one
-abbrev pub ticks_in : Option Steersman → ℕ
-ticks_in None = 0
-ticks_in (Some steersman) = steersman.ticks
+  pub steered : IfSome steersman (λ s. (s.number ≡ helm_number script) × Steers lock.base s first.seen)
 
 -- the stamp of the helm's next tick, where one is left up to this stamp
 abbrev pub tick_due : ℕ → Option Steersman → Option ℕ
@@ -183,34 +175,16 @@ pub record IsDue (lines : List Entry) (tick : Option ℕ) (from to : ℕ) : Type
   pub early : from < to → comes_before tick stamp ≡ false
   pub next : from ≡ to → IsBehind tick (drop from lines)
 
--- the iterations so far, none without a helm
-abbrev pub iterations_in : Option Steersman → List Iteration
-iterations_in None = []
-iterations_in (Some steersman) = steersman.iterations
-
--- a helm with this number
-abbrev pub run_as : ℕ → HelmRun → Steering
-run_as number run = record { client = number; plan = plan_of run.helm; period = run.period }
-
--- a helm of this number that has yet to open
-pub record IsUnopened (number : ℕ) (steersman : Steersman) : Type 0 where
-  pub own : steersman.number ≡ number
+-- a helm that has heard nothing yet, and made no tick
+pub record IsUnticked (steersman : Steersman) : Type 0 where
   pub ticks : steersman.ticks ≡ 0
-  pub told : steersman.told ≡ 0
   pub iterations : steersman.iterations ≡ []
   pub stands : StandsFor steersman.helm []
   pub period : 1 ≤ steersman.period
 
 -- before the first round: the helm, where there is one, has made its opening, and nobody else an entry
-pub record HasOpened (lock : CommunityLock) (number : ℕ) (steersman : Option Steersman) (first : SeatState) : Type 0 where
+pub record HasOpened (lock : CommunityLock) (steersman : Option Steersman) (first : SeatState) : Type 0 where
   pub gathered : IsGathered lock first
   pub whole : IsWhole first
   pub opened : first.seen ≡ opening (helm_of steersman)
-  pub steered : StandsAt lock.base number steersman first.seen
-  pub ticks : IfSome steersman (λ helm. (helm.ticks ≡ 0) × (1 ≤ helm.period))
-  pub told : IfSome steersman (λ helm. helm.told ≡ 0)
-
--- how many iterations were handed out
-abbrev pub told_in : Option Steersman → ℕ
-told_in None = 0
-told_in (Some steersman) = steersman.told
+  pub new : IfSome steersman IsUnticked

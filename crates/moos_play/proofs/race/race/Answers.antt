@@ -17,8 +17,8 @@ use Rattle.turn_lock.proofs.Mets.{is_taken}
 use Rattle.turn_lock.specs.Passes.{known_of}
 use Rattle.moos_play.proofs.race.race.Goals as goal
 
-pub returns-then-steersman-eq0-clause-led : goal.returns-then-steersman-eq0-clause-led
-returns-then-steersman-eq0-clause-led g c =
+pub returns-then-steersman-eq0 : goal.returns-then-steersman-eq0
+returns-then-steersman-eq0 g c =
     let led = c.lead.ensures in
     record {
       gathered = led.gathered;
@@ -30,8 +30,8 @@ returns-then-steersman-eq0-clause-led g c =
       stopped = led.stopped;
     }
 
-pub returns-in_err-players-clause-led : goal.returns-in_err-players-clause-led
-returns-in_err-players-clause-led g c =
+pub returns-in_err-players : goal.returns-in_err-players
+returns-in_err-players g c =
     let s = c.args.steersman.now in
     let may = c.requires.lead in
     subst (λ (first : SeatState). HasLed c.args.lock.now (IsPlayedBeside s.number c.args.lines.now c.from_residual.result) c.args.ticks c.args.first.now.seat first s s c.from_residual.result) (sym c.in_err-players.ensures.same) (record {
@@ -42,7 +42,7 @@ returns-in_err-players-clause-led g c =
         whole = may.whole;
       };
       same = refl;
-      told = refl;
+      told = search rules;
       steered = search rules;
       reached = search rules;
       stopped = err_any _ (steered_stops c.args.lock.now.base s s.ticks c.args.ticks c.args.first.now.seat.seen may.tick.steered (omega arith) may.tick.count);
@@ -73,8 +73,8 @@ see_all-requires-clause-all g c =
     c.take_in-others.ensures.taken c.meet.ensures.pass c.meet.ensures.seen.0 c.take_in-others.ensures.ended tt) in
     record { first = gathered.number; all = gathered.all }
 
-pub returns-clause-led : goal.returns-clause-led
-returns-clause-led g c =
+pub returns : goal.returns
+returns g c =
     let s = c.args.steersman.now in
     let seat = c.steer_beside-steered.new.seat in
     let steered = c.steer_beside-steered.ensures.steered in

@@ -24,7 +24,7 @@ returns-in_err-tick g c =
     let most : c.loop-steersman.steersman.ticks + 1 ≤ c.args.ticks = omega (arith, c.loop-steersman-test.true) in
     let so = steered_more c.args.lock.now c.args.seat.now c.loop-steersman.seat c.tick.new.seat c.args.steersman.now c.loop-steersman.steersman c.tick.new.steersman (c.loop-steersman.steersman.ticks + 1) c.args.ticks _
     c.loop-steersman.invariant.so_far c.in_err-tick.ensures tt most in
-    record { made = so.made; same = so.same; told = so.told; own = search rules; steered = search rules; reached = search rules; stopped = err_any _ so.stopped }
+    record { made = so.made; same = so.same; told = search rules; own = search rules; steered = search rules; reached = search rules; stopped = err_any _ so.stopped }
 
 pub returns : goal.returns
 returns g c =

@@ -1,10 +1,10 @@
-use Rattle.std.proofs.Common.{◌≡◌, ◌*◌, ◌+◌, ap, inr, refl, rules, subst, sym}
+use Rattle.std.proofs.Common.{◌*◌, ◌+◌, [], ◌∷◌, ap, arith, inr, length, length-append, refl, rules, subst, sym}
 use Rattle.helm_core.specs.Helms.{plan_of}
 use Rattle.moos_play.specs.declared.steersman.Steersman.{Steersman}
 use Rattle.moos_play.specs.Steered.{HasIterated, HasStopped, steering_of}
 use Rattle.moos_play.proofs.Helming.{ticks_once}
 use Rattle.moos_step.proofs.Lines.{err_any}
-use Rattle.moos_play.proofs.Steering.{called_of, called_own, recounted}
+use Rattle.moos_play.proofs.Steering.{called_of, called_own}
 use Rattle.moos_play.proofs.Ticking.{calling_makes, fetching_stops, makes_more, telling_stops, ticked_same}
 use Rattle.moos_play.proofs.steersman.tick.Goals as goal
 
@@ -17,7 +17,7 @@ returns-in_err-iteration g c =
     record {
       made = calling_makes c.args.seat.now c.iterate.new.seat _ _ c.in_err-iteration.ensures.stopped;
       same = kept.0;
-      told = kept.1;
+      told = search rules;
       own = search rules;
       steered = search rules;
       reached = search rules;
@@ -35,7 +35,7 @@ returns-in_err-tell g c =
     record {
       made = makes_more c.args.seat.now c.iterate.new.seat c.tell.new.seat (calling_makes c.args.seat.now c.iterate.new.seat _ _ (inr (called_of c.args.seat.now c.iterate.new.seat _ _ _ made.fetched))) (calling_makes c.iterate.new.seat c.tell.new.seat _ _ c.in_err-tell.ensures.stopped);
       same = kept.0;
-      told = kept.1;
+      told = search rules;
       own = search rules;
       steered = search rules;
       reached = search rules;
@@ -55,12 +55,10 @@ returns g c =
     record {
       made = makes_more c.args.seat.now c.iterate.new.seat c.tell.new.seat (calling_makes c.args.seat.now c.iterate.new.seat _ _ (inr (called_of c.args.seat.now c.iterate.new.seat _ _ _ made.fetched))) (calling_makes c.iterate.new.seat c.tell.new.seat _ _ (inr c.in_ok-tell.ensures.posted));
       same = kept.0;
-      told = kept.1;
+      told = omega (arith, kept.2, ap length c.in_ok-tell.ensures.kept, length-append c.count_call-2.new.steersman.iterations (c.in_ok-iteration.iteration ∷ []), ap length kept.1);
       own = called_own c.iterate.new.seat c.tell.new.seat _ _ c.in_ok-tell.ensures.posted;
-      steered = ticks_once c.args.lock.now.base t c.count_call-2.new.steersman c.iterate.new.helm c.args.seat.now c.iterate.new.seat c.tell.new.seat _ _ c.in_ok-iteration.iteration _ c.tell.new.iterations
-          c.count_call-2.ensures c.in_ok-tell.ensures.kept (ap (λ (s : Steersman). s.ticks * s.period) (sym c.count_call.ensures))
-          (recounted c.args.lock.now.base s t c.args.seat.now.seen c.count_call.ensures may.tick.steered)
-          (subst (λ (s : Steersman). c.args.seat.now.number ≡ s.number) (sym c.count_call.ensures) may.number) may.own made.fetched made.ticked c.in_ok-tell.ensures.posted refl;
+      steered = ticks_once c.args.lock.now.base s t c.count_call-2.new.steersman c.iterate.new.helm c.args.seat.now c.iterate.new.seat c.tell.new.seat _ _ c.in_ok-iteration.iteration _ c.tell.new.iterations
+          c.count_call.ensures c.count_call-2.ensures c.in_ok-tell.ensures.kept refl may.tick.steered may.number may.own made.fetched made.ticked c.in_ok-tell.ensures.posted refl;
       reached = ap (λ n. n + 1) kept.2;
       stopped = search rules;
     }

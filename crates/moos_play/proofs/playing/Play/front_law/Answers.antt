@@ -26,7 +26,7 @@ returns-clause-so_far c =
 
 pub returns-clause-valid : goal.returns-clause-valid
 returns-clause-valid c =
-    subst (λ (play : Playing). IsValid (script_played play)) c.self.view_is (is_ready c.self.inside.run c.self.inside.whole c.args.self.now c.self.view_is c.self.invariant c.requires).valid
+    subst (λ (play : Playing). IsValid (script_played play)) c.self.view_is (is_ready c.self.inside.run c.self.inside.whole c.args.self.now c.self.view_is c.self.invariant c.requires).at_play.valid
 
 pub returns-clause-helm : goal.returns-clause-helm
 returns-clause-helm c =

@@ -1,11 +1,9 @@
-use Rattle.std.proofs.Common.{◌≡◌, ◌∙◌, ◌++◌, true, false, drop, ap, arith, refl, rules, subst, sym}
-use Rattle.moos_play.specs.declared.stage.Stage.{Stage}
+use Rattle.std.proofs.Common.{◌∙◌, ◌++◌, true, false, ap, arith, length, refl, rules, subst, sym}
 use Rattle.moos_play.specs.declared.round_made.Round.{Round}
-use Rattle.moos_play.specs.Lawful.{KeepsStamp}
-use Rattle.moos_play.specs.Plays.{AddsAt, further_in, GoesOnWith, HasTurn, history_in, IsPlayedOut, IsRound, IsStampOver, iterations_made, known_clients_in, left_in, next_stamp, order_played, Playing, StaysSeated}
-use Rattle.moos_play.specs.Runs.{handed, IsAtPlay, IsCutOff, IsPaused, playing_of, shown_by}
-use Rattle.moos_play.proofs.Finishing.{completed, cut_so_far, over_now, ValidLines}
-use Rattle.moos_play.proofs.Handing.{finished_handed, goes_on_handed, handed_between, left_handed, round_iterations, stays_handed}
+use Rattle.moos_play.specs.Plays.{AddsAt, GoesOnWith, HasTurn, history_in, IsPlayedOut, IsRound, iterations_made, known_clients_in, left_in, next_stamp, order_played, Playing, StaysSeated}
+use Rattle.moos_play.specs.Runs.{IsAtPlay, IsPaused, playing_of, shown_by}
+use Rattle.moos_play.proofs.Finishing.{completed, over_now}
+use Rattle.moos_play.proofs.Handing.{handed_between, last_shown, round_iterations}
 use Rattle.moos_play.proofs.Moving.{some_period, turn_here}
 use Rattle.moos_play.proofs.Showing.{goes_shown, has_seats, is_ready, shown_same, sound_of, sound_ready, stays_shown}
 use Rattle.moos_play.proofs.Stamping.{all_stamped, none_further}
@@ -23,7 +21,7 @@ returns-clause-seated g c =
     let after = c.play_stamp.new.self in
     let on = stepped_from c.count_entries-from.ensures.same c.in_ok-play_stamp.ensures.stepped in
     subst (λ (old : Playing). StaysSeated old (playing_of c.hand_out-iterations.new.self true)) c.self.view_is
-    (subst (λ last. StaysSeated (playing_of run w) (playing_of last true)) (sym c.hand_out-iterations.ensures.told) (stays_shown run (handed after) w true (stays_handed run after on.seated)))
+    (subst (StaysSeated (playing_of run w)) (last_shown after c.hand_out-iterations.new.self c.hand_out-iterations.ensures.told) (stays_shown run after w true on.seated))
 
 pub returns-clause-same : goal.returns-clause-same
 returns-clause-same g c =
@@ -32,7 +30,7 @@ returns-clause-same g c =
     let after = c.play_stamp.new.self in
     let on = stepped_from c.count_entries-from.ensures.same c.in_ok-play_stamp.ensures.stepped in
     subst (λ (old : Playing). GoesOnWith old (playing_of c.hand_out-iterations.new.self true)) c.self.view_is
-    (subst (λ last. GoesOnWith (playing_of run w) (playing_of last true)) (sym c.hand_out-iterations.ensures.told) (goes_shown run (handed after) w true (goes_on_handed run after on.same)))
+    (subst (GoesOnWith (playing_of run w)) (last_shown after c.hand_out-iterations.new.self c.hand_out-iterations.ensures.told) (goes_shown run after w true on.same))
 
 pub returns-clause-between : goal.returns-clause-between
 returns-clause-between g c = record { whole = refl; seated = ap (λ run. run.first.seat.turn) c.hand_out-iterations.ensures.told ∙ c.in_ok-play_stamp.ensures.stepped.seated.seated.gathered.may.free }
@@ -42,61 +40,46 @@ returns-clause-round g c =
     let run = c.self.inside.run in
     let w = c.self.inside.whole in
     let after = c.play_stamp.new.self in
-    let last = c.hand_out-iterations.new.self in
     let stamp = c.next_stamp-stamp.result in
-    let told = c.hand_out-iterations.ensures.told in
     let ready = is_ready run w c.args.self.now c.self.view_is c.self.invariant c.requires.between in
     let on = stepped_from c.count_entries-from.ensures.same c.in_ok-play_stamp.ensures.stepped in
-    subst (λ (old : Playing). IsRound old (playing_of last true) (record { stamp = stamp; from = c.count_entries-from.result; iterations = c.hand_out-iterations.result })) c.self.view_is (record {
+    let round : Round = record { stamp = stamp; from = c.count_entries-from.result; iterations = c.hand_out-iterations.result } in
+    subst (λ (old : Playing). IsRound old (playing_of c.hand_out-iterations.new.self true) round) c.self.view_is
+    (subst (λ new. IsRound (playing_of run w) new round) (last_shown after c.hand_out-iterations.new.self c.hand_out-iterations.ensures.told) (record {
       from = c.count_entries-from.ensures.count;
       stamp = c.next_stamp-stamp.ensures;
-      stamped = subst (λ (last : Stage). KeepsStamp run.order stamp (drop c.count_entries-from.result last.first.seat.seen)) (sym told) (all_stamped run.order stamp (known_clients_in (shown_by run)) c.count_entries-from.result run.first.seat.seen after.first.seat.seen c.count_entries-from.ensures.count on.stamped);
-      further = subst (λ (last : Stage). further_in (shown_by last) ≡ further_in (shown_by run)) (sym told) (none_further run (handed after) stamp (goes_on_handed run after on.same) on.stamped);
-      finished = subst (λ (last : Stage). IsStampOver (shown_by last) stamp) (sym told) (finished_handed after stamp (c.in_ok-play_stamp.ensures.all (search rules)));
-      iterations =
-          ap (λ run. iterations_made (shown_by run)) told
-          ∙ round_iterations run after ready (subst (λ script. IsAtPlay script after) (sym on.same.script) on.at_play) on.seated on.same on.told
-          ∙ ap (λ done. iterations_made (shown_by run) ++ done) (sym c.hand_out-iterations.ensures.untold);
-    })
+      stamped = all_stamped run.order stamp (known_clients_in (shown_by run)) c.count_entries-from.result run.first.seat.seen after.first.seat.seen c.count_entries-from.ensures.count on.stamped;
+      further = none_further (shown_by run) (shown_by after) stamp on.same on.stamped;
+      finished = c.in_ok-play_stamp.ensures.all (search rules);
+      iterations = round_iterations run after ready on.at_play on.seated on.same on.told ∙ ap (λ done. iterations_made (shown_by run) ++ done) (sym c.hand_out-iterations.ensures.untold);
+    }))
 
 pub returns-clause-turn : goal.returns-clause-turn
 returns-clause-turn g c =
     let run = c.self.inside.run in
     let w = c.self.inside.whole in
     let after = c.play_stamp.new.self in
-    let last = c.hand_out-iterations.new.self in
-    let stamp = c.next_stamp-stamp.result in
     let ready = is_ready run w c.args.self.now c.self.view_is c.self.invariant c.requires.between in
     let on = stepped_from c.count_entries-from.ensures.same c.in_ok-play_stamp.ensures.stepped in
-    let made : iterations_made (shown_by (handed after)) ≡ iterations_made (shown_by run) ++ c.hand_out-iterations.result =
-    round_iterations run after ready (subst (λ script. IsAtPlay script after) (sym on.same.script) on.at_play) on.seated on.same on.told
-    ∙ ap (λ done. iterations_made (shown_by run) ++ done) (sym c.hand_out-iterations.ensures.untold) in
-    let round : Round = record { stamp = stamp; from = c.count_entries-from.result; iterations = c.hand_out-iterations.result } in
-    subst (λ (old : Playing). HasTurn (order_played old) old (playing_of last true) round) c.self.view_is
-    (subst (λ (last : Stage). HasTurn run.order (playing_of run w) (playing_of last true) round) (sym c.hand_out-iterations.ensures.told)
-    (turn_here run after w true round ready on.same on.moves (c.in_ok-play_stamp.ensures.all (search rules)) c.next_stamp-stamp.ensures made))
+    let round : Round = record { stamp = c.next_stamp-stamp.result; from = c.count_entries-from.result; iterations = c.hand_out-iterations.result } in
+    subst (λ (old : Playing). HasTurn (order_played old) old (playing_of c.hand_out-iterations.new.self true) round) c.self.view_is
+    (subst (λ new. HasTurn run.order (playing_of run w) new round) (last_shown after c.hand_out-iterations.new.self c.hand_out-iterations.ensures.told)
+    (turn_here run after w true round ready on.same on.moves (c.in_ok-play_stamp.ensures.all (search rules)) c.next_stamp-stamp.ensures
+    (omega (arith, on.told, ap length ready.told, ap length c.hand_out-iterations.ensures.untold))))
 
 pub returns-clause-more : goal.returns-clause-more
 returns-clause-more g c =
-    let after = c.play_stamp.new.self in
     let less = c.in_ok-play_stamp.ensures.more (search rules) in
     omega (
       arith,
       less,
-      left_handed after.script.now after.from after.steersman,
-      ap (λ run. left_in (shown_by run)) c.hand_out-iterations.ensures.told,
+      ap left_in (last_shown c.play_stamp.new.self c.hand_out-iterations.new.self c.hand_out-iterations.ensures.told),
       ap (λ run. left_in (shown_by run)) c.count_entries-from.ensures.same,
       ap left_in c.self.view_is,
     )
 
 pub invariant_of-self-2 : goal.invariant_of-self-2
-invariant_of-self-2 g c =
-    let run = c.self.inside.run in
-    let after = c.play_stamp.new.self in
-    let ready = is_ready run c.self.inside.whole c.args.self.now c.self.view_is c.self.invariant c.requires.between in
-    let on = stepped_from c.count_entries-from.ensures.same c.in_ok-play_stamp.ensures.stepped in
-    let script = sym on.same.script in
-    sound_ready c.hand_out-iterations.new.self true (subst IsPaused (sym c.hand_out-iterations.ensures.told) (handed_between after (subst IsValid script ready.valid) (subst (λ script. IsAtPlay script after) script on.at_play)))
+invariant_of-self-2 g c = sound_ready c.hand_out-iterations.new.self true (subst IsPaused (sym c.hand_out-iterations.ensures.told) (handed_between c.play_stamp.new.self c.in_ok-play_stamp.ensures.stepped.at_play))
 
 -- ---- nothing was left
 
@@ -127,7 +110,7 @@ returns-then-not-branch-clause-over g c =
     let ended = c.in_ok-play_stamp.ensures.over (search rules) in
     let same = c.count_entries-from.ensures.same in
     let ready = is_ready run c.self.inside.whole c.args.self.now c.self.view_is c.self.invariant c.requires.between in
-    subst (λ last. IsPlayedOut (playing_of last true)) (sym (ended.1 ∙ same)) (over_now run true ready (ap (λ run. left_in (shown_by run)) (sym same) ∙ ended.0))
+    subst (λ last. IsPlayedOut (playing_of last true)) (sym (ended.1 ∙ same)) (over_now run true ready.at_play (ap (λ run. left_in (shown_by run)) (sym same) ∙ ended.0))
 
 pub invariant_of-self-then-not-branch : goal.invariant_of-self-then-not-branch
 invariant_of-self-then-not-branch g c =
@@ -151,13 +134,10 @@ pub returns-in_err-play_stamp-clause-front : goal.returns-in_err-play_stamp-clau
 returns-in_err-play_stamp-clause-front g c =
     let ready = is_ready c.self.inside.run c.self.inside.whole c.args.self.now c.self.view_is c.self.invariant c.requires.between in
     let on = stepped_from c.count_entries-from.ensures.same c.in_err-play_stamp.ensures.stepped in
-    let script = sym on.same.script in
-    err_any _ (completed c.play_stamp.new.self false (subst ValidLines script ready.valid.lines) (subst (λ script. IsCutOff script c.play_stamp.new.self) script on.front))
+    err_any _ (completed c.play_stamp.new.self false (subst IsValid (sym on.same.script) ready.at_play.valid).lines on.front)
 
 pub returns-in_err-play_stamp-clause-so_far : goal.returns-in_err-play_stamp-clause-so_far
-returns-in_err-play_stamp-clause-so_far g c =
-    let on = stepped_from c.count_entries-from.ensures.same c.in_err-play_stamp.ensures.stepped in
-    err_any _ (cut_so_far c.play_stamp.new.self (subst (λ script. IsCutOff script c.play_stamp.new.self) (sym on.same.script) on.front))
+returns-in_err-play_stamp-clause-so_far g c = err_any _ c.in_err-play_stamp.ensures.stepped.front.so_far
 
 pub returns-in_err-play_stamp-clause-stamped : goal.returns-in_err-play_stamp-clause-stamped
 returns-in_err-play_stamp-clause-stamped g c =
@@ -185,11 +165,7 @@ pub play_stamp-requires-clause-may : goal.play_stamp-requires-clause-may
 play_stamp-requires-clause-may g c κs lives =
     let ready = is_ready c.self.inside.run c.self.inside.whole c.args.self.now c.self.view_is c.self.invariant c.requires.between in
     let same = sym c.count_entries-from.ensures.same in
-    record {
-      valid = subst (λ (run : Stage). IsValid run.script.now) same ready.valid;
-      at_play = subst (λ (run : Stage). IsAtPlay run.script.now run) same ready.at_play;
-      few = c.requires.workers;
-    }
+    record { at_play = subst IsAtPlay same ready.at_play; few = c.requires.workers }
 
 pub play_stamp-requires-clause-stamp : goal.play_stamp-requires-clause-stamp
 play_stamp-requires-clause-stamp g c κs lives = c.next_stamp-stamp.ensures ∙ ap (λ run. next_stamp (shown_by run)) (sym c.count_entries-from.ensures.same)

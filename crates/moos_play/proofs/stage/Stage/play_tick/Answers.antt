@@ -1,12 +1,12 @@
-use Rattle.std.proofs.Common.{◌≢◌, ◌≤◌, ◌<◌, ◌^◌, ◌∙◌, None, Option, Some, ap, arith, refl, rules, subst, sym}
+use Rattle.std.proofs.Common.{◌≢◌, ◌≤◌, ◌<◌, ◌^◌, ◌∙◌, None, OnOk, Option, Some, ap, arith, refl, rules, subst, sym}
 use Rattle.moos_play.specs.Lawful.{helm_number, ticks_to}
 use Rattle.moos_play.specs.declared.steersman.Steersman.{Steersman}
 use Rattle.std.specs.Prelude.{IfSome}
-use Rattle.moos_play.specs.Steered.{helm_of, StandsAt, steering_of, tick_due, told_in}
+use Rattle.moos_play.specs.Steered.{helm_of, KeepsEach, steering_of, tick_due}
+use Rattle.moos_play.proofs.Standing.{StandsAt}
 use Rattle.moos_play.proofs.Moving.{moves_tick}
-use Rattle.moos_play.proofs.Rounding.{due_left, tick_at_play, tick_early, tick_stops}
+use Rattle.moos_play.proofs.Rounding.{due_left, tick_at_play, tick_early, tick_less, tick_stops}
 use Rattle.moos_play.proofs.Stamping.{tick_adds}
-use Rattle.moos_play.proofs.Stepped.{ok_any}
 use Rattle.moos_play.proofs.stage.Stage.play_tick.Goals as goal
 
 pub lead-requires-after_bounds : goal.lead-requires-after_bounds
@@ -28,18 +28,20 @@ lead-requires-after_bounds g c κs within =
 pub returns-clause-stepped : goal.returns-clause-stepped
 returns-clause-stepped g c =
     let play = c.args.self.now in
-    let script = play.script.now in
     let old = c.in-Some.steersman in
     let new = c.lead.new.steersman in
     let first = record play.first { seat = c.lead.new.first } in
     let made = c.lead.ensures in
     let may = c.requires.may in
     record {
-      same = record { script = refl; lock = refl; order = refl; helm = ap Some made.same ∙ sym (ap helm_of c.in-Some.is) };
+      same = record { script = refl; order = refl; names = refl; helm = ap Some made.same ∙ sym (ap helm_of c.in-Some.is) };
       seated = record { seated = record { gathered = made.gathered; whole = made.goes_on.whole }; lock = refl; later = made.goes_on.later };
-      stamped = tick_adds script play old new c.lead.new.first c.lead.result may.at_play.under c.in-Some.is c.requires.some c.requires.behind made;
-      front = tick_stops script play first old new c.lead.result may.valid.lines may.at_play c.in-Some.is c.requires.some c.requires.behind made;
-      at_play = tick_at_play script play first old new c.lead.result may.valid.lines may.at_play c.in-Some.is c.requires.some c.requires.behind made;
-      told = ok_any c.lead.result (made.told ∙ sym (ap told_in c.in-Some.is));
-      moves = moves_tick script play (record play { first = first; steersman = Some new }) old new c.lead.result c.in-Some.is refl refl c.requires.some c.requires.behind made.reached;
+      stamped = tick_adds play old new c.lead.new.first c.lead.result may.at_play.under c.in-Some.is c.requires.some c.requires.behind made;
+      front = tick_stops play first old new c.lead.result may.at_play c.in-Some.is c.requires.some c.requires.behind made;
+      at_play = tick_at_play play first old new c.lead.result may.at_play c.in-Some.is c.requires.some c.requires.behind made;
+      told = subst (λ s. OnOk c.lead.result (KeepsEach s (Some new))) (sym c.in-Some.is) made.told;
+      moves = moves_tick play (record play { first = first; steersman = Some new }) old new c.lead.result c.in-Some.is refl refl c.requires.some c.requires.behind made.reached;
     }
+
+pub returns-clause-more : goal.returns-clause-more
+returns-clause-more g c = tick_less c.args.self.now (record c.args.self.now.first { seat = c.lead.new.first }) c.in-Some.steersman c.lead.new.steersman c.lead.result c.in-Some.is c.requires.some c.lead.ensures.same c.lead.ensures.reached

@@ -7,7 +7,8 @@ use Rattle.moos_play.specs.declared.steersman.Steersman.{Steersman}
 use Rattle.moos_play.specs.Lawful.{helm_number, known_clients, Steering, ticks_to}
 use Rattle.moos_play.specs.Plays.{AddsAt, next_stamp}
 use Rattle.moos_play.specs.Runs.{IsCutOff, shown_by}
-use Rattle.moos_play.specs.Steered.{helm_of, StandsAt, steering_of, told_in}
+use Rattle.moos_play.specs.Steered.{helm_of, KeepsEach, steering_of}
+use Rattle.moos_play.proofs.Standing.{StandsAt}
 use Rattle.moos_play.proofs.Stepping.{all_part, lines_clients}
 use Rattle.moos_play.proofs.Coming.{race_over}
 use Rattle.moos_step.proofs.Lines.{err_any}
@@ -21,7 +22,7 @@ race-requires-clause-lines g c κs lives =
     let script = c.args.self.now.script.now in
     subst (λ n. list_all (λ (line : Entry). nat_lt line.client n) (take (c.len-to.result - c.args.self.now.from) (drop c.args.self.now.from c.all.result.now)) ≡ true) (sym (ap length c.as_mut_slice-calls.ensures.value ∙ c.requires.may.at_play.calls))
     (subst (λ lines. list_all (λ (line : Entry). nat_lt line.client (length script.names)) (take (c.len-to.result - c.args.self.now.from) (drop c.args.self.now.from lines)) ≡ true) (sym c.all.ensures)
-    (all_part (λ (line : Entry). nat_lt line.client (length script.names)) script.lines c.args.self.now.from (c.len-to.result - c.args.self.now.from) (lines_clients (length script.names) 0 script.stop script.lines c.requires.may.valid.lines)))
+    (all_part (λ (line : Entry). nat_lt line.client (length script.names)) script.lines c.args.self.now.from (c.len-to.result - c.args.self.now.from) (lines_clients (length script.names) 0 script.stop script.lines c.requires.may.at_play.valid.lines)))
 
 pub returns-clause-stepped : goal.returns-clause-stepped
 returns-clause-stepped g c =
@@ -30,24 +31,25 @@ returns-clause-stepped g c =
     let old = c.in-Some.steersman in
     let new = c.race.new.steersman in
     let after = c.race.new.first.seat in
-    let made = c.in_ok-race.ensures.led in
+    let made = c.in_ok-race.ensures in
     let may = c.requires.may in
     let number = (subst (λ s. StandsAt play.lock.base (helm_number script) s play.first.seat.seen) c.in-Some.is may.at_play.under.steered).0 in
     let period = subst (λ s. IfSome s (λ helm. (1 ≤ helm.period) × (helm.ticks ≤ ticks_to script.stop (steering_of helm)))) c.in-Some.is may.at_play.period in
     record {
-      same = record { script = refl; lock = refl; order = refl; helm = ap Some made.same ∙ sym (ap helm_of c.in-Some.is) };
+      same = record { script = refl; order = refl; names = refl; helm = ap Some made.same ∙ sym (ap helm_of c.in-Some.is) };
       seated = record { seated = record { gathered = made.gathered; whole = made.goes_on.whole }; lock = refl; later = made.goes_on.later };
       stamped = subst (λ (s : Option Steersman). AddsAt play.order (next_stamp (shown_by play)) (known_clients script (helm_of s)) play.first.seat.seen after.seen) (sym c.in-Some.is)
-          (race_add play.order script old (next_stamp (shown_by play)) play.from c.len-to.result c.all.result.now play.first.seat after c.requires.race may.valid.lines may.at_play.under.whole number c.all.ensures made.goes_on);
+          (race_add play.order script old (next_stamp (shown_by play)) play.from c.len-to.result c.all.result.now play.first.seat after c.requires.race may.at_play.valid.lines may.at_play.under.whole number c.all.ensures made.goes_on);
       front = tt;
       at_play = record {
-        under = race_over play.order script play.lock may.valid.lines play.steersman old new play.from _ (Ok c.in_ok-race.field-0) play.first.seat after c.requires.race c.len-to.ensures c.in-Some.is may.at_play.under made.gathered
+        valid = may.at_play.valid;
+        under = race_over play.order script play.lock may.at_play.valid.lines play.steersman old new play.from _ (Ok c.in_ok-race.field-0) play.first.seat after c.requires.race c.len-to.ensures c.in-Some.is may.at_play.under made.gathered
             (subst (λ lines. GoesOn (IsPlayedBeside old.number (take (c.len-to.result - play.from) (drop play.from lines)) (Ok c.in_ok-race.field-0)) play.first.seat after) c.all.ensures made.goes_on) refl
             made.same made.steered (omega (arith, made.reached, ap (λ (helm : Steering). ticks_to script.stop helm) made.same));
         calls = as_many play.calls.len play.calls.items c.race.new.calls (c.race.auto.calls ∙ ap length c.as_mut_slice-calls.ensures.value) (search rules) ∙ (search rules);
         period = (subst (λ (helm : Steering). 1 ≤ helm.period) (sym made.same) period.0, omega (arith, made.reached, ap (λ (helm : Steering). ticks_to script.stop helm) made.same));
       };
-      told = made.told ∙ sym (ap told_in c.in-Some.is);
+      told = subst (λ s. KeepsEach s (Some new)) (sym c.in-Some.is) made.told;
       moves = moves_race play.order (next_stamp (shown_by play)) play _ c.requires.race;
     }
 
@@ -58,17 +60,16 @@ returns-in_err-race-clause-stepped g c =
     let old = c.in-Some.steersman in
     let new = c.race.new.steersman in
     let after = c.race.new.first.seat in
-    let made = c.in_err-race.ensures.led in
+    let made = c.in_err-race.ensures in
     let may = c.requires.may in
     let number = (subst (λ s. StandsAt play.lock.base (helm_number script) s play.first.seat.seen) c.in-Some.is may.at_play.under.steered).0 in
-    let cut =
-    race_stops script play after old new c.len-to.result _ c.all.result.now c.requires.race may.valid.lines may.at_play c.in-Some.is c.all.ensures (omega (arith, c.len-to.ensures, may.at_play.under.within)) made.goes_on made.same made.stopped (omega arith) in
+    let cut = race_stops play c.race.new.first old new c.len-to.result _ c.all.result.now c.requires.race may.at_play c.in-Some.is c.all.ensures (omega (arith, c.len-to.ensures, may.at_play.under.within)) made.goes_on made.same made.stopped (omega arith) in
     record {
-      same = record { script = refl; lock = refl; order = refl; helm = ap Some made.same ∙ sym (ap helm_of c.in-Some.is) };
+      same = record { script = refl; order = refl; names = refl; helm = ap Some made.same ∙ sym (ap helm_of c.in-Some.is) };
       seated = record { seated = record { gathered = made.gathered; whole = made.goes_on.whole }; lock = refl; later = made.goes_on.later };
       stamped = subst (λ (s : Option Steersman). AddsAt play.order (next_stamp (shown_by play)) (known_clients script (helm_of s)) play.first.seat.seen after.seen) (sym c.in-Some.is)
-          (race_add play.order script old (next_stamp (shown_by play)) play.from c.len-to.result c.all.result.now play.first.seat after c.requires.race may.valid.lines may.at_play.under.whole number c.all.ensures made.goes_on);
-      front = err_any _ {P = IsCutOff script _} (record { so_far = cut.0; room = cut.1; heard = cut.2 });
+          (race_add play.order script old (next_stamp (shown_by play)) play.from c.len-to.result c.all.result.now play.first.seat after c.requires.race may.at_play.valid.lines may.at_play.under.whole number c.all.ensures made.goes_on);
+      front = err_any _ {P = IsCutOff _} (record { so_far = cut.so_far; room = cut.room; heard = cut.heard });
       at_play = search rules;
       told = search rules;
       moves = search rules;
