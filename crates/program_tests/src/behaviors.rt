@@ -90,6 +90,79 @@ const PLAYED: &[([&str; 3], &[&str])] = &[
             "%% iteration 3 0.75 DRIVE\n%% none\n%% end 11 9\n",
         ],
     ),
+    // What a letter to a template may say, and what becomes of it.
+    (
+        [
+            "0 nav post MOOS_MANUAL_OVERRIDE=false # NAV_X=0 # NAV_Y=0 # T_UP=1\n\
+            0.25 nav post T_UP=\"pwt=5\"\n\
+            0.5 nav post T_UP=\"t1\"\n\
+            0.75 nav post T_UP=\"\"\n\
+            1 nav post T_UP=\"name=\"\n\
+            1.25 nav post T_UP=\"name=t 1\"\n\
+            1.5 nav post T_UP=\"nam=t1\"\n\
+            1.75 nav post T_UP=\"name=b\"\n\
+            2 nav post T_UP=\"name=tmpl\"\n\
+            2.25 nav post T_UP=\"name=keep\"\n\
+            2.5 nav post T_UP=\"name=x # pwt=10001\"\n\
+            2.75 nav post T_UP=\"name=x # a=b\"\n\
+            3 nav post T_UP=\"name=x # name=y\"\n\
+            3.25 nav post T_UP=\"name=x #\"\n\
+            3.5 nav post K_UP=\"name=x # outer_radius=1\"\n\
+            3.75 nav post K_UP=\"name=x # inner_radius=20 # outer_radius=30\"\n\
+            4 nav post T_UP=\"name=x\"\n\
+            4.25 nav post T_UP=\" NAME = t1 \"\n\
+            4.5 nav post T_UP=\"name=t1 # pwt=abc\"\n\
+            4.75 nav post T_UP=\"name=t1\"\n\
+            5 nav post T_UP=\"name=t1\"\n\
+            5.25 nav post T_UP=\"name=t2\" # T_UP=\"name=t2 # pwt=5\"\n\
+            5.25 until\n",
+            COURSE_AND_SPEED,
+            "Behavior = BHV_Timer {\nname = b\n}\n\
+            Behavior = BHV_Timer {\nname = tmpl\ntemplating = spawn\nupdates = T_UP\nduration = 0.5\n}\n\
+            Behavior = BHV_StationKeep {\nname = keep\ntemplating = spawn\nupdates = K_UP\nstation_pt = 0,0\ninner_radius = 10\nouter_radius = 20\nouter_speed = 2\n}\n",
+        ],
+        &[
+            "%% iteration 0 0 DRIVE\n%% update tmpl refused\n",
+            "%% iteration 1 0.25 DRIVE\n%% update tmpl refused\n",
+            "%% iteration 2 0.5 DRIVE\n%% update tmpl refused\n",
+            "%% iteration 3 0.75 DRIVE\n%% update tmpl refused\n",
+            "%% iteration 4 1 DRIVE\n%% update tmpl refused\n",
+            "%% iteration 5 1.25 DRIVE\n%% update tmpl refused\n",
+            "%% iteration 6 1.5 DRIVE\n%% update tmpl refused\n",
+            "%% iteration 7 1.75 DRIVE\n%% update tmpl refused\n",
+            "%% iteration 8 2 DRIVE\n%% update tmpl refused\n",
+            "%% iteration 9 2.25 DRIVE\n%% update tmpl refused\n",
+            "%% iteration 10 2.5 DRIVE\n%% update tmpl refused\n",
+            "%% iteration 11 2.75 DRIVE\n%% update tmpl refused\n",
+            "%% iteration 12 3 DRIVE\n%% update tmpl refused\n",
+            "%% iteration 13 3.25 DRIVE\n%% update tmpl refused\n",
+            "%% iteration 14 3.5 DRIVE\n%% update keep refused\n",
+            "%% iteration 15 3.75 DRIVE\n%% update keep spawned x\n%% behavior b running\n%% behavior x active\n",
+            "%% iteration 16 4 DRIVE\n%% update tmpl refused\n",
+            "%% iteration 17 4.25 DRIVE\n%% update tmpl spawned t1\n%% behavior b running\n%% behavior x active\n%% behavior t1 running\n",
+            "%% iteration 18 4.5 DRIVE\n%% update tmpl refused\n",
+            "%% iteration 19 4.75 DRIVE\n%% update tmpl taken\n%% behavior b running\n%% behavior x active\n%% behavior t1 completed\n",
+            "%% iteration 20 5 DRIVE\n%% update tmpl spawned t1\n",
+            "%% iteration 21 5.25 DRIVE\n%% update tmpl spawned t2\n%% update tmpl taken\n",
+            "%% behavior t2 running\n%% ivp 1\n",
+            "%% end 67 58\n",
+        ],
+    ),
+    // Made while the helm is parked, and perpetual.
+    (
+        [
+            "0 nav post T_UP=\"name=t1\"\n0.25 nav post MOOS_MANUAL_OVERRIDE=false\n1.25 until\n",
+            COURSE_MISSION,
+            "Behavior = BHV_Timer {\nname = tmpl\ntemplating = spawn\nupdates = T_UP\nduration = 0.5\nperpetual = true\n}\n",
+        ],
+        &[
+            "%% iteration 0 0 PARK\n%% update tmpl spawned t1\n%% behavior t1 idle\n%% none\n",
+            "%% iteration 1 0.25 DRIVE\n%% behavior t1 running\n",
+            "%% iteration 3 0.75 DRIVE\n%% behavior t1 completed\n",
+            "%% iteration 4 1 DRIVE\n%% behavior t1 running\n",
+            "%% end 15 12\n",
+        ],
+    ),
     // A heading and a speed are decided on, or neither counts.
     (
         [
