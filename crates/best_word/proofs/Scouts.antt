@@ -6,10 +6,11 @@ use mathlib.Core.Option.{some}
 use lib.ListN.{get_elem?}
 use Rattle.atomic_table.specs.Table.{Allows, Joins, keeps, Me, Splits, State, Step}
 use Rattle.atomic_table.proofs.Lists.{at_set, at_snoc, set_else}
+use Rattle.ivp_problem.specs.Found.{IsKnownSum}
 use Rattle.ivp_problem.specs.Problems.{WeightedSum}
 use Rattle.ivp_problem.proofs.Totals.{greater}
 use Rattle.best_word.specs.declared.best.View.{View}
-use Rattle.best_word.specs.Known.{IsScoutOf, IsKeyOf, IsKnownKey, joined_scout, WordRule, Looks, Raises, spent_scout}
+use Rattle.best_word.specs.Known.{IsScoutOf, joined_scout, WordRule, Looks, Raises, spent_scout}
 
 -- a scout of a problem is of the rule's, and knows no more than the word
 about_is : (problem other : WeightedSum) (word : ℕ) (v : View) → IsScoutOf problem word v → v.about ≡ Some other → (problem ≡ other) × (v.low ≤ word)
@@ -27,7 +28,7 @@ learnt problem word low v within (inl none) = inl none
 learnt problem word low v within (inr some') = inr (some'.0, within)
 
 -- the word rises, and one scout's view changes
-kept_with : (problem : WeightedSum) (s : State (Unit {0}) View) (h : WordRule problem s) (id more : ℕ) (w : View) → h.word ≤ more → IsKnownKey problem more → IsScoutOf problem more w
+kept_with : (problem : WeightedSum) (s : State (Unit {0}) View) (h : WordRule problem s) (id more : ℕ) (w : View) → h.word ≤ more → IsKnownSum problem more → IsScoutOf problem more w
     → WordRule problem (record { words = set s.words 0 more; homes = s.homes; views = set s.views id w })
 kept_with problem s h id more w up known fits = record { word = more; words = ap (λ ws. set ws 0 more) h.words; known = known; each = λ seat v at. by (at_set s.views id seat w v at) }
   where
@@ -39,7 +40,7 @@ found_is : (problem : WeightedSum) (s : State (Unit {0}) View) (h : WordRule pro
 found_is problem s h = ap (λ ws. slice_index ws 0) h.words
 
 pub looks : (problem : WeightedSum) (slots id : ℕ) (me : Me (Unit {0}) View) (it : Step (Unit {0})) → Allows (WordRule problem) slots id me 0 (λ n. n) (Looks it me)
-looks problem slots id me it s h size at bound = (w, keeps, tt, kept_with problem s h id found w (omega (arith, is)) (subst (IsKnownKey problem) (sym is) h.known) (learnt problem found found me.0 (omega arith) fits), told)
+looks problem slots id me it s h size at bound = (w, keeps, tt, kept_with problem s h id found w (omega (arith, is)) (subst (IsKnownSum problem) (sym is) h.known) (learnt problem found found me.0 (omega arith) fits), told)
   where
     found : ℕ
     found = slice_index s.words 0
@@ -54,12 +55,12 @@ looks problem slots id me it s h size at bound = (w, keeps, tt, kept_with proble
     fits = subst (λ n. IsScoutOf problem n me.0) (sym is) (h.each id me.0 at)
 
     told : Looks it me found (w, me.1)
-    told other about = let same = about_is problem other found me.0 fits about in (refl, same.1, subst (λ p. IsKnownKey p found) same.0 (subst (IsKnownKey problem) (sym is) h.known))
+    told other about = let same = about_is problem other found me.0 fits about in (refl, same.1, subst (λ p. IsKnownSum p found) same.0 (subst (IsKnownSum problem) (sym is) h.known))
 
-pub raises : (problem other : WeightedSum) (slots id key : ℕ) (me : Me (Unit {0}) View) (it : Step (Unit {0})) → it.first ≡ key → me.0.about ≡ Some other → IsKeyOf other key
-    → Allows (WordRule problem) slots id me 0 (λ n. max n key) (Raises it me)
-raises problem other slots id key me it first about is_key s h size at bound =
-    (w, keeps, tt, kept_with problem s h id (max found key) w (omega (arith, is)) known (learnt problem (max found key) (max found key) me.0 (omega arith) (risen problem found (max found key) me.0 (omega arith) fits)), told)
+pub raises : (problem other : WeightedSum) (slots id sum : ℕ) (me : Me (Unit {0}) View) (it : Step (Unit {0})) → it.first ≡ sum → me.0.about ≡ Some other → IsKnownSum other sum
+    → Allows (WordRule problem) slots id me 0 (λ n. max n sum) (Raises it me)
+raises problem other slots id sum me it first about offered s h size at bound =
+    (w, keeps, tt, kept_with problem s h id (max found sum) w (omega (arith, is)) known (learnt problem (max found sum) (max found sum) me.0 (omega arith) (risen problem found (max found sum) me.0 (omega arith) fits)), told)
   where
     found : ℕ
     found = slice_index s.words 0
@@ -68,7 +69,7 @@ raises problem other slots id key me it first about is_key s h size at bound =
     is = found_is problem s h
 
     w : View
-    w = record me.0 { low = max found key }
+    w = record me.0 { low = max found sum }
 
     fits : IsScoutOf problem found me.0
     fits = subst (λ n. IsScoutOf problem n me.0) (sym is) (h.each id me.0 at)
@@ -76,20 +77,20 @@ raises problem other slots id key me it first about is_key s h size at bound =
     same : (problem ≡ other) × (me.0.low ≤ found)
     same = about_is problem other found me.0 fits about
 
-    held : IsKnownKey problem found
-    held = subst (IsKnownKey problem) (sym is) h.known
+    held : IsKnownSum problem found
+    held = subst (IsKnownSum problem) (sym is) h.known
 
-    by : (max found key ≡ found) ⊎ (max found key ≡ key) → IsKnownKey problem (max found key)
-    by (inl e) = subst (IsKnownKey problem) (sym e) held
-    by (inr e) = subst (IsKnownKey problem) (sym e) (inr (subst (λ p. IsKeyOf p key) (sym same.0) is_key))
+    by : (max found sum ≡ found) ⊎ (max found sum ≡ sum) → IsKnownSum problem (max found sum)
+    by (inl e) = subst (IsKnownSum problem) (sym e) held
+    by (inr e) = subst (IsKnownSum problem) (sym e) (subst (λ p. IsKnownSum p sum) (sym same.0) offered)
 
-    known : IsKnownKey problem (max found key)
-    known = by (greater found key)
+    known : IsKnownSum problem (max found sum)
+    known = by (greater found sum)
 
     told : Raises it me found (w, me.1)
     told third about' =
         let same' = about_is problem third found me.0 fits about' in
-        (ap (λ k. (record me.0 { low = max found k }, me.1)) (sym first), same'.1, subst (λ p. IsKnownKey p found) same'.0 held)
+        (ap (λ k. (record me.0 { low = max found k }, me.1)) (sym first), same'.1, subst (λ p. IsKnownSum p found) same'.0 held)
 
 pub forks : (problem : WeightedSum) (id : ℕ) (v : View) → Splits (WordRule problem) id v v v
 forks problem id v s h at =

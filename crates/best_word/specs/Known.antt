@@ -1,21 +1,11 @@
 -- What the shared word holds, and what a scout knows of it.
-use Rattle.std.specs.Prelude.{◌≡◌, ℕ, ◌≤◌, ◌⊎◌, max, [], ◌∷◌, Some, None, IsTrue}
+use Rattle.std.specs.Prelude.{◌≡◌, ℕ, ◌≤◌, ◌⊎◌, max, [], ◌∷◌, Some, None}
 use mathlib.Core.Option.{some}
 use lib.ListN.{get_elem?}
 use Rattle.atomic_table.specs.Table.{Me, State, Step}
-use Rattle.ivp_domain.specs.declared.boxes.Point.{Point}
-use Rattle.ivp_domain.specs.Domains.{is_point}
 use Rattle.ivp_problem.specs.Problems.{WeightedSum}
+use Rattle.ivp_problem.specs.Found.{IsKnownSum}
 use Rattle.best_word.specs.declared.best.View.{View}
-use Rattle.best_word.specs.Words.{point_word}
-
--- the word of the key of a point of the problem
-abbrev pub IsKeyOf : WeightedSum → ℕ → Type 0
-IsKeyOf problem word = (p : Point) × IsTrue (is_point problem.axes p) × (point_word problem p ≡ word)
-
--- 0, which is no point's word, or the word of the key of a point of the problem
-abbrev pub IsKnownKey : WeightedSum → ℕ → Type 0
-IsKnownKey problem word = (word ≡ 0) ⊎ IsKeyOf problem word
 
 -- a scout that isn't spent is one of the problem, and knows no more than the word
 abbrev pub IsScoutOf : WeightedSum → ℕ → View → Type 0
@@ -25,7 +15,7 @@ IsScoutOf problem word v = (v.about ≡ None) ⊎ ((v.about ≡ Some problem) ×
 pub record WordRule (problem : WeightedSum) (s : State (Unit {0}) View) : Type 0 where
   pub word : ℕ
   pub words : s.words ≡ word ∷ []
-  pub known : IsKnownKey problem word
+  pub known : IsKnownSum problem word
   pub each : (seat : ℕ) (v : View) → get_elem? s.views seat ≡ some v → IsScoutOf problem word v
 
 -- the first scout, which knows nothing yet
@@ -35,12 +25,12 @@ first_scout problem = record { about = Some problem; low = 0 }
 -- the word was looked at: what it held becomes the scout's
 abbrev pub Looks : Step (Unit {0}) → Me (Unit {0}) View → ℕ → Me (Unit {0}) View → Type 0
 Looks step me found after =
-    (problem : WeightedSum) → me.0.about ≡ Some problem → (after ≡ (record me.0 { low = found }, me.1)) × (me.0.low ≤ found) × IsKnownKey problem found
+    (problem : WeightedSum) → me.0.about ≡ Some problem → (after ≡ (record me.0 { low = found }, me.1)) × (me.0.low ≤ found) × IsKnownSum problem found
 
--- a key was offered: the greater of it and of what the word held becomes the scout's
+-- a sum was offered: the greater of it and of what the word held becomes the scout's
 abbrev pub Raises : Step (Unit {0}) → Me (Unit {0}) View → ℕ → Me (Unit {0}) View → Type 0
 Raises step me found after =
-    (problem : WeightedSum) → me.0.about ≡ Some problem → (after ≡ (record me.0 { low = max found step.first }, me.1)) × (me.0.low ≤ found) × IsKnownKey problem found
+    (problem : WeightedSum) → me.0.about ≡ Some problem → (after ≡ (record me.0 { low = max found step.first }, me.1)) × (me.0.low ≤ found) × IsKnownSum problem found
 
 -- a scout that took another one in
 abbrev pub joined_scout : View → View → View

@@ -1,20 +1,19 @@
-// The best known key, in one word that all workers share.
+// The greatest known sum, in one word that all workers share.
 ghost use Rattle.std.specs.Prelude.{◌≡◌, ℕ, ◌≤◌, max, [], Some, IfOk, IsTrue};
 ghost use Rattle.ivp_domain.specs.Domains.{is_point};
+ghost use Rattle.ivp_problem.specs.Found.{IsKnownSum};
 ghost use Rattle.ivp_problem.specs.Problems.{WeightedSum};
-ghost use Rattle.ivp_problem.specs.Sums.{key_at};
-ghost use Rattle.best_word.specs.Known.{first_scout, IsKnownKey, joined_scout};
-ghost use Rattle.best_word.specs.Words.{word_of};
+ghost use Rattle.ivp_problem.specs.Sums.{sum_at};
+ghost use Rattle.best_word.specs.Known.{first_scout, joined_scout};
 
-use crate::word::word_of;
 use atomic_table::{Join, Play, Seat, Split, Table, TableRule};
 use ivp_domain::Point;
-use ivp_problem::{Key, Problem, keys_law};
+use ivp_problem::Problem;
 use std::alloc::{AllocError, Global};
 use std::marker::Model;
 
-/// What a scout knows: the problem that it is of, unless it is spent, and what the word is at least. No value of it is
-/// made: it is there for contracts and proofs alone.
+/// What a scout knows: the problem that it is of, unless it is spent, and a sum that the word is at least. No value of it
+/// is made: it is there for contracts and proofs alone.
 pub struct View {
     pub about: Option<Problem>,
     pub low: u64,
@@ -42,7 +41,7 @@ impl Play<(), View> for Look {
     ghost then = { Looks };
 }
 
-/// A key is offered.
+/// A sum is offered.
 struct Raise;
 
 impl Play<(), View> for Raise {
@@ -74,7 +73,7 @@ impl Join<View> for Merge {
 /// The place of the only word.
 const WORD: usize = 0;
 
-/// The word of the greatest key that was offered so far, 0 while none was. Contracts see which word it is.
+/// The greatest sum that was offered so far, 0 while none was. Contracts see which word it is.
 #[derive(Drop)]
 pub struct Best {
     table: Table<(), View, Problem, Greatest, Global>,
@@ -101,31 +100,29 @@ impl Best {
         Ok((Best { table }, scout))
     }
 
-    /// The word of the greatest key that was offered so far, 0 while none was: one load. It becomes what the scout knows.
+    /// The greatest sum that was offered so far, 0 while none was: one load. It becomes what the scout knows.
     pub fn known(&self, scout: &mut Scout) -> u64
         requires word { scout.old.table_id ≡ self.now }
         requires problem { (problem : WeightedSum) × (scout.old.me.0.about ≡ Some problem) }
-        ensures known { (problem : WeightedSum) → scout.old.me.0.about ≡ Some problem → IsKnownKey problem result }
+        ensures known { (problem : WeightedSum) → scout.old.me.0.about ≡ Some problem → IsKnownSum problem result }
         ensures later { scout.old.me.0.low ≤ result }
         ensures scout { (scout.new.table_id ≡ scout.old.table_id) × (scout.new.me ≡ (record scout.old.me.0 { low = result }, scout.old.me.1)) }
     {
         self.table.shared.load::<Look>(scout, WORD)
     }
 
-    /// Offers the key of a point: one step that keeps the greater of its word and of what stood there. That is the answer,
+    /// Offers the sum of a point: one step that keeps the greater of the sum and of what stood there. That is the answer,
     /// and becomes what the scout knows.
-    pub fn offer(&self, scout: &mut Scout, problem: &Problem, p: &Point, key: Key) -> u64
+    pub fn offer(&self, scout: &mut Scout, problem: &Problem, p: &Point, sum: u64) -> u64
         requires word { scout.old.table_id ≡ self.now }
         requires problem { scout.old.me.0.about ≡ Some problem.now }
-        requires point { IsTrue (is_point problem.now.axes p.now) × (key_at problem.now p.now ≡ key) }
-        ensures greater { (found : ℕ) × (result ≡ max found (word_of key)) × (scout.old.me.0.low ≤ found) × IsKnownKey problem.now found }
-        ensures known { IsKnownKey problem.now result }
+        requires point { IsTrue (is_point problem.now.axes p.now) × (sum_at problem.now p.now ≡ sum) }
+        ensures greater { (found : ℕ) × (result ≡ max found sum) × (scout.old.me.0.low ≤ found) × IsKnownSum problem.now found }
+        ensures known { IsKnownSum problem.now result }
         ensures scout { (scout.new.table_id ≡ scout.old.table_id) × (scout.new.me ≡ (record scout.old.me.0 { low = result }, scout.old.me.1)) }
     {
-        keys_law(problem);
-        let word = word_of(key);
-        let found = self.table.shared.fetch_max::<Raise>(scout, WORD, word);
-        if found < word { word } else { found }
+        let found = self.table.shared.fetch_max::<Raise>(scout, WORD, sum);
+        if found < sum { sum } else { found }
     }
 
     /// Another scout of the same problem, which knows as much.

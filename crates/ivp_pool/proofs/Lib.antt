@@ -1,5 +1,6 @@
 mod Examples
 mod DequeExamples
+pub mod Knowing
 pub mod Standing
 pub mod Weights
 pub mod Growing

@@ -9,7 +9,7 @@ use Rattle.ivp_pool.specs.declared.team.Member.{Member}
 use Rattle.ivp_pool.specs.declared.team.Worker.{Worker}
 use Rattle.ivp_pool.specs.Hands.{EndState, hand}
 use Rattle.ivp_pool.specs.Members.{Did, TookNode, KeepsShape, Same, tag_of}
-use Rattle.ivp_pool.specs.Solving.{low_of, WentOn}
+use Rattle.ivp_pool.specs.Solving.{knows_of, WentOn}
 use Rattle.ivp_pool.proofs.Teams.{closed_none, went_more}
 
 -- an end through which a node was taken
@@ -38,11 +38,12 @@ went_none problem worker =
     record {
       at_word = refl;
       scout = refl;
-      later = omega arith;
+      later = λ key out. out;
+      owned = λ owned. owned;
       count = 0;
       wraps = 0;
       counted = omega arith;
-      closed = closed_none problem (low_of worker);
+      closed = closed_none problem (knows_of worker);
     }
 
 doors_set : (doors : List EndState) (place : ℕ) (door d : EndState) → place < length doors → door.deque ≡ (get_or doors place d).deque → door.hand.parts ≡ (get_or doors place d).hand.parts → map tag_of (set doors place door) ≡ map tag_of doors

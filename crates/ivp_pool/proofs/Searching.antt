@@ -1,5 +1,5 @@
 -- How the parts of a search come together, from a new team to the whole tree.
-use Rattle.std.proofs.Common.{◌≡◌, ℕ, suc, ◌+◌, ◌-◌, ◌*◌, ◌^◌, ◌<◌, ◌≤◌, List, [], ◌∷◌, length, map, set, refl, sym, ap, ◌∙◌, subst, arith}
+use Rattle.std.proofs.Common.{◌≡◌, ℕ, suc, ◌+◌, ◌-◌, ◌*◌, ◌^◌, ◌<◌, ◌≤◌, inl, List, [], ◌∷◌, length, map, set, refl, sym, ap, ◌∙◌, subst, arith}
 use Rattle.std.specs.Prelude.{All, get_or}
 use Rattle.std.specs.Global.{Global}
 use Rattle.std.specs.List.{sum_by, AllByRecursion as Each}
@@ -15,7 +15,8 @@ use Rattle.ivp_pool.specs.declared.team.Member.{Member}
 use Rattle.ivp_pool.specs.declared.team.Worker.{Worker}
 use Rattle.ivp_pool.specs.Hands.{EndState}
 use Rattle.ivp_pool.specs.Members.{deques_of, doors_of, first_parts, IsNewMember, new_door, put_by, put_in, tag_of, taken_by, taken_in, workers_of}
-use Rattle.ivp_pool.specs.Solving.{IsNew, IsWorker, low_of, WentOn}
+use Rattle.ivp_pool.specs.Parts.{Knowledge, KnowsMore, Outdoes}
+use Rattle.ivp_pool.specs.Solving.{IsNew, IsWorker, knows_of, WentOn}
 use Rattle.ivp_pool.specs.Teams.{AllDid, AreBelow, AreWorkers, closed_in, shape_of, shapes_of}
 use Rattle.ivp_pool.proofs.Standing.{Stands}
 use Rattle.ivp_pool.proofs.Teams.{searched, Searched}
@@ -24,10 +25,10 @@ use Rattle.ivp_pool.proofs.Whole.{all_call_any, all_moved}
 
 -- a new worker is a worker
 new_worker : (problem : WeightedSum) (word : TableId) (worker : Worker) → IsNew problem word worker → IsWorker problem word worker
-new_worker problem word worker new = record { at_word = new.at_word; about = ap (λ m. m.0.about) new.scout; empty = ap (λ m. m.1) new.scout }
+new_worker problem word worker new = record { at_word = new.at_word; about = ap (λ m. m.0.about) new.scout; empty = ap (λ m. m.1) new.scout; owned = inl new.none }
 
 -- the whole tree isn't large
-root_few : (problem : WeightedSum) → IsProblem problem → (key : ℕ) (count : ℕ) → Searched problem key count → count ≤ 65 * 2 ^ 22
+root_few : (problem : WeightedSum) → IsProblem problem → (key : Knowledge) (count : ℕ) → Searched problem key count → count ≤ 65 * 2 ^ 22
 root_few problem h key count all =
     let root : IsNode problem (root_of problem) = record { path = []; reached = refl } in
     let stands : Stands problem 0 64 (root_of problem) = record { is = root; deep = omega arith; most = omega (arith, h.few) } in
@@ -78,7 +79,7 @@ module _ {K : Type 0} (problem : WeightedSum) (word : TableId) where
       all_moved problem word [] [] old new (len old new same)
       (All-from_recursion (λ (m : Member K). IsWorker problem word m.worker) new (moves (IsWorker problem word) old new same (recursion_from_All (λ (m : Member K). IsWorker problem word m.worker) old workers)))
       (closed old new same)
-      (λ key below. All-from_recursion (λ (m : Member K). low_of m.worker ≤ key) old (moves (λ (w : Worker). low_of w ≤ key) new old (sym same) (recursion_from_All (λ (m : Member K). low_of m.worker ≤ key) new below)))
+      (λ key below. All-from_recursion (λ (m : Member K). KnowsMore (knows_of m.worker) key) old (moves (λ (w : Worker). KnowsMore (knows_of w) key) new old (sym same) (recursion_from_All (λ (m : Member K). KnowsMore (knows_of m.worker) key) new below)))
       (λ weigh. omega (arith, put weigh, taken weigh))
     where
       len : (xs ys : List (Member K)) → workers_of ys ≡ workers_of xs → length ys ≡ length xs
@@ -112,7 +113,7 @@ module _ {K : Type 0} (problem : WeightedSum) (word : TableId) where
       (all_call_any problem word (root_of problem) [] nodes members 0 d (record (get_or members 0 d) { worker = worker }) some workers went refl refl)
 
   -- what all calls closed together is the whole tree
-  pub searched_by : IsProblem problem → (key : ℕ) (start new : List (Member K)) → AllDid problem word (root_of problem ∷ []) [] start new → closed_in start ≡ 0 → ((weigh : Node → ℕ) → put_in weigh start ≡ taken_in weigh start) → ((weigh : Node → ℕ) → put_in weigh new ≡ taken_in weigh new) → AreBelow key new → Searched problem key (closed_in new)
+  pub searched_by : IsProblem problem → (key : Knowledge) (start new : List (Member K)) → AllDid problem word (root_of problem ∷ []) [] start new → closed_in start ≡ 0 → ((weigh : Node → ℕ) → put_in weigh start ≡ taken_in weigh start) → ((weigh : Node → ℕ) → put_in weigh new ≡ taken_in weigh new) → AreBelow key new → Searched problem key (closed_in new)
   searched_by h key start new did none even settled below =
       let all = searched problem h key did.nodes did.handed did.count (λ weigh. omega (arith, did.each_once weigh, even weigh, settled weigh)) (did.closed key below) in
       let few = root_few problem h key did.count all in

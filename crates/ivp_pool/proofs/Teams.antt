@@ -9,11 +9,11 @@ use Rattle.ivp_domain.specs.declared.boxes.Point.{Point}
 use Rattle.ivp_domain.specs.Domains.{is_point}
 use Rattle.ivp_problem.specs.declared.node.Node.{Node}
 use Rattle.ivp_problem.specs.Problems.{IsProblem, WeightedSum}
+use Rattle.ivp_problem.specs.Sums.{key_at}
 use Rattle.ivp_problem.specs.Trees.{IsNode, root_of}
-use Rattle.best_word.specs.Words.{point_word}
 use Rattle.ivp_pool.specs.Closing.{Closed}
-use Rattle.ivp_pool.specs.Parts.{handed_within, part_size}
-use Rattle.ivp_pool.specs.Solving.{AreClosed, IsSearched, low_of, WentOn}
+use Rattle.ivp_pool.specs.Parts.{Knowledge, KnowsMore, Outdoes, handed_within, part_size}
+use Rattle.ivp_pool.specs.Solving.{AreClosed, IsSearched, knows_of, WentOn}
 use Rattle.ivp_pool.specs.declared.team.Worker.{Worker}
 use Rattle.ivp_pool.specs.Tallies.{handed_by, IsTally, IsWholeTree, Tally}
 use Rattle.ivp_pool.proofs.Gluing.{whole}
@@ -21,11 +21,11 @@ use Rattle.ivp_pool.proofs.Growing.{handed_deeper, IsBelow, raised}
 use Rattle.ivp_pool.proofs.Standing.{standing}
 
 -- no call
-pub closed_none : (problem : WeightedSum) (key : ℕ) → AreClosed problem key [] [] 0
+pub closed_none : (problem : WeightedSum) (key : Knowledge) → AreClosed problem key [] [] 0
 closed_none problem key = record { tallies = []; each = λ place tally at. absurd (cc); called = λ weigh. refl; passed = λ weigh. refl; size = refl }
 
 -- one call
-pub closed_one : (problem : WeightedSum) (key : ℕ) (took took' : List Node) (node : Node) (count : ℕ) → IsNode problem node → (closed : Closed problem key took took' node count) → AreClosed problem key (node ∷ []) (handed_within problem node closed.part) count
+pub closed_one : (problem : WeightedSum) (key : Knowledge) (took took' : List Node) (node : Node) (count : ℕ) → IsNode problem node → (closed : Closed problem key took took' node count) → AreClosed problem key (node ∷ []) (handed_within problem node closed.part) count
 closed_one problem key took took' node count is closed =
     let tally : Tally = record { node = node; part = closed.part } in
     record {
@@ -37,13 +37,13 @@ closed_one problem key took took' node count is closed =
     }
 
 -- what it handed on are nodes of the tree
-pub handed_nodes : (problem : WeightedSum) (key : ℕ) (took took' : List Node) (node : Node) (count : ℕ) → IsNode problem node → (closed : Closed problem key took took' node count) → All (IsNode problem) (handed_within problem node closed.part)
+pub handed_nodes : (problem : WeightedSum) (key : Knowledge) (took took' : List Node) (node : Node) (count : ℕ) → IsNode problem node → (closed : Closed problem key took took' node count) → All (IsNode problem) (handed_within problem node closed.part)
 handed_nodes problem key took took' node count is closed =
     All-from_recursion (IsNode problem) (handed_within problem node closed.part)
     (each_weaker (IsBelow problem (suc node.depth)) (IsNode problem) (λ n below. below.is) (handed_within problem node closed.part) (handed_deeper problem key (length problem.terms) node closed.part (standing problem node is) closed.is closed.here))
 
 -- calls and further calls, where as much is known as in both
-pub closed_more : (problem : WeightedSum) (one other key : ℕ) (nodes handed nodes' handed' : List Node) (count count' : ℕ) → one ≤ key → other ≤ key → AreClosed problem one nodes handed count → AreClosed problem other nodes' handed' count' → AreClosed problem key (nodes ++ nodes') (handed ++ handed') (count + count')
+pub closed_more : (problem : WeightedSum) (one other key : Knowledge) (nodes handed nodes' handed' : List Node) (count count' : ℕ) → KnowsMore one key → KnowsMore other key → AreClosed problem one nodes handed count → AreClosed problem other nodes' handed' count' → AreClosed problem key (nodes ++ nodes') (handed ++ handed') (count + count')
 closed_more problem one other key nodes handed nodes' handed' count count' up up' closed closed' =
     let ts = closed.tallies in
     let us = closed'.tallies in
@@ -55,10 +55,10 @@ closed_more problem one other key nodes handed nodes' handed' count count' up up
       size = omega (arith, sum_by-append (λ (t : Tally). part_size t.part) ts us, length-append handed handed', closed.size, closed'.size);
     }
   where
-    tally_known : (low : ℕ) → low ≤ key → (tally : Tally) → IsTally problem low tally → IsTally problem key tally
+    tally_known : (low : Knowledge) → KnowsMore low key → (tally : Tally) → IsTally problem low tally → IsTally problem key tally
     tally_known low up tally is = record { node = is.node; is = raised problem low key up tally.node tally.part is.is; here = is.here }
 
-    known : (low : ℕ) → low ≤ key → (tallies : List Tally) → ((place : ℕ) (tally : Tally) → slice_get tallies place ≡ Some tally → IsTally problem low tally) → Each (IsTally problem key) tallies
+    known : (low : Knowledge) → KnowsMore low key → (tallies : List Tally) → ((place : ℕ) (tally : Tally) → slice_get tallies place ≡ Some tally → IsTally problem low tally) → Each (IsTally problem key) tallies
     known low up tallies each = each_weaker (IsTally problem low) (IsTally problem key) (tally_known low up) tallies (each_from (IsTally problem low) tallies each)
 
 -- a length as a sum
@@ -82,21 +82,22 @@ pub went_more : (problem : WeightedSum) (nodes handed nodes' handed' : List Node
 went_more problem nodes handed nodes' handed' old mid new went went' =
     record {
       at_word = went'.at_word ∙ went.at_word;
-      scout = went'.scout ∙ ap (λ m. (record m.0 { low = low_of new }, m.1)) went.scout;
-      later = omega (arith, went.later, went'.later);
+      scout = went'.scout ∙ ap (λ m. (record m.0 { low = new.scout.me.0.low }, m.1)) went.scout;
+      later = λ key out. went'.later key (went.later key out);
+      owned = λ owned. went'.owned (went.owned owned);
       count = went.count + went'.count;
       wraps = went.wraps + went'.wraps;
       counted = omega (arith, went.counted, went'.counted);
-      closed = closed_more problem (low_of mid) (low_of new) (low_of new) nodes handed nodes' handed' went.count went'.count went'.later (omega arith) went.closed went'.closed;
+      closed = closed_more problem (knows_of mid) (knows_of new) (knows_of new) nodes handed nodes' handed' went.count went'.count went'.later (λ key out. out) went.closed went'.closed;
     }
 
 -- the whole tree was searched, so no point has a greater key
-pub record Searched (problem : WeightedSum) (key count : ℕ) : Type 0 where
+pub record Searched (problem : WeightedSum) (key : Knowledge) (count : ℕ) : Type 0 where
   pub all : IsSearched problem key count
-  pub most : (p : Point) → IsTrue (is_point problem.axes p) → point_word problem p ≤ key
+  pub most : (p : Point) → IsTrue (is_point problem.axes p) → Outdoes key (key_at problem p)
 
 -- calls searched it together, where their nodes are the root and what they handed on
-pub searched : (problem : WeightedSum) → IsProblem problem → (key : ℕ) (nodes handed : List Node) (count : ℕ) → ((weigh : Node → ℕ) → sum_by weigh nodes ≡ sum_by weigh (root_of problem ∷ []) + sum_by weigh handed) → AreClosed problem key nodes handed count → Searched problem key count
+pub searched : (problem : WeightedSum) → IsProblem problem → (key : Knowledge) (nodes handed : List Node) (count : ℕ) → ((weigh : Node → ℕ) → sum_by weigh nodes ≡ sum_by weigh (root_of problem ∷ []) + sum_by weigh handed) → AreClosed problem key nodes handed count → Searched problem key count
 searched problem h key nodes handed count linked closed =
     by (whole problem h key closed.tallies (each_from (IsTally problem key) closed.tallies closed.each) (λ weigh. closed.called weigh ∙ (linked weigh ∙ ap (λ n. sum_by weigh (root_of problem ∷ []) + n) (sym (closed.passed weigh)))))
   where

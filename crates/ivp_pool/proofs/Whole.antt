@@ -12,18 +12,19 @@ use Rattle.ivp_pool.specs.declared.team.Member.{Member}
 use Rattle.ivp_pool.specs.declared.team.Worker.{Worker}
 use Rattle.ivp_pool.specs.Hands.{EndState, IsSettled}
 use Rattle.ivp_pool.specs.Members.{Did, put_by, put_in, taken_by, taken_in}
-use Rattle.ivp_pool.specs.Solving.{AreClosed, IsWorker, low_of, WentOn}
+use Rattle.ivp_pool.specs.Parts.{Knowledge, KnowsMore, Outdoes}
+use Rattle.ivp_pool.specs.Solving.{AreClosed, IsWorker, knows_of, WentOn}
 use Rattle.ivp_pool.specs.Teams.{AllDid, AreBelow, AreWorkers, closed_in, deque_states, HasEmptied, door_rows, shape_of, shapes_of}
 use Rattle.ivp_pool.proofs.Members.{put_more, took_one}
 use Rattle.ivp_pool.proofs.Teams.{closed_more, closed_none}
 
 -- a worker that went on is a worker
 went_worker : (problem : WeightedSum) (word : TableId) (nodes handed : List Node) (old new : Worker) → WentOn problem nodes handed old new → IsWorker problem word old → IsWorker problem word new
-went_worker problem word nodes handed old new went is = record { at_word = went.at_word ∙ is.at_word; about = ap (λ m. m.0.about) went.scout ∙ is.about; empty = ap (λ m. m.1) went.scout ∙ is.empty }
+went_worker problem word nodes handed old new went is = record { at_word = went.at_word ∙ is.at_word; about = ap (λ m. m.0.about) went.scout ∙ is.about; empty = ap (λ m. m.1) went.scout ∙ is.empty; owned = went.owned is.owned }
 
 module _ {K : Type 0} (problem : WeightedSum) (word : TableId) where
   -- no call: only what the caller had in hand changed places with what stands in deques
-  pub all_moved : (had left : List Node) (old new : List (Member K)) → length new ≡ length old → AreWorkers problem word new → closed_in new ≡ closed_in old → ((key : ℕ) → AreBelow key new → AreBelow key old) → ((weigh : Node → ℕ) → sum_by weigh left + put_in weigh new + taken_in weigh old ≡ sum_by weigh had + taken_in weigh new + put_in weigh old) → AllDid problem word had left old new
+  pub all_moved : (had left : List Node) (old new : List (Member K)) → length new ≡ length old → AreWorkers problem word new → closed_in new ≡ closed_in old → ((key : Knowledge) → AreBelow key new → AreBelow key old) → ((weigh : Node → ℕ) → sum_by weigh left + put_in weigh new + taken_in weigh old ≡ sum_by weigh had + taken_in weigh new + put_in weigh old) → AllDid problem word had left old new
   all_moved had left old new len workers closed below moved =
       record {
         nodes = [];
@@ -50,7 +51,7 @@ module _ {K : Type 0} (problem : WeightedSum) (word : TableId) where
         count = one.count + two.count;
         wraps = one.wraps + two.wraps;
         closed = λ key known.
-            closed_more problem key key key one.nodes one.handed two.nodes two.handed one.count two.count (omega arith) (omega arith) (one.closed key (two.below key known)) (two.closed key known);
+            closed_more problem key key key one.nodes one.handed two.nodes two.handed one.count two.count (λ k out. out) (λ k out. out) (one.closed key (two.below key known)) (two.closed key known);
         counted = omega (arith, one.counted, two.counted);
         each_once = λ weigh. omega (arith, one.each_once weigh, two.each_once weigh, sum_by-append weigh one.nodes two.nodes, sum_by-append weigh one.handed two.handed);
         below = λ key known. one.below key (two.below key known);
@@ -69,16 +70,16 @@ module _ {K : Type 0} (problem : WeightedSum) (word : TableId) where
       all_more nodes (node ∷ rest) rest old now new (all_more nodes (take count nodes) (node ∷ rest) old now now one first) two
 
   -- one member changed
-  below_set : (key : ℕ) (members : List (Member K)) (place : ℕ) (d new : Member K) → place < length members → low_of (get_or members place d).worker ≤ low_of new.worker → AreBelow key (set members place new) → AreBelow key members
+  below_set : (key : Knowledge) (members : List (Member K)) (place : ℕ) (d new : Member K) → place < length members → KnowsMore (knows_of (get_or members place d).worker) (knows_of new.worker) → AreBelow key (set members place new) → AreBelow key members
   below_set key [] place d new within later below = λ k e out. absurd (omega (arith, out))
   below_set key (member ∷ members) zero d new within later below =
       let here = below 0 new (omega arith) in
-      let rest = All-tail (λ (m : Member K). low_of m.worker ≤ key) new members below in
-      All-from_recursion (λ (m : Member K). low_of m.worker ≤ key) (member ∷ members) (omega (arith, here, later), recursion_from_All (λ (m : Member K). low_of m.worker ≤ key) members rest)
+      let rest = All-tail (λ (m : Member K). KnowsMore (knows_of m.worker) key) new members below in
+      All-from_recursion (λ (m : Member K). KnowsMore (knows_of m.worker) key) (member ∷ members) (λ k out. here k (later k out), recursion_from_All (λ (m : Member K). KnowsMore (knows_of m.worker) key) members rest)
   below_set key (member ∷ members) (suc place) d new within later below =
       let here = below 0 member (omega arith) in
-      let rest = below_set key members place d new (omega (arith, within)) later (All-tail (λ (m : Member K). low_of m.worker ≤ key) member (set members place new) below) in
-      All-from_recursion (λ (m : Member K). low_of m.worker ≤ key) (member ∷ members) (here, recursion_from_All (λ (m : Member K). low_of m.worker ≤ key) members rest)
+      let rest = below_set key members place d new (omega (arith, within)) later (All-tail (λ (m : Member K). KnowsMore (knows_of m.worker) key) member (set members place new) below) in
+      All-from_recursion (λ (m : Member K). KnowsMore (knows_of m.worker) key) (member ∷ members) (here, recursion_from_All (λ (m : Member K). KnowsMore (knows_of m.worker) key) members rest)
 
   -- one member made a call for a node in the caller's hand
   pub all_call_any : (node : Node) (left since : List Node) (members : List (Member K)) (place : ℕ) (d new : Member K) → place < length members → AreWorkers problem word members → WentOn problem (node ∷ []) since (get_or members place d).worker new.worker → new.deque ≡ (get_or members place d).deque → new.doors.items ≡ (get_or members place d).doors.items → AllDid problem word (node ∷ left) (since ++ left) members (set members place new)
@@ -90,8 +91,8 @@ module _ {K : Type 0} (problem : WeightedSum) (word : TableId) where
         count = went.count;
         wraps = went.wraps;
         closed = λ key known.
-            let low = subst (λ (m : Member K). low_of m.worker ≤ key) (get_or_set members place new d within) (known place d (omega (arith, within, length-set members place new))) in
-            subst (λ (i : List Node × ℕ). AreClosed problem key (node ∷ []) i.0 i.1) (λ t. (append-nil since t, add-zero went.count t)) (closed_more problem (low_of new.worker) key key (node ∷ []) since [] [] went.count 0 low (omega arith) went.closed (closed_none problem key));
+            let low = subst (λ (m : Member K). KnowsMore (knows_of m.worker) key) (get_or_set members place new d within) (known place d (omega (arith, within, length-set members place new))) in
+            subst (λ (i : List Node × ℕ). AreClosed problem key (node ∷ []) i.0 i.1) (λ t. (append-nil since t, add-zero went.count t)) (closed_more problem (knows_of new.worker) key key (node ∷ []) since [] [] went.count 0 low (λ k out. out) went.closed (closed_none problem key));
         counted = omega (arith, sum_by-set (λ (m : Member K). m.worker.work.closed) members place new d within, went.counted);
         each_once = λ weigh.
             omega (
@@ -126,7 +127,7 @@ module _ {K : Type 0} (problem : WeightedSum) (word : TableId) where
       all_moved had left members (set members place new) (length-set members place new)
       (All-set (λ (m : Member K). IsWorker problem word m.worker) members place new (subst (IsWorker problem word) (sym worker) (workers place d within)) workers)
       (omega (arith, sum_by-set (λ (m : Member K). m.worker.work.closed) members place new d within, ap (λ (w : Worker). w.work.closed) worker))
-      (λ key known. below_set key members place d new within (subst (λ (w : Worker). low_of was.worker ≤ low_of w) (sym worker) (omega arith)) known)
+      (λ key known. below_set key members place d new within (subst (λ (w : Worker). KnowsMore (knows_of was.worker) (knows_of w)) (sym worker) (λ k out. out)) known)
       (λ weigh. omega (arith, moved weigh, sum_by-set (put_by weigh) members place new d within, sum_by-set (taken_by weigh) members place new d within))
 
   -- all members beside each other
@@ -145,7 +146,7 @@ module _ {K : Type 0} (problem : WeightedSum) (word : TableId) where
         count = went.count + later.count;
         wraps = went.wraps + later.wraps;
         closed = λ key known.
-            closed_more problem (low_of new.worker) key key first.nodes first.handed later.nodes later.handed went.count later.count (known 0 new (omega arith)) (omega arith) went.closed (later.closed key (All-tail (λ (m : Member K). low_of m.worker ≤ key) new news known));
+            closed_more problem (knows_of new.worker) key key first.nodes first.handed later.nodes later.handed went.count later.count (known 0 new (omega arith)) (λ k out. out) went.closed (later.closed key (All-tail (λ (m : Member K). KnowsMore (knows_of m.worker) key) new news known));
         counted = omega (arith, went.counted, later.counted, sum_by-cons (λ (m : Member K). m.worker.work.closed) old olds, sum_by-cons (λ (m : Member K). m.worker.work.closed) new news);
         each_once = λ weigh.
             omega (
@@ -161,8 +162,8 @@ module _ {K : Type 0} (problem : WeightedSum) (word : TableId) where
               sum_by-cons (taken_by weigh) new news,
             );
         below = λ key known.
-            All-from_recursion (λ (m : Member K). low_of m.worker ≤ key) (old ∷ olds)
-            (omega (arith, went.later, known 0 new (omega arith)), recursion_from_All (λ (m : Member K). low_of m.worker ≤ key) olds (later.below key (All-tail (λ (m : Member K). low_of m.worker ≤ key) new news known)));
+            All-from_recursion (λ (m : Member K). KnowsMore (knows_of m.worker) key) (old ∷ olds)
+            (λ k out. known 0 new (omega arith) k (went.later k out), recursion_from_All (λ (m : Member K). KnowsMore (knows_of m.worker) key) olds (later.below key (All-tail (λ (m : Member K). KnowsMore (knows_of m.worker) key) new news known)));
         workers = All-from_recursion P (new ∷ news) (went_worker problem word first.nodes first.handed old.worker new.worker went (workers 0 old (omega arith)), recursion_from_All P news later.workers);
         len = same;
       }

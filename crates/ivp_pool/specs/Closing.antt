@@ -3,24 +3,24 @@ use Rattle.std.specs.Prelude.{◌≡◌, ◌≢◌, ℕ, ◌+◌, ◌≤◌, ◌
 use Rattle.ivp_domain.specs.declared.boxes.Point.{Point}
 use Rattle.ivp_problem.specs.declared.node.Node.{Node}
 use Rattle.ivp_problem.specs.Problems.{WeightedSum}
+use Rattle.ivp_problem.specs.Sums.{key_at}
 use Rattle.ivp_problem.specs.Trees.{has_in}
-use Rattle.best_word.specs.Words.{point_word}
-use Rattle.ivp_pool.specs.Parts.{handed_within, IsPart, TreePart, Handed, part_size}
+use Rattle.ivp_pool.specs.Parts.{handed_within, IsPart, Knowledge, Outdoes, TreePart, Handed, part_size}
 
 -- what a tray has taken after a push: the node at the end, or as before, where the node came back
 abbrev pub Pushed : List Node → List Node → Node → Option Node → Type 0
 Pushed took took' node None = took' ≡ took ++ node ∷ []
 Pushed took took' node (Some back) = (back ≡ node) × (took' ≡ took)
 
--- a node was closed while this key was known: it has a part, the tray took the handed nodes of that, in order, and so many nodes were closed as the part has others
-pub record Closed (problem : WeightedSum) (low : ℕ) (took took' : List Node) (node : Node) (count : ℕ) : Type 0 where
+-- a node was closed while so much was known: it has a part, the tray took the handed nodes of that, in order, and so many nodes were closed as the part has others
+pub record Closed (problem : WeightedSum) (low : Knowledge) (took took' : List Node) (node : Node) (count : ℕ) : Type 0 where
   pub part : TreePart
   pub is : IsPart problem low node part
   pub here : part ≢ Handed
   pub taken : took' ≡ took ++ handed_within problem node part
   pub counted : count + length (handed_within problem node part) ≡ part_size part
 
--- each of these points has a key that the scout knows of, or lies in a node that the tray took since
-abbrev pub AreCovered : WeightedSum → ℕ → List Node → List Node → (Point → Bool) → Type 0
+-- each of these points is unwanted, or lies in a node that the tray took since
+abbrev pub AreCovered : WeightedSum → Knowledge → List Node → List Node → (Point → Bool) → Type 0
 AreCovered problem low took took' passes =
-    (since : List Node) × (took' ≡ took ++ since) × ((p : Point) → IsTrue (passes p) → (point_word problem p ≤ low) ⊎ IsTrue (has_in since p))
+    (since : List Node) × (took' ≡ took ++ since) × ((p : Point) → IsTrue (passes p) → Outdoes low (key_at problem p) ⊎ IsTrue (has_in since p))

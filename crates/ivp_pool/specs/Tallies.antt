@@ -5,9 +5,9 @@ use Rattle.ivp_domain.specs.declared.boxes.Point.{Point}
 use Rattle.ivp_domain.specs.Domains.{is_point}
 use Rattle.ivp_problem.specs.declared.node.Node.{Node}
 use Rattle.ivp_problem.specs.Problems.{WeightedSum}
+use Rattle.ivp_problem.specs.Sums.{key_at}
 use Rattle.ivp_problem.specs.Trees.{IsNode, root_of}
-use Rattle.best_word.specs.Words.{point_word}
-use Rattle.ivp_pool.specs.Parts.{Handed, handed_within, IsPart, TreePart, part_size}
+use Rattle.ivp_pool.specs.Parts.{Handed, handed_within, IsPart, Knowledge, Outdoes, TreePart, part_size}
 
 -- a node, and the part that was made of it
 pub record Tally : Type 0 where
@@ -18,8 +18,8 @@ pub record Tally : Type 0 where
 abbrev pub handed_by : WeightedSum → Tally → List Node
 handed_by problem tally = handed_within problem tally.node tally.part
 
--- a node of the tree that was closed while this key was known
-pub record IsTally (problem : WeightedSum) (key : ℕ) (tally : Tally) : Type 0 where
+-- a node of the tree that was closed while so much was known
+pub record IsTally (problem : WeightedSum) (key : Knowledge) (tally : Tally) : Type 0 where
   pub node : IsNode problem tally.node
   pub is : IsPart problem key tally.node tally.part
   pub here : tally.part ≢ Handed
@@ -28,10 +28,10 @@ pub record IsTally (problem : WeightedSum) (key : ℕ) (tally : Tally) : Type 0 
 abbrev pub AreLinked : WeightedSum → List Node → List Tally → Type 0
 AreLinked problem nodes tallies = (weigh : Node → ℕ) → sum_by (λ tally. weigh tally.node) tallies ≡ sum_by weigh nodes + sum_by (λ tally. sum_by weigh (handed_by problem tally)) tallies
 
--- together they are one part of the whole tree with nothing handed to others, and as many nodes as all parts without the handed ones; so no point has a greater key
-pub record IsWholeTree (problem : WeightedSum) (key : ℕ) (tallies : List Tally) : Type 0 where
+-- together they are one part of the whole tree with nothing handed to others, and as many nodes as all parts without the handed ones; so no point is wanted
+pub record IsWholeTree (problem : WeightedSum) (key : Knowledge) (tallies : List Tally) : Type 0 where
   pub part : TreePart
   pub is : IsPart problem key (root_of problem) part
   pub none : handed_within problem (root_of problem) part ≡ []
   pub size : part_size part + sum_by (λ tally. length (handed_by problem tally)) tallies ≡ sum_by (λ tally. part_size tally.part) tallies
-  pub most : (p : Point) → IsTrue (is_point problem.axes p) → point_word problem p ≤ key
+  pub most : (p : Point) → IsTrue (is_point problem.axes p) → Outdoes key (key_at problem p)

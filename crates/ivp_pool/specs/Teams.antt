@@ -1,5 +1,5 @@
 -- What the members of a team did together.
-use Rattle.std.specs.Prelude.{◌≡◌, ℕ, ◌+◌, ◌*◌, ◌^◌, ◌<◌, ◌≤◌, List, length, map, All, slice_set, slice_index_or}
+use Rattle.std.specs.Prelude.{◌≡◌, ℕ, ◌+◌, ◌*◌, ◌^◌, ◌<◌, List, length, map, All, slice_set, slice_index_or}
 use Rattle.std.specs.Global.{Global}
 use Rattle.std.specs.List.{sum_by}
 use Rattle.atomic_blocks.specs.Lent.{RowsId}
@@ -9,16 +9,17 @@ use Rattle.ivp_problem.specs.Problems.{WeightedSum}
 use Rattle.ivp_pool.specs.declared.team.Member.{Member}
 use Rattle.ivp_pool.specs.Hands.{EndState, IsSettled}
 use Rattle.ivp_pool.specs.Members.{doors_of, put_in, taken_in}
-use Rattle.ivp_pool.specs.Solving.{AreClosed, IsWorker, low_of}
+use Rattle.ivp_pool.specs.Parts.{Knowledge, KnowsMore}
+use Rattle.ivp_pool.specs.Solving.{AreClosed, IsWorker, knows_of}
 
 module _ {K : Type 0} where
   -- all are workers of this problem at this word
   abbrev pub AreWorkers : WeightedSum → TableId → List (Member K) → Type 0
   AreWorkers problem word members = All (λ (member : Member K). IsWorker problem word member.worker) members
 
-  -- what each knows is at most this key
-  abbrev pub AreBelow : ℕ → List (Member K) → Type 0
-  AreBelow key members = All (λ (member : Member K). low_of member.worker ≤ key) members
+  -- this outdoes all that each outdoes
+  abbrev pub AreBelow : Knowledge → List (Member K) → Type 0
+  AreBelow key members = All (λ (member : Member K). KnowsMore (knows_of member.worker) key) members
 
   -- how many nodes they have closed, each counted modulo 2^64
   abbrev pub closed_in : List (Member K) → ℕ
@@ -46,10 +47,10 @@ module _ {K : Type 0} where
     pub handed : List Node
     pub count : ℕ
     pub wraps : ℕ
-    pub closed : (key : ℕ) → AreBelow key new → AreClosed problem key nodes handed count
+    pub closed : (key : Knowledge) → AreBelow key new → AreClosed problem key nodes handed count
     pub counted : closed_in old + count ≡ closed_in new + wraps * 2 ^ 64
     pub each_once : (weigh : Node → ℕ) → sum_by weigh nodes + sum_by weigh left + put_in weigh new + taken_in weigh old ≡ sum_by weigh had + sum_by weigh handed + taken_in weigh new + put_in weigh old
-    pub below : (key : ℕ) → AreBelow key new → AreBelow key old
+    pub below : (key : Knowledge) → AreBelow key new → AreBelow key old
     pub workers : AreWorkers problem word new
     pub len : length new ≡ length old
 

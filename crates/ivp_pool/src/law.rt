@@ -4,22 +4,22 @@ ghost use Rattle.ivp_domain.specs.declared.boxes.Point.{Point};
 ghost use Rattle.ivp_domain.specs.Boxes.{has_point};
 ghost use Rattle.ivp_problem.specs.declared.node.Node.{Node};
 ghost use Rattle.ivp_problem.specs.Problems.{IsProblem, WeightedSum};
-ghost use Rattle.best_word.specs.Words.{point_word};
+ghost use Rattle.ivp_problem.specs.Sums.{key_at};
 ghost use Rattle.ivp_problem.specs.Trees.{has_in, IsNode, root_of};
-ghost use Rattle.ivp_pool.specs.Parts.{Handed, handed_within, IsPart, TreePart, part_size};
+ghost use Rattle.ivp_pool.specs.Parts.{Handed, handed_within, IsPart, Knowledge, KnowsMore, Outdoes, TreePart, part_size};
 ghost use Rattle.ivp_pool.specs.Tallies.{AreLinked, IsTally, IsWholeTree, Tally};
 
 use ivp_problem::{Node, Problem, problem_law};
 
-/// What holds of the parts of a node: one stays a part where more is known; it has each point of the node whose key isn't
-/// known in a node that was handed to others; where the node itself wasn't handed, these are deeper nodes of the tree; and
+/// What holds of the parts of a node: one stays a part where more is known; it has each point of the node that is still
+/// wanted in a node that was handed to others; where the node itself wasn't handed, these are deeper nodes of the tree; and
 /// a part is small. It does nothing.
 pub fn parts_law(problem: &Problem, node: &Node)
     requires node { IsNode problem.now node.now }
-    ensures raised { (low high : ℕ) (part : TreePart) → low ≤ high → IsPart problem.now low node.now part → IsPart problem.now high node.now part }
-    ensures covered { (low : ℕ) (part : TreePart) → IsPart problem.now low node.now part → (p : Point) → IsTrue (has_point node.now.area p) → (point_word problem.now p ≤ low) ⊎ IsTrue (has_in (handed_within problem.now node.now part) p) }
-    ensures deeper { (low : ℕ) (part : TreePart) → IsPart problem.now low node.now part → part ≢ Handed → (place : ℕ) (child : Node) → slice_get (handed_within problem.now node.now part) place ≡ Some child → IsNode problem.now child × (node.now.depth < child.depth) }
-    ensures few { (low : ℕ) (part : TreePart) → IsPart problem.now low node.now part → part_size part ≤ 65 * 2 ^ 22 }
+    ensures raised { (low high : Knowledge) (part : TreePart) → KnowsMore low high → IsPart problem.now low node.now part → IsPart problem.now high node.now part }
+    ensures covered { (low : Knowledge) (part : TreePart) → IsPart problem.now low node.now part → (p : Point) → IsTrue (has_point node.now.area p) → Outdoes low (key_at problem.now p) ⊎ IsTrue (has_in (handed_within problem.now node.now part) p) }
+    ensures deeper { (low : Knowledge) (part : TreePart) → IsPart problem.now low node.now part → part ≢ Handed → (place : ℕ) (child : Node) → slice_get (handed_within problem.now node.now part) place ≡ Some child → IsNode problem.now child × (node.now.depth < child.depth) }
+    ensures few { (low : Knowledge) (part : TreePart) → IsPart problem.now low node.now part → part_size part ≤ 65 * 2 ^ 22 }
 {
     problem_law(problem);
 }
@@ -27,5 +27,5 @@ pub fn parts_law(problem: &Problem, node: &Node)
 /// What holds of the calls that closed nodes, whoever made them: where their nodes are the root and all handed nodes, each
 /// once, and each call's part is one for this key, they are together one part of the whole tree. It does nothing.
 pub fn tally_law()
-    ensures { (problem : WeightedSum) (key : ℕ) (tallies : List Tally) → IsProblem problem → ((place : ℕ) (tally : Tally) → slice_get tallies place ≡ Some tally → IsTally problem key tally) → AreLinked problem (root_of problem ∷ []) tallies → IsWholeTree problem key tallies }
+    ensures { (problem : WeightedSum) (key : Knowledge) (tallies : List Tally) → IsProblem problem → ((place : ℕ) (tally : Tally) → slice_get tallies place ≡ Some tally → IsTally problem key tally) → AreLinked problem (root_of problem ∷ []) tallies → IsWholeTree problem key tallies }
 {}

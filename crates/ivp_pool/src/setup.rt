@@ -4,6 +4,7 @@ ghost use Rattle.best_word.specs.Known.{first_scout};
 ghost use Rattle.ivp_problem.specs.declared.node.Node.{Node};
 ghost use Rattle.ivp_pool.specs.Members.{absorbed, deques_of, doors_of, first_parts, IsNewMember, new_door, put_in, tag_of, taken_in, with_part_out, workers_of};
 
+use crate::close::Own;
 use crate::deque::{Deque, Door};
 use crate::rule::About;
 use crate::team::{Member, Worker};
@@ -46,6 +47,7 @@ pub(crate) fn team_of<K: About>(
         team.push(Member {
             worker: Worker {
                 scout: best.split(scout),
+                own: Own { key: None },
                 calls: 0,
                 work: Work { closed: 0 },
             },

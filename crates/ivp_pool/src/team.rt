@@ -5,7 +5,7 @@ ghost use Rattle.ivp_problem.specs.Trees.{IsNode, root_of};
 ghost use Rattle.ivp_pool.specs.Members.{Did, TookNode, Same};
 ghost use Rattle.ivp_pool.specs.Solving.{IsWorker, WentOn};
 
-use crate::close::close_one;
+use crate::close::{Own, close_one};
 use crate::deque::{Deque, Door};
 use crate::rule::About;
 use crate::tray::Tray;
@@ -21,6 +21,7 @@ use std::sync::Wait;
 #[derive(Drop)]
 pub(crate) struct Worker {
     pub(crate) scout: Scout,
+    pub(crate) own: Own,
     pub(crate) calls: u64,
     pub(crate) work: Work,
 }
@@ -91,7 +92,14 @@ pub(crate) fn close_next<T: Tray, G: Gate>(
 {
     gate.at_node(number, worker.calls);
     worker.calls = worker.calls.wrapping_add(1);
-    let closed = close_one(problem, best, &mut worker.scout, node, tray);
+    let closed = close_one(
+        problem,
+        best,
+        &mut worker.scout,
+        &mut worker.own,
+        node,
+        tray,
+    );
     worker.work.closed = worker.work.closed.wrapping_add(closed);
 }
 

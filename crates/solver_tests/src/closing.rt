@@ -1,7 +1,7 @@
 // One problem of twelve points, whose nodes go to trays that take all, none, or every second of them.
 use crate::made::{key_at, two};
-use best_word::{Best, key_in};
-use ivp_pool::{Tray, close_one, close_whole, parts_law, tally_law};
+use best_word::Best;
+use ivp_pool::{Own, Tray, close_one, close_whole, parts_law, tally_law};
 use ivp_problem::{Key, Node, Problem, greater_own, key_of};
 use std::alloc::Global;
 use std::process::Abort;
@@ -52,7 +52,8 @@ fn greatest_outside(problem: &Problem, nodes: &[Node]) -> Option<Key> {
 #[derive(Drop)]
 struct Outcome {
     closed: u64,
-    known: Option<Key>,
+    known: u64,
+    own: Option<Key>,
     nodes: Vec<Node>,
 }
 
@@ -74,31 +75,32 @@ fn close_root(
     let root = problem.root();
     parts_law(problem, &root);
     tally_law();
-    let closed = close_one(problem, &best, &mut scout, root, &mut pile);
-    let word = best.known(&mut scout);
-    let known = if word == 0 { None } else { Some(key_in(word)) };
+    let mut own = Own { key: None };
+    let closed = close_one(problem, &best, &mut scout, &mut own, root, &mut pile);
     Outcome {
         closed,
-        known,
+        known: best.known(&mut scout),
+        own: own.key,
         nodes: pile.nodes,
     }
 }
 
-/// A pile that takes these is left with so many nodes, where so many were closed and this key is known.
+/// A pile that takes these is left with so many nodes, where so many were closed and this key was found, whose sum all know.
 fn leaves(
     rt: &impl Abort,
     alloc: Global,
     takes: [bool; 2],
     left: usize,
     closed: u64,
-    known: Option<Key>,
+    found: Option<Key>,
 ) {
     let problem = two(rt, alloc);
     let outcome = close_root(rt, alloc, &problem, takes[0], takes[1]);
     assert_eq!(rt; outcome.nodes.len(), left);
     assert_eq!(rt; outcome.closed, closed);
-    assert_eq!(rt; outcome.known, known);
-    assert_eq!(rt; greatest_outside(&problem, &outcome.nodes), known);
+    assert_eq!(rt; outcome.own, found);
+    assert_eq!(rt; outcome.known, found.map_or(0, |key| key.sum));
+    assert_eq!(rt; greatest_outside(&problem, &outcome.nodes), found);
 }
 
 #[test]
@@ -117,15 +119,17 @@ fn every_second_is_taken(rt: HostRuntime) {
     leaves(&rt, rt.alloc(), [false, true], 1, 3, Some(key_of(55, 10)));
 }
 
-/// The whole tree at once: as many nodes as with a tray that takes none, and the key that a search by workers finds. The scout
-/// and every other one know it then.
+/// The whole tree at once: as many nodes as with a tray that takes none, and the key that a search by workers finds. Its sum is
+/// known to every scout then.
 #[test]
 fn whole_tree_at_once(rt: HostRuntime) {
     let alloc = rt.alloc();
     let problem = two(&rt, alloc);
     let (best, mut scout) = Best::make(alloc, &problem).expect(&rt, "memory");
     let mut other = best.split(&mut scout);
-    assert_eq!(rt; close_whole(&problem, &best, &mut scout), 4);
-    assert_eq!(rt; key_in(best.known(&mut scout)), key_of(75, 2));
-    assert_eq!(rt; key_in(best.known(&mut other)), key_of(75, 2));
+    let mut own = Own { key: None };
+    assert_eq!(rt; close_whole(&problem, &best, &mut scout, &mut own), 4);
+    assert_eq!(rt; own.key, Some(key_of(75, 2)));
+    assert_eq!(rt; best.known(&mut scout), 75);
+    assert_eq!(rt; best.known(&mut other), 75);
 }

@@ -1,12 +1,12 @@
 // One word and two scouts, on one thread.
 ghost use Rattle.std.specs.Prelude.{◌≡◌, IfSome, IsTrue};
 ghost use Rattle.ivp_domain.specs.Domains.{is_point};
-ghost use Rattle.ivp_problem.specs.Sums.{key_at};
+ghost use Rattle.ivp_problem.specs.Sums.{sum_at};
 
 use crate::made::{course, piece, problem_of};
-use best_word::{Best, key_in};
+use best_word::Best;
 use ivp_domain::Point;
-use ivp_problem::{Key, Problem, index_of_key, key_of, sum_at, sum_of};
+use ivp_problem::{Problem, sum_at};
 use std::alloc::Global;
 use std::process::Abort;
 
@@ -20,25 +20,25 @@ fn rising(rt: &impl Abort, alloc: Global) -> Problem {
     )
 }
 
-/// A point and its key.
+/// A point and its sum.
 #[derive(Clone, Copy)]
-struct Keyed {
+struct Summed {
     point: Point,
-    key: Key,
+    sum: u64,
 }
 
-/// The point at an index of the domain, with its key.
-fn point_with_key(problem: &Problem, index: u32) -> Option<Keyed>
+/// The point at an index of the domain, with its sum.
+fn point_with_sum(problem: &Problem, index: u32) -> Option<Summed>
     ensures point { IfSome result (λ one. IsTrue (is_point problem.now.axes one.point)) }
-    ensures key { IfSome result (λ one. key_at problem.now one.point ≡ one.key) }
+    ensures sum { IfSome result (λ one. sum_at problem.now one.point ≡ one.sum) }
 {
     let domain = problem.domain();
     if index >= domain.points() {
         return None;
     }
     let point = domain.point_at(index);
-    let key = key_of(sum_at(problem, &point), index);
-    Some(Keyed { point, key })
+    let sum = sum_at(problem, &point);
+    Some(Summed { point, sum })
 }
 
 #[test]
@@ -47,14 +47,13 @@ fn one_word(rt: HostRuntime) {
     let (best, mut one) = Best::make(rt.alloc(), &problem).expect(&rt, "memory");
     let mut two = best.split(&mut one);
     assert_eq!(rt; best.known(&mut two), 0);
-    let low = point_with_key(&problem, 3).expect(&rt, "a point");
-    let high = point_with_key(&problem, 5).expect(&rt, "a point");
-    assert!(rt; (sum_of(high.key), index_of_key(high.key)) == (1_200, 5));
-    let word = best.offer(&mut one, &problem, &high.point, high.key);
-    assert_eq!(rt; key_in(word), high.key);
-    // The other scout learns of it by the word alone, and a lesser key changes nothing.
-    assert_eq!(rt; best.known(&mut two), word);
-    assert_eq!(rt; best.offer(&mut two, &problem, &low.point, low.key), word);
+    let low = point_with_sum(&problem, 3).expect(&rt, "a point");
+    let high = point_with_sum(&problem, 5).expect(&rt, "a point");
+    assert_eq!(rt; high.sum, 1_200);
+    assert_eq!(rt; best.offer(&mut one, &problem, &high.point, high.sum), 1_200);
+    // The other scout learns of it by the word alone, and a lesser sum changes nothing.
+    assert_eq!(rt; best.known(&mut two), 1_200);
+    assert_eq!(rt; best.offer(&mut two, &problem, &low.point, low.sum), 1_200);
     best.join(&mut one, two);
-    assert_eq!(rt; best.known(&mut one), word);
+    assert_eq!(rt; best.known(&mut one), 1_200);
 }

@@ -65,3 +65,11 @@ returns-clause-empty g c =
           subst (HasEmptied number (deque_states start)) (sym (ap deque_states w.members-is ∙ ends_same members number d mid none.0))
           (emptied number (deque_states start) (deque_states members) d.deque (omega (arith, c.requires.number, ends_len start)) inv.ends (subst (λ (end : EndState). IsSettled end.hand) (sym (end_at members number d within)) none.1))
     ]
+
+pub close_next-requires-clause-worker : goal.close_next-requires-clause-worker
+close_next-requires-clause-worker g c κs within =
+    let members = c.loop.members in
+    let inv = c.loop.invariant in
+    let here : c.args.number < length members = omega (arith, c.requires.number, inv.did.len) in
+    let one = taken_out c.args.problem.now c.args.best.now c.in-Some-pop.node [] members c.args.number c.index-members-number.result c.pop.new.self here inv.did.workers c.in-Some-pop.ensures.1 in
+    one.workers 0 c.index-members-0.result (omega (arith, here, one.len))

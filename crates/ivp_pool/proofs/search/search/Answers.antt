@@ -3,6 +3,7 @@ use Rattle.std.proofs.lemmas.List.Elements.{recursion_from_All}
 use Rattle.ivp_problem.specs.Trees.{root_of}
 use Rattle.ivp_pool.specs.declared.team.Member.{Member}
 use Rattle.ivp_pool.specs.Members.{deques_of, IsNewMember, new_door}
+use Rattle.ivp_pool.specs.Parts.{Knowledge}
 use Rattle.ivp_pool.specs.Teams.{AllDid, AreBelow, closed_in}
 use Rattle.ivp_pool.proofs.Searching.{back_did, kept_doors, kept_parts, kept_rows, new_even, new_workers, root_did, searched_by}
 use Rattle.ivp_pool.proofs.Teams.{Searched}
@@ -27,11 +28,19 @@ take_back-requires-clause-parts g c =
     let same = c.work_all.ensures.same ∙ (c.deal.ensures.same ∙ shapes_set open' 0 c.index-members-0.result _ refl) in
     kept_parts c.args.problem.now c.args.best.now open' c.work_all.new.members same (omega (arith, c.requires.few, c.in_ok-open_doors.ensures.len)) c.in_ok-open_doors.ensures.new
 
+pub deal-requires-clause-workers : goal.deal-requires-clause-workers
+deal-requires-clause-workers g c κs within =
+    let problem = c.args.problem.now in
+    let word = c.args.best.now in
+    let open' = c.open_doors.new.members in
+    let workers = new_workers problem word (length open') open' c.in_ok-open_doors.ensures.new in
+    (root_did problem word c.close_root-nodes.result.items open' c.index-members-0.result c.close_root-nodes.new.worker (omega (arith, c.requires.some, c.in_ok-open_doors.ensures.len)) workers c.close_root-nodes.ensures.went).workers
+
 pub finish-requires-clause-workers : goal.finish-requires-clause-workers
 finish-requires-clause-workers g c κs within =
     (back_did c.args.problem.now c.args.best.now c.work_all.new.members c.take_back.new.members c.take_back.ensures.workers c.take_back.ensures.put c.take_back.ensures.taken c.work_all.ensures.did.workers).workers
 
-all : (g : _) (c : goal.After-drop-nodes g) → (key : ℕ) → AreBelow key c.finish.new.members → Searched c.args.problem.now key (closed_in c.finish.new.members)
+all : (g : _) (c : goal.After-drop-nodes g) → (key : Knowledge) → AreBelow key c.finish.new.members → Searched c.args.problem.now key (closed_in c.finish.new.members)
 all g c = λ key below.
     let problem = c.args.problem.now in
     let word = c.args.best.now in

@@ -1,5 +1,7 @@
 use Rattle.std.proofs.Common.{◌+◌, ◌^◌, ◌/◌}
 use Rattle.ivp_pool.specs.Parts.{handed_within}
+use Rattle.ivp_pool.specs.Solving.{knows_of}
+use Rattle.ivp_pool.proofs.Knowing.{knows_from}
 use Rattle.ivp_pool.proofs.Teams.{closed_one, counted_on, handed_nodes}
 use Rattle.ivp_pool.proofs.team.close_next.Goals as goal
 
@@ -12,11 +14,12 @@ returns-clause-went g c =
       record {
         at_word = c.close_one-closed.ensures.scout.0;
         scout = c.close_one-closed.ensures.scout.1;
-        later = c.close_one-closed.ensures.later;
+        later = knows_from (knows_of c.args.worker.now) (record { low = c.close_one-closed.new.scout.me.0.low; own = c.close_one-closed.new.own.key }) c.close_one-closed.ensures.later c.close_one-closed.ensures.greater;
+        owned = λ _. c.close_one-closed.ensures.own;
         count = c.close_one-closed.result;
         wraps = (c.args.worker.now.work.closed + c.close_one-closed.result) / 2 ^ 64;
         counted = counted_on c.args.worker.now.work.closed c.close_one-closed.result;
-        closed = closed_one problem c.close_one-closed.new.scout.me.0.low (g.T.Tray.took c.args.tray.now) (g.T.Tray.took c.close_one-closed.new.tray) c.args.node c.close_one-closed.result c.requires.node closed;
+        closed = closed_one problem (record { low = c.close_one-closed.new.scout.me.0.low; own = c.close_one-closed.new.own.key }) (g.T.Tray.took c.args.tray.now) (g.T.Tray.took c.close_one-closed.new.tray) c.args.node c.close_one-closed.result c.requires.node closed;
       },
-      handed_nodes problem c.close_one-closed.new.scout.me.0.low (g.T.Tray.took c.args.tray.now) (g.T.Tray.took c.close_one-closed.new.tray) c.args.node c.close_one-closed.result c.requires.node closed,
+      handed_nodes problem (record { low = c.close_one-closed.new.scout.me.0.low; own = c.close_one-closed.new.own.key }) (g.T.Tray.took c.args.tray.now) (g.T.Tray.took c.close_one-closed.new.tray) c.args.node c.close_one-closed.result c.requires.node closed,
     )
