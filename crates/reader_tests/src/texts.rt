@@ -2,7 +2,7 @@
 use moos_post::Milli;
 use moos_text::{
     Cause, Limit, Line, LineFault, Part, ReadFault, next_line, next_part, next_whole_line,
-    print_milli, print_seconds, read_milli, trimmed,
+    print_milli, print_unsigned, read_milli, trimmed,
 };
 
 // Texts, and the thousandths of the number that each is, if it is one.
@@ -79,7 +79,7 @@ const SECONDS: &[(u64, &[u8])] = &[
 #[test]
 fn printed_seconds(rt: HostRuntime) {
     for (milliseconds, text) in SECONDS {
-        assert_eq!(rt; print_seconds(*milliseconds).bytes(), *text);
+        assert_eq!(rt; print_unsigned(*milliseconds).bytes(), *text);
     }
 }
 
