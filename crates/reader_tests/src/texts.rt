@@ -68,8 +68,8 @@ fn printed(rt: HostRuntime) {
     }
 }
 
-// Milliseconds, and how each is printed in seconds.
-const SECONDS: &[(u64, &[u8])] = &[
+// Thousandths without a sign, and how each is printed.
+const UNSIGNED: &[(u64, &[u8])] = &[
     (0, b"0"),
     (500, b"0.5"),
     (1_000_000_000, b"1000000"),
@@ -77,9 +77,9 @@ const SECONDS: &[(u64, &[u8])] = &[
 ];
 
 #[test]
-fn printed_seconds(rt: HostRuntime) {
-    for (milliseconds, text) in SECONDS {
-        assert_eq!(rt; print_unsigned(*milliseconds).bytes(), *text);
+fn printed_unsigned(rt: HostRuntime) {
+    for (thousandths, text) in UNSIGNED {
+        assert_eq!(rt; print_unsigned(*thousandths).bytes(), *text);
     }
 }
 
