@@ -131,7 +131,7 @@ const REFUSED: &[(&[u8], u32, Cause)] = &[
         Cause::P1,
     ),
     (
-        b"ivp 1\ndomain a:0:1:2\nfunction 1\npiece 0 1 -1000000000001 0\n",
+        b"ivp 1\ndomain a:0:1:2\nfunction 1\npiece 0 1 -100000000000001 0\n",
         4,
         Cause::P1,
     ),
@@ -164,10 +164,11 @@ const REFUSED: &[(&[u8], u32, Cause)] = &[
         Cause::P2,
     ),
     (
-        b"ivp 1\ndomain a:0:1:2048\ndomain b:0:1:2049\n",
+        b"ivp 1\ndomain a:0:1:16384\ndomain b:0:1:16385\n",
         3,
         Cause::P2,
     ),
+    (b"ivp 1\ndomain a:0:268435456:268435457\n", 2, Cause::P2),
     // A box.
     (
         b"ivp 1\ndomain course:0:359:360\nfunction 100\npiece 0 360 7 0\nend\n",

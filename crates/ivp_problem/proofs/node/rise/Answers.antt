@@ -1,4 +1,4 @@
-use Rattle.std.proofs.Common.{◌≡◌, get_or, refl, pos, ◌*ℤ◌, ◌*◌, ◌^◌, to_z, of_z, arith}
+use Rattle.std.proofs.Common.{◌≡◌, get_or, refl, pos, ◌*ℤ◌, ◌*◌, ◌^◌, to_z, arith}
 use Rattle.std.proofs.lemmas.Int.{ints}
 use mir.Syntax.{w128}
 use Rattle.ivp_problem.specs.Trees.{slope_at}
