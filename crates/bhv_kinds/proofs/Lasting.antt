@@ -1,5 +1,5 @@
 -- The parameters after any updates and steps are valid where those of the file are, and the type needs the same axes.
-use Rattle.std.proofs.Common.{◌≡◌, ◌≤◌, ℕ, Bool, true, false, cond, Option, Some, None, List, [], ◌∷◌, refl, sym, ◌∙◌, subst}
+use Rattle.std.proofs.Common.{◌≡◌, ◌≤◌, ◌^◌, ℕ, Bool, true, false, cond, Option, Some, None, List, [], ◌∷◌, refl, sym, ◌∙◌, subst}
 use Rattle.std.specs.Prelude.{fold, IfSome, option_map, option_and_then, unwrap_or}
 use Rattle.moos_text.specs.Pairs.{Sides, sides_of}
 use Rattle.bhv_file.specs.declared.spec.Shape.{Shape}
