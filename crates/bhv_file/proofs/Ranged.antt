@@ -1,9 +1,8 @@
 -- A parameter that is set keeps the ranges.
-use Rattle.std.proofs.Common.{◌≡◌, ℕ, zero, suc, ◌+◌, ◌-◌, ◌≤◌, ◌/◌, ◌^◌, ◌==◌, ℤ, pos, negsuc, neg_ℤ, Bool, true, false, ◌&&◌, ◌||◌, not, nat_le, cond, List, [], ◌∷◌, length, map, take, drop, codes, bytes_eq, Option, Some, None, refl, ap, subst, sym, arith}
+use Rattle.std.proofs.Common.{◌≡◌, ℕ, zero, suc, ◌-◌, ◌≤◌, ◌^◌, ◌==◌, ℤ, pos, negsuc, neg_ℤ, Bool, true, false, ◌&&◌, ◌||◌, not, nat_le, cond, List, [], ◌∷◌, length, map, codes, bytes_eq, Option, Some, None, refl, ap, subst, sym, arith}
 use Rattle.std.specs.Prelude.{IfSome, find, int_le, nat_abs, option_map, option_and_then}
-use Rattle.std.specs.List.{list_all, slice_split}
+use Rattle.std.specs.List.{slice_split}
 use Rattle.std.proofs.lemmas.Bool.{and_from, and_parts, leb-true, le-leb}
-use Rattle.moos_post.specs.Words.{is_digit}
 use Rattle.moos_text.specs.Numbers.{milli_of, unsigned_of, whole_of}
 use Rattle.moos_text.proofs.Numerals.{unsigned_most}
 use Rattle.helm_geo.specs.declared.spot.Spot.{Spot}

@@ -39,8 +39,7 @@ pub(crate) const ALPHA: [&str; 3] = [
 ];
 
 // Weights of half a one and of a thousandth.
-pub(crate) const HALF_PROBLEM: &str =
-    "ivp 1\ndomain a:0:2:3\nfunction 0.5\npiece 0 2 0 10\nend\n";
+pub(crate) const HALF_PROBLEM: &str = "ivp 1\ndomain a:0:2:3\nfunction 0.5\npiece 0 2 0 10\nend\n";
 
 pub(crate) const HALF_DECISION: &str = "decision 2 10\ncut 0 : 10 2\ndone\n";
 
