@@ -106,7 +106,7 @@ same_name = refl
 fifth_axis : problem_of (codes "ivp 1\ndomain a:0:1:2\ndomain b:0:1:2\ndomain c:0:1:2\ndomain d:0:1:2\ndomain e:0:1:2\n") ≡ Err (At 6 P2)
 fifth_axis = refl
 
-too_many_points : problem_of (codes "ivp 1\ndomain a:0:1:2048\ndomain b:0:1:2049\n") ≡ Err (At 3 P2)
+too_many_points : problem_of (codes "ivp 1\ndomain a:0:1:16384\ndomain b:0:1:16385\n") ≡ Err (At 3 P2)
 too_many_points = refl
 
 -- a box that is empty, and one that reaches past the domain (above)

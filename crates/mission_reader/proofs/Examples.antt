@@ -31,10 +31,10 @@ no_behaviors = refl
 fifth : helm (codes "domain=a:0:1:2\ndomain=b:0:1:2\ndomain=c:0:1:2\ndomain=d:0:1:2\ndomain=e:0:1:2\n") ≡ Err (At 6 M3)
 fifth = refl
 
-repeated_before_large : helm (codes "domain=a:0:1:2048\ndomain=A:0:1:2049") ≡ Err (At 3 M3)
+repeated_before_large : helm (codes "domain=a:0:1:16384\ndomain=A:0:1:16385") ≡ Err (At 3 M3)
 repeated_before_large = refl
 
-large : helm (codes "domain=a:0:1:2048\ndomain=b:0:1:2049") ≡ Err (At 3 M4)
+large : helm (codes "domain=a:0:1:16384\ndomain=b:0:1:16385") ≡ Err (At 3 M4)
 large = refl
 
 tick : helm (codes "AppTick = 0.0009\n}") ≡ Err (At 2 M6)

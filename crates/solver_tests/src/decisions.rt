@@ -34,6 +34,7 @@ const HALVES: &[u8] =
 
 /// A weight below one, and the least weight of all.
 const HALF: &[u8] = b"ivp 1\ndomain a:0:2:3\nfunction 0.5\npiece 0 2 0 10\nend\n";
+
 const LEAST: &[u8] = b"ivp 1\ndomain a:0:2:3\nfunction 0.001\npiece 0 2 7 0\nend\n";
 
 fn greatest_by<L: Ledger>(problem: &Problem, blank: Blank) -> Key

@@ -55,7 +55,13 @@ fn refusals_in_order(rt: HostRuntime) {
     assert_eq!(rt; Domain::make(&axes).err(), Some(DomainFault::TooLarge));
     let axes = [good(&rt), axis_from(&rt, b"c", 5, 6, 2), good(&rt)];
     assert_eq!(rt; Domain::make(&axes).err(), Some(DomainFault::SameName(2)));
-    let axes = [axis_from(&rt, b"f", -1_000_000_000_000, 1_000_000_000_000, 268_435_456)];
+    let axes = [axis_from(
+        &rt,
+        b"f",
+        -1_000_000_000_000,
+        1_000_000_000_000,
+        268_435_456,
+    )];
     let domain = Domain::make(&axes).expect(&rt, "the most points");
     assert_eq!(rt; domain.points(), 268_435_456);
     assert_eq!(rt; number_of(&domain, 0, 134_217_727), Some(-3_726));

@@ -50,7 +50,10 @@ fn one_word(rt: HostRuntime) {
     let low = point_with_sum(&problem, 3).expect(&rt, "a point");
     let high = point_with_sum(&problem, 5).expect(&rt, "a point");
     assert_eq!(rt; high.sum, 1_200);
-    assert_eq!(rt; best.offer(&mut one, &problem, &high.point, high.sum), 1_200);
+    assert_eq!(rt;
+        best.offer(&mut one, &problem, &high.point, high.sum),
+        1_200
+    );
     // The other scout learns of it by the word alone, and a lesser sum changes nothing.
     assert_eq!(rt; best.known(&mut two), 1_200);
     assert_eq!(rt; best.offer(&mut two, &problem, &low.point, low.sum), 1_200);
