@@ -1,10 +1,10 @@
 -- A parameter that is set keeps the ranges.
-use Rattle.std.proofs.Common.{◌≡◌, ℕ, zero, suc, ◌+◌, ◌-◌, ◌≤◌, ◌/◌, ◌^◌, ◌==◌, ℤ, pos, negsuc, neg_ℤ, Bool, true, false, ◌&&◌, ◌||◌, not, nat_le, cond, List, [], ◌∷◌, length, map, take, drop, codes, bytes_eq, Option, Some, None, refl, ap, subst, sym, arith}
+use Rattle.std.proofs.Common.{◌≡◌, ℕ, zero, suc, ◌-◌, ◌≤◌, ◌^◌, ◌==◌, ℤ, pos, negsuc, neg_ℤ, Bool, true, false, ◌&&◌, ◌||◌, not, nat_le, cond, List, [], ◌∷◌, length, map, codes, bytes_eq, Option, Some, None, refl, ap, subst, sym, arith}
 use Rattle.std.specs.Prelude.{IfSome, find, int_le, nat_abs, option_map, option_and_then}
-use Rattle.std.specs.List.{list_all, slice_split}
+use Rattle.std.specs.List.{slice_split}
 use Rattle.std.proofs.lemmas.Bool.{and_from, and_parts, leb-true, le-leb}
-use Rattle.moos_post.specs.Words.{is_digit}
-use Rattle.moos_text.specs.Numbers.{is_numeral, milli_of, point_place, thousandths_of, unsigned_of, whole_of}
+use Rattle.moos_text.specs.Numbers.{milli_of, unsigned_of, whole_of}
+use Rattle.moos_text.proofs.Numerals.{unsigned_most}
 use Rattle.helm_geo.specs.declared.spot.Spot.{Spot}
 use Rattle.helm_geo.specs.Plane.{is_coordinate, is_spot}
 use Rattle.helm_geo.specs.Polygons.{are_spots, convex}
@@ -55,10 +55,8 @@ abs_within high (negsuc n) in' = absurd cc
 pub time_within : (text : List ℕ) → IfSome (time_value text) (λ time. time ≤ 10 ^ 9)
 time_within text = mapped (λ n. lies_between (pos 0) (pos (10 ^ 9)) n ≡ true) (λ time. time ≤ 10 ^ 9) nat_abs (number_value (pos 0) (pos (10 ^ 9)) text) (number_in (λ n. lies_between (pos 0) (pos (10 ^ 9)) n ≡ true) (pos 0) (pos (10 ^ 9)) text (λ n e. e)) (abs_within (10 ^ 9))
 
-pub weight_within : (text : List ℕ) → IfSome (weight_of text) (λ weight. weight ≤ 10000)
-weight_within text =
-    mapped (λ n. lies_between (pos 0) (pos 10000000) n ≡ true) (λ weight. weight ≤ 10000) (λ n. nat_abs n / 1000) (number_value (pos 0) (pos 10000000) text) (number_in (λ n. lies_between (pos 0) (pos 10000000) n ≡ true) (pos 0) (pos 10000000) text (λ n e. e))
-    (λ n e. let h = abs_within 10000000 n e in omega (arith, h))
+pub weight_within : (text : List ℕ) → IfSome (weight_of text) (λ weight. weight ≤ 10 ^ 7)
+weight_within text = mapped (λ n. lies_between (pos 0) (pos (10 ^ 7)) n ≡ true) (λ weight. weight ≤ 10 ^ 7) nat_abs (number_value (pos 0) (pos (10 ^ 7)) text) (number_in (λ n. lies_between (pos 0) (pos (10 ^ 7)) n ≡ true) (pos 0) (pos (10 ^ 7)) text (λ n e. e)) (abs_within (10 ^ 7))
 
 -- what was kept passes its test
 kept : {A : Type 0} (Q P : A → Type 0) (test : A → Bool) (o : Option A) → IfSome o Q → ((a : A) → Q a → test a ≡ true → P a) → IfSome (kept_if test o) P
@@ -80,22 +78,6 @@ repeat_within text = at (bytes_eq text (codes "forever"))
     at false = rest
 
 -- a number is within the bounds of a coordinate
-unsigned_within : (text : List ℕ) → IfSome (unsigned_of text) (λ n. n ≤ 10 ^ 12)
-unsigned_within text = at (is_numeral whole decimals) refl
-  where
-    whole : List ℕ
-    whole = take (point_place text) text
-
-    decimals : List ℕ
-    decimals = drop (suc (point_place text)) text
-
-    at : (b : Bool) → is_numeral whole decimals ≡ b → IfSome (cond b (Some (thousandths_of whole decimals)) None) (λ n. n ≤ 10 ^ 12)
-    at true e = leb-true (thousandths_of whole decimals) (10 ^ 12) (last_part e)
-      where
-        last_part : is_numeral whole decimals ≡ true → nat_le (thousandths_of whole decimals) (10 ^ 12) ≡ true
-        last_part h = (and_parts (list_all is_digit whole && list_all is_digit decimals && nat_le 1 (length whole + length decimals)) (nat_le (thousandths_of whole decimals) (10 ^ 12)) h).1
-    at false e = tt
-
 coordinate_up : (n : ℕ) → n ≤ 10 ^ 12 → is_coordinate (pos n) ≡ true
 coordinate_up n h = and_from true (nat_le n (10 ^ 12)) refl (le-leb n (10 ^ 12) h)
 
@@ -108,10 +90,10 @@ milli_within [] = tt
 milli_within (first ∷ rest) = at (first == 43) (first == 45)
   where
     up : (digits : List ℕ) → IfSome (option_map pos (unsigned_of digits)) (λ n. is_coordinate n ≡ true)
-    up digits = mapped (λ n. n ≤ 10 ^ 12) (λ n. is_coordinate n ≡ true) pos (unsigned_of digits) (unsigned_within digits) coordinate_up
+    up digits = mapped (λ n. n ≤ 10 ^ 12) (λ n. is_coordinate n ≡ true) pos (unsigned_of digits) (unsigned_most (10 ^ 12) digits) coordinate_up
 
     down : (digits : List ℕ) → IfSome (option_map (λ n. neg_ℤ (pos n)) (unsigned_of digits)) (λ n. is_coordinate n ≡ true)
-    down digits = mapped (λ n. n ≤ 10 ^ 12) (λ n. is_coordinate n ≡ true) (λ n. neg_ℤ (pos n)) (unsigned_of digits) (unsigned_within digits) coordinate_down
+    down digits = mapped (λ n. n ≤ 10 ^ 12) (λ n. is_coordinate n ≡ true) (λ n. neg_ℤ (pos n)) (unsigned_of digits) (unsigned_most (10 ^ 12) digits) coordinate_down
 
     at : (plus minus : Bool) → IfSome (cond plus (option_map pos (unsigned_of rest)) (cond minus (option_map (λ n. neg_ℤ (pos n)) (unsigned_of rest)) (option_map pos (unsigned_of (first ∷ rest))))) (λ n. is_coordinate n ≡ true)
     at true minus = up rest

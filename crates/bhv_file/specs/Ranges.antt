@@ -46,7 +46,7 @@ InRanges given (StationKeep point anew inner outer speed) =
 InRanges given (OpRegion polygon depth time) =
     IfSome polygon (λ vertices. IsTrue (are_vertices true vertices)) × IfSome depth (λ number. IsAllowed OfMaxDepth number) × IfSome time (λ milliseconds. milliseconds ≤ 10 ^ 9)
 
--- A behaviour's weight is at most 10,000, and each of its parameters is in its range.
+-- A behaviour's weight is at most 10,000, in thousandths, and each of its parameters is in its range.
 pub record KeepsRanges (spec : Spec) : Type 0 where
-  pub weight : spec.weight ≤ 10000
+  pub weight : spec.weight ≤ 10 ^ 7
   pub parameters : InRanges true spec.shape

@@ -1,5 +1,5 @@
 -- What the values of a behaviour's parameters say: numbers in a range, words, and lists of places.
-use Rattle.std.specs.Prelude.{ℕ, ◌/◌, ◌^◌, ◌==◌, ℤ, pos, int_le, nat_abs, Bool, true, false, ◌&&◌, ◌||◌, not, nat_le, if◌then◌else◌, List, [], ◌∷◌, length, take, drop, map, filter, codes, bytes_eq, Option, Some, None, option_map, option_and_then}
+use Rattle.std.specs.Prelude.{ℕ, ◌^◌, ◌==◌, ℤ, pos, int_le, nat_abs, Bool, true, false, ◌&&◌, ◌||◌, not, nat_le, if◌then◌else◌, List, [], ◌∷◌, length, take, drop, map, filter, codes, bytes_eq, Option, Some, None, option_map, option_and_then}
 use Rattle.std.specs.List.{slice_split}
 use Rattle.moos_text.specs.Lines.{ends_with, is_blank, without_last}
 use Rattle.moos_text.specs.Numbers.{milli_of, whole_of}
@@ -31,9 +31,9 @@ time_value text = option_map nat_abs (number_value (pos 0) (pos (10 ^ 9)) text)
 abbrev pub duration_of : List ℕ → Option (Option ℕ)
 duration_of text = if bytes_eq text (codes "no-time-limit") then Some None else option_map (λ time. Some time) (time_value text)
 
--- a weight: a number up to 10,000, of which the whole part counts
+-- a weight: a number up to 10,000, in thousandths
 abbrev pub weight_of : List ℕ → Option ℕ
-weight_of text = option_map (λ number. nat_abs number / 1000) (number_value (pos 0) (pos 10000000) text)
+weight_of text = option_map nat_abs (number_value (pos 0) (pos (10 ^ 7)) text)
 
 -- `true` or `false`
 abbrev pub flag_of : List ℕ → Option Bool

@@ -72,12 +72,12 @@ pub fn read_duration(text: &[u8]) -> Option<Option<u64>>
     }
 }
 
-/// A weight up to 10,000: the whole part of a number.
+/// A weight up to 10,000, in thousandths.
 pub fn read_weight(text: &[u8]) -> Option<u32>
     ensures { result ≡ weight_of text.now }
 {
     let number = read_number(0, 10_000_000, text)?;
-    Some((number / 1000) as u32)
+    Some(number as u32)
 }
 
 /// `true` or `false`.

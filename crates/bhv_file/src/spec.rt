@@ -11,7 +11,7 @@ pub type Spots = List<Spot>;
 /// A behaviour's weight and the parameters of its type.
 #[derive(Drop)]
 pub struct Spec {
-    /// Its weight beside the other behaviours, at most 10,000.
+    /// Its weight beside the other behaviours, in thousandths: at most 10,000,000.
     pub weight: u32,
     pub shape: Shape,
 }

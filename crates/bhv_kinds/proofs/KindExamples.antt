@@ -21,7 +21,7 @@ abbrev spot : ℕ → ℕ → Spot
 spot x y = record { x = pos (x * 1000); y = pos (y * 1000) }
 
 abbrev spec : Shape → Spec
-spec shape = record { weight = 100; shape = shape }
+spec shape = record { weight = 100000; shape = shape }
 
 -- a ship at a place in thousandths, and one whose north isn't a number
 abbrev ship_at : ℕ → ℕ → Knowledge
@@ -53,9 +53,9 @@ two = waypoint (spot 10 0 ∷ spot 12 0 ∷ []) (Some 0)
 abbrev come : ℕ → ℕ → Headway
 come captured again = record { captured = captured; again = again }
 
--- An update is refused as a whole, or all its pairs are taken. It is cut at each `#`, and of a weight the whole part counts.
+-- An update is refused as a whole, or all its pairs are taken. It is cut at each `#`, and a weight counts thousandths.
 whole : (updated two (codes "speed=1 # radius=abc") ≡ None) × (updated two (codes "speed=1 # radius=4") ≡ Some (spec (Waypoint (spot 10 0 ∷ spot 12 0 ∷ []) (pos 1000) (pos 4000) (pos 5000) false (Some 0))))
-    × (updated two (codes "Speed") ≡ None) × (updated two (codes "speed=1#") ≡ None) × (updated two (codes "heading=4") ≡ None) × (updated two (codes "PWT = 7.9") ≡ Some (record { weight = 7; shape = two.shape }))
+    × (updated two (codes "Speed") ≡ None) × (updated two (codes "speed=1#") ≡ None) × (updated two (codes "heading=4") ≡ None) × (updated two (codes "PWT = 7.9") ≡ Some (record { weight = 7900; shape = two.shape }))
     × (updated (spec Timer) (codes "duration=4") ≡ None)
 whole = (refl, refl, refl, refl, refl, refl, refl)
 

@@ -1,5 +1,5 @@
 -- The parameters after any updates and steps are valid where those of the file are, and the type needs the same axes.
-use Rattle.std.proofs.Common.{◌≡◌, ◌≤◌, ℕ, Bool, true, false, cond, Option, Some, None, List, [], ◌∷◌, refl, sym, ◌∙◌, subst}
+use Rattle.std.proofs.Common.{◌≡◌, ◌≤◌, ◌^◌, ℕ, Bool, true, false, cond, Option, Some, None, List, [], ◌∷◌, refl, sym, ◌∙◌, subst}
 use Rattle.std.specs.Prelude.{fold, IfSome, option_map, option_and_then, unwrap_or}
 use Rattle.moos_text.specs.Pairs.{Sides, sides_of}
 use Rattle.bhv_file.specs.declared.spec.Shape.{Shape}
@@ -24,7 +24,7 @@ param_ranges spec name value is = by (states_common name Weight) (weight_of valu
     set None h = tt
     set (Some shape) h = record { weight = is.weight; parameters = h }
 
-    by : (b : Bool) (weight : Option ℕ) → IfSome weight (λ w. w ≤ 10000) → (parameter : Option Parameter) → IfSome parameter (λ p. IfSome (with_value_of spec.shape p value) (InRanges true))
+    by : (b : Bool) (weight : Option ℕ) → IfSome weight (λ w. w ≤ 10 ^ 7) → (parameter : Option Parameter) → IfSome parameter (λ p. IfSome (with_value_of spec.shape p value) (InRanges true))
         → IfSome (cond b (option_map (λ weight. record spec { weight = weight }) weight) (option_map (λ shape. record spec { shape = shape }) (option_and_then (λ parameter. with_value_of spec.shape parameter value) parameter))) KeepsRanges
     by true None few parameter h = tt
     by true (Some weight) few parameter h = record { weight = few; parameters = is.parameters }

@@ -64,9 +64,9 @@ survey_unused : unused_of (behaviors_of domain survey) ≡ Ok (record { line = 1
 survey_unused = refl
 
 survey_specs : specs_of (behaviors_of domain survey)
-    ≡ Ok (record { weight = 100; shape = Waypoint (south 60 40 ∷ south 60 160 ∷ south 150 160 ∷ south 180 100 ∷ south 150 40 ∷ []) (pos 2000) (pos 5000) (pos 15000) false (Some 1) }
-    ∷ record { weight = 100; shape = Waypoint (south 0 20 ∷ []) (pos 2000) (pos 2000) (pos 8000) false (Some 0) }
-    ∷ record { weight = 100; shape = Depth (pos 10000) (pos 2000) (pos 20000) (pos 25000) } ∷ [])
+    ≡ Ok (record { weight = 100000; shape = Waypoint (south 60 40 ∷ south 60 160 ∷ south 150 160 ∷ south 180 100 ∷ south 150 40 ∷ []) (pos 2000) (pos 5000) (pos 15000) false (Some 1) }
+    ∷ record { weight = 100000; shape = Waypoint (south 0 20 ∷ []) (pos 2000) (pos 2000) (pos 8000) false (Some 0) }
+    ∷ record { weight = 100000; shape = Depth (pos 10000) (pos 2000) (pos 20000) (pos 25000) } ∷ [])
 survey_specs = refl
 
 survey_commons : commons_of (behaviors_of domain survey)
@@ -240,8 +240,8 @@ name_is_free = refl
 other_type : unused_of (behaviors_of domain (codes "Behavior = BHV_Timer {\nname = a\nHeading = x\npoints\t=\n}")) ≡ Ok (record { line = 3; name = codes "Heading" } ∷ record { line = 4; name = codes "points" } ∷ [])
 other_type = refl
 
--- of several values the last counts, and of a weight the whole part
-last_counts : specs_of (behaviors_of domain (codes "Behavior = BHV_ConstantSpeed {\nname = a\npwt = 3\nSPEED = 1\nspeed = 2.5\nPwt = 99.999\n}")) ≡ Ok (record { weight = 99; shape = Speed (pos 2500) (pos 100) (pos 1000) (pos 25000) } ∷ [])
+-- of several values the last counts, and of a weight three decimals
+last_counts : specs_of (behaviors_of domain (codes "Behavior = BHV_ConstantSpeed {\nname = a\npwt = 3\nSPEED = 1\nspeed = 2.5\nPwt = 99.9999\n}")) ≡ Ok (record { weight = 99999; shape = Speed (pos 2500) (pos 100) (pos 1000) (pos 25000) } ∷ [])
 last_counts = refl
 
 both_forms : shapes_of (behaviors_of domain (codes "Behavior = BHV_Loiter {\nname = a\nspeed = 1\npolygon = pts={ 0 , 0 :4,0:4,4 }\n}\nBehavior = BHV_Waypoint {\nname = b\nspeed = 1\npolygon = 1 0,2\nradius = 1\norder = reversed\nrepeat = forever\n}"))
@@ -257,12 +257,12 @@ stations = refl
 
 -- one parameter of a station
 abbrev station : Spec
-station = record { weight = 100; shape = StationKeep None true (pos 4000) (pos 15000) (pos 1200) }
+station = record { weight = 100000; shape = StationKeep None true (pos 4000) (pos 15000) (pos 1200) }
 
-no_relation_is_judged : with_param station (codes "Outer_Radius") (codes "1") ≡ Some (record { weight = 100; shape = StationKeep None true (pos 4000) (pos 1000) (pos 1200) })
+no_relation_is_judged : with_param station (codes "Outer_Radius") (codes "1") ≡ Some (record { weight = 100000; shape = StationKeep None true (pos 4000) (pos 1000) (pos 1200) })
 no_relation_is_judged = refl
 
-weight_is_set : with_param station (codes "pwt") (codes "7.9") ≡ Some (record { weight = 7; shape = station.shape })
+weight_is_set : with_param station (codes "pwt") (codes "7.9") ≡ Some (record { weight = 7900; shape = station.shape })
 weight_is_set = refl
 
 name_is_not_set : with_param station (codes "name") (codes "b") ≡ None

@@ -42,7 +42,7 @@ pub record IsDraft (blocks : List Block) (behavior : Behavior) : Type 0 where
   pub few_conds : length behavior.conds ≤ 64
   pub few_flags : flags_in behavior ≤ 32
   pub lasts : IfSome behavior.duration (λ time. time ≤ 10 ^ 9)
-  pub weight : behavior.spec.weight ≤ 10000
+  pub weight : behavior.spec.weight ≤ 10 ^ 7
   pub ranges : InRanges false behavior.spec.shape
   pub named : IfSome behavior.name (λ name. IsTrue (is_name name) × (is_taken blocks name ≡ false))
   pub updates : IfSome behavior.updates (λ name. IsTrue (is_name name))
@@ -127,7 +127,7 @@ common_drafted blocks b value Name h =
     (λ free. record { few_conds = h.few_conds; few_flags = h.few_flags; lasts = h.lasts; weight = h.weight; ranges = h.ranges; named = (is, free); updates = h.updates; conds = h.conds; flags = h.flags }))
 common_drafted blocks b value Weight h =
     put_good (IsDraft blocks) (λ weight. record b { spec = record b.spec { weight = weight } }) (weight_of value)
-    (some_weaker (λ weight. weight ≤ 10000) (λ weight. IsDraft blocks (record b { spec = record b.spec { weight = weight } })) (weight_of value) (weight_within value)
+    (some_weaker (λ weight. weight ≤ 10 ^ 7) (λ weight. IsDraft blocks (record b { spec = record b.spec { weight = weight } })) (weight_of value) (weight_within value)
     (λ weight in'. record { few_conds = h.few_conds; few_flags = h.few_flags; lasts = h.lasts; weight = in'; ranges = h.ranges; named = h.named; updates = h.updates; conds = h.conds; flags = h.flags }))
 common_drafted blocks b value OfCondition h =
     and_then_good HasNames (IsDraft blocks) (with_behavior_condition b) (ok_or (condition_of value) B5) (some_good HasNames (condition_of value) B5 (names_named value))

@@ -43,7 +43,7 @@ of_shape shape = record {
   perpetual = false;
   template = false;
   given = not (needs_number shape);
-  spec = record { weight = 100; shape = shape };
+  spec = record { weight = 100000; shape = shape };
 }
 
 -- a behaviour of the type of this name

@@ -76,7 +76,10 @@ impl Behavior {
             perpetual: false,
             template: false,
             given: !needs_number(&shape),
-            spec: Spec { weight: 100, shape },
+            spec: Spec {
+                weight: 100_000,
+                shape,
+            },
         })
     }
 

@@ -201,7 +201,7 @@ timer number conds updates perpetual = record {
     perpetual = perpetual;
     template = false;
   };
-  spec = record { weight = 100; shape = Timer };
+  spec = record { weight = 100000; shape = Timer };
 }
 
 -- such a behaviour is this

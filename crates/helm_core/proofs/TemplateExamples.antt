@@ -40,7 +40,7 @@ course = record { name = codes "course"; low = pos 0; high = pos 359000; points 
 abbrev block : List ℕ → Option (List ℕ) → Bool → Block
 block name updates perpetual = record {
   common = record { name = name; conds = []; runflags = []; idleflags = []; activeflags = []; inactiveflags = []; endflags = number_pair (codes "END") (pos 1) ∷ []; updates = updates; duration = Some 500; idle_decay = true; perpetual = perpetual; template = bytes_eq name (codes "tmpl") };
-  spec = record { weight = 100; shape = Timer };
+  spec = record { weight = 100000; shape = Timer };
 }
 
 abbrev plan_with : List Block → Plan
@@ -73,7 +73,7 @@ row_end = refl
 abbrev weights : List BhvSoFar → List ℕ
 weights ones = map (λ one. (params_at one.block.spec one.turns).weight) ones
 
-row_weights : map (λ i. weights (list_at plan row i)) (0 ∷ 1 ∷ 2 ∷ 3 ∷ []) ≡ (5 ∷ []) ∷ (5 ∷ []) ∷ (5 ∷ []) ∷ [] ∷ []
+row_weights : map (λ i. weights (list_at plan row i)) (0 ∷ 1 ∷ 2 ∷ 3 ∷ []) ≡ (5000 ∷ []) ∷ (5000 ∷ []) ∷ (5000 ∷ []) ∷ [] ∷ []
 row_weights = refl
 
 -- Its name is free again in the iteration after it completed; what is then made of it is another one, and begins anew.
@@ -92,7 +92,7 @@ births ones = map (λ one. one.born) ones
 again_births : map (λ i. births (list_at plan again i)) (1 ∷ 2 ∷ []) ≡ (Some (record { iteration = 0; letter = 0 }) ∷ []) ∷ (Some (record { iteration = 2; letter = 0 }) ∷ []) ∷ []
 again_births = refl
 
-again_weights : map (λ i. weights (list_at plan again i)) (0 ∷ 1 ∷ 2 ∷ []) ≡ (100 ∷ []) ∷ (7 ∷ []) ∷ (9 ∷ []) ∷ []
+again_weights : map (λ i. weights (list_at plan again i)) (0 ∷ 1 ∷ 2 ∷ []) ≡ (100000 ∷ []) ∷ (7000 ∷ []) ∷ (9000 ∷ []) ∷ []
 again_weights = refl
 
 -- What a text says to a template.

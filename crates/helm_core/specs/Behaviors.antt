@@ -104,7 +104,7 @@ begun_at axes seen one =
 abbrev pub has_fault : BegunTurn → Bool
 has_fault one = is_some one.out.fault
 
--- the weight that it has
+-- the weight that it has, in thousandths
 abbrev pub weight_now : BegunTurn → ℕ
 weight_now one = (params_at one.standing.block.spec one.standing.turns).weight
 

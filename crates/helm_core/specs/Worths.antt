@@ -1,5 +1,5 @@
--- What a point is worth to all behaviours of an iteration: each one's weight times what it wants there, by the formulas of its
--- type. The sum of a decision's problem is this, and its best point is the first that none exceeds in it.
+-- What a point is worth to all behaviours of an iteration: each one's weight, in thousandths, times what it wants there, by the
+-- formulas of its type. The sum of a decision's problem is this, and its best point is the first that none exceeds in it.
 use Rattle.std.specs.Prelude.{◌≡◌, ℕ, ◌*◌, ◌<◌, ◌≤◌, ◌⊎◌, Bool, true, false, IsTrue, IfSome, List, sum_by, Option, Some, None}
 use Rattle.ivp_domain.specs.declared.axis.Axis.{Axis}
 use Rattle.ivp_domain.specs.declared.boxes.Point.{Point}

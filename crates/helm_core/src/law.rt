@@ -28,7 +28,7 @@ pub fn plan_law()
 {}
 
 /// What holds of what a helm of a valid mission and a valid behaviour file decides, whatever it hears: the sum at each point is
-/// what the point is worth to all behaviours, each one's weight times its utility there. It does nothing.
+/// what the point is worth to all behaviours, each one's weight in thousandths times its utility there. It does nothing.
 pub fn worth_law()
     ensures { ValidFilesDecideByWorth }
 {

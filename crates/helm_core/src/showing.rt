@@ -11,7 +11,7 @@ pub(crate) struct Showing {
     pub taken: List<bool>,
     // What its step gave.
     pub out: Out,
-    // Its weight beside the other behaviours.
+    // Its weight beside the other behaviours, in thousandths.
     pub weight: u32,
     // Whether its function counts.
     pub active: bool,

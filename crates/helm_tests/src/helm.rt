@@ -8,7 +8,7 @@ use helm_core::{Helm, Iteration};
 use moos_db::{Letter, Mail};
 use moos_io::NoGate;
 use moos_post::{Batch, Pair, Post, Regs, Value};
-use moos_text::{print_milli, print_seconds, read_pair};
+use moos_text::{print_milli, print_unsigned, read_pair};
 use std::alloc::Global;
 use std::process::Abort;
 use std::str::SplitWhitespace;
@@ -83,7 +83,7 @@ fn parked_word(parked: bool) -> &'static [u8] {
 // The stamp in seconds, whether it is parked, the mode, the states, and the posts.
 fn shown(rt: &impl Abort, alloc: Global, iteration: &Iteration) -> Vec<u8> {
     let mut text = Vec::new(alloc);
-    append(rt, &mut text, &[print_seconds(iteration.stamp).bytes()]);
+    append(rt, &mut text, &[print_unsigned(iteration.stamp).bytes()]);
     append(rt, &mut text, &[parked_word(iteration.parked)]);
     append(rt, &mut text, &[iteration.mode.bytes(), b":"]);
     for state in iteration.states.all() {
@@ -249,7 +249,7 @@ fn decided(rt: HostRuntime) {
 fn show_wants(rt: &impl Abort, text: &mut Vec<u8>, wants: &Regs) {
     for reg in wants.all() {
         append(rt, text, &[reg.var.bytes(), b" ", reg.source.bytes(), b" "]);
-        append(rt, text, &[print_seconds(reg.interval).bytes(), b", "]);
+        append(rt, text, &[print_unsigned(reg.interval).bytes(), b", "]);
     }
 }
 

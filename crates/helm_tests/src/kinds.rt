@@ -20,7 +20,7 @@ use std::sync::ledger::{Blank, Ledger};
 #[tactic(auto, using(bhv_kinds::proofs::KindExamples::station_valid))]
 pub(crate) fn station() -> Kind {
     Kind::make(Spec {
-        weight: 100,
+        weight: 100_000,
         shape: Shape::StationKeep {
             station_pt: None,
             center_activate: true,
@@ -41,14 +41,14 @@ pub(crate) fn update(rt: &impl Abort, alloc: Global, kind: &mut Kind, said: &str
 }
 
 // Whether an update is taken, the weight that it leaves, and the update.
-const UPDATES: &str = "no 100 inner_radius=15
-yes 100 inner_radius=20 # outer_radius=30
-yes 100 inner_radius=29
-no 100 center_activate=false
-yes 7 PWT = 7.9
-no 7 pwt=8#outer_speed=fast
-no 7 pwt=8#
-yes 9 center_activate=false#point=1,2#pwt=9";
+const UPDATES: &str = "no 100000 inner_radius=15
+yes 100000 inner_radius=20 # outer_radius=30
+yes 100000 inner_radius=29
+no 100000 center_activate=false
+yes 7900 PWT = 7.9
+no 7900 pwt=8#outer_speed=fast
+no 7900 pwt=8#
+yes 9000 center_activate=false#point=1,2#pwt=9";
 
 fn takes(rt: &impl Abort, alloc: Global, kind: &mut Kind, row: &str) {
     let mut parts = row.splitn(3, ' ');
@@ -126,7 +126,7 @@ pub(crate) fn value(func: &Func, index: u32) -> Option<i64> {
 #[tactic(auto, using(bhv_kinds::proofs::KindExamples::course_valid))]
 fn course() -> Kind {
     Kind::make(Spec {
-        weight: 100,
+        weight: 100_000,
         shape: Shape::Heading {
             heading: 0,
             peakwidth: 90_000,
@@ -139,7 +139,7 @@ fn course() -> Kind {
 #[tactic(auto, using(bhv_kinds::proofs::KindExamples::speed_valid))]
 fn speed() -> Kind {
     Kind::make(Spec {
-        weight: 100,
+        weight: 100_000,
         shape: Shape::Speed {
             speed: 0,
             peakwidth: 1_000,
@@ -152,7 +152,7 @@ fn speed() -> Kind {
 #[tactic(auto, using(bhv_kinds::proofs::KindExamples::depth_valid))]
 fn depth() -> Kind {
     Kind::make(Spec {
-        weight: 100,
+        weight: 100_000,
         shape: Shape::Depth {
             depth: 0,
             peakwidth: 10_000,
@@ -165,7 +165,7 @@ fn depth() -> Kind {
 #[tactic(auto, using(bhv_kinds::proofs::KindExamples::limit_valid))]
 fn limit() -> Kind {
     Kind::make(Spec {
-        weight: 100,
+        weight: 100_000,
         shape: Shape::MaxDepth {
             max_depth: 0,
             basewidth: 20_000,
@@ -176,7 +176,7 @@ fn limit() -> Kind {
 #[tactic(auto, using(bhv_kinds::proofs::KindExamples::timer_valid))]
 fn timer() -> Kind {
     Kind::make(Spec {
-        weight: 100,
+        weight: 100_000,
         shape: Shape::Timer,
     })
 }
@@ -184,7 +184,7 @@ fn timer() -> Kind {
 #[tactic(auto, using(bhv_kinds::proofs::KindExamples::region_valid))]
 fn region() -> Kind {
     Kind::make(Spec {
-        weight: 100,
+        weight: 100_000,
         shape: Shape::OpRegion {
             polygon: None,
             max_depth: None,

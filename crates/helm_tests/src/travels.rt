@@ -103,7 +103,7 @@ fn travels(rt: &impl Abort, alloc: Global, kind: &mut Kind, said: &str, rows: &s
 fn waypoint(rt: &impl Abort, alloc: Global) -> Kind {
     match Vec::from_slice(alloc, &[Spot { x: 0, y: 0 }]) {
         Ok(points) => Kind::make(Spec {
-            weight: 100,
+            weight: 100_000,
             shape: Shape::Waypoint {
                 points: Spots::of(points),
                 speed: 1000,
@@ -131,7 +131,7 @@ fn loiter(rt: &impl Abort, alloc: Global) -> Kind {
     ];
     match Vec::from_slice(alloc, &vertices) {
         Ok(polygon) => Kind::make(Spec {
-            weight: 100,
+            weight: 100_000,
             shape: Shape::Loiter {
                 polygon: Spots::of(polygon),
                 speed: 1000,

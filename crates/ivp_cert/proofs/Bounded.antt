@@ -1,16 +1,14 @@
 -- The sums of a decision that was read are within the format's bounds.
-use Rattle.std.proofs.Common.{◌≡◌, ℕ, suc, ◌+◌, ◌≤◌, Bool, true, false, cond, ◌&&◌, nat_lt, nat_le, Option, Some, None, Result, Ok, Err, List, [], ◌∷◌, ◌++◌, length, refl, ap, sym, subst, ◌∙◌, arith}
-use Rattle.std.specs.Prelude.{bytes_eq, codes, IfOk, max}
-use Rattle.std.specs.List.{list_all, AllByRecursion as Each}
+use Rattle.std.proofs.Common.{◌≡◌, ℕ, suc, ◌+◌, ◌*◌, ◌^◌, ◌≤◌, Bool, true, false, cond, nat_lt, Option, Some, None, Result, Ok, Err, List, [], ◌∷◌, ◌++◌, length, refl, ap, sym, subst, ◌∙◌, arith}
+use Rattle.std.specs.Prelude.{bytes_eq, codes, IfOk, IfSome, max}
+use Rattle.std.specs.List.{AllByRecursion as Each}
 use Rattle.std.specs.Option.{option_and_then, option_map}
-use Rattle.std.proofs.lemmas.Bool.{leb-true}
 use Rattle.moos_io.proofs.Lists.{each_append, each_at}
-use Rattle.moos_post.specs.Words.{is_digit}
 use Rattle.moos_text.specs.declared.cause.Cause.{Cause}
 use Rattle.moos_text.specs.declared.cause.Cause.TheVariants.{P1, P10}
 use Rattle.moos_text.specs.declared.cause.ReadFault.{ReadFault}
 use Rattle.moos_text.specs.Lines.{raw_lines}
-use Rattle.moos_text.specs.Numbers.{digits_value}
+use Rattle.moos_text.proofs.Numerals.{unsigned_most}
 use Rattle.ivp_problem.specs.Problems.{WeightedSum}
 use Rattle.ivp_cert.specs.declared.cert.Line.{Line}
 use Rattle.ivp_cert.specs.declared.claim.Decision.{Decision}
@@ -23,15 +21,15 @@ use Rattle.ivp_cert.specs.Decisions.{are_on, bound_with, claimed, decision_of, i
 use Rattle.ivp_cert.specs.Problems.{nothing_behind, problem_of}
 use Rattle.ivp_cert.specs.Stages.{after_cuts, after_problem, after_stage, after_word, stage_after, as_now, phase_after, after_lines, whole_decision, whole_problem}
 use Rattle.moos_text.specs.Refusals.{and_then, at_line}
-use Rattle.ivp_cert.specs.Words.{line_words, natural_of, place_of}
+use Rattle.ivp_cert.specs.Words.{line_words, place_of}
 use Rattle.ivp_cert.specs.Printed.{HasSums}
 use Rattle.ivp_cert.proofs.Following.{decision_read, problem_read}
 use Rattle.ivp_cert.proofs.Reading.{IsRead}
 
 -- the claim's sum, and those of the lines
 record KeepsSums (decision : Decision) : Type 0 where
-  pub sum : decision.claim.sum ≤ 64000000000
-  pub sums : Each (λ (line : Line). line.sum ≤ 64000000000) decision.cert
+  pub sum : decision.claim.sum ≤ 64 * 10 ^ 12
+  pub sums : Each (λ (line : Line). line.sum ≤ 64 * 10 ^ 12) decision.cert
 
 abbrev Good : Phase → Type 0
 Good (OfProblem stage) = Unit {0}
@@ -55,24 +53,19 @@ some_of : {A B : Type 0} (f : A → Option B) (o : Option A) (b : B) → option_
 some_of f None b e = absurd (cc)
 some_of f (Some a) b e = (a, refl, e)
 
-natural_most : (most : ℕ) (word : List ℕ) (n : ℕ) → natural_of most word ≡ Some n → n ≤ most
-natural_most most word n e = by (nat_lt 0 (length word) && list_all is_digit word) (nat_le (digits_value word) most) refl e
-  where
-    by : (front fits : Bool) → nat_le (digits_value word) most ≡ fits → cond (front && fits) (Some (digits_value word)) None ≡ Some n → n ≤ most
-    by true true f e = let same : digits_value word ≡ n = cc in subst (λ m. m ≤ most) same (leb-true (digits_value word) most f)
-    by true false f e = absurd (cc)
-    by false fits f e = absurd (cc)
+sum_most : (word : List ℕ) (n : ℕ) → sum_word word ≡ Some n → n ≤ 64 * 10 ^ 12
+sum_most word n e = subst (λ (o : Option ℕ). IfSome o (λ m. m ≤ 64 * 10 ^ 12)) e (unsigned_most (64 * 10 ^ 12) word)
 
 -- the sum of a `decision` line
 abbrev sum_in : Option Spelled → ℕ
 sum_in None = 0
 sum_in (Some of) = of.sum
 
-one_sum : (places word : List ℕ) (o : Option ℕ) (of : Spelled) → sum_word word ≡ o → option_map (spelled_with places) o ≡ Some of → of.sum ≤ 64000000000
+one_sum : (places word : List ℕ) (o : Option ℕ) (of : Spelled) → sum_word word ≡ o → option_map (spelled_with places) o ≡ Some of → of.sum ≤ 64 * 10 ^ 12
 one_sum places word None of f e = absurd (cc)
-one_sum places word (Some n) of f e = let same : n ≡ of.sum = ap sum_in e in subst (λ m. m ≤ 64000000000) same (natural_most 64000000000 word n f)
+one_sum places word (Some n) of f e = let same : n ≡ of.sum = ap sum_in e in subst (λ m. m ≤ 64 * 10 ^ 12) same (sum_most word n f)
 
-spelled_sum : (places : List ℕ) (words : List (List ℕ)) (of : Spelled) → spelled places words ≡ Some of → of.sum ≤ 64000000000
+spelled_sum : (places : List ℕ) (words : List (List ℕ)) (of : Spelled) → spelled places words ≡ Some of → of.sum ≤ 64 * 10 ^ 12
 spelled_sum places [] of e = absurd (cc)
 spelled_sum places (word ∷ []) of e = one_sum places word (sum_word word) of refl e
 spelled_sum places (word ∷ next ∷ rest) of e =
@@ -84,22 +77,22 @@ abbrev line_sum : Option Line → ℕ
 line_sum None = 0
 line_sum (Some line) = line.sum
 
-bound_sum : (path : List ℕ) (sum : List ℕ) (s index : Option ℕ) (line : Line) → sum_word sum ≡ s → line_with path s index ≡ Some line → line.sum ≤ 64000000000
-bound_sum path sum (Some n) (Some k) line f e = let same : n ≡ line.sum = ap line_sum e in subst (λ m. m ≤ 64000000000) same (natural_most 64000000000 sum n f)
+bound_sum : (path : List ℕ) (sum : List ℕ) (s index : Option ℕ) (line : Line) → sum_word sum ≡ s → line_with path s index ≡ Some line → line.sum ≤ 64 * 10 ^ 12
+bound_sum path sum (Some n) (Some k) line f e = let same : n ≡ line.sum = ap line_sum e in subst (λ m. m ≤ 64 * 10 ^ 12) same (sum_most sum n f)
 bound_sum path sum (Some n) None line f e = absurd (cc)
 bound_sum path sum None index line f e = absurd (cc)
 
-cut_sum : (path : List ℕ) (words : List (List ℕ)) (line : Line) → bound_with path words ≡ Some line → line.sum ≤ 64000000000
+cut_sum : (path : List ℕ) (words : List (List ℕ)) (line : Line) → bound_with path words ≡ Some line → line.sum ≤ 64 * 10 ^ 12
 cut_sum path [] line e = absurd (cc)
 cut_sum path (sum ∷ []) line e = absurd (cc)
 cut_sum path (sum ∷ index ∷ []) line e = bound_sum path sum (sum_word sum) (place_of index) line refl e
 cut_sum path (sum ∷ index ∷ more ∷ rest) line e = absurd (cc)
 
-from_sum : (path : List ℕ) (words : List (List ℕ)) (line : Line) → line_from path words ≡ Some line → line.sum ≤ 64000000000
+from_sum : (path : List ℕ) (words : List (List ℕ)) (line : Line) → line_from path words ≡ Some line → line.sum ≤ 64 * 10 ^ 12
 from_sum path [] line e = absurd (cc)
 from_sum path (word ∷ words) line e = by (bytes_eq word (codes ":")) (nat_lt (length path) 64) (λ number. from_sum (path ++ number ∷ []) words line) e
   where
-    by : (colon room : Bool) → ((number : ℕ) → line_from (path ++ number ∷ []) words ≡ Some line → line.sum ≤ 64000000000) → cond colon (bound_with path words) (cond room (option_and_then (λ number. line_from (path ++ number ∷ []) words) (place_of word)) None) ≡ Some line → line.sum ≤ 64000000000
+    by : (colon room : Bool) → ((number : ℕ) → line_from (path ++ number ∷ []) words ≡ Some line → line.sum ≤ 64 * 10 ^ 12) → cond colon (bound_with path words) (cond room (option_and_then (λ number. line_from (path ++ number ∷ []) words) (place_of word)) None) ≡ Some line → line.sum ≤ 64 * 10 ^ 12
     by true room more e = cut_sum path words line e
     by false true more e = let one = some_of (λ number. line_from (path ++ number ∷ []) words) (place_of word) line e in more one.0 one.2
     by false false more e = absurd (cc)
@@ -115,7 +108,7 @@ of_good : (r : Result Stage ReadFault) (next : Phase) → as_now OfProblem r ≡
 of_good (Ok stage) next e = good_at (OfProblem stage) next e tt
 of_good (Err fault) next e = absurd (cc)
 
-claimed_good : (problem : WeightedSum) (of : Spelled) (decision : Decision) → of.sum ≤ 64000000000 → claimed problem of ≡ Ok decision → KeepsSums decision
+claimed_good : (problem : WeightedSum) (of : Spelled) (decision : Decision) → of.sum ≤ 64 * 10 ^ 12 → claimed problem of ≡ Ok decision → KeepsSums decision
 claimed_good problem of decision few e = by (are_on problem.axes of.places) e
   where
     bare : Decision
@@ -147,7 +140,7 @@ cuts_good decision word words next good e = by (bytes_eq word (codes "cut")) (by
         let more = then_of (λ decision. Ok (OfCuts decision)) (with_cut decision words) next e in
         let one = then_of (λ line. Ok (with_line decision line)) (in_form (line_from [] words)) more.0 more.1 in
         let few = from_sum [] words one.0 (form_of (line_from [] words) one.0 one.1) in
-        let keeps : KeepsSums (with_line decision one.0) = record { sum = good.sum; sums = each_append (λ (line : Line). line.sum ≤ 64000000000) decision.cert (one.0 ∷ []) good.sums (few, tt) } in
+        let keeps : KeepsSums (with_line decision one.0) = record { sum = good.sum; sums = each_append (λ (line : Line). line.sum ≤ 64 * 10 ^ 12) decision.cert (one.0 ∷ []) good.sums (few, tt) } in
         let same : with_line decision one.0 ≡ more.0 = ok_inside one.2 in
         good_at (OfCuts more.0) next more.2 (subst KeepsSums same keeps)
     by false true e = done_good decision words next good e
@@ -186,7 +179,7 @@ read_keeps bytes decision e =
 pub read_sums : (bytes : List ℕ) (answer : Result Decision ReadFault) → decision_of bytes ≡ answer → IfOk answer HasSums
 read_sums bytes (Ok decision) e =
     let kept = read_keeps bytes decision e in
-    record { claim = kept.sum; lines = λ k line at. each_at (λ (l : Line). l.sum ≤ 64000000000) decision.cert k line kept.sums at }
+    record { claim = kept.sum; lines = λ k line at. each_at (λ (l : Line). l.sum ≤ 64 * 10 ^ 12) decision.cert k line kept.sums at }
 read_sums bytes (Err fault) e = tt
 
 -- where no line is left

@@ -117,18 +117,18 @@ lesser_point_refused : Accepts two (record { point = point_from 2 1 0 0; sum = 5
 lesser_point_refused is = let first = is.lines 0 (record { path = 0 ∷ 0 ∷ []; sum = 75; index = 2 }) refl in omega (arith, first.sum, at_most_sum (bound_of two first.node) (key_of 55 10) first.most)
 
 abbrev pub problem_bytes : List ℕ
-problem_bytes = codes "ivp 1\ndomain a:0:2:3\ndomain b:0:1:2\ndomain d:0:1:2\nfunction 2\npiece 0 2 0 1 0 1 0 10 0 0\nfunction 3\npiece 0 0 0 1 0 1 20 0 5 0\npiece 1 2 0 1 0 1 0 0 5 0\nend\n"
+problem_bytes = codes "ivp 1\ndomain a:0:2:3\ndomain b:0:1:2\ndomain d:0:1:2\nfunction 0.002\npiece 0 2 0 1 0 1 0 10 0 0\nfunction 0.003\npiece 0 0 0 1 0 1 20 0 5 0\npiece 1 2 0 1 0 1 0 0 5 0\nend\n"
 
 abbrev pub decision : Decision
 decision = record { problem = two; claim = record { point = point_from 0 1 0 0; sum = 75 }; cert = lines }
 
-decision_is : decision_of (problem_bytes ++ codes "decision 0 1 0 75\ncut 0 0 : 75 2\ncut 0 1 : 55 10\ndone\n") ≡ Ok decision
+decision_is : decision_of (problem_bytes ++ codes "decision 0 1 0 0.075\ncut 0 0 : 0.075 2\ncut 0 1 : 0.055 10\ndone\n") ≡ Ok decision
 decision_is = refl
 
-ends_early : decision_of (problem_bytes ++ codes "decision 0 1 0 75\ncut 0 0 : 75 2\ncut 0 1 : 55 10\n") ≡ Err (At 13 P9)
+ends_early : decision_of (problem_bytes ++ codes "decision 0 1 0 0.075\ncut 0 0 : 0.075 2\ncut 0 1 : 0.055 10\n") ≡ Err (At 13 P9)
 ends_early = refl
 
-out_of_the_domain : decision_of (problem_bytes ++ codes "decision 0 2 0 75\n") ≡ Err (At 11 P10)
+out_of_the_domain : decision_of (problem_bytes ++ codes "decision 0 2 0 0.075\n") ≡ Err (At 11 P10)
 out_of_the_domain = refl
 
 no_sum : decision_of (problem_bytes ++ codes "decision\n") ≡ Err (At 11 P1)
@@ -140,14 +140,24 @@ no_place = refl
 form_before_point : decision_of (problem_bytes ++ codes "decision 9 9 9 9 x\n") ≡ Err (At 11 P1)
 form_before_point = refl
 
-line_before_the_claim : decision_of (problem_bytes ++ codes "cut : 75 2\n") ≡ Err (At 11 P1)
+line_before_the_claim : decision_of (problem_bytes ++ codes "cut : 0.075 2\n") ≡ Err (At 11 P1)
 line_before_the_claim = refl
 
-second_claim : decision_of (problem_bytes ++ codes "decision 0 1 0 75\ndecision 0 1 0 75\n") ≡ Err (At 12 P1)
+second_claim : decision_of (problem_bytes ++ codes "decision 0 1 0 0.075\ndecision 0 1 0 0.075\n") ≡ Err (At 12 P1)
 second_claim = refl
 
-word_behind_done : decision_of (problem_bytes ++ codes "decision 0 1 0 75\ndone 0\n") ≡ Err (At 12 P1)
+-- a sum is read up to its third decimal, without a sign, and is at most 64,000,000,000
+other_decimals : decision_of (problem_bytes ++ codes "decision 0 1 0 .0759\ncut 0 0 : 0.075 2\ncut 0 1 : 00.0550 10\ndone\n") ≡ Ok decision
+other_decimals = refl
+
+signed_sum : decision_of (problem_bytes ++ codes "decision 0 1 0 +0.075\n") ≡ Err (At 11 P1)
+signed_sum = refl
+
+great_sum : decision_of (problem_bytes ++ codes "decision 0 1 0 64000000000.001\n") ≡ Err (At 11 P1)
+great_sum = refl
+
+word_behind_done : decision_of (problem_bytes ++ codes "decision 0 1 0 0.075\ndone 0\n") ≡ Err (At 12 P1)
 word_behind_done = refl
 
-line_behind_done : decision_of (problem_bytes ++ codes "decision 0 1 0 75\ndone\n\nx\n") ≡ Err (At 14 P1)
+line_behind_done : decision_of (problem_bytes ++ codes "decision 0 1 0 0.075\ndone\n\nx\n") ≡ Err (At 14 P1)
 line_behind_done = refl

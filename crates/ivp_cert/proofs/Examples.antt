@@ -21,7 +21,7 @@ on_course low high base slope =
     }
 
 one_function : problem_of (codes "ivp 1\ndomain course:0:359:360\nfunction 100\npiece 0 359 7 0\nend\n")
-    ≡ Ok (record { axes = course; terms = term course 100 (on_course 0 359 (pos 7) (pos 0) ∷ []) ∷ [] })
+    ≡ Ok (record { axes = course; terms = term course 100000 (on_course 0 359 (pos 7) (pos 0) ∷ []) ∷ [] })
 one_function = refl
 
 empty : problem_of [] ≡ Err (At 1 P9)
@@ -38,7 +38,7 @@ no_function = refl
 
 -- three axes and two functions, of which the second has two pieces
 two_functions : problem_of
-    (codes "ivp 1\ndomain a:0:2:3\ndomain b:0:1:2\ndomain d:0:1:2\nfunction 2\npiece 0 2 0 1 0 1 0 10 0 0\nfunction 3\npiece 0 0 0 1 0 1 20 0 5 0\npiece 1 2 0 1 0 1 0 0 5 0\nend\n")
+    (codes "ivp 1\ndomain a:0:2:3\ndomain b:0:1:2\ndomain d:0:1:2\nfunction 0.002\npiece 0 2 0 1 0 1 0 10 0 0\nfunction 0.003\npiece 0 0 0 1 0 1 20 0 5 0\npiece 1 2 0 1 0 1 0 0 5 0\nend\n")
     ≡ Ok two
 two_functions = refl
 
@@ -47,7 +47,7 @@ abbrev half : List Axis
 half = record { name = codes "x"; low = negsuc 499; high = pos 0; points = 2 } ∷ []
 
 written_otherwise : problem_of (codes "\r\n %% ivp  1 \r\n%% \tdomain\tx:-0.5:+0:2.0\n\n  \t\nfunction +1.0009\n piece 0 01 00007 -7\n%%  end")
-    ≡ Ok (record { axes = half; terms = term half 1 (on_course 0 1 (pos 7) (negsuc 6) ∷ []) ∷ [] })
+    ≡ Ok (record { axes = half; terms = term half 1000 (on_course 0 1 (pos 7) (negsuc 6) ∷ []) ∷ [] })
 written_otherwise = refl
 
 -- a line outside the form or the order
@@ -127,11 +127,14 @@ value_below_zero = refl
 weight_of_zero : problem_of (codes "ivp 1\ndomain a:0:1:2\nfunction 0\n") ≡ Err (At 3 P6)
 weight_of_zero = refl
 
-great_weight : problem_of (codes "ivp 1\ndomain a:0:1:2\nfunction 10001\n") ≡ Err (At 3 P6)
+weight_below_zero : problem_of (codes "ivp 1\ndomain a:0:1:2\nfunction -1\n") ≡ Err (At 3 P6)
+weight_below_zero = refl
+
+great_weight : problem_of (codes "ivp 1\ndomain a:0:1:2\nfunction 10000.001\n") ≡ Err (At 3 P6)
 great_weight = refl
 
-half_a_weight : problem_of (codes "ivp 1\ndomain a:0:1:2\nfunction 1.5\n") ≡ Err (At 3 P6)
-half_a_weight = refl
+small_weight : problem_of (codes "ivp 1\ndomain a:0:1:2\nfunction 0.0009\n") ≡ Err (At 3 P6)
+small_weight = refl
 
 -- 64 functions are the most
 abbrev functions : ℕ → List ℕ

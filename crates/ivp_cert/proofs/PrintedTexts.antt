@@ -4,6 +4,7 @@ use Rattle.std.specs.Prelude.{ℤ, codes, decimal}
 use Rattle.std.specs.Fmt.{signed_decimal}
 use Rattle.std.specs.List.{concat}
 use Rattle.std.proofs.lemmas.Grind.{flat_map-append}
+use Rattle.moos_text.specs.Numbers.{unsigned_text}
 use Rattle.ivp_func.specs.declared.piece.Piece.{Piece}
 use Rattle.ivp_cert.specs.declared.cert.Line.{Line}
 use Rattle.ivp_cert.specs.declared.claim.Claim.{Claim}
@@ -33,29 +34,29 @@ piece_line prefix axes piece =
     rw (numbers_text ends, integers_text slopes, append-nil (signed_decimal piece.base)) (ended_words (map decimal ends) (map signed_decimal slopes) (signed_decimal piece.base) (10 ∷ [])) in
     append_assoc prefix (codes "piece") _ ∙ ap (λ t. prefix ++ (codes "piece" ++ t)) tail
 
-pub function_line : (prefix : List ℕ) (weight : ℕ) → concat (prefix ∷ codes "function " ∷ decimal weight ∷ codes "\n" ∷ []) ≡ line_of prefix (codes "function") (decimal weight ∷ [])
-function_line prefix weight = ap (λ t. prefix ++ (codes "function " ++ (t ++ 10 ∷ []))) (sym (append-nil (decimal weight)))
+pub function_line : (prefix : List ℕ) (weight : ℕ) → concat (prefix ∷ codes "function " ∷ unsigned_text weight ∷ codes "\n" ∷ []) ≡ line_of prefix (codes "function") (unsigned_text weight ∷ [])
+function_line prefix weight = ap (λ t. prefix ++ (codes "function " ++ (t ++ 10 ∷ []))) (sym (append-nil (unsigned_text weight)))
 
 -- the words of what was decided, and of a line of the certificate
 abbrev pub claim_words : ℕ → Claim → List (List ℕ)
-claim_words axes claim = map decimal (take axes claim.point.at) ++ decimal claim.sum ∷ []
+claim_words axes claim = map decimal (take axes claim.point.at) ++ unsigned_text claim.sum ∷ []
 
 pub claim_line : (prefix : List ℕ) (axes : ℕ) (claim : Claim) → claim_text prefix axes claim ≡ line_of prefix (codes "decision") (claim_words axes claim)
 claim_line prefix axes claim =
     let places = take axes claim.point.at in
-    let tail : flat_map number_word places ++ (32 ∷ (decimal claim.sum ++ 10 ∷ [])) ≡ flat_map spaced (claim_words axes claim) ++ 10 ∷ [] =
-    rw (numbers_text places) (ended_words (map decimal places) [] (decimal claim.sum) (10 ∷ [])) in
+    let tail : flat_map number_word places ++ (32 ∷ (unsigned_text claim.sum ++ 10 ∷ [])) ≡ flat_map spaced (claim_words axes claim) ++ 10 ∷ [] =
+    rw (numbers_text places) (ended_words (map decimal places) [] (unsigned_text claim.sum) (10 ∷ [])) in
     append_assoc prefix (codes "decision") _ ∙ ap (λ t. prefix ++ (codes "decision" ++ t)) tail
 
 abbrev pub cut_words : Line → List (List ℕ)
-cut_words line = map decimal line.path ++ codes ":" ∷ decimal line.sum ∷ decimal line.index ∷ []
+cut_words line = map decimal line.path ++ codes ":" ∷ unsigned_text line.sum ∷ decimal line.index ∷ []
 
 pub cut_line : (prefix : List ℕ) (line : Line) → line_text prefix line ≡ line_of prefix (codes "cut") (cut_words line)
 cut_line prefix line =
-    let bound : 32 ∷ (decimal line.sum ++ 32 ∷ (decimal line.index ++ 10 ∷ [])) ≡ flat_map spaced (decimal line.sum ∷ decimal line.index ∷ []) ++ 10 ∷ [] =
-    ap (λ t. 32 ∷ t) (sym (append_assoc (decimal line.sum) (32 ∷ (decimal line.index ++ [])) (10 ∷ []) ∙ ap (λ t. decimal line.sum ++ 32 ∷ t) (append_assoc (decimal line.index) [] (10 ∷ [])))) in
-    let tail : flat_map number_word line.path ++ (32 ∷ 58 ∷ 32 ∷ (decimal line.sum ++ 32 ∷ (decimal line.index ++ 10 ∷ []))) ≡ flat_map spaced (cut_words line) ++ 10 ∷ [] =
-    ap (λ t. t ++ (32 ∷ 58 ∷ 32 ∷ (decimal line.sum ++ 32 ∷ (decimal line.index ++ 10 ∷ [])))) (numbers_text line.path)
+    let bound : 32 ∷ (unsigned_text line.sum ++ 32 ∷ (decimal line.index ++ 10 ∷ [])) ≡ flat_map spaced (unsigned_text line.sum ∷ decimal line.index ∷ []) ++ 10 ∷ [] =
+    ap (λ t. 32 ∷ t) (sym (append_assoc (unsigned_text line.sum) (32 ∷ (decimal line.index ++ [])) (10 ∷ []) ∙ ap (λ t. unsigned_text line.sum ++ 32 ∷ t) (append_assoc (decimal line.index) [] (10 ∷ [])))) in
+    let tail : flat_map number_word line.path ++ (32 ∷ 58 ∷ 32 ∷ (unsigned_text line.sum ++ 32 ∷ (decimal line.index ++ 10 ∷ []))) ≡ flat_map spaced (cut_words line) ++ 10 ∷ [] =
+    ap (λ t. t ++ (32 ∷ 58 ∷ 32 ∷ (unsigned_text line.sum ++ 32 ∷ (decimal line.index ++ 10 ∷ [])))) (numbers_text line.path)
     ∙ ap (λ t. flat_map spaced (map decimal line.path) ++ (32 ∷ 58 ∷ t)) bound
-    ∙ ended_words (map decimal line.path) (decimal line.sum ∷ decimal line.index ∷ []) (codes ":") (10 ∷ []) in
+    ∙ ended_words (map decimal line.path) (unsigned_text line.sum ∷ decimal line.index ∷ []) (codes ":") (10 ∷ []) in
     append_assoc prefix (codes "cut") _ ∙ ap (λ t. prefix ++ (codes "cut" ++ t)) tail

@@ -20,7 +20,7 @@ use Rattle.ivp_cert.proofs.Examples.{course, on_course}
 
 -- the first lines of a problem: its axis, and a function that has no piece yet
 abbrev begun : UnfinishedSum
-begun = record { before = record { axes = course; terms = [] }; line = 3; weight = 100; pieces = [] }
+begun = record { before = record { axes = course; terms = [] }; line = 3; weight = 100000; pieces = [] }
 
 so_far : after_lines stage_after 0 Start (raw_lines (codes "ivp 1\ndomain course:0:359:360\nfunction 100\n")) ≡ Ok (Functions begun)
 so_far = refl
@@ -54,17 +54,17 @@ ends = (refl, refl, refl, refl, refl)
 abbrev claimed : Decision
 claimed = record decision { cert = [] }
 
-claim : phase_after 11 (OfProblem (Ended two)) (words_of (codes "decision 0 1 0 75")) ≡ Ok (OfCuts claimed)
+claim : phase_after 11 (OfProblem (Ended two)) (words_of (codes "decision 0 1 0 0.075")) ≡ Ok (OfCuts claimed)
 claim = refl
 
-no_claim : (phase_after 11 (OfProblem (Ended two)) (words_of (codes "done")) ≡ Err (At 11 P1)) × (phase_after 11 (OfProblem (Ended two)) (words_of (codes "decision 0 2 0 75")) ≡ Err (At 11 P10)) × (phase_after 12 (OfCuts claimed) (words_of (codes "decision 0 1 0 75")) ≡ Err (At 12 P1))
+no_claim : (phase_after 11 (OfProblem (Ended two)) (words_of (codes "done")) ≡ Err (At 11 P1)) × (phase_after 11 (OfProblem (Ended two)) (words_of (codes "decision 0 2 0 0.075")) ≡ Err (At 11 P10)) × (phase_after 12 (OfCuts claimed) (words_of (codes "decision 0 1 0 0.075")) ≡ Err (At 12 P1))
 no_claim = (refl, refl, refl)
 
 -- and then the certificate up to `done`, behind which no line says anything
-all_cuts : after_lines phase_after 11 (OfCuts claimed) (raw_lines (codes "cut 0 0 : 75 2\n\ncut 0 1 : 55 10\ndone\n\n")) ≡ Ok (Done decision)
+all_cuts : after_lines phase_after 11 (OfCuts claimed) (raw_lines (codes "cut 0 0 : 0.075 2\n\ncut 0 1 : 0.055 10\ndone\n\n")) ≡ Ok (Done decision)
 all_cuts = refl
 
-cut_behind_done : phase_after 15 (Done decision) (words_of (codes "cut 0 1 : 55 10")) ≡ Err (At 15 P1)
+cut_behind_done : phase_after 15 (Done decision) (words_of (codes "cut 0 1 : 0.055 10")) ≡ Err (At 15 P1)
 cut_behind_done = refl
 
 whole : (whole_decision 14 (Done decision) ≡ Ok decision) × (whole_decision 13 (OfCuts decision) ≡ Err (At 13 P9)) × (whole_decision 10 (OfProblem (Ended two)) ≡ Err (At 10 P9))

@@ -1,9 +1,10 @@
 -- What was decided, printed, as the reader takes it.
-use Rattle.std.proofs.Common.{◌≡◌, ℕ, suc, ◌^◌, ◌<◌, ◌≤◌, true, Some, Ok, List, [], ◌∷◌, ◌++◌, length, map, take, refl, ap, sym, subst, ◌∙◌, arith, append_assoc, append-nil}
+use Rattle.std.proofs.Common.{◌≡◌, ℕ, suc, ◌*◌, ◌^◌, ◌<◌, ◌≤◌, true, Some, Ok, List, [], ◌∷◌, ◌++◌, length, map, take, refl, ap, sym, subst, ◌∙◌, arith, append_assoc, append-nil}
 use Rattle.std.specs.Prelude.{codes, decimal, IsTrue}
 use Rattle.std.specs.List.{AllByRecursion as Each}
 use Rattle.std.proofs.lemmas.Bool.{lt-ltb}
 use Rattle.moos_io.proofs.Lists.{each_append}
+use Rattle.moos_text.specs.Numbers.{unsigned_text}
 use Rattle.ivp_domain.specs.declared.axis.Axis.{Axis}
 use Rattle.ivp_domain.specs.declared.boxes.Point.{Point}
 use Rattle.ivp_domain.specs.Domains.{is_domain, is_point, size_on}
@@ -17,16 +18,16 @@ use Rattle.ivp_cert.specs.Stages.{after_first}
 use Rattle.ivp_cert.specs.Printed.{IsPrefix}
 use Rattle.ivp_cert.specs.Texts.{claim_text}
 use Rattle.ivp_cert.proofs.PrintedLines.{IsWord}
-use Rattle.ivp_cert.proofs.PrintedNumbers.{decimal_word, natural_back, place_back}
+use Rattle.ivp_cert.proofs.PrintedNumbers.{decimal_word, place_back, sum_back, unsigned_word}
 use Rattle.ivp_cert.proofs.PrintedPieces.{four_of}
 use Rattle.ivp_cert.proofs.PrintedTexts.{claim_line, claim_words}
 use Rattle.ivp_cert.proofs.Taking.{Takes, takes_as, takes_line}
 
--- a point of the domain, and a sum of at most 64,000,000,000
+-- a point of the domain, and a sum of at most 64,000,000,000, in thousandths
 pub record IsPrintableClaim (problem : WeightedSum) (claim : Claim) : Type 0 where
   pub four : length claim.point.at ≡ 4
   pub point : IsTrue (is_point problem.axes claim.point)
-  pub sum : claim.sum ≤ 64000000000
+  pub sum : claim.sum ≤ 64 * 10 ^ 12
 
 -- printed places are words
 pub places_words : (places : List ℕ) → Each (λ place. place < 2 ^ 32) places → Each IsWord (map decimal places)
@@ -34,9 +35,9 @@ places_words [] each = tt
 places_words (place ∷ places) each = let small = each.0 in (decimal_word place (omega (arith, small)), places_words places each.1)
 
 -- the places and the sum behind them are spelled by their words
-spelled_back : (before places : List ℕ) (sum : ℕ) → Each (λ place. place < 2 ^ 32) places → sum ≤ 64000000000 → spelled before (map decimal places ++ decimal sum ∷ []) ≡ Some (spelled_with (before ++ places) sum)
-spelled_back before [] sum each few = rw (natural_back 64000000000 sum few (omega (arith, few)), append-nil before) refl
-spelled_back before (place ∷ []) sum each few = rw (place_back place each.0, natural_back 64000000000 sum few (omega (arith, few))) refl
+spelled_back : (before places : List ℕ) (sum : ℕ) → Each (λ place. place < 2 ^ 32) places → sum ≤ 64 * 10 ^ 12 → spelled before (map decimal places ++ unsigned_text sum ∷ []) ≡ Some (spelled_with (before ++ places) sum)
+spelled_back before [] sum each few = rw (sum_back sum few, append-nil before) refl
+spelled_back before (place ∷ []) sum each few = rw (place_back place each.0, sum_back sum few) refl
 spelled_back before (place ∷ next ∷ places) sum each few =
     rw (place_back place each.0) (spelled_back (before ++ place ∷ []) (next ∷ places) sum each.1 few ∙ ap (λ all. Some (spelled_with all sum)) (append_assoc before (place ∷ []) (next ∷ places)))
 
@@ -101,6 +102,6 @@ claim_taken lines prefix problem claim at domain is =
     let then = OfCuts (record { problem = problem; claim = claim; cert = [] }) in
     let places = take (length problem.axes) claim.point.at in
     let sum = is.sum in
-    let words = each_append IsWord (map decimal places) (decimal claim.sum ∷ []) (places_words places (placed problem.axes claim.point domain is.four is.point).small) (decimal_word claim.sum (omega (arith, sum)), tt) in
+    let words = each_append IsWord (map decimal places) (unsigned_text claim.sum ∷ []) (places_words places (placed problem.axes claim.point domain is.four is.point).small) (unsigned_word claim.sum (omega (arith, sum)), tt) in
     takes_as lines (suc lines) (OfProblem (Ended problem)) then (claim_text prefix (length problem.axes) claim) _ (claim_line prefix (length problem.axes) claim)
     (takes_line lines (OfProblem (Ended problem)) then prefix 100 (codes "ecision") (claim_words (length problem.axes) claim) at (omega arith) decision_word words (claim_first (suc lines) problem claim domain is))

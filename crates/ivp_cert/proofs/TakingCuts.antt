@@ -1,9 +1,10 @@
 -- The printed lines of a certificate, as the reader takes them.
-use Rattle.std.proofs.Common.{◌≡◌, ℕ, suc, ◌+◌, ◌^◌, ◌<◌, ◌≤◌, true, false, nat_lt, Some, Ok, List, [], ◌∷◌, ◌++◌, flat_map, length, map, refl, ap, sym, ◌∙◌, arith, append_assoc, append-nil, length-append}
+use Rattle.std.proofs.Common.{◌≡◌, ℕ, suc, ◌+◌, ◌*◌, ◌^◌, ◌<◌, ◌≤◌, true, false, nat_lt, Some, Ok, List, [], ◌∷◌, ◌++◌, flat_map, length, map, refl, ap, sym, ◌∙◌, arith, append_assoc, append-nil, length-append}
 use Rattle.std.specs.Prelude.{bytes_eq, codes, decimal}
 use Rattle.std.specs.List.{AllByRecursion as Each}
 use Rattle.std.proofs.lemmas.Bool.{lt-ltb}
 use Rattle.moos_io.proofs.Lists.{each_append, each_from}
+use Rattle.moos_text.specs.Numbers.{unsigned_text}
 use Rattle.ivp_cert.specs.declared.cert.Line.{Line}
 use Rattle.ivp_cert.specs.declared.claim.Decision.{Decision}
 use Rattle.ivp_cert.specs.declared.phase.Phase.TheVariants.{Done, OfCuts}
@@ -12,7 +13,7 @@ use Rattle.ivp_cert.specs.Stages.{after_first}
 use Rattle.ivp_cert.specs.Printed.{IsPrefix, IsPrintableLine}
 use Rattle.ivp_cert.specs.Texts.{line_text}
 use Rattle.ivp_cert.proofs.PrintedLines.{IsWord}
-use Rattle.ivp_cert.proofs.PrintedNumbers.{decimal_field, decimal_word, InField, natural_back, place_back}
+use Rattle.ivp_cert.proofs.PrintedNumbers.{decimal_field, decimal_word, InField, place_back, sum_back, unsigned_word}
 use Rattle.ivp_cert.proofs.PrintedTexts.{cut_line, cut_words}
 use Rattle.ivp_cert.proofs.Taking.{Leads, Takes, takes_as, takes_both, takes_line, takes_none, takes_to}
 use Rattle.ivp_cert.proofs.TakingClaims.{places_words}
@@ -22,8 +23,8 @@ no_colon : (text : List ℕ) → 0 < length text → Each InField text → bytes
 no_colon [] some each = absurd (omega (arith, some))
 no_colon (byte ∷ text) some each = rw each.0.apart refl
 
-line_back : (before path : List ℕ) (sum index : ℕ) → Each (λ number. number < 2 ^ 32) path → length before + length path ≤ 64 → sum ≤ 64000000000 → index < 2 ^ 32 → line_from before (map decimal path ++ codes ":" ∷ decimal sum ∷ decimal index ∷ []) ≡ Some (record { path = before ++ path; sum = sum; index = index })
-line_back before [] sum index each few most small = rw (natural_back 64000000000 sum most (omega (arith, most)), place_back index small, append-nil before) refl
+line_back : (before path : List ℕ) (sum index : ℕ) → Each (λ number. number < 2 ^ 32) path → length before + length path ≤ 64 → sum ≤ 64 * 10 ^ 12 → index < 2 ^ 32 → line_from before (map decimal path ++ codes ":" ∷ unsigned_text sum ∷ decimal index ∷ []) ≡ Some (record { path = before ++ path; sum = sum; index = index })
+line_back before [] sum index each few most small = rw (sum_back sum most, place_back index small, append-nil before) refl
 line_back before (number ∷ path) sum index each few most small =
     let within = each.0 in
     let word = decimal_word number (omega (arith, within)) in
@@ -52,7 +53,7 @@ cut_taken lines prefix decision line at is =
     let path = each_from (λ number. number < 2 ^ 32) line.path is.path in
     let sum = is.sum in
     let index = is.index in
-    let words = each_append IsWord (map decimal line.path) (codes ":" ∷ decimal line.sum ∷ decimal line.index ∷ []) (places_words line.path path) (colon_word, (decimal_word line.sum (omega (arith, sum)), (decimal_word line.index (omega (arith, index)), tt))) in
+    let words = each_append IsWord (map decimal line.path) (codes ":" ∷ unsigned_text line.sum ∷ decimal line.index ∷ []) (places_words line.path path) (colon_word, (unsigned_word line.sum (omega (arith, sum)), (decimal_word line.index (omega (arith, index)), tt))) in
     let few = is.few in
     let first : after_first (suc lines) (OfCuts decision) (codes "cut") (cut_words line) ≡ Ok then = rw (line_back [] line.path line.sum line.index path (omega (arith, few)) sum index) refl in
     takes_as lines (suc lines) (OfCuts decision) then (line_text prefix line) _ (cut_line prefix line) (takes_line lines (OfCuts decision) then prefix 99 (codes "ut") (cut_words line) at (omega arith) cut_word words first)

@@ -1,6 +1,6 @@
 -- The printed functions of a problem, as the reader takes them.
 use Rattle.std.proofs.Common.{◌≡◌, ℕ, suc, ◌+◌, ◌<◌, ◌≤◌, true, nat_lt, Ok, List, [], ◌∷◌, ◌++◌, flat_map, length, refl, ap, sym, ◌∙◌, arith, append_assoc, append-nil, length-append}
-use Rattle.std.specs.Prelude.{codes, decimal}
+use Rattle.std.specs.Prelude.{codes}
 use Rattle.std.specs.List.{concat, list_all, AllByRecursion as Each}
 use Rattle.std.proofs.lemmas.Bool.{lt-ltb}
 use Rattle.ivp_domain.specs.declared.axis.Axis.{Axis}
@@ -19,10 +19,11 @@ use Rattle.ivp_cert.specs.Stages.{after_first, as_now}
 use Rattle.ivp_cert.specs.Texts.{piece_text, term_text}
 use Rattle.ivp_cert.specs.Unfinished.{UnfinishedSum}
 use Rattle.ivp_cert.proofs.PrintedLines.{IsWord}
-use Rattle.ivp_cert.proofs.PrintedNumbers.{decimal_word, whole_back}
+use Rattle.ivp_cert.proofs.PrintedNumbers.{unsigned_word, weight_back}
 use Rattle.ivp_cert.proofs.PrintedTexts.{function_line}
 use Rattle.ivp_cert.proofs.Taking.{Takes, takes_as, takes_both, takes_line}
 use Rattle.ivp_cert.proofs.TakingPieces.{pieces_taken, with_pieces}
+use Rattle.moos_text.specs.Numbers.{unsigned_text}
 use Rattle.moos_text.specs.Refusals.{at_line}
 
 -- a function that a problem over these axes may have, by the tests that the reader makes
@@ -65,15 +66,15 @@ function_word = record { some = omega arith; ink = (omega arith, (omega arith, (
 abbrev bare : WeightedSum → ℕ → Term → UnfinishedSum
 bare before line term = record { before = before; line = line; weight = term.weight; pieces = [] }
 
-weight_taken : (lines : ℕ) (prefix : List ℕ) (before : WeightedSum) (stage : Stage) (term : Term) → IsPrefix prefix → Opens before stage → is_weight term.weight ≡ true → length before.terms < 64 → Takes lines (OfProblem stage) (concat (prefix ∷ codes "function " ∷ decimal term.weight ∷ codes "\n" ∷ [])) (suc lines) (OfProblem (Functions (bare before (suc lines) term)))
+weight_taken : (lines : ℕ) (prefix : List ℕ) (before : WeightedSum) (stage : Stage) (term : Term) → IsPrefix prefix → Opens before stage → is_weight term.weight ≡ true → length before.terms < 64 → Takes lines (OfProblem stage) (concat (prefix ∷ codes "function " ∷ unsigned_text term.weight ∷ codes "\n" ∷ [])) (suc lines) (OfProblem (Functions (bare before (suc lines) term)))
 weight_taken lines prefix before stage term at opens weight few =
     let then = OfProblem (Functions (bare before (suc lines) term)) in
     let small = (weight_most term.weight weight).1 in
     let room : nat_lt (length before.terms) 64 ≡ true = lt-ltb (length before.terms) 64 few in
-    let good : with_function before (suc lines) (decimal term.weight ∷ []) ≡ Ok (bare before (suc lines) term) = rw (room, whole_back term.weight (omega (arith, small)), weight) refl in
+    let good : with_function before (suc lines) (unsigned_text term.weight ∷ []) ≡ Ok (bare before (suc lines) term) = rw (room, weight_back term.weight (omega (arith, small)), weight) refl in
     takes_as lines (suc lines) (OfProblem stage) then _ _ (function_line prefix term.weight)
-    (takes_line lines (OfProblem stage) then prefix 102 (codes "unction") (decimal term.weight ∷ []) at (omega arith) function_word (decimal_word term.weight (omega (arith, small)), tt)
-    (opens.function (suc lines) (decimal term.weight ∷ []) ∙ ap (λ r. as_now OfProblem (at_line (suc lines) (as_now Functions r))) good))
+    (takes_line lines (OfProblem stage) then prefix 102 (codes "unction") (unsigned_text term.weight ∷ []) at (omega arith) function_word (unsigned_word term.weight (omega (arith, small)), tt)
+    (opens.function (suc lines) (unsigned_text term.weight ∷ []) ∙ ap (λ r. as_now OfProblem (at_line (suc lines) (as_now Functions r))) good))
 
 term_taken : (lines : ℕ) (prefix : List ℕ) (before : WeightedSum) (stage : Stage) (term : Term) → IsPrefix prefix → is_domain before.axes ≡ true → Opens before stage → IsPrintedTerm before.axes term → length before.terms < 64 → TermsTaken lines stage (term_text prefix (length before.axes) term) (with_terms before (term ∷ []))
 term_taken lines prefix before stage term at domain opens is few =

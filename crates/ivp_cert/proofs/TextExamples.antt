@@ -1,5 +1,5 @@
 -- The text of a decision, and what it keeps so that its text stands for it, worked by hand.
-use Rattle.std.proofs.Common.{◌≡◌, ℕ, zero, suc, ◌≤◌, ◌<◌, ◌^◌, inl, inr, true, false, List, [], ◌∷◌, ◌++◌, replicate, refl, subst, arith}
+use Rattle.std.proofs.Common.{◌≡◌, ℕ, zero, suc, ◌*◌, ◌≤◌, ◌<◌, ◌^◌, inl, inr, true, false, List, [], ◌∷◌, ◌++◌, replicate, refl, subst, arith}
 use Rattle.std.specs.Prelude.{codes, Ok, Err, ℤ, pos, negsuc, IsTrue}
 use Rattle.std.specs.Fmt.{digits}
 use Rattle.ivp_domain.specs.declared.axis.Axis.{Axis}
@@ -18,12 +18,12 @@ use Rattle.ivp_cert.proofs.CertExamples.{decision, line, problem_bytes}
 use Rattle.ivp_cert.proofs.Examples.{on_course}
 
 -- the lines of a decision, alone and behind a prefix
-printed : decision_lines [] decision ≡ problem_bytes ++ codes "decision 0 1 0 75\ncut 0 0 : 75 2\ncut 0 1 : 55 10\ndone\n"
+printed : decision_lines [] decision ≡ problem_bytes ++ codes "decision 0 1 0 0.075\ncut 0 0 : 0.075 2\ncut 0 1 : 0.055 10\ndone\n"
 unfolding digits
 printed = refl
 
 behind_a_prefix : decision_lines (codes "%% ") decision
-    ≡ codes "%% ivp 1\n%% domain a:0:2:3\n%% domain b:0:1:2\n%% domain d:0:1:2\n%% function 2\n%% piece 0 2 0 1 0 1 0 10 0 0\n%% function 3\n%% piece 0 0 0 1 0 1 20 0 5 0\n%% piece 1 2 0 1 0 1 0 0 5 0\n%% end\n%% decision 0 1 0 75\n%% cut 0 0 : 75 2\n%% cut 0 1 : 55 10\n%% done\n"
+    ≡ codes "%% ivp 1\n%% domain a:0:2:3\n%% domain b:0:1:2\n%% domain d:0:1:2\n%% function 0.002\n%% piece 0 2 0 1 0 1 0 10 0 0\n%% function 0.003\n%% piece 0 0 0 1 0 1 20 0 5 0\n%% piece 1 2 0 1 0 1 0 0 5 0\n%% end\n%% decision 0 1 0 0.075\n%% cut 0 0 : 0.075 2\n%% cut 0 1 : 0.055 10\n%% done\n"
 unfolding digits
 behind_a_prefix = refl
 
@@ -75,7 +75,7 @@ last_above : AllOf (IsBelow 2) (1 ∷ 2 ∷ []) → ⊥
 last_above all = omega (arith, all 1 2 refl)
 
 -- a line whose numbers are each as large as can be, and one more
-greatest_line : IsPrintableLine (line (4294967295 ∷ []) 64000000000 4294967295)
+greatest_line : IsPrintableLine (line (4294967295 ∷ []) 64000000000000 4294967295)
 greatest_line = record { few = omega arith; path = of_more (IsBelow (2 ^ 32)) 4294967295 [] (omega arith) (of_none (IsBelow (2 ^ 32))); sum = omega arith; index = omega arith }
 
 long_path : IsPrintableLine (line (replicate 65 0) 75 2) → ⊥
@@ -84,7 +84,7 @@ long_path is = omega (arith, is.few)
 great_number : IsPrintableLine (line (0 ∷ 4294967296 ∷ []) 75 2) → ⊥
 great_number is = omega (arith, is.path 1 4294967296 refl)
 
-great_sum : IsPrintableLine (line (0 ∷ []) 64000000001 2) → ⊥
+great_sum : IsPrintableLine (line (0 ∷ []) 64000000000001 2) → ⊥
 great_sum is = omega (arith, is.sum)
 
 great_index : IsPrintableLine (line (0 ∷ []) 75 4294967296) → ⊥
@@ -92,16 +92,16 @@ great_index is = omega (arith, is.index)
 
 -- the sums of the decision, of its claim and of its lines
 abbrev HasSum : Line → Type 0
-HasSum of = of.sum ≤ 64000000000
+HasSum of = of.sum ≤ 64 * 10 ^ 12
 
 sums : HasSums decision
 sums = record { claim = omega arith; lines = of_more HasSum (line (0 ∷ 0 ∷ []) 75 2) (line (0 ∷ 1 ∷ []) 55 10 ∷ []) (omega arith) (of_more HasSum (line (0 ∷ 1 ∷ []) 55 10) [] (omega arith) (of_none HasSum)) }
 
-great_claim : HasSums (record decision { claim = record { point = point_from 0 1 0 0; sum = 64000000001 } }) → ⊥
+great_claim : HasSums (record decision { claim = record { point = point_from 0 1 0 0; sum = 64000000000001 } }) → ⊥
 great_claim has = omega (arith, has.claim)
 
-great_line : HasSums (record decision { cert = line [] 64000000001 2 ∷ [] }) → ⊥
-great_line has = omega (arith, has.lines 0 (line [] 64000000001 2) refl)
+great_line : HasSums (record decision { cert = line [] 64000000000001 2 ∷ [] }) → ⊥
+great_line has = omega (arith, has.lines 0 (line [] 64000000000001 2) refl)
 
 -- the problem is a lawful one, whose axes have names and whose pieces have four places
 abbrev IsNamed : Axis → Type 0

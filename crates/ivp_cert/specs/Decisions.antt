@@ -1,11 +1,12 @@
 -- What the bytes of a decision stand for: the problem, the claim and the certificate, or the first refusal with its line
 -- and cause. First what one line says, and then which line may follow which.
-use Rattle.std.specs.Prelude.{ℕ, Bool, true, false, ◌&&◌, nat_lt, if◌then◌else◌, List, [], ◌∷◌, ◌++◌, length, take, codes, bytes_eq, Option, Some, None, option_map, option_and_then, Result, Ok, Err}
+use Rattle.std.specs.Prelude.{ℕ, ◌*◌, ◌^◌, Bool, true, false, ◌&&◌, nat_lt, if◌then◌else◌, List, [], ◌∷◌, ◌++◌, length, take, codes, bytes_eq, Option, Some, None, option_map, option_and_then, Result, Ok, Err}
 use Rattle.moos_text.specs.declared.cause.Cause.{Cause}
 use Rattle.moos_text.specs.declared.cause.Cause.TheVariants.{P1, P9, P10}
 use Rattle.moos_text.specs.declared.cause.ReadFault.{ReadFault}
 use Rattle.moos_text.specs.declared.cause.ReadFault.TheVariants.{At}
 use Rattle.moos_text.specs.Lines.{raw_lines, last_line}
+use Rattle.moos_text.specs.Numbers.{unsigned_within}
 use Rattle.moos_text.specs.Refusals.{and_then, at_line}
 use Rattle.ivp_domain.specs.declared.axis.Axis.{Axis}
 use Rattle.ivp_domain.specs.declared.boxes.Point.{Point}
@@ -15,11 +16,11 @@ use Rattle.ivp_cert.specs.declared.claim.Decision.{Decision}
 use Rattle.ivp_cert.specs.declared.claim.Spelled.{Spelled}
 use Rattle.ivp_cert.specs.Problems.{nothing_behind, problem_in}
 use Rattle.ivp_cert.specs.SaidLines.{last_of, SaidLine, said_from}
-use Rattle.ivp_cert.specs.Words.{natural_of, place_of}
+use Rattle.ivp_cert.specs.Words.{place_of}
 
--- a sum: digits, at most 64,000,000,000
+-- a sum: a number without a sign, at most 64,000,000,000, in thousandths
 abbrev pub sum_word : List ℕ → Option ℕ
-sum_word word = natural_of 64000000000 word
+sum_word word = unsigned_within (64 * 10 ^ 12) word
 
 -- these places and this sum
 abbrev pub spelled_with : List ℕ → ℕ → Spelled

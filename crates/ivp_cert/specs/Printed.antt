@@ -1,5 +1,5 @@
 -- What a decision keeps so that its text stands for it.
-use Rattle.std.specs.Prelude.{◌≡◌, ◌⊎◌, ℕ, ◌<◌, ◌≤◌, ◌^◌, IsTrue, List, [], codes, length, Some, slice_get}
+use Rattle.std.specs.Prelude.{◌≡◌, ◌⊎◌, ℕ, ◌<◌, ◌≤◌, ◌*◌, ◌^◌, IsTrue, List, [], codes, length, Some, slice_get}
 use Rattle.ivp_domain.specs.declared.axis.Axis.{Axis}
 use Rattle.ivp_domain.specs.AxisNames.{is_axis_name}
 use Rattle.ivp_func.specs.declared.piece.Piece.{Piece}
@@ -28,14 +28,14 @@ pub record IsPrintableProblem (problem : WeightedSum) : Type 0 where
   pub names : AllOf (λ (axis : Axis). IsTrue (is_axis_name axis.name)) problem.axes
   pub pieces : AllOf (λ (term : Term). AllOf HasFourPlaces term.func.pieces) problem.terms
 
--- a path of at most 64 numbers of 32 bits, a sum of at most 64,000,000,000, and an index of 32 bits
+-- a path of at most 64 numbers of 32 bits, a sum of at most 64,000,000,000 in thousandths, and an index of 32 bits
 pub record IsPrintableLine (line : Line) : Type 0 where
   pub few : length line.path ≤ 64
   pub path : AllOf (λ number. number < 2 ^ 32) line.path
-  pub sum : line.sum ≤ 64000000000
+  pub sum : line.sum ≤ 64 * 10 ^ 12
   pub index : line.index < 2 ^ 32
 
--- the sums of a decision are in range: at most 64,000,000,000
+-- the sums of a decision are in range: at most 64,000,000,000, in thousandths
 pub record HasSums (decision : Decision) : Type 0 where
-  pub claim : decision.claim.sum ≤ 64000000000
-  pub lines : AllOf (λ (line : Line). line.sum ≤ 64000000000) decision.cert
+  pub claim : decision.claim.sum ≤ 64 * 10 ^ 12
+  pub lines : AllOf (λ (line : Line). line.sum ≤ 64 * 10 ^ 12) decision.cert

@@ -1,6 +1,6 @@
 -- What the bytes of a problem stand for: the problem, or its first refusal with its line and cause. First what one line
 -- says, and then which line may follow which. `last` is the line that is refused where the lines end too early.
-use Rattle.std.specs.Prelude.{ℕ, Bool, false, ◌&&◌, nat_lt, if◌then◌else◌, List, [], ◌∷◌, ◌++◌, length, codes, bytes_eq, Option, Some, None, Result, Ok, Err}
+use Rattle.std.specs.Prelude.{ℕ, ℤ, pos, negsuc, Bool, false, ◌&&◌, nat_lt, if◌then◌else◌, List, [], ◌∷◌, ◌++◌, length, codes, bytes_eq, Option, Some, None, Result, Ok, Err}
 use Rattle.moos_text.specs.declared.cause.Cause.{Cause}
 use Rattle.moos_text.specs.declared.cause.Cause.TheVariants.{P1, P2, P3, P4, P5, P6, P7, P8, P9}
 use Rattle.moos_text.specs.declared.cause.ReadFault.{ReadFault}
@@ -19,7 +19,7 @@ use Rattle.ivp_cert.specs.Pieces.{piece_of}
 use Rattle.ivp_cert.specs.SaidLines.{last_of, SaidLine, said_from}
 use Rattle.ivp_cert.specs.Unfinished.{UnfinishedSum}
 use Rattle.ivp_cert.specs.Words.{axis_of}
-use Rattle.moos_text.specs.Numbers.{whole_of}
+use Rattle.moos_text.specs.Numbers.{milli_of}
 
 -- `ivp 1`, by its first word and those behind
 abbrev pub is_first : List ℕ → List (List ℕ) → Bool
@@ -43,16 +43,17 @@ with_domain axes [] = Err P1
 with_domain axes (word ∷ []) = with_axis axes (axis_of word)
 with_domain axes (word ∷ more ∷ rest) = Err P1
 
--- one function more, which has no piece yet; a weight out of range is refused
-abbrev pub with_weight : WeightedSum → ℕ → Option ℕ → Result UnfinishedSum Cause
+-- one function more, which has no piece yet; its weight counts thousandths, and one out of range is refused
+abbrev pub with_weight : WeightedSum → ℕ → Option ℤ → Result UnfinishedSum Cause
 with_weight before line None = Err P6
-with_weight before line (Some weight) =
+with_weight before line (Some (negsuc n)) = Err P6
+with_weight before line (Some (pos weight)) =
     if is_weight weight then Ok (record { before = before; line = line; weight = weight; pieces = [] }) else Err P6
 
 -- what stands behind `function` is one word; a 65th function is refused
 abbrev pub with_function : WeightedSum → ℕ → List (List ℕ) → Result UnfinishedSum Cause
 with_function before line [] = Err P1
-with_function before line (word ∷ []) = if nat_lt (length before.terms) 64 then with_weight before line (whole_of word) else Err P7
+with_function before line (word ∷ []) = if nat_lt (length before.terms) 64 then with_weight before line (milli_of word) else Err P7
 with_function before line (word ∷ more ∷ rest) = Err P1
 
 -- one piece more of the last function; the 4,097th is refused, and one whose box is empty or not in the domain

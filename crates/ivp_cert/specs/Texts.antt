@@ -1,8 +1,9 @@
--- The text of a decision: the lines of its problem, its point and sum, and the lines of its certificate.
+-- The text of a decision: the lines of its problem, its point and sum, and the lines of its certificate. Weights and sums count
+-- thousandths, and print as the numbers that they are.
 use Rattle.std.specs.Prelude.{ℕ, ◌*◌, ℤ, List, [], ◌∷◌, ◌++◌, flat_map, length, take, slice_index, codes, decimal}
 use Rattle.std.specs.Fmt.{signed_decimal}
 use Rattle.std.specs.List.{concat}
-use Rattle.moos_text.specs.Numbers.{milli_text}
+use Rattle.moos_text.specs.Numbers.{milli_text, unsigned_text}
 use Rattle.ivp_domain.specs.declared.axis.Axis.{Axis}
 use Rattle.ivp_domain.specs.declared.boxes.BoxN.{BoxN}
 use Rattle.ivp_func.specs.declared.piece.Piece.{Piece}
@@ -42,7 +43,7 @@ piece_text prefix axes piece =
 -- `function WEIGHT`, and then its pieces
 abbrev pub term_text : List ℕ → ℕ → Term → List ℕ
 term_text prefix axes term =
-    concat (prefix ∷ codes "function " ∷ decimal term.weight ∷ codes "\n" ∷ []) ++ flat_map (piece_text prefix axes) term.func.pieces
+    concat (prefix ∷ codes "function " ∷ unsigned_text term.weight ∷ codes "\n" ∷ []) ++ flat_map (piece_text prefix axes) term.func.pieces
 
 -- the lines of a problem
 abbrev pub problem_text : List ℕ → WeightedSum → List ℕ
@@ -53,13 +54,13 @@ problem_text prefix problem =
 -- `decision`, then the place on each of so many axes, and the sum
 abbrev pub claim_text : List ℕ → ℕ → Claim → List ℕ
 claim_text prefix axes claim =
-    concat (prefix ∷ codes "decision" ∷ []) ++ (flat_map number_word (take axes claim.point.at) ++ concat (codes " " ∷ decimal claim.sum ∷ codes "\n" ∷ []))
+    concat (prefix ∷ codes "decision" ∷ []) ++ (flat_map number_word (take axes claim.point.at) ++ concat (codes " " ∷ unsigned_text claim.sum ∷ codes "\n" ∷ []))
 
 -- `cut`, then the path, `:`, and the sum and the index of the bound
 abbrev pub line_text : List ℕ → Line → List ℕ
 line_text prefix line =
     concat (prefix ∷ codes "cut" ∷ [])
-    ++ (flat_map number_word line.path ++ concat (codes " : " ∷ decimal line.sum ∷ codes " " ∷ decimal line.index ∷ codes "\n" ∷ []))
+    ++ (flat_map number_word line.path ++ concat (codes " : " ∷ unsigned_text line.sum ∷ codes " " ∷ decimal line.index ∷ codes "\n" ∷ []))
 
 -- The text of a decision, each line behind the prefix.
 abbrev pub decision_lines : List ℕ → Decision → List ℕ

@@ -2,7 +2,7 @@
 use crate::path::Path;
 use moos_post::List;
 
-/// A line of a certificate: the path of a node, and the sum and the index of the node's bound.
+/// A line of a certificate: the path of a node, and the sum, in thousandths, and the index of the node's bound.
 #[derive(Debug, Drop)]
 pub struct Line {
     pub path: Path,

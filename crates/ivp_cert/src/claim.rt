@@ -5,14 +5,14 @@ ghost use Rattle.moos_text.specs.Refusals.{IsLineFault};
 ghost use Rattle.ivp_cert.specs.Decisions.{are_on, in_form, point_at, spelled, sum_word};
 
 use crate::cert::Cert;
-use crate::words::{natural_of, place_of};
+use crate::words::place_of;
 use ivp_domain::{Axis, Point};
 use ivp_problem::{MOST_SUM, Problem};
 use moos_post::List;
-use moos_text::{Cause, LineFault, next_word};
+use moos_text::{Cause, LineFault, next_word, read_unsigned};
 use std::alloc::Global;
 
-/// What is claimed of a problem: that this point is its best, and this sum is the one there.
+/// What is claimed of a problem: that this point is its best, and this sum, in thousandths, is the one there.
 #[derive(Clone, Copy, Debug, PartialEq, Eq)]
 pub struct Claim {
     pub point: Point,
@@ -27,18 +27,18 @@ pub struct Decision {
     pub cert: Cert,
 }
 
-/// The numbers of a `decision` line: places, and then a sum.
+/// The numbers of a `decision` line: places, and then a sum in thousandths.
 #[derive(Drop)]
 pub struct Spelled {
     pub places: List<u32>,
     pub sum: u64,
 }
 
-/// The sum that digits spell.
+/// The sum that a number without a sign spells, in thousandths.
 pub fn sum_word(word: &[u8]) -> Option<u64>
     ensures { result ≡ sum_word word.now }
 {
-    natural_of(word, MOST_SUM)
+    read_unsigned(word, MOST_SUM)
 }
 
 /// The places and the sum that the words of a text spell: the last word is the sum.

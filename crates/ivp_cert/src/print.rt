@@ -4,6 +4,7 @@ ghost use Rattle.std.specs.List.{concat};
 ghost use Rattle.moos_io.specs.Faults.{FaresOn, Fell};
 ghost use Rattle.moos_io.specs.Pieces.{Took, TookFront};
 ghost use Rattle.moos_io.specs.Writing.{way, Wrote};
+ghost use Rattle.moos_text.specs.Numbers.{unsigned_text};
 ghost use Rattle.ivp_cert.specs.Texts.{claim_text, decision_lines, line_text};
 
 use crate::cert::{Cert, Line};
@@ -12,6 +13,7 @@ use crate::path_text::PathText;
 use crate::put::{put, put_numbers};
 use crate::put_problem::put_problem;
 use moos_io::{Buffer, Failed, Sink};
+use moos_text::print_unsigned;
 
 /// Writes a decision, each line behind the prefix. Where the sink fails, it took a front of the text, not the whole.
 pub fn print_decision<K: Sink>(
@@ -59,21 +61,19 @@ pub fn put_decision<K: Sink>(
 
 fn put_sum<K: Sink>(sum: u64, buffer: &mut Buffer, out: &mut K) -> Result<(), Failed>
     ensures { Wrote (way (K.taken out.old) buffer.old (K.faults out.old)) (way (K.taken out.new) buffer.new (K.faults out.new))
-        result (concat (codes " " ∷ decimal sum ∷ codes "\n" ∷ [])) }
+        result (concat (codes " " ∷ unsigned_text sum ∷ codes "\n" ∷ [])) }
 {
-    let mut digits = itoa::Buffer::new();
-    let sum = digits.format(sum).as_bytes();
-    put(&[b" ", sum, b"\n"], buffer, out)
+    put(&[b" ", print_unsigned(sum).bytes(), b"\n"], buffer, out)
 }
 
 fn put_bound<K: Sink>(sum: u64, index: u32, buffer: &mut Buffer, out: &mut K) -> Result<(), Failed>
     ensures { Wrote (way (K.taken out.old) buffer.old (K.faults out.old)) (way (K.taken out.new) buffer.new (K.faults out.new))
-        result (concat (codes " : " ∷ decimal sum ∷ codes " " ∷ decimal index ∷ codes "\n" ∷ [])) }
+        result (concat (codes " : " ∷ unsigned_text sum ∷ codes " " ∷ decimal index ∷ codes "\n" ∷ [])) }
 {
-    let (mut sums, mut indices) = (itoa::Buffer::new(), itoa::Buffer::new());
-    let sum = sums.format(sum).as_bytes();
-    let index = indices.format(index).as_bytes();
-    put(&[b" : ", sum, b" ", index, b"\n"], buffer, out)
+    let sum = print_unsigned(sum);
+    let mut digits = itoa::Buffer::new();
+    let index = digits.format(index).as_bytes();
+    put(&[b" : ", sum.bytes(), b" ", index, b"\n"], buffer, out)
 }
 
 fn put_claim<K: Sink>(

@@ -1,5 +1,5 @@
 // What the types of a decision's parts say of their values, so that its text stands for it: gathered part by part.
-ghost use Rattle.std.specs.Prelude.{◌≡◌, ◌<◌, ◌≤◌, ◌^◌, length, IsTrue};
+ghost use Rattle.std.specs.Prelude.{◌≡◌, ◌<◌, ◌≤◌, ◌*◌, ◌^◌, length, IsTrue};
 ghost use Rattle.ivp_domain.specs.declared.axis.Axis.{Axis};
 ghost use Rattle.ivp_domain.specs.AxisNames.{is_axis_name};
 ghost use Rattle.ivp_cert.specs.declared.cert.Line.{Line};
@@ -71,7 +71,7 @@ fn numbers_print(numbers: &[u32])
 {}
 
 fn line_prints(line: &Line)
-    requires { line.now.sum ≤ 64000000000 }
+    requires { line.now.sum ≤ 64 * 10 ^ 12 }
     ensures { IsPrintableLine line.now }
 {
     let _ = line.path.len();
@@ -81,7 +81,7 @@ fn line_prints(line: &Line)
 
 /// A certificate prints where its sums are in range: its paths and indices are.
 pub fn lines_print(cert: &Cert)
-    requires { AllOf (λ (line : Line). line.sum ≤ 64000000000) cert.now }
+    requires { AllOf (λ (line : Line). line.sum ≤ 64 * 10 ^ 12) cert.now }
     ensures { AllOf IsPrintableLine cert.now }
 {
     for number in 0..cert.len() {

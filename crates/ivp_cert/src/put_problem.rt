@@ -1,8 +1,9 @@
 // The lines of a problem.
-ghost use Rattle.std.specs.Prelude.{◌≡◌, ◌<◌, ◌≤◌, ◌*◌, [], ◌∷◌, flat_map, length, codes, decimal, IsTrue};
+ghost use Rattle.std.specs.Prelude.{◌≡◌, ◌<◌, ◌≤◌, ◌*◌, [], ◌∷◌, flat_map, length, codes, IsTrue};
 ghost use Rattle.std.specs.List.{concat};
 ghost use Rattle.moos_io.specs.Writing.{way, Wrote};
 ghost use Rattle.moos_post.specs.Words.{IsMilli};
+ghost use Rattle.moos_text.specs.Numbers.{unsigned_text};
 ghost use Rattle.ivp_domain.specs.Axes.{is_good_axis};
 ghost use Rattle.ivp_cert.specs.Texts.{axis_text, ends_of, piece_text, problem_text, term_text};
 
@@ -12,7 +13,7 @@ use ivp_func::{Func, Piece};
 use ivp_problem::Problem;
 use moos_io::{Buffer, Failed, Sink};
 use moos_post::Milli;
-use moos_text::print_milli;
+use moos_text::{print_milli, print_unsigned};
 
 /// The lines of a problem.
 pub fn put_problem<K: Sink>(
@@ -130,11 +131,10 @@ fn put_weight<K: Sink>(
     out: &mut K,
 ) -> Result<(), Failed>
     ensures { Wrote (way (K.taken out.old) buffer.old (K.faults out.old)) (way (K.taken out.new) buffer.new (K.faults out.new))
-        result (concat (prefix.now ∷ codes "function " ∷ decimal weight ∷ codes "\n" ∷ [])) }
+        result (concat (prefix.now ∷ codes "function " ∷ unsigned_text weight ∷ codes "\n" ∷ [])) }
 {
-    let mut digits = itoa::Buffer::new();
-    let weight = digits.format(weight).as_bytes();
-    put(&[prefix, b"function ", weight, b"\n"], buffer, out)
+    let weight = print_unsigned(weight as u64);
+    put(&[prefix, b"function ", weight.bytes(), b"\n"], buffer, out)
 }
 
 // A function over so many axes: its weight, and then its pieces.

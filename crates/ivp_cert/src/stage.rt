@@ -14,7 +14,8 @@ use crate::words::{axis_of, content_of};
 use axis_reader::extended;
 use ivp_domain::{Axis, Domain, MOST_AXES};
 use ivp_problem::{MOST_FUNCTIONS, MOST_WEIGHT, Problem};
-use moos_text::{Cause, LineFault, ReadFault, next_word, read_whole};
+use moos_post::Milli;
+use moos_text::{Cause, LineFault, ReadFault, next_word, read_milli};
 use std::alloc::Global;
 
 /// How far the lines of a problem have come.
@@ -230,19 +231,20 @@ fn with_weight_word(
     if before.len() >= MOST_FUNCTIONS {
         return Err(Cause::P7);
     }
-    match read_whole(word) {
+    match read_milli(word) {
         Some(weight) => with_weight(alloc, before, line, weight),
         None => Err(Cause::P6),
     }
 }
 
 // One function more, which has no piece yet.
-fn with_weight(alloc: Global, before: Terms, line: u32, weight: u32) -> Result<Unfinished, Cause>
+fn with_weight(alloc: Global, before: Terms, line: u32, weight: Milli) -> Result<Unfinished, Cause>
     requires { length before.terms < 64 }
     ensures { result ≡ with_weight before line (Some weight) }
 {
-    if 1 <= weight && weight <= MOST_WEIGHT {
-        Ok(Unfinished::new(alloc, before, line, weight))
+    let weight = weight.get();
+    if 1 <= weight && weight <= MOST_WEIGHT as i64 {
+        Ok(Unfinished::new(alloc, before, line, weight as u32))
     } else {
         Err(Cause::P6)
     }

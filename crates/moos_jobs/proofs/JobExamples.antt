@@ -32,14 +32,14 @@ use Rattle.helm_files.specs.HelmFiles.{with_few_ticks}
 use Rattle.command_line.specs.Endings.{Ended, Sinking, sinking}
 use Rattle.moos_report.proofs.Communities.{all_entries}
 
--- one function over two points, of value 5 and 6
+-- one function of weight 1 over two points, of value 5 and 6
 abbrev pub problem : WeightedSum
 problem =
     record {
       axes = record { name = codes "a"; low = pos 0; high = pos 1000; points = 2 } ∷ [];
       terms =
           record {
-            weight = 1;
+            weight = 1000;
             func =
                 record {
                   axes = record { name = codes "a"; low = pos 0; high = pos 1000; points = 2 } ∷ [];
@@ -60,7 +60,7 @@ problem_bytes = codes "ivp 1\ndomain a:0:1:2\nfunction 1\npiece 0 1 5 1\nend\n"
 
 -- the decision on it is the last point, and the one line of its certificate is that of the child by the only piece
 abbrev pub decision : Decision
-decision = record { problem = problem; claim = record { point = record { at = 1 ∷ 0 ∷ 0 ∷ 0 ∷ [] }; sum = 6 }; cert = record { path = 0 ∷ []; sum = 6; index = 1 } ∷ [] }
+decision = record { problem = problem; claim = record { point = record { at = 1 ∷ 0 ∷ 0 ∷ 0 ∷ [] }; sum = 6000 }; cert = record { path = 0 ∷ []; sum = 6000; index = 1 } ∷ [] }
 
 decided : best_decision problem ≡ decision
 decided = refl
@@ -92,7 +92,7 @@ checked : turn_of (Check (codes "d")) (decision_bytes ∷ []) ≡ Ready (Checkin
 checked = refl
 
 abbrev pub poor : Decision
-poor = record decision { claim = record { point = record { at = 0 ∷ 0 ∷ 0 ∷ 0 ∷ [] }; sum = 5 } }
+poor = record decision { claim = record { point = record { at = 0 ∷ 0 ∷ 0 ∷ 0 ∷ [] }; sum = 5000 } }
 
 abbrev pub poor_bytes : List ℕ
 poor_bytes = problem_bytes ++ codes "decision 0 5\ncut 0 : 6 1\ndone\n"
@@ -105,7 +105,7 @@ pub accepted : IsAccepted decision
 accepted = walked_accepts problem decision.claim decision.cert refl refl
 
 pub not_accepted : IsAccepted poor → ⊥
-not_accepted is = let line = is.lines 0 (record { path = 0 ∷ []; sum = 6; index = 1 }) refl in omega (arith, line.sum, line.most)
+not_accepted is = let line = is.lines 0 (record { path = 0 ∷ []; sum = 6000; index = 1 }) refl in omega (arith, line.sum, line.most)
 
 no_line : IsAccepted (record decision { cert = [] }) → ⊥
 no_line is = omega (arith, is.once (0 ∷ []) (record { depth = 1; area = record { low = 0 ∷ 0 ∷ 0 ∷ 0 ∷ []; high = 1 ∷ 0 ∷ 0 ∷ 0 ∷ [] }; base = pos 5; slope = pos 1 ∷ pos 0 ∷ pos 0 ∷ pos 0 ∷ [] }) refl (omega arith))
@@ -168,7 +168,7 @@ timer = record {
     perpetual = false;
     template = false;
   };
-  spec = record { weight = 100; shape = Timer };
+  spec = record { weight = 100000; shape = Timer };
 }
 
 timer_read : turn_of (Play (codes "s") (Some (codes "m")) Stamp 1) (codes "0 a fetch\n" ∷ mission_bytes ∷ codes "\nBehavior = BHV_Timer\n{\nname = t\n}\n" ∷ [])

@@ -199,7 +199,7 @@ unfolding digits
 decided = refl
 
 -- course 90 at speed 2
-course_and_speed : claim_text (codes "%% ") 2 (record { point = record { at = 90 ∷ 20 ∷ 0 ∷ 0 ∷ [] }; sum = 20000000 }) ≡ codes "%% decision 90 20 20000000\n"
+course_and_speed : claim_text (codes "%% ") 2 (record { point = record { at = 90 ∷ 20 ∷ 0 ∷ 0 ∷ [] }; sum = 20000000000 }) ≡ codes "%% decision 90 20 20000000\n"
 unfolding digits
 course_and_speed = refl
 

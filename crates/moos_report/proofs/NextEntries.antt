@@ -26,7 +26,7 @@ use Rattle.moos_report.specs.Community.{is_one_line, StandOnLines}
 use Rattle.moos_report.specs.IterationLines.{behavior_text, current_text, decided_text, drive_text, error_text, fault_text, helm_fetches, how_text, is_helm_post, iteration_text, listed_text, mode_line, outcome_text, shown_mode, state_line, behavior_state, update_text}
 use Rattle.moos_report.specs.Report.{unused_text}
 use Rattle.moos_report.proofs.PassedDecisions.{decided_passed}
-use Rattle.moos_report.proofs.PassedLines.{Clean, clean_line, clean_on, IsPassed, line_passed, names_clean, next_entry, passed_as, passed_each, passed_none, passed_on, seconds_lack, whole_lacks}
+use Rattle.moos_report.proofs.PassedLines.{Clean, clean_line, clean_on, IsPassed, line_passed, names_clean, next_entry, passed_as, passed_each, passed_none, passed_on, unsigned_clean, whole_lacks}
 
 -- fixed words
 driver_clean : (parked : Bool) → Clean (drive_text parked)
@@ -118,7 +118,7 @@ line_of_state number iteration =
     let driver = drive_text iteration.parked in
     passed_as (iteration_open (decimal number) stamp driver)
     (line_passed (codes "%% iteration ") (decimal number ++ 32 ∷ (stamp ++ 32 ∷ driver)) (λ text. refl)
-    (blank_clean (decimal number) (stamp ++ 32 ∷ driver) (whole_lacks number) (blank_clean stamp driver (seconds_lack iteration.stamp) (driver_clean iteration.parked))))
+    (blank_clean (decimal number) (stamp ++ 32 ∷ driver) (whole_lacks number) (blank_clean stamp driver (unsigned_clean iteration.stamp) (driver_clean iteration.parked))))
 
 -- the line of a mode
 mode_open : (mode : List ℕ) → concat (codes "%% mode " ∷ mode ∷ codes "\n" ∷ []) ≡ codes "%% mode " ++ (mode ++ codes "\n")

@@ -5,7 +5,7 @@ use Rattle.std.specs.List.{All, concat, AllByRecursion as Each}
 use Rattle.std.specs.Fmt.{signed_decimal}
 use Rattle.std.proofs.lemmas.List.Elements.{recursion_from_All}
 use Rattle.moos_io.proofs.Lists.{each_weaker}
-use Rattle.moos_text.specs.Numbers.{milli_text}
+use Rattle.moos_text.specs.Numbers.{milli_text, unsigned_text}
 use Rattle.ivp_domain.specs.declared.axis.Axis.{Axis}
 use Rattle.ivp_func.specs.declared.piece.Piece.{Piece}
 use Rattle.ivp_problem.specs.declared.term.Term.{Term}
@@ -16,7 +16,7 @@ use Rattle.ivp_cert.specs.declared.claim.Decision.{Decision}
 use Rattle.ivp_cert.specs.Texts.{axis_text, claim_text, decision_lines, ends_of, integer_word, line_text, number_word, piece_text, problem_text, term_text}
 use Rattle.moos_report.specs.Community.{is_one_line}
 use Rattle.moos_report.specs.IterationLines.{decided_text}
-use Rattle.moos_report.proofs.PassedLines.{Clean, clean_line, clean_on, IsPassed, line_passed, milli_clean, passed_as, passed_each, passed_on, whole_lacks}
+use Rattle.moos_report.proofs.PassedLines.{Clean, clean_line, clean_on, IsPassed, line_passed, milli_clean, passed_as, passed_each, passed_on, unsigned_clean, whole_lacks}
 
 abbrev mark : List ℕ
 mark = codes "%% "
@@ -81,8 +81,8 @@ weight_open weight = refl
 
 term_passed : (axes : ℕ) (term : Term) → IsPassed (term_text mark axes term)
 term_passed axes term =
-    passed_on (concat (mark ∷ codes "function " ∷ decimal term.weight ∷ codes "\n" ∷ [])) (flat_map (piece_text mark axes) term.func.pieces)
-    (passed_as (weight_open (decimal term.weight)) (line_passed (codes "%% function ") (decimal term.weight) (λ text. refl) (whole_lacks term.weight)))
+    passed_on (concat (mark ∷ codes "function " ∷ unsigned_text term.weight ∷ codes "\n" ∷ [])) (flat_map (piece_text mark axes) term.func.pieces)
+    (passed_as (weight_open (unsigned_text term.weight)) (line_passed (codes "%% function ") (unsigned_text term.weight) (λ text. refl) (unsigned_clean term.weight)))
     (passed_each (piece_text mark axes) term.func.pieces (each_of (λ piece. IsPassed (piece_text mark axes piece)) term.func.pieces (piece_passed axes)))
 
 -- the lines of a problem
@@ -108,9 +108,9 @@ claim_open places sum = simp append_assoc refl
 claim_passed : (axes : ℕ) (claim : Claim) → IsPassed (claim_text mark axes claim)
 claim_passed axes claim =
     let places = flat_map number_word (take axes claim.point.at) in
-    passed_as (claim_open places (decimal claim.sum))
-    (line_passed (codes "%% decision") (places ++ 32 ∷ decimal claim.sum) (λ text. refl)
-    (behind 32 places (decimal claim.sum) (λ same. absurd (omega (arith, same))) (words_clean number_word (take axes claim.point.at) number_clean) (whole_lacks claim.sum)))
+    passed_as (claim_open places (unsigned_text claim.sum))
+    (line_passed (codes "%% decision") (places ++ 32 ∷ unsigned_text claim.sum) (λ text. refl)
+    (behind 32 places (unsigned_text claim.sum) (λ same. absurd (omega (arith, same))) (words_clean number_word (take axes claim.point.at) number_clean) (unsigned_clean claim.sum)))
 
 -- a line of the certificate
 cut_open : (path sum index : List ℕ) → concat (mark ∷ codes "cut" ∷ []) ++ (path ++ concat (codes " : " ∷ sum ∷ codes " " ∷ index ∷ codes "\n" ∷ []))
@@ -122,12 +122,12 @@ cut_passed line =
     let blank : 32 ≡ 10 → ⊥ = λ same. absurd (omega (arith, same)) in
     let colon : 58 ≡ 10 → ⊥ = λ same. absurd (omega (arith, same)) in
     let path = flat_map number_word line.path in
-    let sum = decimal line.sum in
+    let sum = unsigned_text line.sum in
     let index = decimal line.index in
     passed_as (cut_open path sum index)
     (line_passed (codes "%% cut") (path ++ 32 ∷ (codes ": " ++ (sum ++ 32 ∷ index))) (λ text. refl)
     (behind 32 path (codes ": " ++ (sum ++ 32 ∷ index)) blank (words_clean number_word line.path number_clean)
-    (colon, (blank, behind 32 sum index blank (whole_lacks line.sum) (whole_lacks line.index)))))
+    (colon, (blank, behind 32 sum index blank (unsigned_clean line.sum) (whole_lacks line.index)))))
 
 lines_passed : (decision : Decision) → All (λ (axis : Axis). IsTrue (is_one_line axis.name)) decision.problem.axes → IsPassed (decision_lines mark decision)
 lines_passed decision lines =

@@ -67,16 +67,16 @@ pub whole_lacks : (n : ℕ) → Lacks 10 (decimal n)
 unfolding digits
 whole_lacks n = digits_lack 64 n [] tt
 
-pub seconds_lack : (n : ℕ) → Lacks 10 (unsigned_text n)
-seconds_lack n = each_append (λ it. it ≢ 10) (decimal (n / 1000)) (decimals_text (n % 1000)) (whole_lacks (n / 1000)) (by (decimals_shape (n % 1000) (omega arith)))
+pub unsigned_clean : (n : ℕ) → Lacks 10 (unsigned_text n)
+unsigned_clean n = each_append (λ it. it ≢ 10) (decimal (n / 1000)) (decimals_text (n % 1000)) (whole_lacks (n / 1000)) (by (decimals_shape (n % 1000) (omega arith)))
   where
     by : Shape (n % 1000) → Lacks 10 (decimals_text (n % 1000))
     by (inl none) = subst (Lacks 10) (sym none.0) tt
     by (inr some) = subst (Lacks 10) (sym some.1) (λ same. absurd (omega (arith, same)), lacks_all is_digit 10 some.0 refl some.2)
 
 pub milli_clean : (number : ℤ) → Clean (milli_text number)
-milli_clean (pos n) = seconds_lack n
-milli_clean (negsuc n) = (λ same. absurd (omega (arith, same)), seconds_lack (suc n))
+milli_clean (pos n) = unsigned_clean n
+milli_clean (negsuc n) = (λ same. absurd (omega (arith, same)), unsigned_clean (suc n))
 
 -- the text is passed over, whatever stands behind it
 abbrev pub IsPassed : List ℕ → Type 0

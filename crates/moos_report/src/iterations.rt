@@ -13,7 +13,7 @@ use ivp_cert::{Decision, put_decision};
 use moos_db::Db;
 use moos_io::{Buffer, Failed, Sink};
 use moos_post::{Call, Entry};
-use moos_text::print_seconds;
+use moos_text::print_unsigned;
 
 // What follows an entry, before which the helm has fetched so often. The iterations begin with the number `first`.
 pub(super) fn put_outcome<K: Sink>(
@@ -186,7 +186,7 @@ fn put_state<K: Sink>(
 {
     let mut digits = itoa::Buffer::new();
     let number = digits.format(number).as_bytes();
-    let stamp = print_seconds(iteration.stamp);
+    let stamp = print_unsigned(iteration.stamp);
     put(
         &[
             b"%% iteration ",

@@ -36,7 +36,7 @@ use helm_core::Iteration;
 use moos_db::Db;
 use moos_io::{Buffer, Failed, Sink};
 use moos_post::{Call, Entry, Pair, Pattern, Reg};
-use moos_text::print_seconds;
+use moos_text::print_unsigned;
 
 fn put_clients<K: Sink>(db: &Db, buffer: &mut Buffer, out: &mut K) -> Result<(), Failed>
     ensures { Wrote (way (K.taken out.old) buffer.old (K.faults out.old)) (way (K.taken out.new) buffer.new (K.faults out.new))
@@ -163,7 +163,7 @@ fn put_asking<K: Sink>(
         result (concat (codes "%% entry " ∷ decimal k ∷ codes " " ∷ unsigned_text stamp ∷ codes " " ∷ client.now ∷ [])) }
 {
     let mut digits = itoa::Buffer::new();
-    let stamp = print_seconds(stamp);
+    let stamp = print_unsigned(stamp);
     put(
         &[
             b"%% entry ",

@@ -7,7 +7,7 @@ ghost use Rattle.moos_report.specs.Report.{client_text, reg_text, said_text, unu
 use bhv_file::Unused;
 use moos_io::{Buffer, Failed, Sink};
 use moos_post::{Name, Pair, Reg, Value};
-use moos_text::{print_milli, print_seconds};
+use moos_text::{print_milli, print_unsigned};
 
 // Writes the pieces in order.
 pub(super) fn put<K: Sink>(pieces: &[&[u8]], buffer: &mut Buffer, out: &mut K) -> Result<(), Failed>
@@ -58,7 +58,7 @@ pub(super) fn put_reg<K: Sink>(reg: &Reg, buffer: &mut Buffer, out: &mut K) -> R
     ensures { Wrote (way (K.taken out.old) buffer.old (K.faults out.old)) (way (K.taken out.new) buffer.new (K.faults out.new))
         result (reg_text reg.now) }
 {
-    let interval = print_seconds(reg.interval);
+    let interval = print_unsigned(reg.interval);
     let (var, source) = (reg.var.bytes(), reg.source.bytes());
     put(
         &[b"%% reg ", var, b" ", source, b" ", interval.bytes(), b"\n"],
@@ -78,7 +78,7 @@ pub(super) fn put_post<K: Sink>(
     ensures { Wrote (way (K.taken out.old) buffer.old (K.faults out.old)) (way (K.taken out.new) buffer.new (K.faults out.new))
         result (said_text stamp source.now pair.now.var pair.now.value) }
 {
-    let stamp = print_seconds(stamp);
+    let stamp = print_unsigned(stamp);
     let var = pair.var.bytes();
     if let Err(failed) = put(&[stamp.bytes(), b" ", var, b" ", source, b" "], buffer, out) {
         return Err(failed);
@@ -100,7 +100,7 @@ pub(super) fn put_mail<K: Sink>(
 {
     let mut digits = itoa::Buffer::new();
     let number = digits.format(number).as_bytes();
-    let stamp = print_seconds(stamp);
+    let stamp = print_unsigned(stamp);
     let (seconds, var) = (stamp.bytes(), pair.var.bytes());
     if let Err(failed) = put(
         &[

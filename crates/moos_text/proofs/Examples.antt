@@ -3,7 +3,7 @@ use Rattle.std.proofs.Common.{◌≡◌, ℕ, zero, suc, [], ◌∷◌, length, 
 use Rattle.std.specs.Prelude.{pos, negsuc, codes, Some, None, Result, Ok, Err, true, false}
 use Rattle.std.specs.Fmt.{digits}
 use Rattle.moos_text.specs.Lines.{raw_lines, behind_word, content_of, first_line, first_word, is_unclosed, trimmed, words_of}
-use Rattle.moos_text.specs.Numbers.{milli_of, milli_text}
+use Rattle.moos_text.specs.Numbers.{milli_of, milli_text, unsigned_within}
 use Rattle.moos_text.specs.Pairs.{pair_of, parts_of}
 use Rattle.moos_text.specs.Reading.{IsFront, IsParted}
 use Rattle.moos_text.specs.Refusals.{and_then, fault_at, IsFirst, IsLineFault}
@@ -75,6 +75,10 @@ no_digit = refl
 
 two_points : milli_of (codes "1.2.3") ≡ None
 two_points = refl
+
+-- a number without a sign has its own bound, which is judged without further decimals
+own_bound : (unsigned_within 64000 (codes "64.0009") ≡ Some 64000) × (unsigned_within 64000 (codes "64.001") ≡ None) × (unsigned_within 64000 (codes "+1") ≡ None)
+own_bound = (refl, refl, refl)
 
 printed : milli_text (negsuc 1049) ≡ codes "-1.05"
 unfolding digits

@@ -1,11 +1,12 @@
 -- Where the point of a number stands, and what digits spell.
-use Rattle.std.proofs.Common.{◌≡◌, ◌≢◌, ℕ, zero, suc, ◌+◌, ◌-◌, ◌*◌, ◌<◌, ◌≤◌, true, false, ◌==◌, List, [], ◌∷◌, length, take, drop, get_or, refl, sym, arith}
-use Rattle.std.specs.Prelude.{None}
+use Rattle.std.proofs.Common.{◌≡◌, ◌≢◌, ℕ, zero, suc, ◌+◌, ◌-◌, ◌*◌, ◌<◌, ◌≤◌, Bool, true, false, ◌==◌, ◌&&◌, cond, nat_le, List, [], ◌∷◌, length, take, drop, get_or, refl, sym, arith}
+use Rattle.std.specs.Prelude.{IfSome, None, Some}
 use Rattle.std.specs.List.{list_all}
+use Rattle.std.proofs.lemmas.Bool.{and_parts, leb-true}
 use Rattle.std.proofs.lemmas.List.{take_all, length-drop}
 use Rattle.std.proofs.lemmas.List.Sums.{fold_more}
 use Rattle.moos_post.specs.Words.{is_digit}
-use Rattle.moos_text.specs.Numbers.{digits_value, point_place, unsigned_of}
+use Rattle.moos_text.specs.Numbers.{digits_value, is_numeral, point_place, thousandths_of, unsigned_within}
 use Rattle.moos_text.specs.Reading.{IsFront, IsParted}
 
 -- one digit more
@@ -39,10 +40,26 @@ pub parted : (count : ℕ) (text decimals : List ℕ) → IsFront count text →
 parted count text decimals front point rest = record { point = point_behind count text front.within front.digits point; rest = rest }
 
 -- another byte than a point behind the digits makes no number
-pub unparted : (count : ℕ) (text : List ℕ) → IsFront count text → count < length text → get_or text count 0 ≢ 46 → unsigned_of text ≡ None
-unparted count text front within other =
+pub unparted : (count : ℕ) (text : List ℕ) → IsFront count text → count < length text → get_or text count 0 ≢ 46 → (most : ℕ) → unsigned_within most text ≡ None
+unparted count text front within other most =
     let none : list_all is_digit (take (point_place text) text) ≡ false = no_digits count text within front.digits other (front.ends within) in rw none refl
 
 -- what a slice from a place to the end holds
 pub from_place : (i : ℕ) (text : List ℕ) → drop i text ≡ take (length text - i) (drop i text)
 from_place i text = sym (take_all (length text - i) (drop i text) (omega (arith, length-drop i text)))
+
+-- a number without a sign is within its bound
+pub unsigned_most : (most : ℕ) (text : List ℕ) → IfSome (unsigned_within most text) (λ n. n ≤ most)
+unsigned_most most text = at (is_numeral most whole decimals) refl
+  where
+    whole : List ℕ
+    whole = take (point_place text) text
+
+    decimals : List ℕ
+    decimals = drop (suc (point_place text)) text
+
+    at : (b : Bool) → is_numeral most whole decimals ≡ b → IfSome (cond b (Some (thousandths_of whole decimals)) None) (λ n. n ≤ most)
+    at true good =
+        leb-true (thousandths_of whole decimals) most
+        (and_parts (list_all is_digit whole && list_all is_digit decimals && nat_le 1 (length whole + length decimals)) (nat_le (thousandths_of whole decimals) most) good).1
+    at false bad = tt

@@ -1,34 +1,20 @@
 -- What a text says that stands for a pair: a name, and a value as its type lets it be.
-use Rattle.std.proofs.Common.{◌≡◌, ℕ, ◌+◌, ◌^◌, ◌≤◌, Bool, true, false, ◌&&◌, ◌==◌, cond, nat_le, nat_lt, List, [], ◌∷◌, length, take, drop, suc, Some, None, refl, arith}
+use Rattle.std.proofs.Common.{◌≡◌, ℕ, ◌+◌, ◌^◌, ◌≤◌, Bool, true, false, ◌==◌, cond, nat_le, nat_lt, List, [], ◌∷◌, length, Some, None, refl, arith}
 use Rattle.std.specs.Prelude.{ℤ, pos, neg_ℤ, Option, option_map, is_none, is_some, Result, Ok, Err, IfOk, IfSome, IsTrue}
-use Rattle.std.specs.List.{before_first, after_first, list_all, position_or_len}
-use Rattle.std.proofs.lemmas.Bool.{and_from, and_parts, le-leb, leb-true, ltb-false}
+use Rattle.std.specs.List.{before_first, after_first, position_or_len}
+use Rattle.std.proofs.lemmas.Bool.{and_from, le-leb, ltb-false}
 use Rattle.std.proofs.lemmas.Int.{ints}
 use Rattle.moos_post.specs.declared.value.Value.{Value}
 use Rattle.moos_post.specs.declared.value.Value.TheVariants.{Text}
 use Rattle.moos_post.specs.Entries.{IsPair, IsValue}
-use Rattle.moos_post.specs.Words.{control_place, is_digit, is_name, IsMilli}
+use Rattle.moos_post.specs.Words.{control_place, is_name, IsMilli}
 use Rattle.moos_text.specs.declared.pair.PairFault.{PairFault}
 use Rattle.moos_text.specs.declared.pair.PairFault.TheVariants.{NoEquals, BadName, BadValue, TooLong}
 use Rattle.moos_text.specs.Lines.{trimmed, without_last, ends_with}
-use Rattle.moos_text.specs.Numbers.{is_numeral, milli_of, point_place, thousandths_of, unsigned_of}
+use Rattle.moos_text.specs.Numbers.{milli_of, unsigned_of}
 use Rattle.moos_text.specs.Pairs.{is_equals, is_quote, pair_of, plain_value, quoted_value, sides_pair, text_value, written_value, with_value}
 use Rattle.moos_text.proofs.Judging.{cond_good}
-
-unsigned_small : (text : List ℕ) → IfSome (unsigned_of text) (λ n. n ≤ 10 ^ 12)
-unsigned_small text = at (is_numeral whole decimals) refl
-  where
-    whole : List ℕ
-    whole = take (point_place text) text
-
-    decimals : List ℕ
-    decimals = drop (suc (point_place text)) text
-
-    at : (b : Bool) → is_numeral whole decimals ≡ b → IfSome (cond b (Some (thousandths_of whole decimals)) None) (λ n. n ≤ 10 ^ 12)
-    at true good =
-        leb-true (thousandths_of whole decimals) (10 ^ 12)
-        (and_parts (list_all is_digit whole && list_all is_digit decimals && nat_le 1 (length whole + length decimals)) (nat_le (thousandths_of whole decimals) (10 ^ 12)) good).1
-    at false bad = tt
+use Rattle.moos_text.proofs.Numerals.{unsigned_most}
 
 pub number_is : (text : List ℕ) → IfSome (milli_of text) IsMilli
 number_is [] = tt
@@ -43,9 +29,9 @@ number_is (first ∷ rest) = by (first == 43) (first == 45)
     below (Some n) small = (omega (arith, ints, small), omega (arith, ints))
 
     by : (plus minus : Bool) → IfSome (cond plus (option_map pos (unsigned_of rest)) (cond minus (option_map (λ n. neg_ℤ (pos n)) (unsigned_of rest)) (option_map pos (unsigned_of (first ∷ rest))))) IsMilli
-    by true minus = above (unsigned_of rest) (unsigned_small rest)
-    by false true = below (unsigned_of rest) (unsigned_small rest)
-    by false false = above (unsigned_of (first ∷ rest)) (unsigned_small (first ∷ rest))
+    by true minus = above (unsigned_of rest) (unsigned_most (10 ^ 12) rest)
+    by false true = below (unsigned_of rest) (unsigned_most (10 ^ 12) rest)
+    by false false = above (unsigned_of (first ∷ rest)) (unsigned_most (10 ^ 12) (first ∷ rest))
 
 pub text_is : (bytes : List ℕ) → IfOk (text_value bytes) IsValue
 text_is bytes =

@@ -11,22 +11,26 @@ digits_value digits = fold (λ value digit. value * 10 + (digit - 48)) 0 digits
 abbrev pub thousandths_of : List ℕ → List ℕ → ℕ
 thousandths_of whole decimals = digits_value whole * 1000 + digits_value (take 3 (decimals ++ codes "000"))
 
--- the whole part and the decimals of a number: digits both, one at least in all, of a value of at most 10^12 thousandths
-abbrev pub is_numeral : List ℕ → List ℕ → Bool
-is_numeral whole decimals =
+-- the whole part and the decimals of a number: digits both, one at least in all, of a value of at most so many thousandths
+abbrev pub is_numeral : ℕ → List ℕ → List ℕ → Bool
+is_numeral most whole decimals =
     list_all is_digit whole && list_all is_digit decimals && nat_le 1 (length whole + length decimals)
-    && nat_le (thousandths_of whole decimals) (10 ^ 12)
+    && nat_le (thousandths_of whole decimals) most
 
 -- where the first point stands, or the end
 abbrev pub point_place : List ℕ → ℕ
 point_place text = position_or_len (λ byte. byte == 46) text
 
--- a number without a sign: digits with at most one point
-abbrev pub unsigned_of : List ℕ → Option ℕ
-unsigned_of text =
+-- a number without a sign, of at most so many thousandths: digits with at most one point
+abbrev pub unsigned_within : ℕ → List ℕ → Option ℕ
+unsigned_within most text =
     let whole = take (point_place text) text in
     let decimals = drop (suc (point_place text)) text in
-    if is_numeral whole decimals then Some (thousandths_of whole decimals) else None
+    if is_numeral most whole decimals then Some (thousandths_of whole decimals) else None
+
+-- one of at most 10^12 thousandths
+abbrev pub unsigned_of : List ℕ → Option ℕ
+unsigned_of text = unsigned_within (10 ^ 12) text
 
 -- The number that a text stands for, in thousandths: a sign or none, and then a number without a sign.
 abbrev pub milli_of : List ℕ → Option ℤ

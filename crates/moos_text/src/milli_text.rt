@@ -1,7 +1,7 @@
 // Numbers in thousandths, printed.
-ghost use Rattle.std.specs.Prelude.{◌≡◌, ◌<◌, ◌≤◌, drop, length, Some};
+ghost use Rattle.std.specs.Prelude.{◌≡◌, ℕ, ◌<◌, ◌≤◌, drop, length, Some};
 ghost use Rattle.moos_post.specs.Words.{IsMilli};
-ghost use Rattle.moos_text.specs.Numbers.{decimals_text, unsigned_text, milli_text, milli_of};
+ghost use Rattle.moos_text.specs.Numbers.{decimals_text, unsigned_text, unsigned_within, milli_text, milli_of};
 
 use itoa::write_digits;
 use moos_post::Milli;
@@ -48,14 +48,27 @@ pub fn print_milli(value: Milli) -> MilliText
     MilliText { buffer, start }
 }
 
-/// Milliseconds as they print in seconds: the whole seconds without leading zeros, and where the rest isn't 0 a point and
-/// the decimals without trailing zeros.
+/// Thousandths without a sign as they print, as milliseconds do in seconds: the whole part without leading zeros, and where
+/// the rest isn't 0 a point and the decimals without trailing zeros. [`read_unsigned`](crate::read_unsigned) of it gives
+/// them back.
 #[inline]
-pub fn print_seconds(milliseconds: u64) -> MilliText
-    ensures { result ≡ unsigned_text milliseconds }
+#[tactic(auto, using(crate::proofs::RoundTrip::unsigned_back))]
+pub fn print_unsigned(thousandths: u64) -> MilliText
+    ensures text { result ≡ unsigned_text thousandths }
+    ensures read_back { (most : ℕ) → thousandths ≤ most → unsigned_within most result ≡ Some thousandths }
 {
     let mut buffer = [0; 24];
-    let start = write_unsigned(milliseconds, &mut buffer);
+    let start = write_unsigned(thousandths, &mut buffer);
+    MilliText { buffer, start }
+}
+
+/// The decimals of a number as they print: a point and the decimals without trailing zeros, and nothing where they are 0.
+pub fn print_decimals(rest: u64) -> MilliText
+    requires { rest < 1000 }
+    ensures { result ≡ decimals_text rest }
+{
+    let mut buffer = [0; 24];
+    let start = write_decimals(rest, &mut buffer);
     MilliText { buffer, start }
 }
 

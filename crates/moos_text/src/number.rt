@@ -1,8 +1,8 @@
 // Numbers, read.
-ghost use Rattle.std.specs.Prelude.{◌≡◌, ◌<◌, ◌≤◌, ◌-◌, ◌^◌, ◌++◌, min, take, codes, true, IsTrue, IfSome, IfNone, Some, None, pos, neg_ℤ, if◌then◌else◌};
+ghost use Rattle.std.specs.Prelude.{◌≡◌, ℕ, ◌<◌, ◌≤◌, ◌-◌, ◌^◌, ◌++◌, min, take, codes, true, IsTrue, IfSome, IfNone, Some, None, pos, neg_ℤ, if◌then◌else◌};
 ghost use Rattle.std.specs.List.{list_all};
 ghost use Rattle.moos_post.specs.Words.{is_digit};
-ghost use Rattle.moos_text.specs.Numbers.{digits_value, unsigned_of, milli_of, whole_of, whole_part};
+ghost use Rattle.moos_text.specs.Numbers.{digits_value, unsigned_of, unsigned_within, milli_of, whole_of, whole_part};
 ghost use Rattle.moos_text.specs.Reading.{IsFront, IsParted};
 
 use moos_post::Milli;
@@ -15,10 +15,18 @@ pub fn read_milli(text: &[u8]) -> Option<Milli>
     ensures { result ≡ milli_of text.now }
 {
     match text {
-        [b'+', rest @ ..] => signed(false, read_unsigned(rest)?),
-        [b'-', rest @ ..] => signed(true, read_unsigned(rest)?),
-        _ => signed(false, read_unsigned(text)?),
+        [b'+', rest @ ..] => signed(false, read_size(rest)?),
+        [b'-', rest @ ..] => signed(true, read_size(rest)?),
+        _ => signed(false, read_size(text)?),
     }
+}
+
+// A number behind its sign.
+fn read_size(text: &[u8]) -> Option<u64>
+    ensures value { result ≡ unsigned_of text.now }
+    ensures within { IfSome result (λ n. n ≤ 10 ^ 12) }
+{
+    read_unsigned(text, 1_000_000_000_000)
 }
 
 /// The whole number, not below zero, that a text stands for: a number without thousandths. None exactly where it is none.
@@ -48,10 +56,14 @@ fn signed(negative: bool, thousandths: u64) -> Option<Milli>
     Milli::new(if negative { -thousandths } else { thousandths })
 }
 
-// The thousandths of a number without a sign.
-fn read_unsigned(text: &[u8]) -> Option<u64>
-    ensures value { result ≡ unsigned_of text.now }
-    ensures within { IfSome result (λ n. n ≤ 10 ^ 12) }
+/// The number of thousandths that a text without a sign stands for: digits with at most one point, at least one digit in
+/// all. Decimals past the third are dropped.
+///
+/// None exactly where the text is no such number, or its value is above `most`.
+pub fn read_unsigned(text: &[u8], most: u64) -> Option<u64>
+    requires { most ≤ 10 ^ 15 }
+    ensures value { result ≡ unsigned_within most text.now }
+    ensures within { IfSome result (λ n. n ≤ most) }
 {
     let whole = front_digits(text);
     let decimals = decimals_behind(text, whole.count)?;
@@ -59,7 +71,7 @@ fn read_unsigned(text: &[u8]) -> Option<u64>
         return None;
     }
     let thousandths = whole.value * 1000 + first_decimals(decimals);
-    if thousandths <= 1_000_000_000_000 {
+    if thousandths <= most {
         Some(thousandths)
     } else {
         None
@@ -71,7 +83,7 @@ fn read_unsigned(text: &[u8]) -> Option<u64>
 fn decimals_behind(text: &[u8], whole: usize) -> Option<&[u8]>
     requires { IsFront whole text.now }
     ensures some { IfSome result (λ decimals. IsParted text.now whole decimals.now) }
-    ensures none { IfNone result (unsigned_of text.now ≡ None) }
+    ensures none { IfNone result ((most : ℕ) → unsigned_within most text.now ≡ None) }
 {
     if whole == text.len() {
         return Some(&[]);
@@ -84,7 +96,7 @@ fn decimals_behind(text: &[u8], whole: usize) -> Option<&[u8]>
 }
 
 // A value above any number's whole part.
-const TOO_GREAT: u64 = 1_000_000_001;
+const TOO_GREAT: u64 = 1_000_000_000_001;
 
 // The digits at the front of a text: how many, and the value that they spell, or `TOO_GREAT` where it is more.
 #[derive(Clone, Copy)]

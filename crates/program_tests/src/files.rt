@@ -38,6 +38,16 @@ pub(crate) const ALPHA: [&str; 3] = [
     SURVEY_BEHAVIORS,
 ];
 
+// Weights of half a one and of a thousandth.
+pub(crate) const HALF_PROBLEM: &str = "ivp 1\ndomain a:0:2:3\nfunction 0.5\npiece 0 2 0 10\nend\n";
+
+pub(crate) const HALF_DECISION: &str = "decision 2 10\ncut 0 : 10 2\ndone\n";
+
+pub(crate) const LEAST_PROBLEM: &str =
+    "ivp 1\ndomain a:0:2:3\nfunction 0.001\npiece 0 2 7 0\nend\n";
+
+pub(crate) const LEAST_DECISION: &str = "decision 0 0.007\ncut : 0.007 0\ndone\n";
+
 // The lines of a problem and those of its decision.
 pub(crate) fn decided(rt: &impl Abort, alloc: Global, problem: &str, decision: &str) -> String {
     let mut text = problem.to_string(alloc).expect(rt, "memory");

@@ -1,6 +1,7 @@
 // Problems that are solved, and decisions that are checked.
 use crate::files::{
-    FIRST_DECISION, FIRST_PROBLEM, SECOND_DECISION, SECOND_PROBLEM, decided, levels,
+    FIRST_DECISION, FIRST_PROBLEM, HALF_DECISION, HALF_PROBLEM, LEAST_DECISION, LEAST_PROBLEM,
+    SECOND_DECISION, SECOND_PROBLEM, decided, levels,
 };
 use crate::runs::ends_so;
 use moos_jobs::{FileKind, Refusal, Status};
@@ -25,6 +26,8 @@ fn is_solved<R: Threads + Wait + Sync + Abort>(rt: &R, alloc: Global, text: &str
 fn good_problems_are_solved_by_any_number_of_workers(rt: HostRuntime) {
     is_solved(&rt, rt.alloc(), FIRST_PROBLEM, FIRST_DECISION);
     is_solved(&rt, rt.alloc(), SECOND_PROBLEM, SECOND_DECISION);
+    is_solved(&rt, rt.alloc(), HALF_PROBLEM, HALF_DECISION);
+    is_solved(&rt, rt.alloc(), LEAST_PROBLEM, LEAST_DECISION);
     let levels = levels(&rt, rt.alloc(), "10000");
     is_solved(&rt, rt.alloc(), levels.as_str(), LEVELS_DECISION);
 }

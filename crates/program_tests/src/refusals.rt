@@ -86,7 +86,7 @@ fn bad_files_are_refused(rt: HostRuntime) {
         let status = refused(*file, *line, *cause);
         ends_so(&rt, rt.alloc(), &[*job, "f.txt"], *text, status, "");
     }
-    let heavy = levels(&rt, rt.alloc(), "10001");
+    let heavy = levels(&rt, rt.alloc(), "10000.001");
     let status = refused(FileKind::Problem, 3, Cause::P6);
     ends_so(
         &rt,

@@ -27,7 +27,7 @@ fn is_survey(rt: &impl Abort, file: &BhvFile) {
     assert!(rt; file.blocks.len() == 3);
     let block = file.blocks.get(2);
     is_const_depth(rt, &block.common);
-    assert!(rt; block.spec.weight == 100);
+    assert!(rt; block.spec.weight == 100_000);
 }
 
 // A template counts as any other.
@@ -148,7 +148,7 @@ fn missing_axis(rt: HostRuntime) {
 
 fn depth() -> Spec {
     Spec {
-        weight: 100,
+        weight: 100_000,
         shape: Shape::MaxDepth {
             max_depth: 0,
             basewidth: 0,
@@ -158,8 +158,8 @@ fn depth() -> Spec {
 
 // Parameters, their values, and the weight behind each where it is set.
 const PARAMETERS: &[(&[u8], &[u8], Option<u32>)] = &[
-    (b"pwt", b"7.9", Some(7)),
-    (b"Max_Depth", b"4", Some(100)),
+    (b"pwt", b"7.9", Some(7_900)),
+    (b"Max_Depth", b"4", Some(100_000)),
     (b"max_depth", b"deep", None),
     (b"speed", b"1", None),
 ];
@@ -192,7 +192,7 @@ fn common_is_copied(rt: &impl Abort, alloc: Global, common: &Common) {
 
 fn spec_is_copied(rt: &impl Abort, alloc: Global, spec: &Spec) {
     let copied = spec.copy(alloc).expect(rt, "memory");
-    assert!(rt; copied.weight == 100);
+    assert!(rt; copied.weight == 100_000);
 }
 
 fn are_copied(rt: &impl Abort, alloc: Global, block: &Block) {

@@ -3,7 +3,7 @@ use crate::files::{
     Kind, append, append_number, are_refused, is_shown, joined, refused, stands_at,
 };
 use moos_share::{Rule, Rules, read_bridge, too_long};
-use moos_text::{Cause, print_seconds};
+use moos_text::{Cause, print_unsigned};
 use script_reader::{Script, read_script};
 use std::alloc::Global;
 use std::process::Abort;
@@ -12,7 +12,7 @@ fn show_rule(rt: &impl Abort, text: &mut Vec<u8>, rule: &Rule) {
     append_number(rt, text, b"| ", rule.line, b" ");
     append(rt, text, &[rule.reg.var.bytes(), b" "]);
     append(rt, text, &[rule.reg.source.bytes(), b" "]);
-    append(rt, text, &[print_seconds(rule.reg.interval).bytes(), b" "]);
+    append(rt, text, &[print_unsigned(rule.reg.interval).bytes(), b" "]);
     if let Some(prefix) = &rule.prefix {
         append(rt, text, &[b"<", prefix.bytes(), b"> "]);
     }

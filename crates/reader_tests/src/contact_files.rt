@@ -2,7 +2,7 @@
 use crate::files::{Kind, append, are_refused, is_shown, joined, refused};
 use contact_avoid::{Ranges, Report, read_report};
 use moos_post::Milli;
-use moos_text::{Cause, print_milli, print_seconds};
+use moos_text::{Cause, print_milli, print_unsigned};
 use std::alloc::Global;
 use std::process::Abort;
 
@@ -41,8 +41,8 @@ fn reads_as(rt: &impl Abort, alloc: Global, text: &[u8], wanted: &[u8]) {
     assert!(rt; text.len() < 1000);
     match Ranges::read(text) {
         Ok(ranges) => {
-            let alert = print_seconds(ranges.alert as u64);
-            let clear = print_seconds(ranges.clear as u64);
+            let alert = print_unsigned(ranges.alert as u64);
+            let clear = print_unsigned(ranges.clear as u64);
             let shown = joined(rt, alloc, &[alert.bytes(), b" ", clear.bytes()]);
             is_shown(rt, &shown, wanted, text);
         }

@@ -4,7 +4,7 @@ use contact_avoid::Ranges;
 use ivp_domain::{Axis, AxisName, Domain};
 use mission_reader::read_mission;
 use moos_share::read_bridge;
-use moos_text::{Cause, ReadFault, print_seconds};
+use moos_text::{Cause, ReadFault, print_unsigned};
 use script_reader::read_script;
 use sim_vehicle::Craft;
 use std::alloc::Global;
@@ -152,7 +152,7 @@ pub(crate) fn append_number(
     number: u32,
     behind: &[u8],
 ) {
-    let number = print_seconds(number as u64 * 1000);
+    let number = print_unsigned(number as u64 * 1000);
     append(rt, text, &[before, number.bytes(), behind]);
 }
 

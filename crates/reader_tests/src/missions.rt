@@ -3,7 +3,7 @@ use crate::files::{Kind, append, append_number, are_refused, is_shown, joined, r
 use ivp_domain::Axis;
 use mission_reader::{Mission, read_mission};
 use moos_post::Milli;
-use moos_text::{Cause, print_milli, print_seconds};
+use moos_text::{Cause, print_milli, print_unsigned};
 use std::alloc::Global;
 use std::process::Abort;
 
@@ -19,7 +19,7 @@ fn show_axis(rt: &impl Abort, text: &mut Vec<u8>, axis: &Axis) {
 
 // The period and the last line, the behaviour file, and then each axis.
 fn shown(rt: &impl Abort, alloc: Global, mission: &Mission) -> Vec<u8> {
-    let mut text = joined(rt, alloc, &[print_seconds(mission.period).bytes()]);
+    let mut text = joined(rt, alloc, &[print_unsigned(mission.period).bytes()]);
     append_number(rt, &mut text, b" ", mission.lines, b" <");
     append(rt, &mut text, &[mission.behaviors.bytes(), b">"]);
     for axis in mission.domain.all() {

@@ -4,7 +4,7 @@ use crate::files::{
     stands_at,
 };
 use moos_post::{Call, Entry, Pair, Reg, Value};
-use moos_text::{Cause, Limit, ReadFault, print_milli, print_seconds};
+use moos_text::{Cause, Limit, ReadFault, print_milli, print_unsigned};
 use script_reader::{Lines, Script, read_script};
 use std::alloc::Global;
 use std::process::Abort;
@@ -20,7 +20,7 @@ fn show_pair(rt: &impl Abort, text: &mut Vec<u8>, pair: &Pair) {
 fn show_register(rt: &impl Abort, text: &mut Vec<u8>, reg: &Reg) {
     append(rt, text, &[b" register ", reg.var.bytes(), b" "]);
     append(rt, text, &[reg.source.bytes(), b" "]);
-    append(rt, text, &[print_seconds(reg.interval).bytes()]);
+    append(rt, text, &[print_unsigned(reg.interval).bytes()]);
 }
 
 fn show_call(rt: &impl Abort, text: &mut Vec<u8>, call: &Call) {
@@ -41,7 +41,7 @@ fn show_call(rt: &impl Abort, text: &mut Vec<u8>, call: &Call) {
 }
 
 fn show_entry(rt: &impl Abort, text: &mut Vec<u8>, entry: &Entry) {
-    append(rt, text, &[b"| ", print_seconds(entry.stamp).bytes()]);
+    append(rt, text, &[b"| ", print_unsigned(entry.stamp).bytes()]);
     append_number(rt, text, b" ", entry.client, b"");
     show_call(rt, text, &entry.call);
     append(rt, text, &[b" "]);
@@ -56,7 +56,7 @@ fn shown(rt: &impl Abort, alloc: Global, script: &Script) -> Vec<u8> {
     for line in script.lines.all() {
         show_entry(rt, &mut text, line);
     }
-    append(rt, &mut text, &[b"| ", print_seconds(script.stop).bytes()]);
+    append(rt, &mut text, &[b"| ", print_unsigned(script.stop).bytes()]);
     text
 }
 

@@ -2,7 +2,7 @@
 use moos_post::Milli;
 use moos_text::{
     Cause, Limit, Line, LineFault, Part, ReadFault, next_line, next_part, next_whole_line,
-    print_milli, print_seconds, read_milli, trimmed,
+    print_milli, print_unsigned, read_milli, trimmed,
 };
 
 // Texts, and the thousandths of the number that each is, if it is one.
@@ -68,8 +68,8 @@ fn printed(rt: HostRuntime) {
     }
 }
 
-// Milliseconds, and how each is printed in seconds.
-const SECONDS: &[(u64, &[u8])] = &[
+// Thousandths without a sign, and how each is printed.
+const UNSIGNED: &[(u64, &[u8])] = &[
     (0, b"0"),
     (500, b"0.5"),
     (1_000_000_000, b"1000000"),
@@ -77,9 +77,9 @@ const SECONDS: &[(u64, &[u8])] = &[
 ];
 
 #[test]
-fn printed_seconds(rt: HostRuntime) {
-    for (milliseconds, text) in SECONDS {
-        assert_eq!(rt; print_seconds(*milliseconds).bytes(), *text);
+fn printed_unsigned(rt: HostRuntime) {
+    for (thousandths, text) in UNSIGNED {
+        assert_eq!(rt; print_unsigned(*thousandths).bytes(), *text);
     }
 }
 

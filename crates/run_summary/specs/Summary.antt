@@ -3,6 +3,7 @@ use Rattle.std.specs.Prelude.{ℕ, zero, suc, ◌+◌, Option, None, Some, is_so
 use Rattle.std.specs.List.{concat}
 use Rattle.moos_post.specs.Delivery.{mail_at}
 use Rattle.moos_post.specs.History.{History, posts_of}
+use Rattle.moos_text.specs.Numbers.{unsigned_text}
 use Rattle.ivp_cert.specs.declared.claim.Decision.{Decision}
 use Rattle.helm_core.specs.declared.iteration.Iteration.{Iteration}
 use Rattle.run_summary.specs.declared.counts.RunCounts.{RunCounts}
@@ -12,7 +13,7 @@ abbrev pub letters_given : List (List ℕ) → History → ℕ → ℕ
 letters_given names history zero = 0
 letters_given names history (suc k) = letters_given names history k + length (mail_at names history k)
 
--- the sum that was decided for, 0 where nothing was
+-- the sum that was decided for, in thousandths, 0 where nothing was
 abbrev pub decided_sum : Option Decision → ℕ
 decided_sum None = 0
 decided_sum (Some decision) = decision.claim.sum
@@ -29,12 +30,12 @@ counts_of names history iterations = record {
   total = sum_by (λ (iteration : Iteration). decided_sum iteration.decision) iterations;
 }
 
--- the lines of a summary: the number of the mission, and what is counted
+-- the lines of a summary: the number of the mission, and what is counted; the total prints like a sum
 abbrev pub counts_text : ℕ → RunCounts → List ℕ
 counts_text number counts =
     concat (codes "generated " ∷ decimal number ∷ codes "\nentries " ∷ decimal counts.entries ∷ codes "\nposts " ∷ decimal counts.posts
     ∷ codes "\nmailed " ∷ decimal counts.mailed ∷ codes "\niterations " ∷ decimal counts.iterations ∷ codes "\ndecisions " ∷ decimal counts.decisions
-    ∷ codes "\ntotal " ∷ decimal counts.total ∷ codes "\n" ∷ [])
+    ∷ codes "\ntotal " ∷ unsigned_text counts.total ∷ codes "\n" ∷ [])
 
 -- The summary of the run of the mission with this number.
 abbrev pub summary_text : ℕ → List (List ℕ) → History → List Iteration → List ℕ

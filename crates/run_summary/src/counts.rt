@@ -7,7 +7,7 @@ use helm_core::Iteration;
 use ivp_cert::Decision;
 use moos_db::Db;
 
-/// How much there was in a run. No sum of as many numbers of 64 bits as a list may have is beyond 128 bits.
+/// How much there was in a run; the total counts thousandths. No sum of as many numbers of 64 bits as a list may have is beyond 128 bits.
 #[derive(Clone, Copy)]
 pub struct RunCounts {
     pub entries: u64,

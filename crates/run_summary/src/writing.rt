@@ -9,6 +9,7 @@ use crate::counts::{RunCounts, counts_of};
 use helm_core::Iteration;
 use moos_db::Db;
 use moos_io::{Buffer, Failed, Sink};
+use moos_text::print_decimals;
 
 /// Writes the summary of the run of the mission with this number. Where the sink fails, it took a front of it, not the whole.
 pub fn summary<K: Sink>(
@@ -49,6 +50,7 @@ fn put_counts<K: Sink>(
     );
     let (mut mailed, mut iterations) = (itoa::Buffer::new(), itoa::Buffer::new());
     let (mut decisions, mut total) = (itoa::Buffer::new(), itoa::Buffer::new());
+    let decimals = print_decimals((counts.total % 1000) as u64);
     buffer.write(
         out,
         &[
@@ -65,7 +67,8 @@ fn put_counts<K: Sink>(
             b"\ndecisions ",
             decisions.format(counts.decisions).as_bytes(),
             b"\ntotal ",
-            total.format(counts.total).as_bytes(),
+            total.format(counts.total / 1000).as_bytes(),
+            decimals.bytes(),
             b"\n",
         ],
     )

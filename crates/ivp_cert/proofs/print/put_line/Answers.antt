@@ -4,15 +4,16 @@ use Rattle.std.specs.List.{concat}
 use Rattle.moos_io.specs.Writing.{Wrote}
 use Rattle.moos_io.proofs.Writing.{stopped_before}
 use Rattle.moos_io.proofs.Passages.{stopped_as, wrote_on}
+use Rattle.moos_text.specs.Numbers.{unsigned_text}
 use Rattle.ivp_cert.specs.Texts.{line_text, number_word}
 use Rattle.ivp_cert.specs.declared.cert.Line.{Line}
 use Rattle.ivp_cert.proofs.PathTexts.{line_begun}
 use Rattle.ivp_cert.proofs.print.put_line.Goals as goal
 
 -- the line, with the text of its path
-whole : (prefix path : List ℕ) (line : Line) → path ≡ flat_map number_word line.path → concat (prefix ∷ codes "cut" ∷ path ∷ []) ++ concat (codes " : " ∷ decimal line.sum ∷ codes " " ∷ decimal line.index ∷ codes "\n" ∷ []) ≡ line_text prefix line
+whole : (prefix path : List ℕ) (line : Line) → path ≡ flat_map number_word line.path → concat (prefix ∷ codes "cut" ∷ path ∷ []) ++ concat (codes " : " ∷ unsigned_text line.sum ∷ codes " " ∷ decimal line.index ∷ codes "\n" ∷ []) ≡ line_text prefix line
 whole prefix path line is =
-    let rest : List ℕ = concat (codes " : " ∷ decimal line.sum ∷ codes " " ∷ decimal line.index ∷ codes "\n" ∷ []) in
+    let rest : List ℕ = concat (codes " : " ∷ unsigned_text line.sum ∷ codes " " ∷ decimal line.index ∷ codes "\n" ∷ []) in
     ap (λ t. concat (prefix ∷ codes "cut" ∷ t ∷ []) ++ rest) is ∙ line_begun prefix (flat_map number_word line.path) rest
 
 pub returns-in-Err : goal.returns-in-Err
