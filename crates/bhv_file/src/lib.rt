@@ -1,16 +1,17 @@
-//! What a behaviour file says: its modes, its behaviours and their parameters.
+//! What a behaviour file says: its modes, its behaviours and their parameters; and what a step of a behaviour gives.
 //!
 //! The layer above relies on this: `IsValidFile` of specs/ says what holds of each file that can be read, and `set_param` sets
 //! one parameter of a behaviour exactly where its name and its value are good. `bhv_reader` makes a file of bytes, and asks
 //! this layer which parameter a name means and what its value says.
 //!
 //! Read `decl`, `common`, `spec` and `file`; then `table`, which says what parameters there are, `setting` with `places`, and
-//! `put`. Of specs/ read `Table`, `Values` and `Params`, `Paths`, `Ranges` and `Validity`.
+//! `put`; `out` stands by itself. Of specs/ read `Table`, `Values` and `Params`, `Paths`, `Ranges` and `Validity`.
 #![tactic(auto)]
 
 mod common;
 mod decl;
 mod file;
+mod out;
 mod places;
 mod put;
 mod setting;
@@ -20,6 +21,7 @@ mod table;
 pub use common::Common;
 pub use decl::{Conds, Decl, Decls};
 pub use file::{BhvFile, Block, Blocks, Unused, UnusedList};
+pub use out::{BhvFault, Out};
 pub use put::{set_param, set_value};
 pub use setting::{read_duration, read_flag, read_templating, read_weight};
 pub use spec::{Shape, Spec, Spots};

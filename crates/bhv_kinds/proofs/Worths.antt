@@ -19,7 +19,7 @@ use Rattle.bhv_file.specs.Params.{axes_of, has_axes, has_axis}
 use Rattle.bhv_file.specs.Ranges.{InRanges}
 use Rattle.bhv_file.specs.Values.{lies_between}
 use Rattle.ivp_func.specs.Functions.{Function}
-use Rattle.bhv_kinds.specs.declared.out.Out.{Out}
+use Rattle.bhv_file.specs.declared.out.Out.{Out}
 use Rattle.bhv_kinds.specs.declared.situation.Situation.{Situation}
 use Rattle.std.specs.Ordering.{int_eq}
 use Rattle.bhv_kinds.specs.Giving.{Given, all_done, given_here, gives_by_type, gives_at, keeping, keeping_station, out_of, situation_at, towards, towards_number}

@@ -9,9 +9,9 @@ use Rattle.bhv_file.specs.declared.spec.Shape.{Shape}
 use Rattle.bhv_file.specs.declared.spec.Shape.TheVariants.{Heading, Speed, Depth, MaxDepth, Timer, Waypoint, Loiter, StationKeep, OpRegion}
 use Rattle.bhv_file.specs.declared.spec.Spec.{Spec}
 use Rattle.bhv_file.specs.Params.{axes_of}
-use Rattle.bhv_kinds.specs.declared.out.BhvFault.{BhvFault}
-use Rattle.bhv_kinds.specs.declared.out.BhvFault.TheVariants.{NoPosition}
-use Rattle.bhv_kinds.specs.declared.out.Out.{Out}
+use Rattle.bhv_file.specs.declared.out.BhvFault.{BhvFault}
+use Rattle.bhv_file.specs.declared.out.BhvFault.TheVariants.{NoPosition}
+use Rattle.bhv_file.specs.declared.out.Out.{Out}
 use Rattle.bhv_kinds.specs.declared.situation.Situation.{Situation}
 use Rattle.bhv_kinds.specs.Utilities.{Utility, AtMostOn, Flat, Sum, cruise, function_of, peak_of, steer}
 use Rattle.bhv_kinds.specs.Turns.{KindStep, KindTurn, Stepped, first_step, latest_number, params_at, position_of}

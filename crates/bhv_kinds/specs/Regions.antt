@@ -3,8 +3,8 @@ use Rattle.std.specs.Prelude.{ℕ, ℤ, nat_le, int_lt, Bool, not, if◌then◌e
 use Rattle.std.specs.Option.{option_or}
 use Rattle.helm_geo.specs.declared.spot.Spot.{Spot}
 use Rattle.helm_geo.specs.Polygons.{inside}
-use Rattle.bhv_kinds.specs.declared.out.BhvFault.{BhvFault}
-use Rattle.bhv_kinds.specs.declared.out.BhvFault.TheVariants.{NoPosition, OutsidePolygon, TooDeep, TooLate}
+use Rattle.bhv_file.specs.declared.out.BhvFault.{BhvFault}
+use Rattle.bhv_file.specs.declared.out.BhvFault.TheVariants.{NoPosition, OutsidePolygon, TooDeep, TooLate}
 
 -- the fault, where the test says so
 abbrev pub fault_if : Bool → BhvFault → Option BhvFault

@@ -10,7 +10,6 @@ ghost use Rattle.bhv_kinds.specs.Giving.{given_here, gives_by_type, keeping_stat
 ghost use Rattle.bhv_kinds.specs.Wants.{CanMake, given_of, utility_of};
 
 use crate::known::latest_number;
-use crate::out::BhvFault;
 use crate::region::{depth_fault, late_fault, outside_fault};
 use crate::situation::Situation;
 use crate::station::{Ring, keep};
@@ -18,7 +17,7 @@ use crate::steady::of_hundred;
 use crate::want::{Aim, Want};
 use crate::waypoint::{spot_at, target_number};
 use crate::ways::towards;
-use bhv_file::Shape;
+use bhv_file::{BhvFault, Shape};
 use helm_cond::Info;
 use helm_geo::Spot;
 

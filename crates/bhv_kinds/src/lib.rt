@@ -26,6 +26,6 @@ mod want;
 mod waypoint;
 mod ways;
 
+pub use bhv_file::{BhvFault, Out};
 pub use kind::Kind;
 pub use law::worth_law;
-pub use out::{BhvFault, Out};

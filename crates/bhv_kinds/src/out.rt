@@ -1,4 +1,4 @@
-// What a step gives: posts, a function, a fault, or that it is done.
+// What a step gives over a domain by what it aims at.
 ghost use Rattle.std.specs.Prelude.{◌≡◌, codes, IfOk, IfSome};
 ghost use Rattle.bhv_file.specs.Params.{axes_of};
 ghost use Rattle.bhv_kinds.specs.Giving.{is_named, out_of};
@@ -6,36 +6,10 @@ ghost use Rattle.bhv_kinds.specs.Wants.{CanMake, given_of};
 
 use crate::making::Kept;
 use crate::want::Aim;
-use bhv_file::Shape;
+use bhv_file::{Out, Shape};
 use ivp_domain::Domain;
-use ivp_func::Func;
 use moos_post::NoMemory;
 use std::alloc::Global;
-
-/// Why a behaviour wants all to stop.
-#[derive(Clone, Copy, Debug, PartialEq, Eq)]
-pub enum BhvFault {
-    /// The own position isn't known, and the behaviour needs it.
-    NoPosition,
-    /// The own position is outside the operating region.
-    OutsidePolygon,
-    /// The own depth is above the greatest one.
-    TooDeep,
-    /// The time since the first step has reached its limit.
-    TooLate,
-}
-
-/// What a step of a behaviour gives: a function over the domain or none, which of the axes that function mentions, whether
-/// the behaviour is done, and a fault or none. Where there is no function no axis is mentioned.
-#[derive(Drop)]
-pub struct Out {
-    pub func: Option<Func>,
-    pub course: bool,
-    pub speed: bool,
-    pub depth: bool,
-    pub done: bool,
-    pub fault: Option<BhvFault>,
-}
 
 // Which axes the functions of a type mention.
 struct Mentioned {

@@ -4,8 +4,7 @@ ghost use Rattle.helm_geo.specs.Plane.{is_spot};
 ghost use Rattle.bhv_file.specs.Ranges.{are_vertices};
 ghost use Rattle.bhv_kinds.specs.Regions.{depth_fault, late_fault, outside_fault};
 
-use crate::out::BhvFault;
-use bhv_file::Spots;
+use bhv_file::{BhvFault, Spots};
 use helm_geo::{Spot, inside};
 
 /// The fault of a position against a polygon, where there is one.

@@ -1,5 +1,5 @@
 // What a behaviour wants, before a function is built of it.
-use crate::out::BhvFault;
+use bhv_file::BhvFault;
 use ivp_build::Peak;
 
 /// What a behaviour wants in a step, by the few numbers that its function is made of: a peak on one axis, a greatest depth, to

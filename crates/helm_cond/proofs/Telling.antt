@@ -10,7 +10,7 @@ use Rattle.helm_cond.specs.Grammar.{Item, Operand, NotItem, AndItem, OrItem, Cha
 use Rattle.helm_cond.specs.Learnt.{Knowledge}
 use Rattle.helm_cond.specs.Levels.{accepts, fresh_level, level_holds, with_operand, with_not, with_or, answer_of}
 
-fused : {A B C : Type 0} (f : B → C) (g : A → B) (o : Option A) → option_map f (option_map g o) ≡ option_map (λ x. f (g x)) o
+pub fused : {A B C : Type 0} (f : B → C) (g : A → B) (o : Option A) → option_map f (option_map g o) ≡ option_map (λ x. f (g x)) o
 fused f g None = refl
 fused f g (Some x) = refl
 

@@ -7,6 +7,7 @@ pub mod Infos
 pub mod Learnt
 pub mod Levels
 pub mod Modes
+pub mod Phrases
 pub mod Stacks
 pub mod Tokens
 pub mod Told

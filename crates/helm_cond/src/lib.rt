@@ -6,8 +6,9 @@
 //!
 //! Read `comparison` and `operator`, `info`, and `cond`. `token`, `reading` and `cursor` serve its reader: the tokens of a
 //! text, the symbols that they make, and where which may stand. `level` and `levels` serve `holds`: what was read of each
-//! level of parentheses; `compare` and `mode` say whether one comparison holds. Of specs/ read `Conditions`, `Grammar`,
-//! `Learnt` and `Infos`; the others serve the files of their names.
+//! level of parentheses; `compare` and `mode` say whether one comparison holds. `law` says that what is read is what the
+//! grammar spells, as a grammar is written (`Phrases`). Of specs/ read `Phrases`, `Conditions`, `Grammar`, `Learnt` and
+//! `Infos`; the others serve the files of their names.
 #![tactic(auto)]
 
 mod compare;
@@ -16,6 +17,7 @@ mod cond;
 mod cursor;
 mod fault;
 mod info;
+mod law;
 mod level;
 mod levels;
 mod mode;
@@ -28,5 +30,6 @@ pub use comparison::Comparison;
 pub use cond::Cond;
 pub use fault::CondFault;
 pub use info::Info;
+pub use law::grammar_law;
 pub use operator::Operator;
 pub use symbol::Symbol;

@@ -9,7 +9,7 @@ use Rattle.ivp_domain.specs.declared.axis.Axis.{Axis}
 use Rattle.bhv_file.specs.declared.common.Common.{Common}
 use Rattle.bhv_file.specs.declared.file.Block.{Block}
 use Rattle.bhv_file.specs.declared.spec.Spec.{Spec}
-use Rattle.bhv_kinds.specs.declared.out.Out.{Out}
+use Rattle.bhv_file.specs.declared.out.Out.{Out}
 use Rattle.bhv_kinds.specs.Giving.{out_at}
 use Rattle.bhv_kinds.specs.Turns.{KindTurn, Updated, Stepped, params_at, step_of}
 use Rattle.bhv_kinds.specs.Updates.{updated}

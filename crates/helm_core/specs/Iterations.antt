@@ -2,7 +2,7 @@
 use Rattle.std.specs.Prelude.{ℕ, Bool, if◌then◌else◌, List, ◌++◌, map, bytes_eq, Option, option_map}
 use Rattle.std.specs.List.{filter, filter_map, flat_map}
 use Rattle.bhv_file.specs.declared.file.Block.{Block}
-use Rattle.bhv_kinds.specs.declared.out.BhvFault.{BhvFault}
+use Rattle.bhv_file.specs.declared.out.BhvFault.{BhvFault}
 use Rattle.helm_core.specs.declared.iteration.BhvError.{BhvError}
 use Rattle.helm_core.specs.declared.iteration.BhvNow.{BhvNow}
 use Rattle.helm_core.specs.declared.iteration.How.{How}

@@ -15,8 +15,8 @@ use Rattle.moos_post.specs.Entries.{IsEntry, IsPair, IsReg}
 use Rattle.ivp_domain.specs.declared.axis.Axis.{Axis}
 use Rattle.ivp_cert.specs.Texts.{claim_text}
 use Rattle.ivp_cert.proofs.CertExamples.{decision}
-use Rattle.bhv_kinds.specs.declared.out.BhvFault.{BhvFault}
-use Rattle.bhv_kinds.specs.declared.out.BhvFault.TheVariants.{NoPosition, OutsidePolygon, TooDeep, TooLate}
+use Rattle.bhv_file.specs.declared.out.BhvFault.{BhvFault}
+use Rattle.bhv_file.specs.declared.out.BhvFault.TheVariants.{NoPosition, OutsidePolygon, TooDeep, TooLate}
 use Rattle.bhv_life.specs.declared.outcome.BhvState.TheVariants.{Idle, Running, Active, Completed}
 use Rattle.bhv_file.specs.declared.file.Unused.{Unused}
 use Rattle.helm_core.specs.declared.iteration.BhvError.{BhvError}

@@ -9,8 +9,8 @@ use Rattle.moos_post.specs.History.{History, name_of}
 use Rattle.moos_text.specs.Numbers.{unsigned_text}
 use Rattle.ivp_cert.specs.declared.claim.Decision.{Decision}
 use Rattle.ivp_cert.specs.Texts.{decision_lines}
-use Rattle.bhv_kinds.specs.declared.out.BhvFault.{BhvFault}
-use Rattle.bhv_kinds.specs.declared.out.BhvFault.TheVariants.{NoPosition, OutsidePolygon, TooDeep, TooLate}
+use Rattle.bhv_file.specs.declared.out.BhvFault.{BhvFault}
+use Rattle.bhv_file.specs.declared.out.BhvFault.TheVariants.{NoPosition, OutsidePolygon, TooDeep, TooLate}
 use Rattle.bhv_life.specs.declared.outcome.BhvState.{BhvState}
 use Rattle.bhv_life.specs.declared.outcome.BhvState.TheVariants.{Idle, Running, Active, Completed}
 use Rattle.helm_core.specs.declared.iteration.BhvError.{BhvError}
