@@ -9,9 +9,9 @@ use Rattle.ivp_domain.proofs.Padding.{none_fails}
 use Rattle.ivp_domain.proofs.Sizes.{is_domain-from}
 
 pub domain_good : (axes : List Axis) → 0 < length axes → length axes ≤ 4 → IfOk (domain_of axes) (λ all. is_domain all ≡ true)
-domain_good axes some most = at (bad_axis axes) (nat_le (size_of axes) (2 ^ 22)) (repeated_place axes) refl refl refl
+domain_good axes some most = at (bad_axis axes) (nat_le (size_of axes) (2 ^ 28)) (repeated_place axes) refl refl refl
   where
-    at : (place : Option ℕ) (fits : Bool) (same : Option ℕ) → bad_axis axes ≡ place → nat_le (size_of axes) (2 ^ 22) ≡ fits → repeated_place axes ≡ same → IfOk (judged_axes axes place fits same) (λ all. is_domain all ≡ true)
+    at : (place : Option ℕ) (fits : Bool) (same : Option ℕ) → bad_axis axes ≡ place → nat_le (size_of axes) (2 ^ 28) ≡ fits → repeated_place axes ≡ same → IfOk (judged_axes axes place fits same) (λ all. is_domain all ≡ true)
     at (Some place) fits same e f g = tt
     at None false same e f g = tt
     at None true (Some place) e f g = tt

@@ -1,5 +1,5 @@
 -- The first of several degrees along which a step leads farthest, and how far it leads at most.
-use Rattle.std.proofs.Common.{◌≡◌, ℕ, zero, suc, Bool, true, false, ◌+◌, ◌-◌, ◌*◌, ◌^◌, ◌<◌, ◌≤◌, inl, inr, ℤ, pos, neg_ℤ, ◌+ℤ◌, ◌*ℤ◌, ◌<ℤ◌, ◌≤ℤ◌, nat_abs, FitsSigned, to_z, of_z, w32, w64, List, [], ◌∷◌, refl, sym, ◌∙◌, ap, subst, add-one, arith}
+use Rattle.std.proofs.Common.{◌≡◌, ℕ, zero, suc, Bool, true, false, ◌+◌, ◌-◌, ◌*◌, ◌^◌, ◌<◌, ◌≤◌, inl, inr, ℤ, pos, neg_ℤ, ◌+ℤ◌, ◌*ℤ◌, ◌<ℤ◌, ◌≤ℤ◌, nat_abs, FitsSigned, to_z, of_z, w32, w64, List, [], ◌∷◌, refl, sym, subst, arith}
 use Rattle.std.proofs.Math.Nat.{mul-le-mul}
 use Rattle.std.proofs.lemmas.Bool.{and_parts, cases_eq, leb-true}
 use Rattle.std.proofs.lemmas.Int.{fits_signed_from_abs, ints, to_z-of_z, unsigned_abs-mul}
@@ -13,10 +13,10 @@ pub record IsFirstMost (f : ℕ → ℤ) (count place : ℕ) : Type 0 where
   pub most : (other : ℕ) → other < count → f other ≤ℤ f place
   pub first : (other : ℕ) → other < place → f other <ℤ f place
 
-below : (x y : ℤ) → int_lt x y ≡ true → x <ℤ y
+pub below : (x y : ℤ) → int_lt x y ≡ true → x <ℤ y
 below x y e = grind (arith, ints)
 
-not_below : (x y : ℤ) → int_lt x y ≡ false → y ≤ℤ x
+pub not_below : (x y : ℤ) → int_lt x y ≡ false → y ≤ℤ x
 not_below x y e = grind (arith, ints)
 
 le_below : (x y z : ℤ) → x ≤ℤ y → y <ℤ z → x <ℤ z
@@ -51,25 +51,11 @@ one_more_place f count best false e before = record {
   first = before.first;
 }
 
-pub farthest_none : (dx dy : ℤ) → farthest dx dy 0 ≡ 0
-unfolding farthest
-farthest_none dx dy = refl
-
-pub farthest_more : (dx dy : ℤ) (count : ℕ) → farthest dx dy (count + 1) ≡ (if int_lt (along dx dy (farthest dx dy count)) (along dx dy count) then count else farthest dx dy count)
-unfolding farthest
-farthest_more dx dy count = rw add-one refl
-
 -- the definition gives the first of several degrees along which a step leads farthest
 pub farthest_is : (dx dy : ℤ) (count : ℕ) → IsFirstMost (along dx dy) (suc count) (farthest dx dy (suc count))
 unfolding farthest
 farthest_is dx dy zero = only_place (along dx dy) (int_lt (along dx dy 0) (along dx dy 0))
 farthest_is dx dy (suc count) = one_more_place (along dx dy) (suc count) (farthest dx dy (suc count)) (int_lt (along dx dy (farthest dx dy (suc count))) (along dx dy (suc count))) refl (farthest_is dx dy count)
-
--- the same of all degrees, for a step as the code has it
-pub farthest_of_all : (dx dy x y : ℤ) (count best : ℕ) → x ≡ dx → y ≡ dy → count ≡ 360 → best ≡ farthest x y count → IsFirstMost (along dx dy) 360 best
-farthest_of_all dx dy x y count best is_x is_y all is =
-    let named : best ≡ farthest dx dy 360 = is ∙ ap (λ (x : ℤ). farthest x y count) is_x ∙ ap (λ (y : ℤ). farthest dx y count) is_y ∙ ap (farthest dx dy) all in
-    subst (λ (place : ℕ). IsFirstMost (along dx dy) 360 place) (sym named) (farthest_is dx dy 359)
 
 -- no sine is above that of 90 degrees
 all_most : (sines : List ℕ) (place : ℕ) → list_all (λ sine. nat_le sine 10000) sines ≡ true → slice_index sines place ≤ 10000

@@ -1,4 +1,6 @@
 mod Examples
 pub mod Bearings
+pub mod Farthest
+pub mod Quarters
 pub mod Roots
 pub mod Rounds

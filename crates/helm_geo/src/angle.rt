@@ -1,5 +1,6 @@
 // Sines in ten thousandths, and the direction from one spot to another in whole degrees.
-ghost use Rattle.std.specs.Prelude.{◌≡◌, ℕ, ◌*◌, ◌^◌, ◌<◌, ◌≤◌, pos, neg_ℤ, ◌*ℤ◌, ◌<ℤ◌, ◌≤ℤ◌, int_lt, if◌then◌else◌, IfSome};
+ghost use Rattle.std.specs.Ordering.{int_eq};
+ghost use Rattle.std.specs.Prelude.{◌≡◌, ℕ, ◌+◌, ◌*◌, ◌%◌, ◌^◌, ◌<◌, ◌≤◌, false, ◌&&◌, pos, neg_ℤ, ◌*ℤ◌, ◌<ℤ◌, ◌≤ℤ◌, int_lt, if◌then◌else◌, IfSome};
 ghost use Rattle.helm_geo.specs.Angles.{along, bearing, cos4, half_sine, sin4};
 
 /// The sines of 0 to 90 degrees in ten-thousandths.
@@ -87,9 +88,80 @@ fn farther(dx: i64, dy: i64, best: u16, degree: u16) -> u16
     }
 }
 
+/// A quarter of the circle, and how far a step leads across and ahead as its first degree sees it.
+#[derive(Clone, Copy)]
+struct Quarter {
+    number: u16,
+    across: i64,
+    ahead: i64,
+}
+
+/// The quarter in which a step leads farthest: it leads ahead of the quarter's first degree, and not against its last.
+fn quarter_of(dx: i64, dy: i64) -> Quarter
+    requires some { (int_eq dx (pos 0) && int_eq dy (pos 0)) ≡ false }
+    requires low_x { neg_ℤ (pos (2 * 10 ^ 12)) ≤ℤ dx }
+    requires high_x { dx ≤ℤ pos (2 * 10 ^ 12) }
+    requires low_y { neg_ℤ (pos (2 * 10 ^ 12)) ≤ℤ dy }
+    requires high_y { dy ≤ℤ pos (2 * 10 ^ 12) }
+    ensures number { result.number < 4 }
+    ensures across { pos 0 ≤ℤ result.across }
+    ensures ahead { pos 0 <ℤ result.ahead }
+    ensures high_across { result.across ≤ℤ pos (2 * 10 ^ 12) }
+    ensures high_ahead { result.ahead ≤ℤ pos (2 * 10 ^ 12) }
+    ensures turned { (degree : ℕ) → degree < 360 → along dx dy ((degree + 90 * result.number) % 360) ≡ along result.across result.ahead degree }
+{
+    if dx >= 0 && dy > 0 {
+        Quarter {
+            number: 0,
+            across: dx,
+            ahead: dy,
+        }
+    } else if dx > 0 {
+        Quarter {
+            number: 1,
+            across: -dy,
+            ahead: dx,
+        }
+    } else if dy < 0 {
+        Quarter {
+            number: 2,
+            across: -dx,
+            ahead: -dy,
+        }
+    } else {
+        Quarter {
+            number: 3,
+            across: dy,
+            ahead: -dx,
+        }
+    }
+}
+
+/// The first of 90 degrees from which a step leads no farther one degree on, or 90. It is sought by halves, since a step
+/// leads farther and farther up to there, and nowhere farther behind.
+fn turning(across: i64, ahead: i64) -> u16
+    requires across { pos 0 ≤ℤ across }
+    requires ahead { pos 0 ≤ℤ ahead }
+    requires high_across { across ≤ℤ pos (2 * 10 ^ 12) }
+    requires high_ahead { ahead ≤ℤ pos (2 * 10 ^ 12) }
+    ensures within { result ≤ 90 }
+    ensures rises { (degree : ℕ) → degree < result → along across ahead degree <ℤ along across ahead (degree + 1) }
+    ensures falls { (degree : ℕ) → result ≤ degree → degree < 90 → along across ahead (degree + 1) ≤ℤ along across ahead degree }
+{
+    let (mut low, mut high) = (0, 90);
+    while low < high {
+        let middle = (low + high) / 2;
+        if along(across, ahead, middle) < along(across, ahead, middle + 1) {
+            low = middle + 1;
+        } else {
+            high = middle;
+        }
+    }
+    low
+}
+
 /// The bearing of a step of `dx` east and `dy` north, in whole degrees clockwise from north: the least degree along which
 /// it leads farthest. `None` exactly where the step leads nowhere.
-#[tactic(auto, using(crate::proofs::Bearings::farthest_more, crate::proofs::Bearings::farthest_none, crate::proofs::Bearings::farthest_is))]
 pub fn bearing(dx: i64, dy: i64) -> Option<u16>
     requires low_x { neg_ℤ (pos (2 * 10 ^ 12)) ≤ℤ dx }
     requires high_x { dx ≤ℤ pos (2 * 10 ^ 12) }
@@ -103,9 +175,8 @@ pub fn bearing(dx: i64, dy: i64) -> Option<u16>
     if dx == 0 && dy == 0 {
         return None;
     }
-    let mut best = 0;
-    for degree in 0..360 {
-        best = farther(dx, dy, best, degree);
-    }
-    Some(best)
+    let quarter = quarter_of(dx, dy);
+    let degree = turning(quarter.across, quarter.ahead);
+    // The last quarter ends where the first begins: 0 comes first of equals.
+    Some(farther(dx, dy, 0, (degree + 90 * quarter.number) % 360))
 }

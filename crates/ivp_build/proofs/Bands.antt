@@ -92,7 +92,7 @@ domain_parts axes lawful =
     let some = nat_lt 0 (length axes) in
     let four = nat_le (length axes) 4 in
     let good = list_all is_good_axis axes in
-    let small = nat_le (size_of axes) (2 ^ 22) in
+    let small = nat_le (size_of axes) (2 ^ 28) in
     let last = and_parts (some && four && good && small) (is_none (repeated_place axes)) lawful in
     let third = and_parts (some && four && good) small last.0 in
     let second = and_parts (some && four) good third.0 in
@@ -128,11 +128,11 @@ change_small p x h = change_by (is_right p.crest x) (fall_in p.slopes (zone_at p
 slope_good : (z : ℤ) → neg_ℤ (pos 100000) ≤ℤ z → z ≤ℤ pos 100000 → is_slope z ≡ true
 slope_good z a b = grind (arith, nat_tests, ints)
 
-base_good : (z : ℤ) → neg_ℤ (pos (10 ^ 12)) ≤ℤ z → z ≤ℤ pos (10 ^ 12) → is_base z ≡ true
+base_good : (z : ℤ) → neg_ℤ (pos (10 ^ 14)) ≤ℤ z → z ≤ℤ pos (10 ^ 14) → is_base z ≡ true
 base_good z a b = grind (arith, nat_tests, ints)
 
 -- a piece over a run fits the domain
-pub piece_fits : (axes : List Axis) (number : ℕ) (p : Profile) (run : Run) → number < 4 → number < length axes → list_all is_good_axis axes ≡ true → AreSlopes p.slopes → size_on number axes ≤ 2 ^ 22
+pub piece_fits : (axes : List Axis) (number : ℕ) (p : Profile) (run : Run) → number < 4 → number < length axes → list_all is_good_axis axes ≡ true → AreSlopes p.slopes → size_on number axes ≤ 2 ^ 28
     → run.low ≤ run.high → run.high < size_on number axes → is_piece_of axes (piece_over axes number p run) ≡ true
 piece_fits axes number p run h listed good s few ordered inside =
     let c = change_at p run.low in

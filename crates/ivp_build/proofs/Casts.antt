@@ -102,5 +102,5 @@ first_test true b s e h = absurd (cc)
 first_test false b s e h = h
 
 -- the low end of a box of few places
-pub low_few : (area : BoxN) → is_box area ≡ true → ((axis : ℕ) → axis < 4 → slice_index area.high axis < 2 ^ 22) → (axis : ℕ) → axis < 4 → slice_index area.low axis < 2 ^ 22
+pub low_few : (area : BoxN) → is_box area ≡ true → ((axis : ℕ) → axis < 4 → slice_index area.high axis < 2 ^ 28) → (axis : ℕ) → axis < 4 → slice_index area.low axis < 2 ^ 28
 low_few area proper few axis h = omega (arith, low_le_high area proper axis h, few axis h)

@@ -234,7 +234,7 @@ made_more f areas n area piece pieces new stands so_far more same =
 pub boxes_all : (axes : List Axis) (size n : ℕ) (runs : BoxN) → runs ≡ all_runs axes size → n ≡ length (points_in runs) → n ≡ length (boxes_of axes size)
 boxes_all axes size n runs e h = h ∙ ap (λ (r : BoxN). length (points_in r)) e ∙ sym (length-map (points_in (all_runs axes size)) (box_of_runs axes size))
 
-pub box_small : (axes : List Axis) (area : BoxN) → is_domain axes ≡ true → is_box_of axes area ≡ true → (k : ℕ) → k < 4 → slice_index area.high k < 2 ^ 22
+pub box_small : (axes : List Axis) (area : BoxN) → is_domain axes ≡ true → is_box_of axes area ≡ true → (k : ℕ) → k < 4 → slice_index area.high k < 2 ^ 28
 box_small axes area domain box zero h = omega (arith, (box_parts axes area box).1, few_on axes domain 0 h)
 box_small axes area domain box (suc zero) h = omega (arith, (box_parts axes area box).2, few_on axes domain 1 h)
 box_small axes area domain box (suc (suc zero)) h = omega (arith, (box_parts axes area box).3, few_on axes domain 2 h)

@@ -20,14 +20,14 @@ use Rattle.ivp_func.proofs.Facts.{has_point-from, low_le_high, passes_at, passes
 use Rattle.ivp_build.specs.Sampled.{IsRise, all_runs, grown_at, high_end, least_growth, most_growth, stays_in_range}
 
 -- the runs on each axis are no more than its places, and all boxes no more than the points
-pub boxes_few : (axes : List Axis) (size : ℕ) → is_domain axes ≡ true → volume_of (all_runs axes size) ≤ 2 ^ 22
+pub boxes_few : (axes : List Axis) (size : ℕ) → is_domain axes ≡ true → volume_of (all_runs axes size) ≤ 2 ^ 28
 boxes_few axes size h =
     let at : (k : ℕ) → (size_on k axes - 1) / size + 1 - 0 ≤ size_on k axes = λ k. let most = div-le_self (size_on k axes - 1) size in let some = positive axes h k in omega arith in
     let all : volume_of (all_runs axes size) ≤ size_of axes = mul-le-mul (mul-le-mul (mul-le-mul (at 0) (at 1)) (at 2)) (at 3) in
     omega (arith, all, few axes h)
 
 -- the last place of an axis is one below how many it has
-pub last_place_of : (axes : List Axis) (k : ℕ) → is_domain axes ≡ true → k < 4 → (slice_index (whole axes).high k + 1 ≡ size_on k axes) × (size_on k axes ≤ 2 ^ 22)
+pub last_place_of : (axes : List Axis) (k : ℕ) → is_domain axes ≡ true → k < 4 → (slice_index (whole axes).high k + 1 ≡ size_on k axes) × (size_on k axes ≤ 2 ^ 28)
 last_place_of axes k h p =
     let at : slice_index (whole axes).high k ≡ size_on k axes - 1 = one_of_four (λ axis. size_on axis axes - 1) k p in
     let some = positive axes h k in

@@ -133,10 +133,10 @@ slope_times (negsuc s) x h =
     let product = mul-le-mul_right x most in
     (omega (arith, ints), omega (arith, ints))
 
-base_from : (z : ℤ) → neg_ℤ (pos (10 ^ 12)) ≤ℤ z → z ≤ℤ pos (10 ^ 12) → is_base z ≡ true
+base_from : (z : ℤ) → neg_ℤ (pos (10 ^ 14)) ≤ℤ z → z ≤ℤ pos (10 ^ 14) → is_base z ≡ true
 base_from z h k = grind (arith, nat_tests, ints)
 
-base_by_value : (b r s t u : ℤ) (x : ℕ) → pos 0 ≤ℤ (b +ℤ r +ℤ s +ℤ t +ℤ u) → (b +ℤ r +ℤ s +ℤ t +ℤ u) ≤ℤ pos 100000 → x < 2 ^ 22
+base_by_value : (b r s t u : ℤ) (x : ℕ) → pos 0 ≤ℤ (b +ℤ r +ℤ s +ℤ t +ℤ u) → (b +ℤ r +ℤ s +ℤ t +ℤ u) ≤ℤ pos 100000 → x < 2 ^ 28
     → neg_ℤ (pos (100000 * x)) ≤ℤ (r +ℤ s +ℤ t +ℤ u) → (r +ℤ s +ℤ t +ℤ u) ≤ℤ pos (100000 * x) → is_base b ≡ true
 base_by_value b r s t u x least most small low high = base_from b (omega (arith, ints)) (omega (arith, ints))
 
@@ -152,7 +152,7 @@ two_places x y a b h k =
     let product : suc x * suc y ≤ a * b = mul-le-mul {n₁ = suc x} {m₁ = suc y} {n₂ = a} {m₂ = b} (omega arith) (omega arith) in
     omega arith
 
-places_few : (axes : List Axis) (p : Point) → is_domain axes ≡ true → is_point axes p ≡ true → slice_index p.at 0 + slice_index p.at 1 + slice_index p.at 2 + slice_index p.at 3 < 2 ^ 22
+places_few : (axes : List Axis) (p : Point) → is_domain axes ≡ true → is_point axes p ≡ true → slice_index p.at 0 + slice_index p.at 1 + slice_index p.at 2 + slice_index p.at 3 < 2 ^ 28
 places_few axes p domain inside =
     let below = places_below axes p domain inside in
     let two = two_places (slice_index p.at 0) (slice_index p.at 1) (size_on 0 axes) (size_on 1 axes) below.0 below.1 in

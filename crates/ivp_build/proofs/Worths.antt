@@ -40,7 +40,7 @@ on_axis (axis ∷ axes) (suc n) less good = on_axis axes n (omega arith) (and_pa
 record Has (axes : List Axis) (n : ℕ) : Type 0 where
   same : (axis_on axes n).points ≡ size_on n axes
   some : 0 < (axis_on axes n).points
-  few : (axis_on axes n).points ≤ 2 ^ 22
+  few : (axis_on axes n).points ≤ 2 ^ 28
 
 two_places : (axis : Axis) → is_good_axis axis ≡ true → 2 ≤ axis.points
 two_places axis good = grind (arith, nat_tests, good)
@@ -88,10 +88,10 @@ first_below_all t n d low (suc count) here most = by (t low) refl (first_below_a
 steps_some : (axis : Axis) (width : ℕ) → 0 < steps_of axis width
 steps_some axis width = omega arith
 
-steps_most : (axis : Axis) (width : ℕ) → width ≤ 10 ^ 12 → axis.points ≤ 2 ^ 22 → steps_of axis width ≤ 10 ^ 12 * 2 ^ 22
+steps_most : (axis : Axis) (width : ℕ) → width ≤ 10 ^ 12 → axis.points ≤ 2 ^ 28 → steps_of axis width ≤ 10 ^ 12 * 2 ^ 28
 steps_most axis width few points =
-    let last : last_place axis ≤ 2 ^ 22 = omega arith in
-    let product = mul-le-mul {n₁ = width} {m₁ = last_place axis} {n₂ = 10 ^ 12} {m₂ = 2 ^ 22} few last in
+    let last : last_place axis ≤ 2 ^ 28 = omega arith in
+    let product = mul-le-mul {n₁ = width} {m₁ = last_place axis} {n₂ = 10 ^ 12} {m₂ = 2 ^ 28} few last in
     let quotient = div-le_self (width * last_place axis) (nat_abs (axis.high -ℤ axis.low)) in
     omega (arith, product, quotient)
 
@@ -99,7 +99,7 @@ width_abs : (width : ℤ) → IsWidth width → nat_abs width ≤ 10 ^ 12
 width_abs width h = omega (arith, ints, h.0, h.1)
 
 -- so a peak's slopes are sound, and a limit's
-peak_sound : (axis : Axis) (peak : Peak) → axis.points ≤ 2 ^ 22 → IsPeak peak → AreSlopes (peak_slopes axis peak)
+peak_sound : (axis : Axis) (peak : Peak) → axis.points ≤ 2 ^ 28 → IsPeak peak → AreSlopes (peak_slopes axis peak)
 peak_sound axis peak few is =
     let max = nat_abs peak.max in
     let loss = nat_abs peak.summitdelta in
@@ -115,7 +115,7 @@ peak_sound axis peak few is =
       foot = steps_most axis (nat_abs peak.basewidth) (width_abs peak.basewidth is.basewidth) few;
     }
 
-limit_sound : (axis : Axis) (basewidth max : ℕ) → axis.points ≤ 2 ^ 22 → basewidth ≤ 10 ^ 12 → max ≤ 100000 → AreSlopes (limit_slopes axis basewidth max)
+limit_sound : (axis : Axis) (basewidth max : ℕ) → axis.points ≤ 2 ^ 28 → basewidth ≤ 10 ^ 12 → max ≤ 100000 → AreSlopes (limit_slopes axis basewidth max)
 limit_sound axis basewidth max few width most = record {
   some = steps_some axis basewidth;
   within = omega arith;
@@ -126,7 +126,7 @@ limit_sound axis basewidth max few width most = record {
 }
 
 -- the profile of a peak is one of its axis
-peak_fits : (axis : Axis) (peak : Peak) → 0 < axis.points → axis.points ≤ 2 ^ 22 → IsPeak peak → IsProfileOf axis.points (peak_profile axis peak)
+peak_fits : (axis : Axis) (peak : Peak) → 0 < axis.points → axis.points ≤ 2 ^ 28 → IsPeak peak → IsProfileOf axis.points (peak_profile axis peak)
 peak_fits axis peak some few is =
     let place : near axis peak.summit < axis.points = nearest_below (miss axis peak.summit) axis.points 0 0 axis.points some (omega arith) in
     by (wraps axis) refl place
@@ -141,7 +141,7 @@ along_worth axes n p lawful less on profile =
     let over : IsProfileOf (size_on n axes) p = subst (λ (count : ℕ). IsProfileOf count p) on.same profile in
     let same = on.same in
     let points = on.few in
-    let few : size_on n axes ≤ 2 ^ 22 = omega arith in
+    let few : size_on n axes ≤ 2 ^ 28 = omega arith in
     let h = fits axes n p lawful less few over in
     record { partition = partition axes n p h; value = value axes n p h }
 

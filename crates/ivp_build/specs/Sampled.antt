@@ -115,7 +115,7 @@ uniform_pieces axes size utility = map (sampled_piece utility) (boxes_of axes si
 -- a box with a value and slopes that are small, and no slope where it has one place
 pub record IsSample (area : BoxN) (value : ℤ) (slopes : List ℤ) : Type 0 where
   pub proper : IsTrue (is_box area)
-  pub few : (axis : ℕ) → axis < 4 → slice_index area.high axis < 2 ^ 22
+  pub few : (axis : ℕ) → axis < 4 → slice_index area.high axis < 2 ^ 28
   pub value_fits : IsTrue (is_value value)
   pub slopes_fit : (axis : ℕ) → axis < 4 → IsTrue (is_slope (slice_index_or slopes axis (pos 0)))
 
@@ -147,6 +147,6 @@ least_growth area slopes axis = int_min (slice_index_or slopes axis (pos 0) *ℤ
 abbrev pub most_growth : BoxN → List ℤ → ℕ → ℤ
 most_growth area slopes axis = int_max (slice_index_or slopes axis (pos 0) *ℤ pos (slice_index area.high axis - slice_index area.low axis)) (pos 0)
 
--- at most 100,000 times 2^22 either way
+-- at most 100,000 times 2^28 either way
 abbrev pub IsRise : ℤ → Type 0
-IsRise number = (neg_ℤ (pos (10 ^ 5 * 2 ^ 22)) ≤ℤ number) × (number ≤ℤ pos (10 ^ 5 * 2 ^ 22))
+IsRise number = (neg_ℤ (pos (10 ^ 5 * 2 ^ 28)) ≤ℤ number) × (number ≤ℤ pos (10 ^ 5 * 2 ^ 28))

@@ -106,8 +106,8 @@ pub record AreSlopes (s : Slopes) : Type 0 where
   pub within : s.fall * s.top ≤ s.max
   pub one : s.fall ≤ s.max
   pub most : s.max ≤ 100000
-  pub top : s.top ≤ 10 ^ 12 * 2 ^ 22
-  pub foot : s.foot ≤ 10 ^ 12 * 2 ^ 22
+  pub top : s.top ≤ 10 ^ 12 * 2 ^ 28
+  pub foot : s.foot ≤ 10 ^ 12 * 2 ^ 28
 
 -- the place of greatest utility is one of so many, and a circle has just these
 abbrev pub IsCrestOf : ℕ → Crest → Type 0

@@ -31,10 +31,10 @@ fn band(domain: &Domain, axis: u32, low: u32, high: u32) -> BoxN
 pub(crate) fn rise(change: i64, low: u32) -> i64
     requires least { neg_ℤ (pos 100000) ≤ℤ change }
     requires most { change ≤ℤ pos 100000 }
-    requires low { low < 2 ^ 22 }
+    requires low { low < 2 ^ 28 }
     ensures rise { result ≡ change *ℤ pos low }
-    ensures above { neg_ℤ (pos (10 ^ 5 * 2 ^ 22)) ≤ℤ result }
-    ensures below { result ≤ℤ pos (10 ^ 5 * 2 ^ 22) }
+    ensures above { neg_ℤ (pos (10 ^ 5 * 2 ^ 28)) ≤ℤ result }
+    ensures below { result ≤ℤ pos (10 ^ 5 * 2 ^ 28) }
 {
     change * low as i64
 }
@@ -50,7 +50,7 @@ fn piece_over(
     high: u32,
 ) -> Piece
     requires axis { axis < 4 }
-    requires few { count ≤ 2 ^ 22 }
+    requires few { count ≤ 2 ^ 28 }
     requires profile { IsProfileOf count profile.now }
     requires low { low < count }
     ensures { result ≡ piece_over domain.now axis profile.now (record { low = low; high = high }) }
@@ -75,7 +75,7 @@ fn pieces_by(
     ends: &[u32; 9],
 ) -> Result<Vec<Piece>, AllocError>
     requires axis { axis < 4 }
-    requires few { count ≤ 2 ^ 22 }
+    requires few { count ≤ 2 ^ 28 }
     requires profile { IsProfileOf count profile.now }
     requires within { EachIndex ends.now (λ k. slice_index ends.now k ≤ count) }
     ensures { IfOk result (λ pieces. pieces.items ≡ map (piece_over domain.now axis profile.now) (runs_by 0 ends.now)) }

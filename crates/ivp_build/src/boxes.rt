@@ -12,7 +12,7 @@ fn size_on(domain: &Domain, axis: usize) -> u32
     requires { axis < 4 }
     ensures size { result ≡ size_on axis domain.now }
     ensures some { 0 < result }
-    ensures few { result ≤ 2 ^ 22 }
+    ensures few { result ≤ 2 ^ 28 }
 {
     domain.whole().high[axis] + 1
 }
@@ -22,7 +22,7 @@ fn last_run(domain: &Domain, size: u32, axis: usize) -> u32
     requires size { 0 < size }
     requires axis { axis < 4 }
     ensures run { result ≡ (size_on axis domain.now - 1) / size }
-    ensures few { result < 2 ^ 22 }
+    ensures few { result < 2 ^ 28 }
 {
     (size_on(domain, axis) - 1) / size
 }
@@ -32,8 +32,8 @@ pub(crate) fn all_runs(domain: &Domain, size: u32) -> BoxN
     requires { 0 < size }
     ensures runs { result ≡ all_runs domain.now size }
     ensures proper { IsTrue (is_box result) }
-    ensures few { volume_of result ≤ 2 ^ 22 }
-    ensures small { (slice_index result.high 1 < 2 ^ 22) × (slice_index result.high 2 < 2 ^ 22) × (slice_index result.high 3 < 2 ^ 22) }
+    ensures few { volume_of result ≤ 2 ^ 28 }
+    ensures small { (slice_index result.high 1 < 2 ^ 28) × (slice_index result.high 2 < 2 ^ 28) × (slice_index result.high 3 < 2 ^ 28) }
     ensures lawful { IsTrue (is_domain domain.now) }
 {
     let _lawful = domain.axes();
@@ -51,7 +51,7 @@ pub(crate) fn all_runs(domain: &Domain, size: u32) -> BoxN
 /// The runs of the box of this number: the first axis is outermost.
 pub(crate) fn runs_at(runs: &BoxN, number: u32) -> Point
     requires least { runs.now.low ≡ 0 ∷ 0 ∷ 0 ∷ 0 ∷ [] }
-    requires small { (slice_index runs.now.high 1 < 2 ^ 22) × (slice_index runs.now.high 2 < 2 ^ 22) × (slice_index runs.now.high 3 < 2 ^ 22) }
+    requires small { (slice_index runs.now.high 1 < 2 ^ 28) × (slice_index runs.now.high 2 < 2 ^ 28) × (slice_index runs.now.high 3 < 2 ^ 28) }
     requires within { number < volume_of runs.now }
     ensures listed { slice_get (points_in runs.now) number ≡ Some result }
     ensures inside { IsTrue (has_point runs.now result) }

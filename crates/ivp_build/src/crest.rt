@@ -18,7 +18,7 @@ pub(crate) enum Crest {
 impl Crest {
     /// How many places a place is from where the utility is greatest.
     pub(crate) fn distance(&self, place: u32, count: u32) -> u64
-        requires few { count ≤ 2 ^ 22 }
+        requires few { count ≤ 2 ^ 28 }
         requires crest { IsCrestOf count self.now }
         requires place { place < count }
         ensures { result ≡ distance_from self.now place }
@@ -36,7 +36,7 @@ impl Crest {
 
     /// The place is on the right side, where the utility falls.
     pub(crate) fn is_right(&self, place: u32, count: u32) -> bool
-        requires few { count ≤ 2 ^ 22 }
+        requires few { count ≤ 2 ^ 28 }
         requires crest { IsCrestOf count self.now }
         requires place { place < count }
         ensures { result ≡ is_right self.now place }

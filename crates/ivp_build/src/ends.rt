@@ -13,9 +13,9 @@ fn falling(slopes: &Slopes, low: u32, away: u32, until: u32) -> [u32; 3]
     requires slopes { AreSlopes slopes.now }
     ensures { result ≡ falling_ends slopes.now low away until }
 {
-    let top = low as u64 + (slopes.top + 1).saturating_sub(away as u64);
-    let foot = low as u64 + (slopes.top + slopes.foot + 1).saturating_sub(away as u64);
-    let until = until as u64;
+    let top = low as u128 + (slopes.top + 1).saturating_sub(away as u128);
+    let foot = low as u128 + (slopes.top + slopes.foot + 1).saturating_sub(away as u128);
+    let until = until as u128;
     [top.min(until) as u32, foot.min(until) as u32, until as u32]
 }
 
@@ -25,10 +25,10 @@ fn rising(slopes: &Slopes, low: u32, away: u32, until: u32) -> [u32; 3]
     requires slopes { AreSlopes slopes.now }
     ensures { result ≡ rising_ends slopes.now low away until }
 {
-    let foot = (slopes.top + slopes.foot).saturating_sub(away as u64);
-    let top = slopes.top.saturating_sub(away as u64);
-    let end = until as u64;
-    let low = low as u64;
+    let foot = (slopes.top + slopes.foot).saturating_sub(away as u128);
+    let top = slopes.top.saturating_sub(away as u128);
+    let end = until as u128;
+    let low = low as u128;
     [
         end.saturating_sub(foot).max(low) as u32,
         end.saturating_sub(top).max(low) as u32,
@@ -46,7 +46,7 @@ fn nine(a: [u32; 3], b: [u32; 3], c: [u32; 3]) -> [u32; 9]
 /// The ends round a circle of so many places.
 fn round(slopes: &Slopes, summit: u32, count: u32) -> [u32; 9]
     requires slopes { AreSlopes slopes.now }
-    requires few { count ≤ 2 ^ 22 }
+    requires few { count ≤ 2 ^ 28 }
     requires summit { summit < count }
     ensures { result ≡ round_ends slopes.now summit count }
 {
@@ -65,7 +65,7 @@ fn round(slopes: &Slopes, summit: u32, count: u32) -> [u32; 9]
 /// Where the cuts of a shape along an axis of so many places end: the places behind them, rising.
 /// One that is no greater than the one before it ends no cut.
 pub(crate) fn ends(profile: &Profile, count: u32) -> [u32; 9]
-    requires few { count ≤ 2 ^ 22 }
+    requires few { count ≤ 2 ^ 28 }
     requires profile { IsProfileOf count profile.now }
     ensures ends { result ≡ cut_ends profile.now.slopes count profile.now.crest }
     ensures within { EachIndex result (λ k. slice_index result k ≤ count) }

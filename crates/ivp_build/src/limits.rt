@@ -20,7 +20,7 @@ use std::alloc::{AllocError, Global};
 /// The slopes beyond a limit: to 0 over a width.
 fn limit_slopes(axis: &Axis, basewidth: i64, max: i64) -> Slopes
     requires good { IsTrue (is_good_axis axis.now) }
-    requires few { axis.now.points ≤ 2 ^ 22 }
+    requires few { axis.now.points ≤ 2 ^ 28 }
     requires basewidth { IsWidth basewidth }
     requires max { IsTrue (is_value max) }
     ensures slopes { result ≡ limit_slopes axis.now (nat_abs basewidth) (nat_abs max) }

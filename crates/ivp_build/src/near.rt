@@ -14,18 +14,18 @@ const CIRCLE: u64 = 360_000;
 /// The last of so many places is one step before a whole circle.
 fn ends_before_circle(high: u64, points: u64) -> bool
     requires high { high ≤ 10 ^ 12 }
-    requires few { points ≤ 2 ^ 22 }
+    requires few { points ≤ 2 ^ 28 }
     requires some { 0 < points }
     ensures { result ≡ int_eq (pos high *ℤ pos points) (pos (360000 * (points - 1))) }
 {
-    high * points == CIRCLE * (points - 1)
+    high as u128 * points as u128 == CIRCLE as u128 * (points as u128 - 1)
 }
 
 /// The axis is a whole circle of courses: named `course`, from 0, with its last place one step
 /// before 360 degrees.
 pub(crate) fn wraps(axis: &Axis) -> bool
     requires good { IsTrue (is_good_axis axis.now) }
-    requires few { axis.now.points ≤ 2 ^ 22 }
+    requires few { axis.now.points ≤ 2 ^ 28 }
     ensures { result ≡ wraps axis.now }
 {
     axis.name.bytes() == b"course".as_slice()
@@ -92,7 +92,7 @@ fn course_of(number: i64) -> u64
 /// The number that is sought on an axis: where it wraps, the course from 0 to below a circle.
 fn sought(axis: &Axis, number: i64) -> i64
     requires good { IsTrue (is_good_axis axis.now) }
-    requires few { axis.now.points ≤ 2 ^ 22 }
+    requires few { axis.now.points ≤ 2 ^ 28 }
     requires number { IsTrue (is_end number) }
     ensures sought { result ≡ (if wraps axis.now then pos (course_of number) else number) }
     ensures within { IsTrue (is_end result) }

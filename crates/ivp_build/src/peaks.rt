@@ -23,7 +23,7 @@ use std::alloc::{AllocError, Global};
 /// The slopes of a peak: one loss over the width of its top, then to 0 over that of its foot.
 fn peak_slopes(axis: &Axis, shape: &Peak) -> Slopes
     requires good { IsTrue (is_good_axis axis.now) }
-    requires few { axis.now.points ≤ 2 ^ 22 }
+    requires few { axis.now.points ≤ 2 ^ 28 }
     requires peak { IsPeak shape.now }
     ensures slopes { result ≡ peak_slopes axis.now shape.now }
     ensures sound { AreSlopes result }
@@ -31,7 +31,7 @@ fn peak_slopes(axis: &Axis, shape: &Peak) -> Slopes
     let top = steps_of(axis, shape.peakwidth);
     Slopes {
         max: shape.max as u64,
-        fall: shape.summitdelta as u64 / top,
+        fall: (shape.summitdelta as u64 as u128 / top) as u64,
         top,
         foot: steps_of(axis, shape.basewidth),
     }

@@ -12,7 +12,7 @@ pub(crate) fn axis_on(domain: &Domain, axis: u32) -> Axis
     ensures axis { result ≡ axis_on domain.now axis }
     ensures count { result.points ≡ size_on axis domain.now }
     ensures good { IsTrue (is_good_axis result) }
-    ensures few { result.points ≤ 2 ^ 22 }
+    ensures few { result.points ≤ 2 ^ 28 }
     ensures lawful { IsTrue (is_domain domain.now) }
 {
     let axes = domain.axes();
@@ -31,24 +31,24 @@ fn span_of(axis: &Axis) -> u64
 }
 
 /// How many places a width spans, where so many steps make up a span.
-fn spanned(width: u64, last: u64, span: u64) -> u64
+fn spanned(width: u64, last: u64, span: u64) -> u128
     requires width { width ≤ 10 ^ 12 }
-    requires last { last < 2 ^ 22 }
+    requires last { last < 2 ^ 28 }
     requires span { 0 < span }
     ensures places { result ≡ width * last / span }
-    ensures most { result ≤ 10 ^ 12 * 2 ^ 22 }
+    ensures most { result ≤ 10 ^ 12 * 2 ^ 28 }
 {
-    width * last / span
+    width as u128 * last as u128 / span as u128
 }
 
 /// How many places a width spans on an axis, rounded down, and one at least.
-pub(crate) fn steps_of(axis: &Axis, width: i64) -> u64
+pub(crate) fn steps_of(axis: &Axis, width: i64) -> u128
     requires good { IsTrue (is_good_axis axis.now) }
-    requires few { axis.now.points ≤ 2 ^ 22 }
+    requires few { axis.now.points ≤ 2 ^ 28 }
     requires width { IsWidth width }
     ensures steps { result ≡ steps_of axis.now (nat_abs width) }
     ensures some { 0 < result }
-    ensures most { result ≤ 10 ^ 12 * 2 ^ 22 }
+    ensures most { result ≤ 10 ^ 12 * 2 ^ 28 }
 {
     let span = span_of(axis);
     spanned(width as u64, axis.points as u64 - 1, span).max(1)
@@ -67,19 +67,19 @@ fn above_low(axis: &Axis, number: i64) -> u64
 }
 
 /// How many places have less than this part of the span below them.
-fn places_below(part: u64, last: u64, span: u64) -> u64
+fn places_below(part: u64, last: u64, span: u64) -> u128
     requires part { (0 < part) × (part ≤ 2 * 10 ^ 12 + 1) }
-    requires last { (0 < last) × (last < 2 ^ 22) }
+    requires last { (0 < last) × (last < 2 ^ 28) }
     requires span { 0 < span }
     ensures { (place : ℕ) → nat_lt place result ≡ nat_lt (place * span / last) part }
 {
-    (part * last - 1) / span + 1
+    (part as u128 * last as u128 - 1) / span as u128 + 1
 }
 
 /// How many places of an axis have a number below this one. They come first.
 fn count_below(axis: &Axis, number: i64) -> u32
     requires good { IsTrue (is_good_axis axis.now) }
-    requires few { axis.now.points ≤ 2 ^ 22 }
+    requires few { axis.now.points ≤ 2 ^ 28 }
     requires number { IsNumber number }
     ensures each { (place : ℕ) → place < axis.now.points → nat_lt place result ≡ int_lt (value_on axis.now place) number }
     ensures within { result ≤ axis.now.points }
@@ -89,13 +89,13 @@ fn count_below(axis: &Axis, number: i64) -> u32
     }
     let span = span_of(axis);
     let below = places_below(above_low(axis, number), axis.points as u64 - 1, span);
-    below.min(axis.points as u64) as u32
+    below.min(axis.points as u128) as u32
 }
 
 /// The last place whose number is at most the limit, or the first of all.
 pub(crate) fn last_up_to(axis: &Axis, limit: i64) -> u32
     requires good { IsTrue (is_good_axis axis.now) }
-    requires few { axis.now.points ≤ 2 ^ 22 }
+    requires few { axis.now.points ≤ 2 ^ 28 }
     requires limit { IsTrue (is_end limit) }
     ensures last { result ≡ last_up_to axis.now limit }
     ensures within { result < axis.now.points }
@@ -106,7 +106,7 @@ pub(crate) fn last_up_to(axis: &Axis, limit: i64) -> u32
 /// The first place whose number is at least the limit, or the last of all.
 pub(crate) fn first_from(axis: &Axis, limit: i64) -> u32
     requires good { IsTrue (is_good_axis axis.now) }
-    requires few { axis.now.points ≤ 2 ^ 22 }
+    requires few { axis.now.points ≤ 2 ^ 28 }
     requires limit { IsTrue (is_end limit) }
     ensures first { result ≡ first_from axis.now limit }
     ensures before { (place : ℕ) → place < result → value_on axis.now place <ℤ limit }

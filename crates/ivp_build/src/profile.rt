@@ -15,7 +15,7 @@ pub(crate) struct Profile {
 impl Profile {
     /// The utility at a place of an axis of so many.
     pub(crate) fn utility(&self, place: u32, count: u32) -> i64
-        requires few { count ≤ 2 ^ 22 }
+        requires few { count ≤ 2 ^ 28 }
         requires profile { IsProfileOf count self.now }
         requires place { place < count }
         ensures value { result ≡ pos (utility_along self.now place) }
@@ -28,7 +28,7 @@ impl Profile {
 
     /// The change from a place to the next of its zone and side.
     pub(crate) fn change(&self, place: u32, count: u32) -> i64
-        requires few { count ≤ 2 ^ 22 }
+        requires few { count ≤ 2 ^ 28 }
         requires profile { IsProfileOf count self.now }
         requires place { place < count }
         ensures change { result ≡ change_at self.now place }

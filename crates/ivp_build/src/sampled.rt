@@ -54,7 +54,7 @@ fn by_place(high: i64, low: i64, places: u32) -> i64
 fn growth(area: &BoxN, slopes: &[i64; 4], axis: usize) -> (i64, i64)
     requires axis { axis < 4 }
     requires proper { slice_index area.now.low axis ≤ slice_index area.now.high axis }
-    requires few { slice_index area.now.high axis < 2 ^ 22 }
+    requires few { slice_index area.now.high axis < 2 ^ 28 }
     requires small { IsTrue (is_slope (slice_index_or slopes.now axis (pos 0))) }
     ensures least { result.0 ≡ least_growth area.now slopes.now axis }
     ensures most { result.1 ≡ most_growth area.now slopes.now axis }
@@ -127,7 +127,7 @@ fn piece_from(area: &BoxN, value: i64, slopes: &[i64; 4]) -> Piece
 /// of each axis on which the box has several places.
 fn sampled_piece<F: Fn(&Point) -> i64>(area: &BoxN, utility: &F) -> Piece
     requires proper { IsTrue (is_box area.now) }
-    requires few { (axis : ℕ) → axis < 4 → slice_index area.now.high axis < 2 ^ 22 }
+    requires few { (axis : ℕ) → axis < 4 → slice_index area.now.high axis < 2 ^ 28 }
     requires utility { IsAskedIn F.Fn utility.now area.now }
     ensures piece { (gives : Point → ℤ) → Computes F.Fn utility.now area.now gives → result ≡ sampled_piece gives area.now }
     ensures sampled { (axes : List Axis) → IsTrue (is_domain axes) → IsTrue (is_box_of axes area.now) → IsSampled axes area.now result }

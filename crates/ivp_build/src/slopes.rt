@@ -8,8 +8,8 @@ ghost use Rattle.ivp_build.specs.Shapes.{AreSlopes, fall_in, height_at, shoulder
 pub(crate) struct Slopes {
     pub max: u64,
     pub fall: u64,
-    pub top: u64,
-    pub foot: u64,
+    pub top: u128,
+    pub foot: u128,
 }
 
 impl Slopes {
@@ -19,7 +19,7 @@ impl Slopes {
         ensures left { result ≡ shoulder self.now }
         ensures most { result ≤ 100000 }
     {
-        self.max - self.fall * self.top
+        self.max - (self.fall as u128 * self.top) as u64
     }
 
     /// The zone of a distance: 0 the top, 1 the foot, 2 beyond.
@@ -27,6 +27,7 @@ impl Slopes {
         requires { AreSlopes self.now }
         ensures { result ≡ zone_of self.now distance }
     {
+        let distance = distance as u128;
         if distance <= self.top {
             0
         } else if distance <= self.top + self.foot {
@@ -45,7 +46,7 @@ impl Slopes {
         if zone == 0 {
             self.fall
         } else if zone == 1 {
-            self.shoulder() / self.foot
+            (self.shoulder() as u128 / self.foot) as u64
         } else {
             0
         }
@@ -57,11 +58,12 @@ impl Slopes {
         ensures value { result ≡ height_at self.now distance }
         ensures most { result ≤ 100000 }
     {
+        let distance = distance as u128;
         if distance <= self.top {
-            self.max - self.fall * distance
+            self.max - (self.fall as u128 * distance) as u64
         } else if distance <= self.top + self.foot {
-            let left = self.shoulder();
-            left - left / self.foot * (distance - self.top)
+            let left = self.shoulder() as u128;
+            (left - left / self.foot * (distance - self.top)) as u64
         } else {
             0
         }

@@ -78,7 +78,7 @@ place_below_zero = refl
 great_place : problem_of (codes "ivp 1\ndomain a:0:1:2\nfunction 1\npiece 0 4294967296 0 0\n") ≡ Err (At 4 P1)
 great_place = refl
 
-great_base : problem_of (codes "ivp 1\ndomain a:0:1:2\nfunction 1\npiece 0 1 -1000000000001 0\n") ≡ Err (At 4 P1)
+great_base : problem_of (codes "ivp 1\ndomain a:0:1:2\nfunction 1\npiece 0 1 -100000000000001 0\n") ≡ Err (At 4 P1)
 great_base = refl
 
 great_slope : problem_of (codes "ivp 1\ndomain a:0:1:2\nfunction 1\npiece 0 1 0 100001\n") ≡ Err (At 4 P1)

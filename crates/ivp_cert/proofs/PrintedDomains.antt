@@ -56,6 +56,6 @@ pub front_domain : (xs ys : List Axis) → is_domain (xs ++ ys) ≡ true → dom
 front_domain xs ys h =
     let all = xs ++ ys in
     let good = good_axes all h in
-    let names = and_parts (nat_lt 0 (length all) && nat_le (length all) 4 && list_all is_good_axis all && nat_le (size_of all) (2 ^ 22)) (is_none (repeated_place all)) h in
-    let fits : nat_le (size_of xs) (2 ^ 22) ≡ true = le-leb (size_of xs) (2 ^ 22) (le_trans (smaller xs ys good) (few all h)) in
+    let names = and_parts (nat_lt 0 (length all) && nat_le (length all) 4 && list_all is_good_axis all && nat_le (size_of all) (2 ^ 28)) (is_none (repeated_place all)) h in
+    let fits : nat_le (size_of xs) (2 ^ 28) ≡ true = le-leb (size_of xs) (2 ^ 28) (le_trans (smaller xs ys good) (few all h)) in
     rw (no_bad_axis xs (good_both xs ys good), fits, front_names [] xs ys (none_of (repeated_place all) names.1)) refl

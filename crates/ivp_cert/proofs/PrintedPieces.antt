@@ -42,23 +42,23 @@ place n small = record { back = place_back n small; word = decimal_word n (omega
 abbrev piece_at : List ℕ → List ℕ → ℤ → List ℤ → Piece
 piece_at low high base slope = record { area = record { low = low; high = high }; base = base; slope = slope }
 
-spelled_one : (l0 h0 : ℕ) (base s0 : ℤ) → IsPlace l0 → IsPlace h0 → IsNumber (10 ^ 12) base → IsNumber 100000 s0 → IsSpelled 1 (piece_at (l0 ∷ 0 ∷ 0 ∷ 0 ∷ []) (h0 ∷ 0 ∷ 0 ∷ 0 ∷ []) base (s0 ∷ pos 0 ∷ pos 0 ∷ pos 0 ∷ []))
+spelled_one : (l0 h0 : ℕ) (base s0 : ℤ) → IsPlace l0 → IsPlace h0 → IsNumber (10 ^ 14) base → IsNumber 100000 s0 → IsSpelled 1 (piece_at (l0 ∷ 0 ∷ 0 ∷ 0 ∷ []) (h0 ∷ 0 ∷ 0 ∷ 0 ∷ []) base (s0 ∷ pos 0 ∷ pos 0 ∷ pos 0 ∷ []))
 spelled_one l0 h0 base s0 a0 b0 base_is t0 = record { back = rw (a0.back, b0.back, base_is.back, t0.back) refl; words = (a0.word, (b0.word, (base_is.word, (t0.word, tt)))) }
 
-spelled_two : (l0 h0 l1 h1 : ℕ) (base s0 s1 : ℤ) → IsPlace l0 → IsPlace h0 → IsPlace l1 → IsPlace h1 → IsNumber (10 ^ 12) base → IsNumber 100000 s0 → IsNumber 100000 s1 → IsSpelled 2 (piece_at (l0 ∷ l1 ∷ 0 ∷ 0 ∷ []) (h0 ∷ h1 ∷ 0 ∷ 0 ∷ []) base (s0 ∷ s1 ∷ pos 0 ∷ pos 0 ∷ []))
+spelled_two : (l0 h0 l1 h1 : ℕ) (base s0 s1 : ℤ) → IsPlace l0 → IsPlace h0 → IsPlace l1 → IsPlace h1 → IsNumber (10 ^ 14) base → IsNumber 100000 s0 → IsNumber 100000 s1 → IsSpelled 2 (piece_at (l0 ∷ l1 ∷ 0 ∷ 0 ∷ []) (h0 ∷ h1 ∷ 0 ∷ 0 ∷ []) base (s0 ∷ s1 ∷ pos 0 ∷ pos 0 ∷ []))
 spelled_two l0 h0 l1 h1 base s0 s1 a0 b0 a1 b1 base_is t0 t1 = record { back = rw (a0.back, b0.back, a1.back, b1.back, base_is.back, t0.back, t1.back) refl; words = (a0.word, (b0.word, (a1.word, (b1.word, (base_is.word, (t0.word, (t1.word, tt))))))) }
 
-spelled_three : (l0 h0 l1 h1 l2 h2 : ℕ) (base s0 s1 s2 : ℤ) → IsPlace l0 → IsPlace h0 → IsPlace l1 → IsPlace h1 → IsPlace l2 → IsPlace h2 → IsNumber (10 ^ 12) base → IsNumber 100000 s0 → IsNumber 100000 s1 → IsNumber 100000 s2 → IsSpelled 3 (piece_at (l0 ∷ l1 ∷ l2 ∷ 0 ∷ []) (h0 ∷ h1 ∷ h2 ∷ 0 ∷ []) base (s0 ∷ s1 ∷ s2 ∷ pos 0 ∷ []))
+spelled_three : (l0 h0 l1 h1 l2 h2 : ℕ) (base s0 s1 s2 : ℤ) → IsPlace l0 → IsPlace h0 → IsPlace l1 → IsPlace h1 → IsPlace l2 → IsPlace h2 → IsNumber (10 ^ 14) base → IsNumber 100000 s0 → IsNumber 100000 s1 → IsNumber 100000 s2 → IsSpelled 3 (piece_at (l0 ∷ l1 ∷ l2 ∷ 0 ∷ []) (h0 ∷ h1 ∷ h2 ∷ 0 ∷ []) base (s0 ∷ s1 ∷ s2 ∷ pos 0 ∷ []))
 spelled_three l0 h0 l1 h1 l2 h2 base s0 s1 s2 a0 b0 a1 b1 a2 b2 base_is t0 t1 t2 = record { back = rw (a0.back, b0.back, a1.back, b1.back, a2.back, b2.back, base_is.back, t0.back, t1.back, t2.back) refl; words = (a0.word, (b0.word, (a1.word, (b1.word, (a2.word, (b2.word, (base_is.word, (t0.word, (t1.word, (t2.word, tt)))))))))) }
 
-spelled_four : (l0 h0 l1 h1 l2 h2 l3 h3 : ℕ) (base s0 s1 s2 s3 : ℤ) → IsPlace l0 → IsPlace h0 → IsPlace l1 → IsPlace h1 → IsPlace l2 → IsPlace h2 → IsPlace l3 → IsPlace h3 → IsNumber (10 ^ 12) base → IsNumber 100000 s0 → IsNumber 100000 s1 → IsNumber 100000 s2 → IsNumber 100000 s3 → IsSpelled 4 (piece_at (l0 ∷ l1 ∷ l2 ∷ l3 ∷ []) (h0 ∷ h1 ∷ h2 ∷ h3 ∷ []) base (s0 ∷ s1 ∷ s2 ∷ s3 ∷ []))
+spelled_four : (l0 h0 l1 h1 l2 h2 l3 h3 : ℕ) (base s0 s1 s2 s3 : ℤ) → IsPlace l0 → IsPlace h0 → IsPlace l1 → IsPlace h1 → IsPlace l2 → IsPlace h2 → IsPlace l3 → IsPlace h3 → IsNumber (10 ^ 14) base → IsNumber 100000 s0 → IsNumber 100000 s1 → IsNumber 100000 s2 → IsNumber 100000 s3 → IsSpelled 4 (piece_at (l0 ∷ l1 ∷ l2 ∷ l3 ∷ []) (h0 ∷ h1 ∷ h2 ∷ h3 ∷ []) base (s0 ∷ s1 ∷ s2 ∷ s3 ∷ []))
 spelled_four l0 h0 l1 h1 l2 h2 l3 h3 base s0 s1 s2 s3 a0 b0 a1 b1 a2 b2 a3 b3 base_is t0 t1 t2 t3 = record { back = rw (a0.back, b0.back, a1.back, b1.back, a2.back, b2.back, a3.back, b3.back, base_is.back, t0.back, t1.back, t2.back, t3.back) refl; words = (a0.word, (b0.word, (a1.word, (b1.word, (a2.word, (b2.word, (a3.word, (b3.word, (base_is.word, (t0.word, (t1.word, (t2.word, (t3.word, tt))))))))))))) }
 
 -- what a piece that fits keeps on an axis: its place, where there is one, and 0 past the last
 record KeepsSpan (size : ℕ) (low high : ℕ) : Type 0 where
   pub rise : low ≤ high
   pub within : high < size
-  pub few : size ≤ 2 ^ 22
+  pub few : size ≤ 2 ^ 28
 
 low_place : (size low high : ℕ) → KeepsSpan size low high → IsPlace low
 low_place size low high k = place low (omega (arith, k.rise, k.within, k.few))
@@ -85,7 +85,7 @@ record FitsAxes (axes : List Axis) (l0 l1 l2 l3 h0 h1 h2 h3 : ℕ) (base s0 s1 s
   pub k1 : KeepsSpan (size_on 1 axes) l1 h1
   pub k2 : KeepsSpan (size_on 2 axes) l2 h2
   pub k3 : KeepsSpan (size_on 3 axes) l3 h3
-  pub base_is : IsNumber (10 ^ 12) base
+  pub base_is : IsNumber (10 ^ 14) base
   pub t0 : IsNumber 100000 s0
   pub t1 : IsNumber 100000 s1
   pub t2 : IsNumber 100000 s2
@@ -110,7 +110,7 @@ fits axes l0 l1 l2 l3 h0 h1 h2 h3 base s0 s1 s2 s3 domain h =
       k1 = record { rise = low_le_high piece.area box.0 1 (omega arith); within = box.2; few = few_on axes domain 1 (omega arith) };
       k2 = record { rise = low_le_high piece.area box.0 2 (omega arith); within = box.3; few = few_on axes domain 2 (omega arith) };
       k3 = record { rise = low_le_high piece.area box.0 3 (omega arith); within = box.4; few = few_on axes domain 3 (omega arith) };
-      base_is = record { back = integer_back (10 ^ 12) base (omega arith) b.0 b.1; word = signed_word (10 ^ 12) base (omega arith) b.0 b.1 };
+      base_is = record { back = integer_back (10 ^ 14) base (omega arith) b.0 b.1; word = signed_word (10 ^ 14) base (omega arith) b.0 b.1 };
       t0 = slope_number s0 small.1;
       t1 = slope_number s1 small.2;
       t2 = slope_number s2 small.3;

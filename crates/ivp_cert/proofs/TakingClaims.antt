@@ -49,7 +49,7 @@ record Placed (axes : List Axis) (at : List ℕ) : Type 0 where
 none : (n : ℕ) → n < 1 → n ≡ 0
 none n h = omega (arith, h)
 
-fits : (size n : ℕ) → n < size → size ≤ 2 ^ 22 → n < 2 ^ 32
+fits : (size n : ℕ) → n < size → size ≤ 2 ^ 28 → n < 2 ^ 32
 fits size n h k = omega (arith, h, k)
 
 placed_by : (axes : List Axis) (i j k l : ℕ) → is_domain axes ≡ true → i < size_on 0 axes → j < size_on 1 axes → k < size_on 2 axes → l < size_on 3 axes → Placed axes (i ∷ j ∷ k ∷ l ∷ [])

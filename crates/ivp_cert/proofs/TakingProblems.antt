@@ -1,8 +1,10 @@
 -- A printed problem, as the reader takes it.
-use Rattle.std.proofs.Common.{◌≡◌, ℕ, suc, ◌<◌, ◌≤◌, true, Some, List, [], ◌∷◌, ◌++◌, flat_map, length, refl, subst, arith}
+use Rattle.std.proofs.Common.{◌≡◌, ℕ, suc, ◌<◌, ◌≤◌, ◌^◌, true, ℤ, pos, neg_ℤ, ◌≤ℤ◌, Some, List, [], ◌∷◌, ◌++◌, flat_map, length, refl, subst, arith}
 use Rattle.std.specs.Prelude.{codes, slice_get}
 use Rattle.std.specs.List.{concat, AllByRecursion as Each}
 use Rattle.std.proofs.lemmas.Bool.{and_parts}
+use Rattle.std.proofs.lemmas.Bool.Decides.{nat_tests}
+use Rattle.std.proofs.lemmas.Int.{ints}
 use Rattle.moos_io.proofs.Lists.{each_from}
 use Rattle.ivp_domain.specs.declared.axis.Axis.{Axis}
 use Rattle.ivp_domain.specs.Axes.{is_end, is_good_axis}
@@ -12,7 +14,6 @@ use Rattle.ivp_func.specs.Functions.{HasValues, IsPartition}
 use Rattle.ivp_func.specs.Pieces.{are_pieces_of}
 use Rattle.ivp_func.proofs.Facts.{passes_at}
 use Rattle.ivp_func.proofs.PointTests.{partition_passes, values_pass}
-use Rattle.ivp_func.proofs.Rises.{base_within}
 use Rattle.ivp_problem.specs.declared.term.Term.{Term}
 use Rattle.ivp_problem.specs.Problems.{WeightedSum}
 use Rattle.ivp_cert.specs.declared.phase.Phase.TheVariants.{OfProblem}
@@ -25,6 +26,10 @@ use Rattle.ivp_cert.proofs.Taking.{Leads, takes_both, takes_line}
 use Rattle.ivp_cert.proofs.TakingAxes.{axes_taken, stage_at}
 use Rattle.ivp_cert.proofs.TakingTerms.{axes_open, functions_end, IsPrintedTerm, Opens, terms_taken, TermsTaken}
 
+-- an end of an axis is within 10^12 thousandths of 0
+end_within : (z : ℤ) → is_end z ≡ true → (neg_ℤ (pos (10 ^ 12)) ≤ℤ z) × (z ≤ℤ pos (10 ^ 12))
+end_within z h = (grind (arith, nat_tests, ints), grind (arith, nat_tests, ints))
+
 -- the axes and the functions of a problem are what the reader asks for
 printed_axis : (problem : WeightedSum) → IsPrintableProblem problem → (k : ℕ) (axis : Axis) → slice_get problem.axes k ≡ Some axis → IsPrintedAxis axis
 printed_axis problem is k axis at =
@@ -32,7 +37,7 @@ printed_axis problem is k axis at =
     let ends = and_parts _ (is_end axis.high) good in
     let low = and_parts _ (is_end axis.low) ends.0 in
     let few = few_at problem.axes k axis is.lawful.domain at in
-    record { name = is.names k axis at; low = base_within axis.low low.1; high = base_within axis.high ends.1; few = omega (arith, few) }
+    record { name = is.names k axis at; low = end_within axis.low low.1; high = end_within axis.high ends.1; few = omega (arith, few) }
 
 printed_term : (problem : WeightedSum) → IsPrintableProblem problem → (k : ℕ) (term : Term) → slice_get problem.terms k ≡ Some term → IsPrintedTerm problem.axes term
 printed_term problem is k term at =

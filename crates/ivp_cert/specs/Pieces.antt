@@ -70,7 +70,7 @@ slopes_of axes words =
 abbrev pub sloped : ℕ → BoxN → List (List ℕ) → Option Piece
 sloped axes area [] = None
 sloped axes area (word ∷ rest) =
-    option_and_then (λ base. option_map (λ slope. record { area = area; base = base; slope = slope }) (slopes_of axes rest)) (integer_of (10 ^ 12) word)
+    option_and_then (λ base. option_map (λ slope. record { area = area; base = base; slope = slope }) (slopes_of axes rest)) (integer_of (10 ^ 14) word)
 
 -- the piece that the words spell, over so many axes
 abbrev pub piece_of : ℕ → List (List ℕ) → Option Piece

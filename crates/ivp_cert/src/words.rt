@@ -36,7 +36,7 @@ fn are_digits(word: &[u8]) -> bool
 #[tactic(auto, using(moos_text::proofs::Numerals::value_more))]
 fn capped_value(digits: &[u8], most: u64) -> u64
     requires digits { list_all is_digit digits.now ≡ true }
-    requires most { most ≤ 10 ^ 12 }
+    requires most { most ≤ 10 ^ 14 }
     ensures { result ≡ min (digits_value digits.now) (most + 1) }
 {
     let mut value = 0;
@@ -48,7 +48,7 @@ fn capped_value(digits: &[u8], most: u64) -> u64
 
 /// The number that digits alone spell, from 0 to the greatest that is allowed.
 pub fn natural_of(word: &[u8], most: u64) -> Option<u64>
-    requires { most ≤ 10 ^ 12 }
+    requires { most ≤ 10 ^ 14 }
     ensures value { result ≡ natural_of most word.now }
     ensures within { IfSome result (λ n. n ≤ most) }
 {
@@ -71,7 +71,7 @@ pub fn place_of(word: &[u8]) -> Option<u32>
 
 /// The number of at most so much either way that digits spell, behind a `-` or not.
 pub fn integer_of(word: &[u8], most: u64) -> Option<i64>
-    requires { most ≤ 10 ^ 12 }
+    requires { most ≤ 10 ^ 14 }
     ensures value { result ≡ integer_of most word.now }
     ensures within { IfSome result (λ n. IsTrue (int_le (neg_ℤ (pos most)) n && int_le n (pos most))) }
 {

@@ -27,13 +27,13 @@ index_in_six : index_of six (point_from 2 1 0 0) ≡ 5
 index_in_six = refl
 
 -- bad axes come before the size, and the size before a repeated name
-first_bad : domain_of (axis (codes "a") 0 1 2097153 ∷ axis (codes "a") 0 1 2 ∷ axis (codes "b") 5 5 2 ∷ axis (codes "c") 0 1 1 ∷ []) ≡ Err (BadAxis 2)
+first_bad : domain_of (axis (codes "a") 0 1 134217729 ∷ axis (codes "a") 0 1 2 ∷ axis (codes "b") 5 5 2 ∷ axis (codes "c") 0 1 1 ∷ []) ≡ Err (BadAxis 2)
 first_bad = refl
 
-then_size : domain_of (axis (codes "a") 0 1 2097153 ∷ axis (codes "a") 0 1 2 ∷ []) ≡ Err TooLarge
+then_size : domain_of (axis (codes "a") 0 1 134217729 ∷ axis (codes "a") 0 1 2 ∷ []) ≡ Err TooLarge
 then_size = refl
 
-then_name : domain_of (axis (codes "a") 0 1 2097152 ∷ axis (codes "a") 0 1 2 ∷ []) ≡ Err (SameName 1)
+then_name : domain_of (axis (codes "a") 0 1 134217728 ∷ axis (codes "a") 0 1 2 ∷ []) ≡ Err (SameName 1)
 then_name = refl
 
 -- course:0:359:360 in steps of one, and a value that is rounded down towards the low end
@@ -59,11 +59,11 @@ counted = (refl, refl)
 names : (is_axis_name (codes "x_1") ≡ true) × (is_axis_name (codes "1x") ≡ false) × (is_axis_name [] ≡ false) × (is_axis_name (codes "abcdefghijklmnopq") ≡ false) × (is_axis_name (codes "a-b") ≡ false)
 names = (refl, refl, refl, refl, refl)
 
--- one to four good axes of different names, with at most 2^22 points, are a domain, and nothing else is
+-- one to four good axes of different names, with at most 2^28 points, are a domain, and nothing else is
 domains : (is_domain six ≡ true) × (is_domain [] ≡ false) × (is_domain (axis (codes "a") 0 1 2 ∷ axis (codes "b") 0 1 1 ∷ []) ≡ false)
 domains = (refl, refl, refl)
 
-sizes : (is_domain (axis (codes "a") 0 1 2097152 ∷ axis (codes "b") 0 1 2 ∷ []) ≡ true) × (is_domain (axis (codes "a") 0 1 2097153 ∷ axis (codes "b") 0 1 2 ∷ []) ≡ false)
+sizes : (is_domain (axis (codes "a") 0 1 134217728 ∷ axis (codes "b") 0 1 2 ∷ []) ≡ true) × (is_domain (axis (codes "a") 0 1 134217729 ∷ axis (codes "b") 0 1 2 ∷ []) ≡ false)
 sizes = (refl, refl)
 
 repeated : is_domain (axis (codes "a") 0 1 2 ∷ axis (codes "b") 0 1 2 ∷ axis (codes "a") 0 1 2 ∷ []) ≡ false

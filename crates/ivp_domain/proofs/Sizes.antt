@@ -24,19 +24,19 @@ size_positive (axis ∷ axes) h (suc k) = size_positive axes (and_parts (is_good
 -- what makes a domain
 pub good_axes : (axes : List Axis) → is_domain axes ≡ true → list_all is_good_axis axes ≡ true
 good_axes axes h =
-    let front = and_parts (nat_lt 0 (length axes) && nat_le (length axes) 4 && list_all is_good_axis axes && nat_le (size_of axes) (2 ^ 22)) (is_none (repeated_place axes)) h in
-    let front' = and_parts (nat_lt 0 (length axes) && nat_le (length axes) 4 && list_all is_good_axis axes) (nat_le (size_of axes) (2 ^ 22)) front.0 in
+    let front = and_parts (nat_lt 0 (length axes) && nat_le (length axes) 4 && list_all is_good_axis axes && nat_le (size_of axes) (2 ^ 28)) (is_none (repeated_place axes)) h in
+    let front' = and_parts (nat_lt 0 (length axes) && nat_le (length axes) 4 && list_all is_good_axis axes) (nat_le (size_of axes) (2 ^ 28)) front.0 in
     (and_parts (nat_lt 0 (length axes) && nat_le (length axes) 4) (list_all is_good_axis axes) front'.0).1
 
-pub few : (axes : List Axis) → is_domain axes ≡ true → size_of axes ≤ 2 ^ 22
+pub few : (axes : List Axis) → is_domain axes ≡ true → size_of axes ≤ 2 ^ 28
 few axes h =
-    let front = and_parts (nat_lt 0 (length axes) && nat_le (length axes) 4 && list_all is_good_axis axes && nat_le (size_of axes) (2 ^ 22)) (is_none (repeated_place axes)) h in
-    leb-true (size_of axes) (2 ^ 22) (and_parts (nat_lt 0 (length axes) && nat_le (length axes) 4 && list_all is_good_axis axes) (nat_le (size_of axes) (2 ^ 22)) front.0).1
+    let front = and_parts (nat_lt 0 (length axes) && nat_le (length axes) 4 && list_all is_good_axis axes && nat_le (size_of axes) (2 ^ 28)) (is_none (repeated_place axes)) h in
+    leb-true (size_of axes) (2 ^ 28) (and_parts (nat_lt 0 (length axes) && nat_le (length axes) 4 && list_all is_good_axis axes) (nat_le (size_of axes) (2 ^ 28)) front.0).1
 
 pub four_axes : (axes : List Axis) → is_domain axes ≡ true → length axes ≤ 4
 four_axes axes h =
-    let front = and_parts (nat_lt 0 (length axes) && nat_le (length axes) 4 && list_all is_good_axis axes && nat_le (size_of axes) (2 ^ 22)) (is_none (repeated_place axes)) h in
-    let front' = and_parts (nat_lt 0 (length axes) && nat_le (length axes) 4 && list_all is_good_axis axes) (nat_le (size_of axes) (2 ^ 22)) front.0 in
+    let front = and_parts (nat_lt 0 (length axes) && nat_le (length axes) 4 && list_all is_good_axis axes && nat_le (size_of axes) (2 ^ 28)) (is_none (repeated_place axes)) h in
+    let front' = and_parts (nat_lt 0 (length axes) && nat_le (length axes) 4 && list_all is_good_axis axes) (nat_le (size_of axes) (2 ^ 28)) front.0 in
     let front'' = and_parts (nat_lt 0 (length axes) && nat_le (length axes) 4) (list_all is_good_axis axes) front'.0 in
     leb-true (length axes) 4 (and_parts (nat_lt 0 (length axes)) (nat_le (length axes) 4) front''.0).1
 
@@ -121,21 +121,21 @@ few_in_all a b c d m =
     rw (one, min-min_mul a b (m + 1), min-min_mul (a * b) c (m + 1), min-min_mul (a * b * c) d (m + 1)) (grind (arith, nat_tests))
 
 -- no part of the product is above its bound
-pub product_within : (axes : List Axis) → is_domain axes ≡ true → (size_on 0 axes * size_on 1 axes ≤ 2 ^ 22) × (size_on 0 axes * size_on 1 axes * size_on 2 axes ≤ 2 ^ 22)
+pub product_within : (axes : List Axis) → is_domain axes ≡ true → (size_on 0 axes * size_on 1 axes ≤ 2 ^ 28) × (size_on 0 axes * size_on 1 axes * size_on 2 axes ≤ 2 ^ 28)
 product_within axes h =
     let m = few axes h in
-    let part = product_part (size_on 0 axes) (size_on 1 axes) (size_on 2 axes) (size_on 3 axes) (2 ^ 22 + 1) (positive axes h 2) (positive axes h 3) (omega (arith, m)) in
+    let part = product_part (size_on 0 axes) (size_on 1 axes) (size_on 2 axes) (size_on 3 axes) (2 ^ 28 + 1) (positive axes h 2) (positive axes h 3) (omega (arith, m)) in
     (omega (arith, part.0), omega (arith, part.1))
 
 -- nor is a size
-pub few_on : (axes : List Axis) → is_domain axes ≡ true → (k : ℕ) → k < 4 → size_on k axes ≤ 2 ^ 22
+pub few_on : (axes : List Axis) → is_domain axes ≡ true → (k : ℕ) → k < 4 → size_on k axes ≤ 2 ^ 28
 few_on axes h k p =
     let a = size_on 0 axes in
     let b = size_on 1 axes in
     let c = size_on 2 axes in
     let d = size_on 3 axes in
     let within = product_within axes h in
-    let whole : a * b * c * d ≤ 2 ^ 22 = few axes h in
+    let whole : a * b * c * d ≤ 2 ^ 28 = few axes h in
     let one : a ≤ a * b = le-mul_of_pos_right a (positive axes h 1) in
     let two : b ≤ b * a = le-mul_of_pos_right b (positive axes h 0) in
     let some : 0 < a * b = omega (arith, one, positive axes h 0) in
@@ -144,7 +144,7 @@ few_on axes h k p =
     let four_of : d ≤ d * (a * b * c) = le-mul_of_pos_right d some' in
     at k p (omega (arith, one, within.0)) (omega (arith, two, within.0)) (omega (arith, three, within.1)) (omega (arith, four_of, whole))
   where
-    at : (k : ℕ) → k < 4 → size_on 0 axes ≤ 2 ^ 22 → size_on 1 axes ≤ 2 ^ 22 → size_on 2 axes ≤ 2 ^ 22 → size_on 3 axes ≤ 2 ^ 22 → size_on k axes ≤ 2 ^ 22
+    at : (k : ℕ) → k < 4 → size_on 0 axes ≤ 2 ^ 28 → size_on 1 axes ≤ 2 ^ 28 → size_on 2 axes ≤ 2 ^ 28 → size_on 3 axes ≤ 2 ^ 28 → size_on k axes ≤ 2 ^ 28
     at zero p a b c d = a
     at (suc zero) p a b c d = b
     at (suc (suc zero)) p a b c d = c
@@ -152,17 +152,17 @@ few_on axes h k p =
     at (suc (suc (suc (suc k)))) p a b c d = absurd (omega arith)
 
 -- an axis of the domain
-pub few_at : (axes : List Axis) (k : ℕ) (axis : Axis) → is_domain axes ≡ true → slice_get axes k ≡ Some axis → axis.points ≤ 2 ^ 22
+pub few_at : (axes : List Axis) (k : ℕ) (axis : Axis) → is_domain axes ≡ true → slice_get axes k ≡ Some axis → axis.points ≤ 2 ^ 28
 few_at axes k axis h e =
     let within : k < length axes = slice_get_within axes k axis e in
     let size : size_on k axes ≡ axis.points = ap size_of_axis e in
     omega (arith, few_on axes h k (omega (arith, within, four_axes axes h)), size)
 
 -- the facts that make a domain, together
-pub is_domain-from : (axes : List Axis) → 0 < length axes → length axes ≤ 4 → list_all is_good_axis axes ≡ true → nat_le (size_of axes) (2 ^ 22) ≡ true → repeated_place axes ≡ None → is_domain axes ≡ true
+pub is_domain-from : (axes : List Axis) → 0 < length axes → length axes ≤ 4 → list_all is_good_axis axes ≡ true → nat_le (size_of axes) (2 ^ 28) ≡ true → repeated_place axes ≡ None → is_domain axes ≡ true
 is_domain-from axes some most good few one =
-    and_from (nat_lt 0 (length axes) && nat_le (length axes) 4 && list_all is_good_axis axes && nat_le (size_of axes) (2 ^ 22)) (is_none (repeated_place axes))
-    (and_from (nat_lt 0 (length axes) && nat_le (length axes) 4 && list_all is_good_axis axes) (nat_le (size_of axes) (2 ^ 22))
+    and_from (nat_lt 0 (length axes) && nat_le (length axes) 4 && list_all is_good_axis axes && nat_le (size_of axes) (2 ^ 28)) (is_none (repeated_place axes))
+    (and_from (nat_lt 0 (length axes) && nat_le (length axes) 4 && list_all is_good_axis axes) (nat_le (size_of axes) (2 ^ 28))
     (and_from (nat_lt 0 (length axes) && nat_le (length axes) 4) (list_all is_good_axis axes) (grind (arith, nat_tests)) good) few)
     (ap is_none one)
 
@@ -188,7 +188,7 @@ point_of_index axes n h within =
     }
 
 -- an index and what it is built from are at most the number of points
-pub index_within : (axes : List Axis) (p : Point) → is_domain axes ≡ true → is_point axes p ≡ true → (slice_index p.at 0 * size_on 1 axes + slice_index p.at 1 ≤ 2 ^ 22) × ((slice_index p.at 0 * size_on 1 axes + slice_index p.at 1) * size_on 2 axes + slice_index p.at 2 ≤ 2 ^ 22) × (index_of axes p ≤ 2 ^ 22)
+pub index_within : (axes : List Axis) (p : Point) → is_domain axes ≡ true → is_point axes p ≡ true → (slice_index p.at 0 * size_on 1 axes + slice_index p.at 1 ≤ 2 ^ 28) × ((slice_index p.at 0 * size_on 1 axes + slice_index p.at 1) * size_on 2 axes + slice_index p.at 2 ≤ 2 ^ 28) × (index_of axes p ≤ 2 ^ 28)
 index_within axes p h inside =
     let at = places_below axes p h inside in
     let digit = radix (slice_index p.at 0) (slice_index p.at 1) (slice_index p.at 2) (slice_index p.at 3) (size_on 0 axes) (size_on 1 axes) (size_on 2 axes) (size_on 3 axes) at.0 at.1 at.2 at.3 in

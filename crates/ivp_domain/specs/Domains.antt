@@ -61,10 +61,10 @@ repeated_after past (axis ∷ axes) = if list_any (same_name axis) past then Som
 abbrev pub repeated_place : List Axis → Option ℕ
 repeated_place axes = repeated_after [] axes
 
--- one to four good axes of different names, with at most 2^22 points
+-- one to four good axes of different names, with at most 2^28 points
 abbrev pub is_domain : List Axis → Bool
 is_domain axes =
-    nat_lt 0 (length axes) && nat_le (length axes) 4 && list_all is_good_axis axes && nat_le (size_of axes) (2 ^ 22) && is_none (repeated_place axes)
+    nat_lt 0 (length axes) && nat_le (length axes) 4 && list_all is_good_axis axes && nat_le (size_of axes) (2 ^ 28) && is_none (repeated_place axes)
 
 -- the axes themselves, or the first refusal: a bad axis, too many points, a repeated name
 abbrev pub judged_axes : List Axis → Option ℕ → Bool → Option ℕ → Result (List Axis) DomainFault
@@ -75,4 +75,4 @@ judged_axes axes None true None = Ok axes
 
 -- the domain that one to four axes make
 abbrev pub domain_of : List Axis → Result (List Axis) DomainFault
-domain_of axes = judged_axes axes (bad_axis axes) (nat_le (size_of axes) (2 ^ 22)) (repeated_place axes)
+domain_of axes = judged_axes axes (bad_axis axes) (nat_le (size_of axes) (2 ^ 28)) (repeated_place axes)

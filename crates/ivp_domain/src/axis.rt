@@ -105,12 +105,12 @@ pub(crate) fn good_axis(axis: &Axis) -> bool
 fn part_of(span: u64, place: u32, points: u32) -> u64
     requires span { span ≤ 2 * 10 ^ 12 }
     requires place { place < points }
-    requires few { points ≤ 2 ^ 22 }
+    requires few { points ≤ 2 ^ 28 }
     requires some { 2 ≤ points }
     ensures part { result ≡ place * span / (points - 1) }
     ensures within { result ≤ span }
 {
-    place as u64 * span / (points as u64 - 1)
+    (place as u128 * span as u128 / (points as u128 - 1)) as u64
 }
 
 /// How far the ends of a good axis are apart.
@@ -127,7 +127,7 @@ fn span_of(axis: &Axis) -> u64
 pub(crate) fn number_at(axis: &Axis, place: u32) -> i64
     requires good { IsTrue (is_good_axis axis.now) }
     requires place { place < axis.now.points }
-    requires few { axis.now.points ≤ 2 ^ 22 }
+    requires few { axis.now.points ≤ 2 ^ 28 }
     ensures { result ≡ value_on axis.now place }
 {
     axis.low + part_of(span_of(axis), place, axis.points) as i64

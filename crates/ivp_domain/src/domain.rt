@@ -9,8 +9,8 @@ use crate::axis::{Axis, filler, good_axis, number_at};
 use crate::boxes::{BoxN, Point};
 use std::marker::Model;
 
-/// The most points that a domain may have: 2^22.
-const MOST_POINTS: u64 = 4_194_304;
+/// The most points that a domain may have: 2^28.
+const MOST_POINTS: u64 = 268_435_456;
 
 /// The most axes that a domain may have.
 pub const MOST_AXES: usize = 4;
@@ -23,7 +23,7 @@ pub enum DomainFault {
     SameName(u32),
 }
 
-/// The decision space of one to four axes, with at most 2^22 points.
+/// The decision space of one to four axes, with at most 2^28 points.
 #[derive(Clone, Copy, Debug, PartialEq, Eq)]
 pub struct Domain {
     axes: [Axis; MOST_AXES],
@@ -84,7 +84,7 @@ fn size_at(axes: &[Axis], axis: usize) -> u32
 
 /// At most as many points as a domain may have.
 fn few_points(axes: &[Axis]) -> bool
-    ensures { result ≡ nat_le (size_of axes.now) (2 ^ 22) }
+    ensures { result ≡ nat_le (size_of axes.now) (2 ^ 28) }
 {
     let one = times(1, size_at(axes, 0));
     let two = times(one, size_at(axes, 1));
@@ -121,7 +121,7 @@ fn repeated_place(axes: &[Axis]) -> Option<usize>
 
 impl Domain {
     /// The domain of these axes, or the first refusal: `BadAxis` at the first axis with fewer than
-    /// two points, ends out of order or an end beyond 10^12 thousandths; `TooLarge` above 2^22
+    /// two points, ends out of order or an end beyond 10^12 thousandths; `TooLarge` above 2^28
     /// points; `SameName` at the first axis named as an earlier one.
     pub fn make(axes: &[Axis]) -> Result<Domain, DomainFault>
         requires { (0 < length axes.now) × (length axes.now ≤ 4) }
@@ -155,7 +155,7 @@ impl Domain {
         requires { a < length self.now }
         ensures axis { slice_get self.now a ≡ Some result }
         ensures good { IsTrue (is_good_axis result) }
-        ensures few { result.points ≤ 2 ^ 22 }
+        ensures few { result.points ≤ 2 ^ 28 }
     {
         self.axes[a as usize]
     }
@@ -182,7 +182,7 @@ impl Domain {
     pub fn points(&self) -> u32
         ensures points { result ≡ length (points_of self.now) }
         ensures product { result ≡ size_of self.now }
-        ensures bound { result ≤ 2 ^ 22 }
+        ensures bound { result ≤ 2 ^ 28 }
         ensures volume { result ≡ volume_of (whole self.now) }
         ensures proper { IsTrue (is_box (whole self.now)) }
     {

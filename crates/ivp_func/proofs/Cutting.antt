@@ -27,7 +27,7 @@ one_of_four f (suc (suc (suc (suc k)))) p = absurd (omega arith)
 last_size : (axes : List Axis) (k : ℕ) → is_domain axes ≡ true → k < 4 → last_on k axes + 1 ≡ size_on k axes
 last_size axes k h p = let some = positive axes h k in let at : last_on k axes ≡ size_on k axes - 1 = one_of_four (λ axis. size_on axis axes - 1) k p in omega (arith, at, some)
 
-pub last_small : (axes : List Axis) (k : ℕ) → is_domain axes ≡ true → k < 4 → last_on k axes < 2 ^ 22
+pub last_small : (axes : List Axis) (k : ℕ) → is_domain axes ≡ true → k < 4 → last_on k axes < 2 ^ 28
 last_small axes k h p = omega (arith, last_size axes k h p, few_on axes h k p)
 
 -- a run within the axis begins on it
@@ -50,11 +50,11 @@ pub runs_some : (axes : List Axis) (k : ℕ) → 0 < runs_on k axes
 runs_some axes k = omega arith
 
 -- the cells are no more than the points, and so are those of the first axes
-pub cells_few : (axes : List Axis) → is_domain axes ≡ true → (runs_on 0 axes * runs_on 1 axes ≤ 2 ^ 22) × (runs_on 0 axes * runs_on 1 axes * runs_on 2 axes ≤ 2 ^ 22) × (cells_of axes ≤ 2 ^ 22)
+pub cells_few : (axes : List Axis) → is_domain axes ≡ true → (runs_on 0 axes * runs_on 1 axes ≤ 2 ^ 28) × (runs_on 0 axes * runs_on 1 axes * runs_on 2 axes ≤ 2 ^ 28) × (cells_of axes ≤ 2 ^ 28)
 cells_few axes h =
     let all : cells_of axes ≤ size_of axes = mul-le-mul (mul-le-mul (mul-le-mul (runs_few axes 0 h (omega arith)) (runs_few axes 1 h (omega arith))) (runs_few axes 2 h (omega arith))) (runs_few axes 3 h (omega arith)) in
     let points = few axes h in
-    let part = product_part (runs_on 0 axes) (runs_on 1 axes) (runs_on 2 axes) (runs_on 3 axes) (2 ^ 22 + 1) (runs_some axes 2) (runs_some axes 3) (omega (arith, all, points)) in
+    let part = product_part (runs_on 0 axes) (runs_on 1 axes) (runs_on 2 axes) (runs_on 3 axes) (2 ^ 28 + 1) (runs_some axes 2) (runs_some axes 3) (omega (arith, all, points)) in
     (omega (arith, part.0), omega (arith, part.1), omega (arith, all, points))
 
 -- the runs of a cell
@@ -72,44 +72,44 @@ div_below place last places some h = le-div (place / places) last places some (o
 pub in_run : (axes : List Axis) (k : ℕ) (p : Point) → slice_index p.at k ≤ last_on k axes → run_at k axes p < runs_on k axes
 in_run axes k p h = let some : 0 < run_on k axes = omega arith in omega (arith, div_below (slice_index p.at k) (last_on k axes) (run_on k axes) some h)
 
--- a run has at most 2^20 places, since an axis is cut into four at least where it has so many
-run_small : (axes : List Axis) (k : ℕ) → is_domain axes ≡ true → k < 4 → run_on k axes ≤ 2 ^ 20
+-- a run has at most 2^26 places, since an axis is cut into four at least where it has so many
+run_small : (axes : List Axis) (k : ℕ) → is_domain axes ≡ true → k < 4 → run_on k axes ≤ 2 ^ 26
 run_small axes k h p = by_count (length axes == 2) (length axes == 3) (length axes == 4) (last_on k axes) (last_small axes k h p)
   where
-    by_count : (two three four : Bool) (last : ℕ) → last < 2 ^ 22 → last / (if two then 16 else if three then 6 else if four then 4 else 256) + 1 ≤ 2 ^ 20
+    by_count : (two three four : Bool) (last : ℕ) → last < 2 ^ 28 → last / (if two then 16 else if three then 6 else if four then 4 else 256) + 1 ≤ 2 ^ 26
     by_count true three four last small = omega (arith, small)
     by_count false true four last small = omega (arith, small)
     by_count false false true last small = omega (arith, small)
     by_count false false false last small = omega (arith, small)
 
 -- the run of a place by the reciprocal: that is above 1 / places, but for every place of an axis by too little to reach the next run
-run_by_reciprocal : (place places : ℕ) → 0 < places → places ≤ 2 ^ 20 → place < 2 ^ 22 → place * reciprocal_of places / 2 ^ 42 ≡ place / places
+run_by_reciprocal : (place places : ℕ) → 0 < places → places ≤ 2 ^ 26 → place < 2 ^ 28 → place * reciprocal_of places / 2 ^ 54 ≡ place / places
 run_by_reciprocal place places some few small =
-    let below = 2 ^ 42 / places in
+    let below = 2 ^ 54 / places in
     let run = place / places in
     let same : (n : ℕ) → n ≤ n = λ n. omega arith in
-    let large : 2 ^ 22 ≤ below = le-div (2 ^ 22) (2 ^ 42) places some (omega (arith, few)) in
-    let over : 2 ^ 42 < below * places + places = lt-div-mul-add some in
+    let large : 2 ^ 28 ≤ below = le-div (2 ^ 28) (2 ^ 54) places some (omega (arith, few)) in
+    let over : 2 ^ 54 < below * places + places = lt-div-mul-add some in
     let short : place < run * places + places = lt-div-mul-add some in
-    let one : run * 2 ^ 42 ≤ run * (below * places + places) = mul-le-mul (same run) (omega (arith, over)) in
+    let one : run * 2 ^ 54 ≤ run * (below * places + places) = mul-le-mul (same run) (omega (arith, over)) in
     let two : run * places * (below + 1) ≤ place * (below + 1) = mul-le-mul (div-mul-le_self place places) (same (below + 1)) in
     let three : (place + 1) * below ≤ (run * places + places) * below = mul-le-mul (omega (arith, short)) (same below) in
-    let four : (run + 1) * (below * places) ≤ (run + 1) * 2 ^ 42 = mul-le-mul (same (run + 1)) (div-mul-le_self (2 ^ 42) places) in
-    let least : run * 2 ^ 42 ≤ place * (below + 1) = omega (arith, one, two) in
-    let most : place * (below + 1) < (run + 1) * 2 ^ 42 = omega (arith, three, four, large, small) in
-    div-eq_of_lt-le (2 ^ 42) least most
+    let four : (run + 1) * (below * places) ≤ (run + 1) * 2 ^ 54 = mul-le-mul (same (run + 1)) (div-mul-le_self (2 ^ 54) places) in
+    let least : run * 2 ^ 54 ≤ place * (below + 1) = omega (arith, one, two) in
+    let most : place * (below + 1) < (run + 1) * 2 ^ 54 = omega (arith, three, four, large, small) in
+    div-eq_of_lt-le (2 ^ 54) least most
 
-pub run_at_by_reciprocal : (axes : List Axis) (k : ℕ) (p : Point) → is_domain axes ≡ true → k < 4 → slice_index p.at k < 2 ^ 22 → slice_index p.at k * reciprocal_of (run_on k axes) / 2 ^ 42 ≡ run_at k axes p
+pub run_at_by_reciprocal : (axes : List Axis) (k : ℕ) (p : Point) → is_domain axes ≡ true → k < 4 → slice_index p.at k < 2 ^ 28 → slice_index p.at k * reciprocal_of (run_on k axes) / 2 ^ 54 ≡ run_at k axes p
 run_at_by_reciprocal axes k p h within small = let some : 0 < run_on k axes = omega arith in run_by_reciprocal (slice_index p.at k) (run_on k axes) some (run_small axes k h within) small
 
-pub reciprocal_fits : (place places : ℕ) → place < 2 ^ 22 → place * reciprocal_of places < 2 ^ 64
+pub reciprocal_fits : (place places : ℕ) → place < 2 ^ 28 → place * reciprocal_of places < 2 ^ 83
 reciprocal_fits place places small =
-    let below : place ≤ 2 ^ 22 - 1 = omega (arith, small) in
-    let most_of_one : reciprocal_of places ≤ 2 ^ 42 + 1 = omega (arith, div-le_self (2 ^ 42) places) in
-    let most : place * reciprocal_of places ≤ (2 ^ 22 - 1) * (2 ^ 42 + 1) = mul-le-mul below most_of_one in
+    let below : place ≤ 2 ^ 28 - 1 = omega (arith, small) in
+    let most_of_one : reciprocal_of places ≤ 2 ^ 54 + 1 = omega (arith, div-le_self (2 ^ 54) places) in
+    let most : place * reciprocal_of places ≤ (2 ^ 28 - 1) * (2 ^ 54 + 1) = mul-le-mul below most_of_one in
     omega (arith, most)
 
-pub place_small : (axes : List Axis) (p : Point) (k : ℕ) → is_domain axes ≡ true → is_point axes p ≡ true → k < 4 → slice_index p.at k < 2 ^ 22
+pub place_small : (axes : List Axis) (p : Point) (k : ℕ) → is_domain axes ≡ true → is_point axes p ≡ true → k < 4 → slice_index p.at k < 2 ^ 28
 place_small axes p k h inside within = omega (arith, last_small axes k h within, (place_in (whole axes) p inside k within).1)
 
 -- a point's cell, step by step

@@ -37,7 +37,7 @@ values : (value_at good (point_from 0 0 0 0) ≡ pos 7) × (value_at good (point
 values = (refl, refl, refl)
 
 -- what no piece may be: past the axis, empty, of too great a slope, of a slope on an axis that there isn't, of too great a base
-no_pieces : (is_piece_of three (piece 0 3 (pos 0) (pos 0) (pos 0)) ≡ false) × (is_piece_of three (piece 2 1 (pos 0) (pos 0) (pos 0)) ≡ false) × (is_piece_of three (piece 0 2 (pos 0) (negsuc 100000) (pos 0)) ≡ false) × (is_piece_of three (piece 0 2 (pos 0) (pos 0) (pos 1)) ≡ false) × (is_base (pos 1000000000001) ≡ false)
+no_pieces : (is_piece_of three (piece 0 3 (pos 0) (pos 0) (pos 0)) ≡ false) × (is_piece_of three (piece 2 1 (pos 0) (pos 0) (pos 0)) ≡ false) × (is_piece_of three (piece 0 2 (pos 0) (negsuc 100000) (pos 0)) ≡ false) × (is_piece_of three (piece 0 2 (pos 0) (pos 0) (pos 1)) ≡ false) × (is_base (pos 100000000000001) ≡ false)
 no_pieces = (refl, refl, refl, refl, refl)
 
 -- the middle point lies in two of these, and the last in none

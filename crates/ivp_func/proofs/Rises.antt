@@ -40,7 +40,7 @@ small_parts piece h =
     let one = and_parts a b two.0 in
     (one.0, one.1, two.1, three.1, four.1)
 
-pub base_within : (z : ℤ) → is_base z ≡ true → (neg_ℤ (pos (10 ^ 12)) ≤ℤ z) × (z ≤ℤ pos (10 ^ 12))
+pub base_within : (z : ℤ) → is_base z ≡ true → (neg_ℤ (pos (10 ^ 14)) ≤ℤ z) × (z ≤ℤ pos (10 ^ 14))
 base_within z h = (grind (arith, nat_tests, ints), grind (arith, nat_tests, ints))
 
 pub value_within : (z : ℤ) → pos 0 ≤ℤ z → z ≤ℤ pos 100000 → is_value z ≡ true

@@ -4,9 +4,9 @@ use Rattle.ivp_domain.specs.declared.axis.Axis.{Axis}
 use Rattle.ivp_domain.specs.Domains.{is_domain}
 use Rattle.ivp_func.specs.Grids.{run_on, runs_on}
 
--- the reciprocal of a number of places, in units of 2^-42 and above it by one of them at most
+-- the reciprocal of a number of places, in units of 2^-54 and above it by one of them at most
 abbrev pub reciprocal_of : ℕ → ℕ
-reciprocal_of places = 2 ^ 42 / places + 1
+reciprocal_of places = 2 ^ 54 / places + 1
 
 -- the places of a run, the reciprocal of their number and the number of runs, on each axis
 pub record AreCuts (axes : List Axis) (run runs reciprocals : List ℕ) : Type 0 where

@@ -51,9 +51,9 @@ is_box_of axes area =
 abbrev pub is_slope : ℤ → Bool
 is_slope number = int_le (neg_ℤ (pos 100000)) number && int_le number (pos 100000)
 
--- at most 10^12 either way
+-- at most 10^14 either way
 abbrev pub is_base : ℤ → Bool
-is_base number = int_le (neg_ℤ (pos (10 ^ 12))) number && int_le number (pos (10 ^ 12))
+is_base number = int_le (neg_ℤ (pos (10 ^ 14))) number && int_le number (pos (10 ^ 14))
 
 -- base and slopes within their bounds
 abbrev pub is_small : Piece → Bool

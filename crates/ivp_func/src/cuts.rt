@@ -20,8 +20,8 @@ pub(crate) struct Cuts {
     reciprocals: [u64; 4],
 }
 
-/// How many units of a reciprocal are 1: 2^42.
-const UNITS: u64 = 4_398_046_511_104;
+/// How many units of a reciprocal are 1: 2^54.
+const UNITS: u64 = 18_014_398_509_481_984;
 
 impl Model for Cuts {
     ghost use Rattle.std.specs.Prelude.{List};
@@ -101,7 +101,7 @@ impl Cuts {
     /// How many cells there are.
     pub(crate) fn cells(&self) -> usize
         ensures cells { result ≡ cells_of self.now }
-        ensures few { result ≤ 2 ^ 22 }
+        ensures few { result ≤ 2 ^ 28 }
     {
         self.runs[0] * self.runs[1] * self.runs[2] * self.runs[3]
     }
@@ -110,7 +110,7 @@ impl Cuts {
     /// has two runs, sixteen.
     pub(crate) fn cells_a_row(&self) -> usize
         ensures some { 0 < result }
-        ensures few { result ≤ 2 ^ 22 }
+        ensures few { result ≤ 2 ^ 28 }
     {
         let row = self.cells() / self.runs[0];
         if row < 2 { 16 } else { row }
@@ -161,13 +161,13 @@ impl Cuts {
     }
 
     /// In which run of an axis a point lies: its place divided by the places of a run. The reciprocal gives it by a
-    /// multiplication, which takes a small part of the time of a division.
+    /// multiplication and a shift, which take a small part of the time of a division.
     fn run_at(&self, axis: usize, point: &Point) -> usize
         requires axis { axis < 4 }
         requires point { IsTrue (is_point self.now point.now) }
         ensures { result ≡ run_at axis self.now point.now }
     {
-        (point.at[axis] as u64 * self.reciprocals[axis] / UNITS) as usize
+        (point.at[axis] as u128 * self.reciprocals[axis] as u128 / UNITS as u128) as usize
     }
 
     /// In which cell a point lies.

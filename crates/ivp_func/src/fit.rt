@@ -7,7 +7,7 @@ use crate::piece::Piece;
 use ivp_domain::{BoxN, Domain, is_proper};
 
 /// The greatest base, either way.
-pub const MOST_BASE: i64 = 1_000_000_000_000;
+pub const MOST_BASE: i64 = 100_000_000_000_000;
 
 /// The greatest slope, either way.
 pub const MOST_SLOPE: i64 = 100_000;
@@ -69,7 +69,7 @@ fn is_flat_past(domain: &Domain, axis: u32, piece: &Piece) -> bool
 }
 
 /// Whether the piece may stand in a function over the domain: its box lies in the domain and has
-/// points, its base is within -10^12 to 10^12, and its slopes are within -100,000 to 100,000 and 0
+/// points, its base is within -10^14 to 10^14, and its slopes are within -100,000 to 100,000 and 0
 /// past the last axis.
 pub fn is_piece_of(domain: &Domain, piece: &Piece) -> bool
     ensures { result ≡ is_piece_of domain.now piece.now }

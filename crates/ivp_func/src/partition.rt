@@ -62,9 +62,9 @@ fn overlap(pieces: &[Piece], grid: Option<&Grid>) -> Option<Point>
 /// How many points the box and the piece have in common.
 fn shared(area: &BoxN, piece: &Piece) -> u64
     requires proper { IsTrue (is_box area.now) }
-    requires few { volume_of area.now ≤ 2 ^ 22 }
+    requires few { volume_of area.now ≤ 2 ^ 28 }
     ensures shared { result ≡ shared_with area.now piece.now }
-    ensures within { result ≤ 2 ^ 22 }
+    ensures within { result ≤ 2 ^ 28 }
 {
     match meet(area, &piece.area) {
         Some(both) => volume(&both),
@@ -75,7 +75,7 @@ fn shared(area: &BoxN, piece: &Piece) -> u64
 /// How many points of the box the pieces hold, each counted for itself.
 fn covered(area: &BoxN, pieces: &[Piece]) -> u64
     requires proper { IsTrue (is_box area.now) }
-    requires few { volume_of area.now ≤ 2 ^ 22 }
+    requires few { volume_of area.now ≤ 2 ^ 28 }
     requires pieces { length pieces.now ≤ 4096 }
     ensures { result ≡ covered_in area.now pieces.now }
 {
@@ -89,7 +89,7 @@ fn covered(area: &BoxN, pieces: &[Piece]) -> u64
 /// Whether the pieces cover less than the box has.
 fn is_short(area: &BoxN, pieces: &[Piece]) -> bool
     requires proper { IsTrue (is_box area.now) }
-    requires few { volume_of area.now ≤ 2 ^ 22 }
+    requires few { volume_of area.now ≤ 2 ^ 28 }
     requires pieces { length pieces.now ≤ 4096 }
     ensures { result ≡ nat_lt (covered_in area.now pieces.now) (volume_of area.now) }
 {
@@ -129,7 +129,7 @@ fn short_half(area: &BoxN, axis: usize, pieces: &[Piece]) -> BoxN
     requires axis { axis < 4 }
     requires wide { slice_index area.now.low axis < slice_index area.now.high axis }
     requires proper { IsTrue (is_box area.now) }
-    requires few { volume_of area.now ≤ 2 ^ 22 }
+    requires few { volume_of area.now ≤ 2 ^ 28 }
     requires pieces { length pieces.now ≤ 4096 }
     requires short { covered_in area.now pieces.now < volume_of area.now }
     ensures { Shorter pieces.now area.now result }
@@ -142,7 +142,7 @@ fn short_half(area: &BoxN, axis: usize, pieces: &[Piece]) -> BoxN
 /// halved until one point is left.
 fn gap(area: BoxN, pieces: &[Piece]) -> Point
     requires proper { IsTrue (is_box area) }
-    requires few { volume_of area ≤ 2 ^ 22 }
+    requires few { volume_of area ≤ 2 ^ 28 }
     requires pieces { length pieces.now ≤ 4096 }
     requires short { covered_in area pieces.now < volume_of area }
     ensures inside { IsTrue (has_point area result) }

@@ -1,5 +1,5 @@
 -- Worked examples of parts, in the tree of the worked problem: its root has one child, which has two leaves.
-use Rattle.std.proofs.Common.{◌≡◌, ℕ, ◌+◌, ◌-◌, ◌^◌, ◌<◌, ◌≤◌, inl, inr, true, false, Option, Some, None, List, [], ◌∷◌, length, refl, sym, ap, subst, arith}
+use Rattle.std.proofs.Common.{◌≡◌, ℕ, ◌+◌, ◌-◌, ◌^◌, ◌≤◌, inl, inr, true, false, Option, Some, None, List, [], ◌∷◌, length, refl, sym, ap, subst, arith}
 use Rattle.std.specs.Prelude.{IsTrue}
 use Rattle.std.specs.List.{sum_by}
 use Rattle.std.proofs.lemmas.List.Sums.{sum_by-cons}
@@ -23,22 +23,22 @@ use Rattle.ivp_pool.proofs.Gluing.{whole}
 use Rattle.ivp_pool.proofs.Growing.{closed_covers}
 use Rattle.ivp_pool.proofs.Teams.{closed_one, searched}
 use Rattle.ivp_pool.specs.Tallies.{AreLinked, IsTally, IsWholeTree, Tally}
-use Rattle.ivp_pool.specs.Parts.{Done, Handed, handed_in, handed_within, IsPart, Knowledge, KnowsMore, knows_only, Outdoes, TreePart, Pruned, part_size, Expanded, Then}
+use Rattle.ivp_pool.specs.Parts.{Done, Handed, handed_in, handed_within, IsPart, Incumbent, KnowsMore, knows_only, Outdoes, TreePart, Pruned, part_size, Expanded, Then}
 
 -- who found the best key, the other leaf's, or one that is just less than the best; who knows the best sum alone; and who knows nothing
-abbrev best : Knowledge
+abbrev best : Incumbent
 best = knows_only (key_of 75 2)
 
-abbrev second : Knowledge
+abbrev second : Incumbent
 second = record { low = 55; own = Some (key_of 55 10) }
 
-abbrev short_of_best : Knowledge
+abbrev short_of_best : Incumbent
 short_of_best = knows_only (key_of 75 3)
 
-abbrev best_sum : Knowledge
+abbrev best_sum : Incumbent
 best_sum = record { low = 75; own = None }
 
-abbrev nothing : Knowledge
+abbrev nothing : Incumbent
 nothing = record { low = 0; own = None }
 
 -- the best key outdoes itself and the other leaf's bound, and the root's bound isn't outdone; the best sum alone outdoes the other leaf's bound, but not the equal sum at any index
@@ -162,7 +162,7 @@ left_covered : AreCovered two nothing [] (left ∷ []) (has_point left.area)
 left_covered = (left ∷ [], refl, λ p here. inr (rw here refl))
 
 -- but not where the best key isn't outdone, and nothing was handed on
-less_known : (known : Knowledge) → (Outdoes known (key_of 75 2) → ⊥) → AreCovered two known [] [] (is_point twelve) → ⊥
+less_known : (known : Incumbent) → (Outdoes known (key_of 75 2) → ⊥) → AreCovered two known [] [] (is_point twelve) → ⊥
 less_known known wanted is =
     elim (is.2 (point_from 0 1 0 0) refl) [
       | inl out ↦ wanted out
@@ -208,7 +208,7 @@ called_once = closed_one two second [] (left ∷ []) (root_of two) 3 root_is_a_n
 idle : AreClosed two nothing [] [] 0
 idle = record { tallies = []; each = λ place tally here. absurd (cc); called = λ weigh. refl; passed = λ weigh. refl; size = refl }
 
-closed_by_nobody : (known : Knowledge) (nodes : List Node) (count : ℕ) → AreClosed two known [] nodes count → count ≡ 0
+closed_by_nobody : (known : Incumbent) (nodes : List Node) (count : ℕ) → AreClosed two known [] nodes count → count ≡ 0
 closed_by_nobody known nodes count is = none_at is.tallies (is.called (λ node. 1)) is.size
   where
     none_at : (tallies : List Tally) → sum_by (λ (tally : Tally). 1) tallies ≡ 0 → count + length nodes ≡ sum_by (λ (tally : Tally). part_size tally.part) tallies → count ≡ 0
@@ -216,7 +216,7 @@ closed_by_nobody known nodes count is = none_at is.tallies (is.called (λ node. 
     none_at (tally ∷ tallies) none size = absurd (omega (arith, none, sum_by-cons (λ (tally : Tally). 1) tally tallies))
 
 -- a call closes its own node, if no other
-closed_nothing : (known : Knowledge) → AreClosed two known (root_of two ∷ []) [] 0 → ⊥
+closed_nothing : (known : Incumbent) → AreClosed two known (root_of two ∷ []) [] 0 → ⊥
 closed_nothing known is = at_least is.tallies (is.called (λ node. 1)) is.size
   where
     own : (part : TreePart) → 1 ≤ part_size part

@@ -10,7 +10,7 @@ use Rattle.ivp_problem.specs.Problems.{IsProblem, WeightedSum}
 use Rattle.ivp_problem.specs.Sums.{key_at}
 use Rattle.ivp_problem.specs.Trees.{children_of, has_in, IsNode, root_of}
 use Rattle.ivp_problem.proofs.SameNodes.{is_same, is_same-self, is_same-true}
-use Rattle.ivp_pool.specs.Parts.{AreParts, Done, Handed, handed_in, handed_within, IsPart, Knowledge, Outdoes, TreePart, TreeParts, Pruned, size_in, part_size, Expanded, Then}
+use Rattle.ivp_pool.specs.Parts.{AreParts, Done, Handed, handed_in, handed_within, IsPart, Incumbent, Outdoes, TreePart, TreeParts, Pruned, size_in, part_size, Expanded, Then}
 use Rattle.ivp_pool.specs.Tallies.{AreLinked, handed_by, IsTally, IsWholeTree, Tally}
 use Rattle.ivp_pool.proofs.Growing.{covered}
 use Rattle.ivp_pool.proofs.Standing.{children_stand, standing, Stands}
@@ -21,7 +21,7 @@ both_empty [] ys e = (refl, e)
 both_empty (x ∷ xs) ys e = absurd (cc)
 
 -- a part whose handed nodes were filled by the first of some whole parts, and what is left of these
-record Filled (problem : WeightedSum) (key : Knowledge) (node : Node) (part : TreePart) (rest : List Node) (parts : TreeParts) : Type 0 where
+record Filled (problem : WeightedSum) (key : Incumbent) (node : Node) (part : TreePart) (rest : List Node) (parts : TreeParts) : Type 0 where
   whole : TreePart
   left : TreeParts
   is : IsPart problem key node whole
@@ -30,7 +30,7 @@ record Filled (problem : WeightedSum) (key : Knowledge) (node : Node) (part : Tr
   nothing : handed_in problem rest left ≡ []
   size : part_size whole + size_in left + length (handed_within problem node part) ≡ part_size part + size_in parts
 
-record AllFilled (problem : WeightedSum) (key : Knowledge) (nodes : List Node) (old : TreeParts) (rest : List Node) (parts : TreeParts) : Type 0 where
+record AllFilled (problem : WeightedSum) (key : Incumbent) (nodes : List Node) (old : TreeParts) (rest : List Node) (parts : TreeParts) : Type 0 where
   wholes : TreeParts
   left : TreeParts
   all : AreParts problem key nodes wholes
@@ -40,7 +40,7 @@ record AllFilled (problem : WeightedSum) (key : Knowledge) (nodes : List Node) (
   size : size_in wholes + size_in left + length (handed_in problem nodes old) ≡ size_in old + size_in parts
 
 mutual
-  fill : (problem : WeightedSum) (key : Knowledge) (node : Node) (part : TreePart) (rest : List Node) (parts : TreeParts) → IsPart problem key node part → AreParts problem key (handed_within problem node part ++ rest) parts → handed_in problem (handed_within problem node part ++ rest) parts ≡ [] → Filled problem key node part rest parts
+  fill : (problem : WeightedSum) (key : Incumbent) (node : Node) (part : TreePart) (rest : List Node) (parts : TreeParts) → IsPart problem key node part → AreParts problem key (handed_within problem node part ++ rest) parts → handed_in problem (handed_within problem node part ++ rest) parts ≡ [] → Filled problem key node part rest parts
   fill problem key node Pruned rest parts is are none = record { whole = Pruned; left = parts; is = is; none = refl; are = are; nothing = none; size = omega arith }
   fill problem key node Handed rest Done is are none = absurd are
   fill problem key node Handed rest (Then one others) is are none =
@@ -51,7 +51,7 @@ mutual
       let size = filled.size in
       record { whole = Expanded filled.wholes; left = filled.left; is = (is.0, filled.all); none = filled.none; are = filled.are; nothing = filled.nothing; size = omega arith }
 
-  fill_all : (problem : WeightedSum) (key : Knowledge) (nodes : List Node) (old : TreeParts) (rest : List Node) (parts : TreeParts) → AreParts problem key nodes old → AreParts problem key (handed_in problem nodes old ++ rest) parts → handed_in problem (handed_in problem nodes old ++ rest) parts ≡ [] → AllFilled problem key nodes old rest parts
+  fill_all : (problem : WeightedSum) (key : Incumbent) (nodes : List Node) (old : TreeParts) (rest : List Node) (parts : TreeParts) → AreParts problem key nodes old → AreParts problem key (handed_in problem nodes old ++ rest) parts → handed_in problem (handed_in problem nodes old ++ rest) parts ≡ [] → AllFilled problem key nodes old rest parts
   fill_all problem key [] Done rest parts all are none = record { wholes = Done; left = parts; all = tt; none = refl; are = are; nothing = none; size = omega arith }
   fill_all problem key (node ∷ nodes) Done rest parts all are none = absurd all
   fill_all problem key [] (Then part more) rest parts all are none = absurd all
@@ -78,7 +78,7 @@ abbrev burden : WeightedSum → Node → ℕ
 burden problem node = suc (length problem.terms - node.depth) * weight_of problem node
 
 mutual
-  burden_most : (problem : WeightedSum) → IsProblem problem → (key : Knowledge) (from levels : ℕ) (node : Node) (part : TreePart) → Stands problem from levels node → IsPart problem key node part → sum_by (burden problem) (handed_within problem node part) ≤ suc levels * weight_of problem node
+  burden_most : (problem : WeightedSum) → IsProblem problem → (key : Incumbent) (from levels : ℕ) (node : Node) (part : TreePart) → Stands problem from levels node → IsPart problem key node part → sum_by (burden problem) (handed_within problem node part) ≤ suc levels * weight_of problem node
   burden_most problem h key from levels node Pruned stands is = omega arith
   burden_most problem h key from levels node Handed stands is =
       let most = stands.most in
@@ -94,7 +94,7 @@ mutual
         burdens_most problem h key (suc from) levels (children_of problem node) parts (children_stand problem from levels node stands) is.1,
       )
 
-  burdens_most : (problem : WeightedSum) → IsProblem problem → (key : Knowledge) (from levels : ℕ) (nodes : List Node) (parts : TreeParts) → Each (Stands problem from levels) nodes → AreParts problem key nodes parts → sum_by (burden problem) (handed_in problem nodes parts) ≤ suc levels * weight_in problem nodes
+  burdens_most : (problem : WeightedSum) → IsProblem problem → (key : Incumbent) (from levels : ℕ) (nodes : List Node) (parts : TreeParts) → Each (Stands problem from levels) nodes → AreParts problem key nodes parts → sum_by (burden problem) (handed_in problem nodes parts) ≤ suc levels * weight_in problem nodes
   burdens_most problem h key from levels nodes Done stand are = omega arith
   burdens_most problem h key from levels [] (Then part parts) stand are = absurd are
   burdens_most problem h key from levels (node ∷ nodes) (Then part parts) stand are =
@@ -108,7 +108,7 @@ mutual
       )
 
 -- what a tally handed on weighs less than its node
-lighter : (problem : WeightedSum) → IsProblem problem → (key : Knowledge) (node : Node) (part : TreePart) → IsNode problem node → IsPart problem key node part → part ≢ Handed → sum_by (burden problem) (handed_within problem node part) < burden problem node
+lighter : (problem : WeightedSum) → IsProblem problem → (key : Incumbent) (node : Node) (part : TreePart) → IsNode problem node → IsPart problem key node part → part ≢ Handed → sum_by (burden problem) (handed_within problem node part) < burden problem node
 lighter problem h key node Pruned is part here = omega (arith, suc-mul (length problem.terms - node.depth) (weight_of problem node), some_weight problem node h is)
 lighter problem h key node Handed is part here = absurd (here refl)
 lighter problem h key node (Expanded parts) is part here = by (length problem.terms - node.depth) refl
@@ -127,7 +127,7 @@ lighter problem h key node (Expanded parts) is part here = by (length problem.te
           burdens_most problem h key (suc node.depth) levels (children_of problem node) parts (children_stand problem node.depth levels node stands) part.1,
         )
 
-all_lighter : (problem : WeightedSum) → IsProblem problem → (key : Knowledge) (tallies : List Tally) → Each (IsTally problem key) tallies → sum_by (λ tally. sum_by (burden problem) (handed_by problem tally)) tallies + length tallies ≤ sum_by (λ tally. burden problem tally.node) tallies
+all_lighter : (problem : WeightedSum) → IsProblem problem → (key : Incumbent) (tallies : List Tally) → Each (IsTally problem key) tallies → sum_by (λ tally. sum_by (burden problem) (handed_by problem tally)) tallies + length tallies ≤ sum_by (λ tally. burden problem tally.node) tallies
 all_lighter problem h key [] each = omega arith
 all_lighter problem h key (tally ∷ tallies) each =
     omega (
@@ -165,14 +165,14 @@ each_picked P [] tally behind h = h
 each_picked P (first ∷ front) tally behind h = let rest = each_picked P front tally behind h.1 in (rest.0, (h.0, rest.1))
 
 -- whole parts of some nodes, made of tallies
-record Glued (problem : WeightedSum) (key : Knowledge) (nodes : List Node) (tallies : List Tally) : Type 0 where
+record Glued (problem : WeightedSum) (key : Incumbent) (nodes : List Node) (tallies : List Tally) : Type 0 where
   parts : TreeParts
   are : AreParts problem key nodes parts
   none : handed_in problem nodes parts ≡ []
   size : size_in parts + sum_by (λ tally. length (handed_by problem tally)) tallies ≡ sum_by (λ tally. part_size tally.part) tallies
 
 -- no nodes, no tallies
-no_tally : (problem : WeightedSum) → IsProblem problem → (key : Knowledge) (tallies : List Tally) → Each (IsTally problem key) tallies → AreLinked problem [] tallies → Glued problem key [] tallies
+no_tally : (problem : WeightedSum) → IsProblem problem → (key : Incumbent) (tallies : List Tally) → Each (IsTally problem key) tallies → AreLinked problem [] tallies → Glued problem key [] tallies
 no_tally problem h key [] each linked = record { parts = Done; are = tt; none = refl; size = omega arith }
 no_tally problem h key (tally ∷ tallies) each linked = absurd (omega (arith, linked (burden problem), all_lighter problem h key (tally ∷ tallies) each))
 
@@ -189,7 +189,7 @@ linked_rest problem node nodes front tally behind same linked = λ weigh.
       ap weigh same,
     )
 
-glued_with : (problem : WeightedSum) (key : Knowledge) (node : Node) (nodes : List Node) (front : List Tally) (tally : Tally) (behind : List Tally) → tally.node ≡ node → IsTally problem key tally → Glued problem key (handed_by problem tally ++ nodes) (front ++ behind) → Glued problem key (node ∷ nodes) (front ++ tally ∷ behind)
+glued_with : (problem : WeightedSum) (key : Incumbent) (node : Node) (nodes : List Node) (front : List Tally) (tally : Tally) (behind : List Tally) → tally.node ≡ node → IsTally problem key tally → Glued problem key (handed_by problem tally ++ nodes) (front ++ behind) → Glued problem key (node ∷ nodes) (front ++ tally ∷ behind)
 glued_with problem key node nodes front tally behind same is rest =
     let filled = fill problem key tally.node tally.part nodes rest.parts is.is rest.are rest.none in
     let none : handed_within problem node filled.whole ≡ [] = subst (λ n. handed_within problem n filled.whole ≡ []) same filled.none in
@@ -211,7 +211,7 @@ found : (problem : WeightedSum) (node : Node) (nodes : List Node) (tallies : Lis
 found problem node nodes tallies linked = omega (arith, linked (λ n. one_if (is_same n node)), sum_by-cons (λ (n : Node). one_if (is_same n node)) node nodes, ap one_if (is_same-self node))
 
 -- the first node's tally takes its place, and then those of the nodes that it handed on
-glue : (problem : WeightedSum) → IsProblem problem → (key : Knowledge) (count : ℕ) (nodes : List Node) (tallies : List Tally) → length tallies ≡ count → Each (IsTally problem key) tallies → AreLinked problem nodes tallies → Glued problem key nodes tallies
+glue : (problem : WeightedSum) → IsProblem problem → (key : Incumbent) (count : ℕ) (nodes : List Node) (tallies : List Tally) → length tallies ≡ count → Each (IsTally problem key) tallies → AreLinked problem nodes tallies → Glued problem key nodes tallies
 glue problem h key zero [] tallies e each linked = no_tally problem h key tallies each linked
 glue problem h key (suc count) [] tallies e each linked = no_tally problem h key tallies each linked
 glue problem h key zero (node ∷ nodes) [] e each linked = absurd (omega (arith, found problem node nodes [] linked))
@@ -223,7 +223,7 @@ glue problem h key (suc count) (node ∷ nodes) tallies e each linked =
     subst (Glued problem key (node ∷ nodes)) (sym p.split) (glued_with problem key node nodes p.front p.tally p.behind p.same both.0 rest)
 
 -- all tallies together are the whole tree
-pub whole : (problem : WeightedSum) → IsProblem problem → (key : Knowledge) (tallies : List Tally) → Each (IsTally problem key) tallies → AreLinked problem (root_of problem ∷ []) tallies → IsWholeTree problem key tallies
+pub whole : (problem : WeightedSum) → IsProblem problem → (key : Incumbent) (tallies : List Tally) → Each (IsTally problem key) tallies → AreLinked problem (root_of problem ∷ []) tallies → IsWholeTree problem key tallies
 whole problem h key tallies each linked = by (glue problem h key (length tallies) (root_of problem ∷ []) tallies refl each linked)
   where
     root : IsNode problem (root_of problem)

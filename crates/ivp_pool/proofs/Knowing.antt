@@ -5,22 +5,19 @@ use Rattle.ivp_problem.specs.Found.{IsOwnKey}
 use Rattle.ivp_problem.specs.Keys.{AtMost, greater_own, Reaches}
 use Rattle.ivp_problem.specs.Problems.{WeightedSum}
 use Rattle.ivp_problem.proofs.KeyOrder.{at_most_sum, greater_own_one, reaches_less}
-use Rattle.ivp_pool.specs.Parts.{Knowledge, KnowsMore, Outdoes}
+use Rattle.ivp_pool.specs.Parts.{Incumbent, KnowsMore, Outdoes}
 
-pub outdoes_less : (knows : Knowledge) (a b : Key) → AtMost a b → Outdoes knows b → Outdoes knows a
+pub outdoes_less : (knows : Incumbent) (a b : Key) → AtMost a b → Outdoes knows b → Outdoes knows a
 outdoes_less knows a b le (inl less) = inl (omega (arith, at_most_sum a b le, less))
 outdoes_less knows a b le (inr reach) = inr (reaches_less knows.own a b le reach)
 
 -- a greater sum and a greater own key
-pub knows_from : (old new : Knowledge) → old.low ≤ new.low → ((key : Key) → Reaches old.own key → Reaches new.own key) → KnowsMore old new
+pub knows_from : (old new : Incumbent) → old.low ≤ new.low → ((key : Key) → Reaches old.own key → Reaches new.own key) → KnowsMore old new
 knows_from old new low own key (inl less) = inl (omega (arith, less, low))
 knows_from old new low own key (inr reach) = inr (own key reach)
 
-pub knows_same : (knows : Knowledge) → KnowsMore knows knows
+pub knows_same : (knows : Incumbent) → KnowsMore knows knows
 knows_same knows key out = out
-
-pub knows_then : (a b c : Knowledge) → KnowsMore a b → KnowsMore b c → KnowsMore a c
-knows_then a b c p q key out = q key (p key out)
 
 -- the greater of two own keys is one
 pub owned_greater : (problem : WeightedSum) (one other : Option Key) → IsOwnKey problem one → IsOwnKey problem other → IsOwnKey problem (greater_own one other)

@@ -15,7 +15,7 @@ use Rattle.ivp_pool.specs.declared.team.Member.{Member}
 use Rattle.ivp_pool.specs.declared.team.Worker.{Worker}
 use Rattle.ivp_pool.specs.Hands.{EndState}
 use Rattle.ivp_pool.specs.Members.{deques_of, doors_of, first_parts, IsNewMember, new_door, put_by, put_in, tag_of, taken_by, taken_in, workers_of}
-use Rattle.ivp_pool.specs.Parts.{Knowledge, KnowsMore, Outdoes}
+use Rattle.ivp_pool.specs.Parts.{Incumbent, KnowsMore}
 use Rattle.ivp_pool.specs.Solving.{IsNew, IsWorker, knows_of, WentOn}
 use Rattle.ivp_pool.specs.Teams.{AllDid, AreBelow, AreWorkers, closed_in, shape_of, shapes_of}
 use Rattle.ivp_pool.proofs.Standing.{Stands}
@@ -28,7 +28,7 @@ new_worker : (problem : WeightedSum) (word : TableId) (worker : Worker) → IsNe
 new_worker problem word worker new = record { at_word = new.at_word; about = ap (λ m. m.0.about) new.scout; empty = ap (λ m. m.1) new.scout; owned = inl new.none }
 
 -- the whole tree isn't large
-root_few : (problem : WeightedSum) → IsProblem problem → (key : Knowledge) (count : ℕ) → Searched problem key count → count ≤ 65 * 2 ^ 22
+root_few : (problem : WeightedSum) → IsProblem problem → (key : Incumbent) (count : ℕ) → Searched problem key count → count ≤ 65 * 2 ^ 28
 root_few problem h key count all =
     let root : IsNode problem (root_of problem) = record { path = []; reached = refl } in
     let stands : Stands problem 0 64 (root_of problem) = record { is = root; deep = omega arith; most = omega (arith, h.few) } in
@@ -113,7 +113,7 @@ module _ {K : Type 0} (problem : WeightedSum) (word : TableId) where
       (all_call_any problem word (root_of problem) [] nodes members 0 d (record (get_or members 0 d) { worker = worker }) some workers went refl refl)
 
   -- what all calls closed together is the whole tree
-  pub searched_by : IsProblem problem → (key : Knowledge) (start new : List (Member K)) → AllDid problem word (root_of problem ∷ []) [] start new → closed_in start ≡ 0 → ((weigh : Node → ℕ) → put_in weigh start ≡ taken_in weigh start) → ((weigh : Node → ℕ) → put_in weigh new ≡ taken_in weigh new) → AreBelow key new → Searched problem key (closed_in new)
+  pub searched_by : IsProblem problem → (key : Incumbent) (start new : List (Member K)) → AllDid problem word (root_of problem ∷ []) [] start new → closed_in start ≡ 0 → ((weigh : Node → ℕ) → put_in weigh start ≡ taken_in weigh start) → ((weigh : Node → ℕ) → put_in weigh new ≡ taken_in weigh new) → AreBelow key new → Searched problem key (closed_in new)
   searched_by h key start new did none even settled below =
       let all = searched problem h key did.nodes did.handed did.count (λ weigh. omega (arith, did.each_once weigh, even weigh, settled weigh)) (did.closed key below) in
       let few = root_few problem h key did.count all in

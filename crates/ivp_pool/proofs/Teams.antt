@@ -1,5 +1,5 @@
 -- How the calls of a worker add up, and those of all workers.
-use Rattle.std.proofs.Common.{◌≡◌, ℕ, suc, ◌+◌, ◌*◌, ◌^◌, ◌/◌, ◌%◌, ◌≤◌, Some, List, [], ◌∷◌, ◌++◌, length, refl, sym, ap, ◌∙◌, arith, length-append}
+use Rattle.std.proofs.Common.{◌≡◌, ℕ, suc, ◌+◌, ◌*◌, ◌^◌, ◌/◌, ◌%◌, Some, List, [], ◌∷◌, ◌++◌, length, refl, sym, ap, ◌∙◌, arith, length-append}
 use Rattle.std.specs.Prelude.{All, IsTrue, slice_get}
 use Rattle.std.specs.List.{sum_by, AllByRecursion as Each}
 use Rattle.std.proofs.lemmas.List.Elements.{All-from_recursion}
@@ -12,7 +12,7 @@ use Rattle.ivp_problem.specs.Problems.{IsProblem, WeightedSum}
 use Rattle.ivp_problem.specs.Sums.{key_at}
 use Rattle.ivp_problem.specs.Trees.{IsNode, root_of}
 use Rattle.ivp_pool.specs.Closing.{Closed}
-use Rattle.ivp_pool.specs.Parts.{Knowledge, KnowsMore, Outdoes, handed_within, part_size}
+use Rattle.ivp_pool.specs.Parts.{Incumbent, KnowsMore, Outdoes, handed_within, part_size}
 use Rattle.ivp_pool.specs.Solving.{AreClosed, IsSearched, knows_of, WentOn}
 use Rattle.ivp_pool.specs.declared.team.Worker.{Worker}
 use Rattle.ivp_pool.specs.Tallies.{handed_by, IsTally, IsWholeTree, Tally}
@@ -21,11 +21,11 @@ use Rattle.ivp_pool.proofs.Growing.{handed_deeper, IsBelow, raised}
 use Rattle.ivp_pool.proofs.Standing.{standing}
 
 -- no call
-pub closed_none : (problem : WeightedSum) (key : Knowledge) → AreClosed problem key [] [] 0
+pub closed_none : (problem : WeightedSum) (key : Incumbent) → AreClosed problem key [] [] 0
 closed_none problem key = record { tallies = []; each = λ place tally at. absurd (cc); called = λ weigh. refl; passed = λ weigh. refl; size = refl }
 
 -- one call
-pub closed_one : (problem : WeightedSum) (key : Knowledge) (took took' : List Node) (node : Node) (count : ℕ) → IsNode problem node → (closed : Closed problem key took took' node count) → AreClosed problem key (node ∷ []) (handed_within problem node closed.part) count
+pub closed_one : (problem : WeightedSum) (key : Incumbent) (took took' : List Node) (node : Node) (count : ℕ) → IsNode problem node → (closed : Closed problem key took took' node count) → AreClosed problem key (node ∷ []) (handed_within problem node closed.part) count
 closed_one problem key took took' node count is closed =
     let tally : Tally = record { node = node; part = closed.part } in
     record {
@@ -37,13 +37,13 @@ closed_one problem key took took' node count is closed =
     }
 
 -- what it handed on are nodes of the tree
-pub handed_nodes : (problem : WeightedSum) (key : Knowledge) (took took' : List Node) (node : Node) (count : ℕ) → IsNode problem node → (closed : Closed problem key took took' node count) → All (IsNode problem) (handed_within problem node closed.part)
+pub handed_nodes : (problem : WeightedSum) (key : Incumbent) (took took' : List Node) (node : Node) (count : ℕ) → IsNode problem node → (closed : Closed problem key took took' node count) → All (IsNode problem) (handed_within problem node closed.part)
 handed_nodes problem key took took' node count is closed =
     All-from_recursion (IsNode problem) (handed_within problem node closed.part)
     (each_weaker (IsBelow problem (suc node.depth)) (IsNode problem) (λ n below. below.is) (handed_within problem node closed.part) (handed_deeper problem key (length problem.terms) node closed.part (standing problem node is) closed.is closed.here))
 
 -- calls and further calls, where as much is known as in both
-pub closed_more : (problem : WeightedSum) (one other key : Knowledge) (nodes handed nodes' handed' : List Node) (count count' : ℕ) → KnowsMore one key → KnowsMore other key → AreClosed problem one nodes handed count → AreClosed problem other nodes' handed' count' → AreClosed problem key (nodes ++ nodes') (handed ++ handed') (count + count')
+pub closed_more : (problem : WeightedSum) (one other key : Incumbent) (nodes handed nodes' handed' : List Node) (count count' : ℕ) → KnowsMore one key → KnowsMore other key → AreClosed problem one nodes handed count → AreClosed problem other nodes' handed' count' → AreClosed problem key (nodes ++ nodes') (handed ++ handed') (count + count')
 closed_more problem one other key nodes handed nodes' handed' count count' up up' closed closed' =
     let ts = closed.tallies in
     let us = closed'.tallies in
@@ -55,10 +55,10 @@ closed_more problem one other key nodes handed nodes' handed' count count' up up
       size = omega (arith, sum_by-append (λ (t : Tally). part_size t.part) ts us, length-append handed handed', closed.size, closed'.size);
     }
   where
-    tally_known : (low : Knowledge) → KnowsMore low key → (tally : Tally) → IsTally problem low tally → IsTally problem key tally
+    tally_known : (low : Incumbent) → KnowsMore low key → (tally : Tally) → IsTally problem low tally → IsTally problem key tally
     tally_known low up tally is = record { node = is.node; is = raised problem low key up tally.node tally.part is.is; here = is.here }
 
-    known : (low : Knowledge) → KnowsMore low key → (tallies : List Tally) → ((place : ℕ) (tally : Tally) → slice_get tallies place ≡ Some tally → IsTally problem low tally) → Each (IsTally problem key) tallies
+    known : (low : Incumbent) → KnowsMore low key → (tallies : List Tally) → ((place : ℕ) (tally : Tally) → slice_get tallies place ≡ Some tally → IsTally problem low tally) → Each (IsTally problem key) tallies
     known low up tallies each = each_weaker (IsTally problem low) (IsTally problem key) (tally_known low up) tallies (each_from (IsTally problem low) tallies each)
 
 -- a length as a sum
@@ -92,12 +92,12 @@ went_more problem nodes handed nodes' handed' old mid new went went' =
     }
 
 -- the whole tree was searched, so no point has a greater key
-pub record Searched (problem : WeightedSum) (key : Knowledge) (count : ℕ) : Type 0 where
+pub record Searched (problem : WeightedSum) (key : Incumbent) (count : ℕ) : Type 0 where
   pub all : IsSearched problem key count
   pub most : (p : Point) → IsTrue (is_point problem.axes p) → Outdoes key (key_at problem p)
 
 -- calls searched it together, where their nodes are the root and what they handed on
-pub searched : (problem : WeightedSum) → IsProblem problem → (key : Knowledge) (nodes handed : List Node) (count : ℕ) → ((weigh : Node → ℕ) → sum_by weigh nodes ≡ sum_by weigh (root_of problem ∷ []) + sum_by weigh handed) → AreClosed problem key nodes handed count → Searched problem key count
+pub searched : (problem : WeightedSum) → IsProblem problem → (key : Incumbent) (nodes handed : List Node) (count : ℕ) → ((weigh : Node → ℕ) → sum_by weigh nodes ≡ sum_by weigh (root_of problem ∷ []) + sum_by weigh handed) → AreClosed problem key nodes handed count → Searched problem key count
 searched problem h key nodes handed count linked closed =
     by (whole problem h key closed.tallies (each_from (IsTally problem key) closed.tallies closed.each) (λ weigh. closed.called weigh ∙ (linked weigh ∙ ap (λ n. sum_by weigh (root_of problem ∷ []) + n) (sym (closed.passed weigh)))))
   where

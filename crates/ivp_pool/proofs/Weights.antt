@@ -20,7 +20,7 @@ use Rattle.ivp_problem.proofs.Children.{has, once_in}
 use Rattle.ivp_problem.proofs.Nodes.{node_keeps}
 use Rattle.ivp_problem.proofs.Pieces.{children_more, children_to}
 use Rattle.ivp_problem.proofs.Terms.{at_places, listed_at}
-use Rattle.ivp_pool.specs.Parts.{AreParts, Done, Handed, IsPart, Knowledge, TreePart, TreeParts, Pruned, size_in, part_size, Expanded, Then}
+use Rattle.ivp_pool.specs.Parts.{AreParts, Done, Handed, IsPart, Incumbent, TreePart, TreeParts, Pruned, size_in, part_size, Expanded, Then}
 use Rattle.ivp_pool.proofs.Standing.{children_stand, Stands}
 
 -- how many of the domain's points a node has
@@ -62,7 +62,7 @@ some_weight problem node h is =
     let within = get_or-le-sum_by (λ (q : Point). one_if (has_point node.area q)) points at.0 (at_places low) (slice_get_within points at.0 (at_places low) at.1) in
     subst (λ n. n ≤ weight_of problem node) one within
 
-pub few_weight : (problem : WeightedSum) (node : Node) → IsProblem problem → weight_of problem node ≤ 2 ^ 22
+pub few_weight : (problem : WeightedSum) (node : Node) → IsProblem problem → weight_of problem node ≤ 2 ^ 28
 few_weight problem node h = omega (arith, count_by-le-length (has_point node.area) (points_of problem.axes), length-points_of problem.axes h.domain, few problem.axes h.domain)
 
 -- nodes that have each point of a node at most once weigh no more than it
@@ -103,7 +103,7 @@ first_weight problem node count pieces h is below within all = rest (pieces - co
 
 mutual
   -- a part has at most as many nodes as levels times points
-  pub size_most : (problem : WeightedSum) → IsProblem problem → (low : Knowledge) (from levels : ℕ) (node : Node) (part : TreePart) → Stands problem from levels node → IsPart problem low node part → part_size part ≤ suc levels * weight_of problem node
+  pub size_most : (problem : WeightedSum) → IsProblem problem → (low : Incumbent) (from levels : ℕ) (node : Node) (part : TreePart) → Stands problem from levels node → IsPart problem low node part → part_size part ≤ suc levels * weight_of problem node
   size_most problem h low from levels node Pruned stands is = omega (arith, suc-mul levels (weight_of problem node), some_weight problem node h stands.is)
   size_most problem h low from levels node Handed stands is = omega (arith, suc-mul levels (weight_of problem node), some_weight problem node h stands.is)
   size_most problem h low from zero node (Expanded parts) stands is = absurd (omega (arith, stands.most, is.0))
@@ -118,7 +118,7 @@ mutual
         sizes_most problem h low (suc from) levels children parts (children_stand problem from levels node stands) is.1,
       )
 
-  pub sizes_most : (problem : WeightedSum) → IsProblem problem → (low : Knowledge) (from levels : ℕ) (nodes : List Node) (parts : TreeParts) → Each (Stands problem from levels) nodes → AreParts problem low nodes parts → size_in parts ≤ suc levels * weight_in problem nodes
+  pub sizes_most : (problem : WeightedSum) → IsProblem problem → (low : Incumbent) (from levels : ℕ) (nodes : List Node) (parts : TreeParts) → Each (Stands problem from levels) nodes → AreParts problem low nodes parts → size_in parts ≤ suc levels * weight_in problem nodes
   sizes_most problem h low from levels nodes Done stand are = omega arith
   sizes_most problem h low from levels [] (Then part parts) stand are = absurd are
   sizes_most problem h low from levels (node ∷ nodes) (Then part parts) stand are =

@@ -12,7 +12,7 @@ use Rattle.ivp_pool.specs.declared.team.Member.{Member}
 use Rattle.ivp_pool.specs.declared.team.Worker.{Worker}
 use Rattle.ivp_pool.specs.Hands.{EndState, IsSettled}
 use Rattle.ivp_pool.specs.Members.{Did, put_by, put_in, taken_by, taken_in}
-use Rattle.ivp_pool.specs.Parts.{Knowledge, KnowsMore, Outdoes}
+use Rattle.ivp_pool.specs.Parts.{Incumbent, KnowsMore}
 use Rattle.ivp_pool.specs.Solving.{AreClosed, IsWorker, knows_of, WentOn}
 use Rattle.ivp_pool.specs.Teams.{AllDid, AreBelow, AreWorkers, closed_in, deque_states, HasEmptied, door_rows, shape_of, shapes_of}
 use Rattle.ivp_pool.proofs.Members.{put_more, took_one}
@@ -24,7 +24,7 @@ went_worker problem word nodes handed old new went is = record { at_word = went.
 
 module _ {K : Type 0} (problem : WeightedSum) (word : TableId) where
   -- no call: only what the caller had in hand changed places with what stands in deques
-  pub all_moved : (had left : List Node) (old new : List (Member K)) → length new ≡ length old → AreWorkers problem word new → closed_in new ≡ closed_in old → ((key : Knowledge) → AreBelow key new → AreBelow key old) → ((weigh : Node → ℕ) → sum_by weigh left + put_in weigh new + taken_in weigh old ≡ sum_by weigh had + taken_in weigh new + put_in weigh old) → AllDid problem word had left old new
+  pub all_moved : (had left : List Node) (old new : List (Member K)) → length new ≡ length old → AreWorkers problem word new → closed_in new ≡ closed_in old → ((key : Incumbent) → AreBelow key new → AreBelow key old) → ((weigh : Node → ℕ) → sum_by weigh left + put_in weigh new + taken_in weigh old ≡ sum_by weigh had + taken_in weigh new + put_in weigh old) → AllDid problem word had left old new
   all_moved had left old new len workers closed below moved =
       record {
         nodes = [];
@@ -70,7 +70,7 @@ module _ {K : Type 0} (problem : WeightedSum) (word : TableId) where
       all_more nodes (node ∷ rest) rest old now new (all_more nodes (take count nodes) (node ∷ rest) old now now one first) two
 
   -- one member changed
-  below_set : (key : Knowledge) (members : List (Member K)) (place : ℕ) (d new : Member K) → place < length members → KnowsMore (knows_of (get_or members place d).worker) (knows_of new.worker) → AreBelow key (set members place new) → AreBelow key members
+  below_set : (key : Incumbent) (members : List (Member K)) (place : ℕ) (d new : Member K) → place < length members → KnowsMore (knows_of (get_or members place d).worker) (knows_of new.worker) → AreBelow key (set members place new) → AreBelow key members
   below_set key [] place d new within later below = λ k e out. absurd (omega (arith, out))
   below_set key (member ∷ members) zero d new within later below =
       let here = below 0 new (omega arith) in

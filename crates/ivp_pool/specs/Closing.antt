@@ -1,11 +1,11 @@
 -- What closing a node leaves behind: the part that it made of the node's tree.
-use Rattle.std.specs.Prelude.{◌≡◌, ◌≢◌, ℕ, ◌+◌, ◌≤◌, ◌⊎◌, Bool, Option, Some, None, List, [], ◌∷◌, ◌++◌, length, IsTrue}
+use Rattle.std.specs.Prelude.{◌≡◌, ◌≢◌, ℕ, ◌+◌, ◌⊎◌, Bool, Option, Some, None, List, [], ◌∷◌, ◌++◌, length, IsTrue}
 use Rattle.ivp_domain.specs.declared.boxes.Point.{Point}
 use Rattle.ivp_problem.specs.declared.node.Node.{Node}
 use Rattle.ivp_problem.specs.Problems.{WeightedSum}
 use Rattle.ivp_problem.specs.Sums.{key_at}
 use Rattle.ivp_problem.specs.Trees.{has_in}
-use Rattle.ivp_pool.specs.Parts.{handed_within, IsPart, Knowledge, Outdoes, TreePart, Handed, part_size}
+use Rattle.ivp_pool.specs.Parts.{handed_within, IsPart, Incumbent, Outdoes, TreePart, Handed, part_size}
 
 -- what a tray has taken after a push: the node at the end, or as before, where the node came back
 abbrev pub Pushed : List Node → List Node → Node → Option Node → Type 0
@@ -13,7 +13,7 @@ Pushed took took' node None = took' ≡ took ++ node ∷ []
 Pushed took took' node (Some back) = (back ≡ node) × (took' ≡ took)
 
 -- a node was closed while so much was known: it has a part, the tray took the handed nodes of that, in order, and so many nodes were closed as the part has others
-pub record Closed (problem : WeightedSum) (low : Knowledge) (took took' : List Node) (node : Node) (count : ℕ) : Type 0 where
+pub record Closed (problem : WeightedSum) (low : Incumbent) (took took' : List Node) (node : Node) (count : ℕ) : Type 0 where
   pub part : TreePart
   pub is : IsPart problem low node part
   pub here : part ≢ Handed
@@ -21,6 +21,6 @@ pub record Closed (problem : WeightedSum) (low : Knowledge) (took took' : List N
   pub counted : count + length (handed_within problem node part) ≡ part_size part
 
 -- each of these points is unwanted, or lies in a node that the tray took since
-abbrev pub AreCovered : WeightedSum → Knowledge → List Node → List Node → (Point → Bool) → Type 0
+abbrev pub AreCovered : WeightedSum → Incumbent → List Node → List Node → (Point → Bool) → Type 0
 AreCovered problem low took took' passes =
     (since : List Node) × (took' ≡ took ++ since) × ((p : Point) → IsTrue (passes p) → Outdoes low (key_at problem p) ⊎ IsTrue (has_in since p))

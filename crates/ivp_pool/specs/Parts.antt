@@ -1,5 +1,5 @@
 -- Parts of a tree: what a search made of a node and of the nodes below it.
-use Rattle.std.specs.Prelude.{ℕ, ◌+◌, ◌<◌, ◌≤◌, ◌⊎◌, Option, Some, List, [], ◌∷◌, ◌++◌, length}
+use Rattle.std.specs.Prelude.{ℕ, ◌+◌, ◌<◌, ◌⊎◌, Option, Some, List, [], ◌∷◌, ◌++◌, length}
 use Rattle.ivp_problem.specs.declared.node.Node.{Node}
 use Rattle.ivp_problem.specs.declared.key.Key.{Key}
 use Rattle.ivp_problem.specs.Keys.{Reaches}
@@ -7,20 +7,20 @@ use Rattle.ivp_problem.specs.Problems.{WeightedSum}
 use Rattle.ivp_problem.specs.Trees.{bound_of, children_of}
 
 -- what a search knows: 0 or the sum of a point, and none or the key of a point
-pub record Knowledge : Type 0 where
+pub record Incumbent : Type 0 where
   pub low : ℕ
   pub own : Option Key
 
 -- no point of this key or a lesser one is wanted: the key's sum is below the known sum, or the key is at most the own key
-abbrev pub Outdoes : Knowledge → Key → Type 0
+abbrev pub Outdoes : Incumbent → Key → Type 0
 Outdoes knows key = (key.sum < knows.low) ⊎ Reaches knows.own key
 
 -- as much is known, or more
-abbrev pub KnowsMore : Knowledge → Knowledge → Type 0
+abbrev pub KnowsMore : Incumbent → Incumbent → Type 0
 KnowsMore old new = (key : Key) → Outdoes old key → Outdoes new key
 
 -- what the best key outdoes: no more than that a key is at most it
-abbrev pub knows_only : Key → Knowledge
+abbrev pub knows_only : Key → Incumbent
 knows_only key = record { low = 0; own = Some key }
 
 mutual
@@ -37,13 +37,13 @@ mutual
 
 abbrev mutual
   -- the part is one of this node: no point of a pruned node's bound is wanted, and an expanded one isn't at full depth and has a part for each of its children
-  pub IsPart : WeightedSum → Knowledge → Node → TreePart → Type 0
+  pub IsPart : WeightedSum → Incumbent → Node → TreePart → Type 0
   IsPart problem low node Pruned = Outdoes low (bound_of problem node)
   IsPart problem low node Handed = Unit {0}
   IsPart problem low node (Expanded parts) = (node.depth < length problem.terms) × AreParts problem low (children_of problem node) parts
 
   -- there is one part for each of these nodes
-  pub AreParts : WeightedSum → Knowledge → List Node → TreeParts → Type 0
+  pub AreParts : WeightedSum → Incumbent → List Node → TreeParts → Type 0
   AreParts problem low [] Done = Unit {0}
   AreParts problem low (node ∷ nodes) Done = ⊥
   AreParts problem low [] (Then part parts) = ⊥

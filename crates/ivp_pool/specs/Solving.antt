@@ -1,5 +1,5 @@
 -- What several workers make of a problem: what their calls closed, and the whole search.
-use Rattle.std.specs.Prelude.{◌≡◌, ℕ, ◌+◌, ◌*◌, ◌^◌, ◌≤◌, Option, Some, None, List, [], length, slice_get}
+use Rattle.std.specs.Prelude.{◌≡◌, ℕ, ◌+◌, ◌*◌, ◌^◌, Option, Some, None, List, [], length, slice_get}
 use Rattle.std.specs.List.{sum_by}
 use Rattle.ivp_problem.specs.Found.{IsOwnKey}
 use Rattle.best_word.specs.Known.{first_scout}
@@ -10,11 +10,11 @@ use Rattle.ivp_problem.specs.Problems.{WeightedSum}
 use Rattle.ivp_problem.specs.Trees.{root_of}
 use Rattle.ivp_pool.specs.declared.team.Worker.{Worker}
 use Rattle.ivp_pool.specs.declared.work.Work.{Work}
-use Rattle.ivp_pool.specs.Parts.{handed_within, IsPart, Knowledge, KnowsMore, TreePart, part_size}
+use Rattle.ivp_pool.specs.Parts.{handed_within, IsPart, Incumbent, KnowsMore, TreePart, part_size}
 use Rattle.ivp_pool.specs.Tallies.{handed_by, IsTally, Tally}
 
 -- so many nodes are a part of the whole tree, with the root and nothing handed to others: each node has all its children there, or none and a bound of at most this key
-pub record IsSearched (problem : WeightedSum) (key : Knowledge) (count : ℕ) : Type 0 where
+pub record IsSearched (problem : WeightedSum) (key : Incumbent) (count : ℕ) : Type 0 where
   pub part : TreePart
   pub is : IsPart problem key (root_of problem) part
   pub none : handed_within problem (root_of problem) part ≡ []
@@ -25,7 +25,7 @@ abbrev pub total_of : List Work → ℕ
 total_of works = sum_by (λ work. work.closed) works
 
 -- calls closed these nodes, each once, while this key was known, handed those to others, and closed so many in all
-pub record AreClosed (problem : WeightedSum) (key : Knowledge) (nodes handed : List Node) (count : ℕ) : Type 0 where
+pub record AreClosed (problem : WeightedSum) (key : Incumbent) (nodes handed : List Node) (count : ℕ) : Type 0 where
   pub tallies : List Tally
   pub each : (place : ℕ) (tally : Tally) → slice_get tallies place ≡ Some tally → IsTally problem key tally
   pub called : (weigh : Node → ℕ) → sum_by (λ tally. weigh tally.node) tallies ≡ sum_by weigh nodes
@@ -37,7 +37,7 @@ abbrev pub own_of : Worker → Option Key
 own_of worker = worker.own.key
 
 -- the sum that it knows, and the greatest key that it found
-abbrev pub knows_of : Worker → Knowledge
+abbrev pub knows_of : Worker → Incumbent
 knows_of worker = record { low = worker.scout.me.0.low; own = own_of worker }
 
 -- a worker of this problem at this word

@@ -9,7 +9,7 @@ use Rattle.ivp_problem.specs.Problems.{WeightedSum}
 use Rattle.ivp_pool.specs.declared.team.Member.{Member}
 use Rattle.ivp_pool.specs.Hands.{EndState, IsSettled}
 use Rattle.ivp_pool.specs.Members.{doors_of, put_in, taken_in}
-use Rattle.ivp_pool.specs.Parts.{Knowledge, KnowsMore}
+use Rattle.ivp_pool.specs.Parts.{Incumbent, KnowsMore}
 use Rattle.ivp_pool.specs.Solving.{AreClosed, IsWorker, knows_of}
 
 module _ {K : Type 0} where
@@ -18,7 +18,7 @@ module _ {K : Type 0} where
   AreWorkers problem word members = All (λ (member : Member K). IsWorker problem word member.worker) members
 
   -- this outdoes all that each outdoes
-  abbrev pub AreBelow : Knowledge → List (Member K) → Type 0
+  abbrev pub AreBelow : Incumbent → List (Member K) → Type 0
   AreBelow key members = All (λ (member : Member K). KnowsMore (knows_of member.worker) key) members
 
   -- how many nodes they have closed, each counted modulo 2^64
@@ -47,10 +47,10 @@ module _ {K : Type 0} where
     pub handed : List Node
     pub count : ℕ
     pub wraps : ℕ
-    pub closed : (key : Knowledge) → AreBelow key new → AreClosed problem key nodes handed count
+    pub closed : (key : Incumbent) → AreBelow key new → AreClosed problem key nodes handed count
     pub counted : closed_in old + count ≡ closed_in new + wraps * 2 ^ 64
     pub each_once : (weigh : Node → ℕ) → sum_by weigh nodes + sum_by weigh left + put_in weigh new + taken_in weigh old ≡ sum_by weigh had + sum_by weigh handed + taken_in weigh new + put_in weigh old
-    pub below : (key : Knowledge) → AreBelow key new → AreBelow key old
+    pub below : (key : Incumbent) → AreBelow key new → AreBelow key old
     pub workers : AreWorkers problem word new
     pub len : length new ≡ length old
 

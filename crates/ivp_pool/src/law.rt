@@ -6,7 +6,7 @@ ghost use Rattle.ivp_problem.specs.declared.node.Node.{Node};
 ghost use Rattle.ivp_problem.specs.Problems.{IsProblem, WeightedSum};
 ghost use Rattle.ivp_problem.specs.Sums.{key_at};
 ghost use Rattle.ivp_problem.specs.Trees.{has_in, IsNode, root_of};
-ghost use Rattle.ivp_pool.specs.Parts.{Handed, handed_within, IsPart, Knowledge, KnowsMore, Outdoes, TreePart, part_size};
+ghost use Rattle.ivp_pool.specs.Parts.{Handed, handed_within, IsPart, Incumbent, KnowsMore, Outdoes, TreePart, part_size};
 ghost use Rattle.ivp_pool.specs.Tallies.{AreLinked, IsTally, IsWholeTree, Tally};
 
 use ivp_problem::{Node, Problem, problem_law};
@@ -16,10 +16,10 @@ use ivp_problem::{Node, Problem, problem_law};
 /// a part is small. It does nothing.
 pub fn parts_law(problem: &Problem, node: &Node)
     requires node { IsNode problem.now node.now }
-    ensures raised { (low high : Knowledge) (part : TreePart) → KnowsMore low high → IsPart problem.now low node.now part → IsPart problem.now high node.now part }
-    ensures covered { (low : Knowledge) (part : TreePart) → IsPart problem.now low node.now part → (p : Point) → IsTrue (has_point node.now.area p) → Outdoes low (key_at problem.now p) ⊎ IsTrue (has_in (handed_within problem.now node.now part) p) }
-    ensures deeper { (low : Knowledge) (part : TreePart) → IsPart problem.now low node.now part → part ≢ Handed → (place : ℕ) (child : Node) → slice_get (handed_within problem.now node.now part) place ≡ Some child → IsNode problem.now child × (node.now.depth < child.depth) }
-    ensures few { (low : Knowledge) (part : TreePart) → IsPart problem.now low node.now part → part_size part ≤ 65 * 2 ^ 22 }
+    ensures raised { (low high : Incumbent) (part : TreePart) → KnowsMore low high → IsPart problem.now low node.now part → IsPart problem.now high node.now part }
+    ensures covered { (low : Incumbent) (part : TreePart) → IsPart problem.now low node.now part → (p : Point) → IsTrue (has_point node.now.area p) → Outdoes low (key_at problem.now p) ⊎ IsTrue (has_in (handed_within problem.now node.now part) p) }
+    ensures deeper { (low : Incumbent) (part : TreePart) → IsPart problem.now low node.now part → part ≢ Handed → (place : ℕ) (child : Node) → slice_get (handed_within problem.now node.now part) place ≡ Some child → IsNode problem.now child × (node.now.depth < child.depth) }
+    ensures few { (low : Incumbent) (part : TreePart) → IsPart problem.now low node.now part → part_size part ≤ 65 * 2 ^ 28 }
 {
     problem_law(problem);
 }
@@ -27,5 +27,5 @@ pub fn parts_law(problem: &Problem, node: &Node)
 /// What holds of the calls that closed nodes, whoever made them: where their nodes are the root and all handed nodes, each
 /// once, and each call's part is one for this key, they are together one part of the whole tree. It does nothing.
 pub fn tally_law()
-    ensures { (problem : WeightedSum) (key : Knowledge) (tallies : List Tally) → IsProblem problem → ((place : ℕ) (tally : Tally) → slice_get tallies place ≡ Some tally → IsTally problem key tally) → AreLinked problem (root_of problem ∷ []) tallies → IsWholeTree problem key tallies }
+    ensures { (problem : WeightedSum) (key : Incumbent) (tallies : List Tally) → IsProblem problem → ((place : ℕ) (tally : Tally) → slice_get tallies place ≡ Some tally → IsTally problem key tally) → AreLinked problem (root_of problem ∷ []) tallies → IsWholeTree problem key tallies }
 {}

@@ -6,7 +6,7 @@ ghost use Rattle.ivp_problem.specs.declared.node.Node.{Node};
 ghost use Rattle.ivp_problem.specs.Sums.{key_at};
 ghost use Rattle.ivp_problem.specs.Trees.{IsNode};
 ghost use Rattle.ivp_pool.specs.Members.{Did, IsNewMember, put_in, taken_in};
-ghost use Rattle.ivp_pool.specs.Parts.{Knowledge, Outdoes};
+ghost use Rattle.ivp_pool.specs.Parts.{Incumbent, Outdoes};
 ghost use Rattle.ivp_pool.specs.Teams.{AllDid, deque_states, HasEmptied, door_rows, shapes_of, AreBelow, AreWorkers, closed_in};
 ghost use Rattle.ivp_pool.specs.Solving.{IsSearched, IsWorker};
 
@@ -154,8 +154,8 @@ pub(crate) fn search<K: About + Send + Sync, R: Threads + Wait + Sync, G: Gate>(
     ensures workers { IfOk result (λ _. AreWorkers problem.now best.now members.new) }
 
     // A key that all workers know of is one that no point of the problem exceeds.
-    ensures searched { IfOk result (λ _. (key : Knowledge) → AreBelow key members.new → IsSearched problem.now key (closed_in members.new)) }
-    ensures most { IfOk result (λ _. (key : Knowledge) → AreBelow key members.new → (p : Point) → IsTrue (is_point problem.now.axes p) → Outdoes key (key_at problem.now p)) }
+    ensures searched { IfOk result (λ _. (key : Incumbent) → AreBelow key members.new → IsSearched problem.now key (closed_in members.new)) }
+    ensures most { IfOk result (λ _. (key : Incumbent) → AreBelow key members.new → (p : Point) → IsTrue (is_point problem.now.axes p) → Outdoes key (key_at problem.now p)) }
 {
     problem_law(problem);
     open_doors(alloc, problem, best, members)?;

@@ -1,5 +1,5 @@
 -- The definitions on worked examples.
-use Rattle.std.proofs.Common.{◌≡◌, ℕ, zero, suc, true, false, inl, inr, Some, None, Ok, Err, ℤ, pos, negsuc, neg_ℤ, ◌≤ℤ◌, ◌<◌, ◌+◌, ◌^◌, List, [], ◌∷◌, length, replicate, refl, ap, subst, arith}
+use Rattle.std.proofs.Common.{◌≡◌, ℕ, zero, suc, true, false, inl, inr, Some, None, Ok, Err, ℤ, pos, negsuc, neg_ℤ, ◌≤ℤ◌, ◌<◌, ◌+◌, ◌*◌, ◌^◌, List, [], ◌∷◌, length, replicate, refl, ap, subst, arith}
 use Rattle.std.specs.Prelude.{codes, slice_get}
 use Rattle.std.proofs.lemmas.Int.{ints}
 use Rattle.ivp_domain.specs.declared.axis.Axis.{Axis}
@@ -134,14 +134,14 @@ apart = refl
 nodes_apart : tree_size (record { axes = twelve; terms = split ∷ split ∷ [] }) ≡ 5
 nodes_apart = refl
 
--- 64 functions of weight 10,000 and value 100,000
+-- 64 functions of weight 10,000,000 and value 100,000
 abbrev course : List Axis
 course = axis (codes "course") 359000 360 ∷ []
 
 abbrev most : Term
-most = term course 10000 (piece 0 359 0 0 0 0 (pos 100000) (pos 0) (pos 0) (pos 0) ∷ [])
+most = term course 10000000 (piece 0 359 0 0 0 0 (pos 100000) (pos 0) (pos 0) (pos 0) ∷ [])
 
-sum_of_most : sum_at (record { axes = course; terms = replicate 64 most }) (point_from 0 0 0 0) ≡ 64000000000
+sum_of_most : sum_at (record { axes = course; terms = replicate 64 most }) (point_from 0 0 0 0) ≡ 64 * 10 ^ 12
 sum_of_most = refl
 
 -- a node a level, and the root
@@ -186,7 +186,7 @@ none = refl
 many : problem_from twelve (replicate 65 most) ≡ Err TooMany
 many = refl
 
-heavy : problem_from twelve (most ∷ rising ∷ term twelve 10001 [] ∷ []) ≡ Err (BadWeight 2)
+heavy : problem_from twelve (most ∷ rising ∷ term twelve 10000001 [] ∷ []) ≡ Err (BadWeight 2)
 heavy = refl
 
 other : problem_from twelve (rising ∷ most ∷ []) ≡ Err (OtherDomain 1)
@@ -255,27 +255,27 @@ without_terms is = omega (arith, is.some)
 many_terms : IsProblem (record { axes = course; terms = replicate 65 most }) → ⊥
 many_terms is = omega (arith, is.few)
 
-heavy_term : IsProblem (record { axes = twelve; terms = rising ∷ term twelve 10001 rising.func.pieces ∷ [] }) → ⊥
-heavy_term is = let second = is.terms 1 (term twelve 10001 rising.func.pieces) refl in let weight : false ≡ true = second.weight in absurd (cc)
+heavy_term : IsProblem (record { axes = twelve; terms = rising ∷ term twelve 10000001 rising.func.pieces ∷ [] }) → ⊥
+heavy_term is = let second = is.terms 1 (term twelve 10000001 rising.func.pieces) refl in let weight : false ≡ true = second.weight in absurd (cc)
 
--- a node by its base and its slope on the last axis: one piece of weight 10,000 may add 10^16 and 10^9, and no more
+-- a node by its base and its slope on the last axis: one piece of weight 10,000,000 may add 10^21 and 10^12, and no more
 abbrev added : ℤ → ℤ → Node
 added base slope = record { depth = 1; area = record { low = 0 ∷ 0 ∷ 0 ∷ 0 ∷ []; high = 0 ∷ 0 ∷ 0 ∷ 0 ∷ [] }; base = base; slope = pos 0 ∷ pos 0 ∷ pos 0 ∷ slope ∷ [] }
 
-small : IsSmall 1 (added (neg_ℤ (pos (10 ^ 16))) (pos (10 ^ 9)))
+small : IsSmall 1 (added (neg_ℤ (pos (10 ^ 21))) (pos (10 ^ 12)))
 small = record { base = (omega (arith, ints), omega (arith, ints)); slope = each }
   where
-    each : (axis : ℕ) → axis < 4 → (neg_ℤ (pos (10 ^ 9)) ≤ℤ slope_at (added (neg_ℤ (pos (10 ^ 16))) (pos (10 ^ 9))) axis) × (slope_at (added (neg_ℤ (pos (10 ^ 16))) (pos (10 ^ 9))) axis ≤ℤ pos (10 ^ 9))
+    each : (axis : ℕ) → axis < 4 → (neg_ℤ (pos (10 ^ 12)) ≤ℤ slope_at (added (neg_ℤ (pos (10 ^ 21))) (pos (10 ^ 12))) axis) × (slope_at (added (neg_ℤ (pos (10 ^ 21))) (pos (10 ^ 12))) axis ≤ℤ pos (10 ^ 12))
     each zero within = (omega (arith, ints), omega (arith, ints))
     each (suc zero) within = (omega (arith, ints), omega (arith, ints))
     each (suc (suc zero)) within = (omega (arith, ints), omega (arith, ints))
     each (suc (suc (suc zero))) within = (omega (arith, ints), omega (arith, ints))
     each (suc (suc (suc (suc axis)))) within = absurd (omega arith)
 
-great_base : IsSmall 1 (added (pos (10 ^ 16 + 1)) (pos 0)) → ⊥
+great_base : IsSmall 1 (added (pos (10 ^ 21 + 1)) (pos 0)) → ⊥
 great_base is = absurd (omega (arith, ints, is.base.1))
 
-great_slope : IsSmall 1 (added (pos 0) (neg_ℤ (pos (10 ^ 9 + 1)))) → ⊥
+great_slope : IsSmall 1 (added (pos 0) (neg_ℤ (pos (10 ^ 12 + 1)))) → ⊥
 great_slope is = absurd (omega (arith, ints, (is.slope 3 (omega arith)).0))
 
 -- and where no piece is chosen, nothing is added

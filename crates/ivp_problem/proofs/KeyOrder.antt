@@ -211,7 +211,7 @@ pub best_point : (problem : WeightedSum) → is_point problem.axes (best_of prob
 best_point problem = best_in problem (point_from 0 0 0 0) (points_of problem.axes) (grind (arith, nat_tests)) (λ n p e. listed_point (whole problem.axes) n p e)
 
 -- an index is below the number of points
-pub index_small : (axes : List Axis) (p : Point) → is_domain axes ≡ true → is_point axes p ≡ true → index_of axes p < 2 ^ 22
+pub index_small : (axes : List Axis) (p : Point) → is_domain axes ≡ true → is_point axes p ≡ true → index_of axes p < 2 ^ 28
 index_small axes p h inside =
     let at = places_below axes p h inside in
     let below = radix (slice_index p.at 0) (slice_index p.at 1) (slice_index p.at 2) (slice_index p.at 3) (size_on 0 axes) (size_on 1 axes) (size_on 2 axes) (size_on 3 axes) at.0 at.1 at.2 at.3 in
@@ -227,7 +227,7 @@ index_le i j k l i' j' k' l' b c d p q r s =
     let five = mul-le-mul_right {m = (i * b + j) * c + k} {n = (i' * b + j') * c + k'} d four in
     omega arith
 
-pub sum_most : (problem : WeightedSum) (p : Point) → IsProblem problem → is_point problem.axes p ≡ true → sum_at problem p ≤ 64000000000
+pub sum_most : (problem : WeightedSum) (p : Point) → IsProblem problem → is_point problem.axes p ≡ true → sum_at problem p ≤ 64 * 10 ^ 12
 sum_most problem p h inside = let few_terms = h.few in omega (arith, weighted_sums_most problem.axes problem.terms p h.terms inside)
 
 -- different points have different keys

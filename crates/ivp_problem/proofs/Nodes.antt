@@ -30,8 +30,8 @@ use Rattle.ivp_problem.proofs.Linear.{both}
 use Rattle.ivp_problem.proofs.Slopes.{weight_most, Within, within_product}
 use Rattle.ivp_problem.proofs.Terms.{weighted_signed}
 
-pub small_base : (piece : Piece) → is_small piece ≡ true → Within (10 ^ 12) piece.base
-small_base piece h = let bound = base_within piece.base (small_parts piece h).0 in record { above = bound.0; below = bound.1 }
+pub small_base : (piece : Piece) → is_small piece ≡ true → Within (10 ^ 14) piece.base
+small_base piece h = let bound = base_within piece.base (small_parts piece h).0 in let above = bound.0 in let below = bound.1 in record { above = omega (arith, ints); below = omega (arith, ints) }
 
 slope_at_most : (piece : Piece) (axis : ℕ) → is_slope (slope_on axis piece) ≡ true → Within 100000 (slope_on axis piece)
 slope_at_most piece axis h = let bound = slope_within (slope_on axis piece) h in record { above = bound.0; below = bound.1 }
@@ -84,7 +84,7 @@ box_from axes area h p q r s =
 root_small : (problem : WeightedSum) → IsSmall 0 (root_of problem)
 root_small problem = record { base = (omega (arith, ints), omega (arith, ints)); slope = slope }
   where
-    slope : (axis : ℕ) → axis < 4 → (neg_ℤ (pos (0 * 10 ^ 9)) ≤ℤ slope_at (root_of problem) axis) × (slope_at (root_of problem) axis ≤ℤ pos (0 * 10 ^ 9))
+    slope : (axis : ℕ) → axis < 4 → (neg_ℤ (pos (0 * 10 ^ 12)) ≤ℤ slope_at (root_of problem) axis) × (slope_at (root_of problem) axis ≤ℤ pos (0 * 10 ^ 12))
     slope zero p = (omega (arith, ints), omega (arith, ints))
     slope (suc zero) p = (omega (arith, ints), omega (arith, ints))
     slope (suc (suc zero)) p = (omega (arith, ints), omega (arith, ints))
@@ -108,13 +108,13 @@ grown d a z m h w = let above = w.above in let below = w.below in (omega (arith,
 pub child_small : (term : Term) (piece : Piece) (node : Node) (area : BoxN) → is_weight term.weight ≡ true → is_small piece ≡ true → IsSmall node.depth node → IsSmall (node.depth + 1) (with_chosen term.weight piece node area)
 child_small term piece node area weight small h =
     let most = (weight_most term.weight weight).1 in
-    let bound : (axis : ℕ) → axis < 4 → (neg_ℤ (pos ((node.depth + 1) * 10 ^ 9)) ≤ℤ slope_with term.weight piece node axis) × (slope_with term.weight piece node axis ≤ℤ pos ((node.depth + 1) * 10 ^ 9)) = λ axis within. grown node.depth (slope_at node axis) (pos term.weight *ℤ slope_on axis piece) (10 ^ 9) (h.slope axis within) (within_product term.weight (slope_on axis piece) 10000 100000 most (small_slope piece small axis within)) in
+    let bound : (axis : ℕ) → axis < 4 → (neg_ℤ (pos ((node.depth + 1) * 10 ^ 12)) ≤ℤ slope_with term.weight piece node axis) × (slope_with term.weight piece node axis ≤ℤ pos ((node.depth + 1) * 10 ^ 12)) = λ axis within. grown node.depth (slope_at node axis) (pos term.weight *ℤ slope_on axis piece) (10 ^ 12) (h.slope axis within) (within_product term.weight (slope_on axis piece) 10000000 100000 most (small_slope piece small axis within)) in
     record {
-      base = grown node.depth node.base (pos term.weight *ℤ piece.base) (10 ^ 16) h.base (within_product term.weight piece.base 10000 (10 ^ 12) most (small_base piece small));
+      base = grown node.depth node.base (pos term.weight *ℤ piece.base) (10 ^ 21) h.base (within_product term.weight piece.base 10000000 (10 ^ 14) most (small_base piece small));
       slope = each bound;
     }
   where
-    each : ((axis : ℕ) → axis < 4 → (neg_ℤ (pos ((node.depth + 1) * 10 ^ 9)) ≤ℤ slope_with term.weight piece node axis) × (slope_with term.weight piece node axis ≤ℤ pos ((node.depth + 1) * 10 ^ 9))) → (axis : ℕ) → axis < 4 → (neg_ℤ (pos ((node.depth + 1) * 10 ^ 9)) ≤ℤ slope_at (with_chosen term.weight piece node area) axis) × (slope_at (with_chosen term.weight piece node area) axis ≤ℤ pos ((node.depth + 1) * 10 ^ 9))
+    each : ((axis : ℕ) → axis < 4 → (neg_ℤ (pos ((node.depth + 1) * 10 ^ 12)) ≤ℤ slope_with term.weight piece node axis) × (slope_with term.weight piece node axis ≤ℤ pos ((node.depth + 1) * 10 ^ 12))) → (axis : ℕ) → axis < 4 → (neg_ℤ (pos ((node.depth + 1) * 10 ^ 12)) ≤ℤ slope_at (with_chosen term.weight piece node area) axis) × (slope_at (with_chosen term.weight piece node area) axis ≤ℤ pos ((node.depth + 1) * 10 ^ 12))
     each bound zero p = bound 0 p
     each bound (suc zero) p = bound 1 p
     each bound (suc (suc zero)) p = bound 2 p
@@ -222,21 +222,21 @@ blank_term = record { weight = 0; func = record { axes = []; pieces = [] } }
 pub small_more : (a b : ℕ) (node : Node) → a ≤ b → IsSmall a node → IsSmall b node
 small_more a b node le h =
     record {
-      base = wider (a * 10 ^ 16) (b * 10 ^ 16) node.base (omega arith) h.base;
-      slope = λ axis within. wider (a * 10 ^ 9) (b * 10 ^ 9) (slope_at node axis) (omega arith) (h.slope axis within);
+      base = wider (a * 10 ^ 21) (b * 10 ^ 21) node.base (omega arith) h.base;
+      slope = λ axis within. wider (a * 10 ^ 12) (b * 10 ^ 12) (slope_at node axis) (omega arith) (h.slope axis within);
     }
   where
     wider : (m n : ℕ) (z : ℤ) → m ≤ n → (neg_ℤ (pos m) ≤ℤ z) × (z ≤ℤ pos m) → (neg_ℤ (pos n) ≤ℤ z) × (z ≤ℤ pos n)
     wider m n z le h = (omega (arith, ints), omega (arith, ints))
 
 -- the places of a node's point are small
-pub place_small : (problem : WeightedSum) (node : Node) (p : Point) → IsProblem problem → Keeps problem node → has_point node.area p ≡ true → (k : ℕ) → k < 4 → slice_index p.at k < 2 ^ 22
+pub place_small : (problem : WeightedSum) (node : Node) (p : Point) → IsProblem problem → Keeps problem node → has_point node.area p ≡ true → (k : ℕ) → k < 4 → slice_index p.at k < 2 ^ 28
 place_small problem node p h keeps inside k within =
     let axes = problem.axes in
     let at = places_below axes p h.domain (area_point axes node.area p keeps.inside inside) in
-    by k within (few_on axes h.domain k within) at.0 at.1 at.2 at.3
+    by k within (omega (arith, few_on axes h.domain k within)) at.0 at.1 at.2 at.3
   where
-    by : (k : ℕ) → k < 4 → size_on k problem.axes ≤ 2 ^ 22 → slice_index p.at 0 < size_on 0 problem.axes → slice_index p.at 1 < size_on 1 problem.axes → slice_index p.at 2 < size_on 2 problem.axes → slice_index p.at 3 < size_on 3 problem.axes → slice_index p.at k < 2 ^ 22
+    by : (k : ℕ) → k < 4 → size_on k problem.axes ≤ 2 ^ 28 → slice_index p.at 0 < size_on 0 problem.axes → slice_index p.at 1 < size_on 1 problem.axes → slice_index p.at 2 < size_on 2 problem.axes → slice_index p.at 3 < size_on 3 problem.axes → slice_index p.at k < 2 ^ 28
     by zero w few a b c d = omega arith
     by (suc zero) w few a b c d = omega arith
     by (suc (suc zero)) w few a b c d = omega arith

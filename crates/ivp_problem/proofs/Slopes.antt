@@ -1,5 +1,6 @@
 -- Weighted bases and slopes: how large they grow, and at which place of a span a slope adds most.
 use Rattle.std.proofs.Common.{◌≡◌, ℕ, suc, ◌<◌, ◌≤◌, ◌*◌, ◌^◌, inl, inr, ℤ, pos, negsuc, neg_ℤ, ◌*ℤ◌, ◌≤ℤ◌, ◌<ℤ◌, to_z, of_z, w64, FitsSigned, true, refl, ap, arith}
+use mir.Syntax.{w128}
 use Rattle.std.proofs.Math.Nat.{mul-le-mul, mul-le-mul_left}
 use Rattle.std.proofs.lemmas.Bool.{cases_lt}
 use Rattle.std.proofs.lemmas.Bool.Decides.{nat_tests}
@@ -34,7 +35,7 @@ within_times (negsuc z) n a b h p =
     let product = mul-le-mul {n₁ = suc z} {m₁ = n} {n₂ = a} {m₂ = b} most p in
     record { above = omega (arith, ints); below = omega (arith, ints) }
 
-pub weight_most : (weight : ℕ) → is_weight weight ≡ true → (1 ≤ weight) × (weight ≤ 10000)
+pub weight_most : (weight : ℕ) → is_weight weight ≡ true → (1 ≤ weight) × (weight ≤ 10000000)
 weight_most weight h = (grind (arith, nat_tests), grind (arith, nat_tests))
 
 -- numbers of 64 bits that stand for these are these
@@ -44,11 +45,19 @@ cast z h = let above = h.above in let below = h.below in omega (arith, ints)
 pub fits : (z : ℤ) → Within (2 ^ 62) z → FitsSigned w64 z
 fits z h = let above = h.above in let below = h.below in omega (arith, ints)
 
-pub cast_product : (n : ℕ) (z : ℤ) → n ≤ 10000 → Within (2 ^ 62) z → (to_z w64 n *ℤ to_z w64 (of_z w64 z)) ≡ (pos n *ℤ z)
+pub cast_product : (n : ℕ) (z : ℤ) → n ≤ 10000000 → Within (2 ^ 62) z → (to_z w64 n *ℤ to_z w64 (of_z w64 z)) ≡ (pos n *ℤ z)
 cast_product n z p h = let weight : to_z w64 n ≡ pos n = omega (arith, ints) in rw (weight, cast z h) refl
 
-pub cast_times : (z : ℤ) (n : ℕ) → Within (2 ^ 62) z → n < 2 ^ 22 → (to_z w64 (of_z w64 z) *ℤ to_z w64 n) ≡ (z *ℤ pos n)
-cast_times z n h p = let place : to_z w64 n ≡ pos n = omega (arith, ints) in rw (place, cast z h) refl
+-- and numbers of 128 bits
+pub wide_cast : (z : ℤ) → Within (2 ^ 126) z → to_z w128 (of_z w128 z) ≡ z
+wide_cast z h = let above = h.above in let below = h.below in omega (arith, ints)
+
+pub wide_fits : (z : ℤ) → Within (2 ^ 126) z → FitsSigned w128 z
+wide_fits z h = let above = h.above in let below = h.below in omega (arith, ints)
+
+-- a number of 64 bits that is cast to 128 is the same
+pub widened : (z : ℤ) → Within (2 ^ 62) z → to_z w128 (of_z w128 (to_z w64 (of_z w64 z))) ≡ z
+widened z h = let above = h.above in let below = h.below in rw (cast z h) (omega (arith, ints))
 
 -- within less is within more
 pub within_more : (a b : ℕ) (z : ℤ) → a ≤ b → Within a z → Within b z

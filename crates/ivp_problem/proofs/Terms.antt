@@ -68,12 +68,12 @@ value_of_term axes term p h inside =
     let values = subst (λ (a : List Axis). HasValues a term.func.pieces) h.domain h.func.values in
     values p inside
 
--- a weighted value and a top are at most 10^9
-pub weighted_most : (axes : List Axis) (term : Term) (p : Point) → IsTermOf axes term → is_point axes p ≡ true → weighted_at p term ≤ 10 ^ 9
+-- a weighted value and a top are at most 10^12
+pub weighted_most : (axes : List Axis) (term : Term) (p : Point) → IsTermOf axes term → is_point axes p ≡ true → weighted_at p term ≤ 10 ^ 12
 weighted_most axes term p h inside =
     let value = nat_abs (value_at term.func.pieces p) in
     let small : value ≤ 100000 = (value_natural (value_at term.func.pieces p) (value_of_term axes term p h inside)).1 in
-    let product = mul-le-mul {n₁ = term.weight} {m₁ = value} {n₂ = 10000} {m₂ = 100000} (weight_most term.weight h.weight).1 small in
+    let product = mul-le-mul {n₁ = term.weight} {m₁ = value} {n₂ = 10000000} {m₂ = 100000} (weight_most term.weight h.weight).1 small in
     omega arith
 
 -- a weighted value as an integer
@@ -82,7 +82,7 @@ weighted_signed axes term p h inside =
     let natural = (value_natural (value_at term.func.pieces p) (value_of_term axes term p h inside)).0 in
     ap (λ z. pos term.weight *ℤ z) (sym natural)
 
-pub weighted_sums_most : (axes : List Axis) (terms : List Term) (p : Point) → AreTerms axes terms → is_point axes p ≡ true → weighted_sum terms p ≤ 10 ^ 9 * length terms
+pub weighted_sums_most : (axes : List Axis) (terms : List Term) (p : Point) → AreTerms axes terms → is_point axes p ≡ true → weighted_sum terms p ≤ 10 ^ 12 * length terms
 weighted_sums_most axes [] p h inside = omega arith
 weighted_sums_most axes (t ∷ ts) p h inside =
     let rest = weighted_sums_most axes ts p (λ k. h (suc k)) inside in
@@ -93,10 +93,10 @@ weighted_sums_most axes (t ∷ ts) p h inside =
 abbrev pub most_of : List Axis → Term → ℕ
 most_of axes term = greatest (λ point. nat_abs (value_at term.func.pieces point)) (points_of axes)
 
-pub top_most : (axes : List Axis) (term : Term) → IsTermOf axes term → top_of axes term ≤ 10 ^ 9
+pub top_most : (axes : List Axis) (term : Term) → IsTermOf axes term → top_of axes term ≤ 10 ^ 12
 top_most axes term h =
     let small : most_of axes term ≤ 100000 = greatest_within (λ point. nat_abs (value_at term.func.pieces point)) (points_of axes) 100000 (λ n p e. (value_natural (value_at term.func.pieces p) (value_of_term axes term p h (listed_point (whole axes) n p e))).1) in
-    let product = mul-le-mul {n₁ = term.weight} {m₁ = most_of axes term} {n₂ = 10000} {m₂ = 100000} (weight_most term.weight h.weight).1 small in
+    let product = mul-le-mul {n₁ = term.weight} {m₁ = most_of axes term} {n₂ = 10000000} {m₂ = 100000} (weight_most term.weight h.weight).1 small in
     omega arith
 
 -- no weighted value is above the top
@@ -112,7 +112,7 @@ weighted_sums_tops axes (t ∷ ts) p inside =
     let rest = weighted_sums_tops axes ts p inside in
     omega (arith, sum_by-cons (weighted_at p) t ts, sum_by-cons (top_of axes) t ts, weighted_top axes t p inside)
 
-pub tops_most : (axes : List Axis) (terms : List Term) → AreTerms axes terms → sum_by (top_of axes) terms ≤ 10 ^ 9 * length terms
+pub tops_most : (axes : List Axis) (terms : List Term) → AreTerms axes terms → sum_by (top_of axes) terms ≤ 10 ^ 12 * length terms
 tops_most axes [] h = omega arith
 tops_most axes (t ∷ ts) h =
     let rest = tops_most axes ts (λ k. h (suc k)) in

@@ -3,10 +3,10 @@ use Rattle.std.specs.Prelude.{◌≡◌, ℕ, ◌*◌, ◌^◌, ◌<◌, ◌≤�
 use Rattle.ivp_problem.specs.declared.node.Node.{Node}
 use Rattle.ivp_problem.specs.Trees.{slope_at}
 
--- base and slopes within those of this many pieces of weight 10,000
+-- base and slopes within those of this many pieces of weight 10,000,000
 pub record IsSmall (count : ℕ) (node : Node) : Type 0 where
-  pub base : (neg_ℤ (pos (count * 10 ^ 16)) ≤ℤ node.base) × (node.base ≤ℤ pos (count * 10 ^ 16))
-  pub slope : (axis : ℕ) → axis < 4 → (neg_ℤ (pos (count * 10 ^ 9)) ≤ℤ slope_at node axis) × (slope_at node axis ≤ℤ pos (count * 10 ^ 9))
+  pub base : (neg_ℤ (pos (count * 10 ^ 21)) ≤ℤ node.base) × (node.base ≤ℤ pos (count * 10 ^ 21))
+  pub slope : (axis : ℕ) → axis < 4 → (neg_ℤ (pos (count * 10 ^ 12)) ≤ℤ slope_at node axis) × (slope_at node axis ≤ℤ pos (count * 10 ^ 12))
 
 -- along a slope one place adds more than another, or as much and is at most the other
 abbrev pub Beats : ℤ → ℕ → ℕ → Type 0

@@ -14,9 +14,9 @@ pub record WeightedSum : Type 0 where
   pub axes : List Axis
   pub terms : List Term
 
--- from 1 to 10,000
+-- from 1 to 10,000,000 thousandths
 abbrev pub is_weight : ℕ → Bool
-is_weight weight = nat_le 1 weight && nat_le weight 10000
+is_weight weight = nat_le 1 weight && nat_le weight 10000000
 
 -- the axes agree in name, ends and points
 abbrev pub same_axis : Axis → Axis → Bool

@@ -1,5 +1,5 @@
 // The key of a point: its sum, and of equal sums the lower index first.
-ghost use Rattle.std.specs.Prelude.{◌≡◌, ◌↔◌, ◌^◌, ◌<◌, ◌≤◌, IsTrue};
+ghost use Rattle.std.specs.Prelude.{◌≡◌, ◌↔◌, ◌*◌, ◌^◌, ◌<◌, ◌≤◌, IsTrue};
 ghost use Rattle.ivp_problem.specs.Keys.{AtMost, greater_own, key_of, Reaches};
 
 /// The sum and the index of a point. The greater sum has the greater key, and of equal sums the lesser
@@ -10,13 +10,13 @@ pub struct Key {
     pub index: u32,
 }
 
-/// The greatest sum of a problem: 64 functions of weight 10,000 and value 100,000.
-pub const MOST_SUM: u64 = 64_000_000_000;
+/// The greatest sum of a problem, in thousandths: 64 functions of weight 10,000,000 and value 100,000.
+pub const MOST_SUM: u64 = 64_000_000_000_000;
 
 /// The key of a sum and an index.
 pub fn key_of(sum: u64, index: u32) -> Key
-    requires sum { sum ≤ 64000000000 }
-    requires index { index < 2 ^ 22 }
+    requires sum { sum ≤ 64 * 10 ^ 12 }
+    requires index { index < 2 ^ 28 }
     ensures { result ≡ key_of sum index }
 {
     Key { sum, index }

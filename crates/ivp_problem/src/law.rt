@@ -1,5 +1,5 @@
 // What holds of keys, children and bounds.
-ghost use Rattle.std.specs.Prelude.{◌≡◌, ◌<◌, ◌≤◌, ◌^◌, length, IsTrue, if◌then◌else◌, count_by, slice_get, Some};
+ghost use Rattle.std.specs.Prelude.{◌≡◌, ◌*◌, ◌<◌, ◌≤◌, ◌^◌, length, IsTrue, if◌then◌else◌, count_by, slice_get, Some};
 ghost use Rattle.ivp_domain.specs.Boxes.{has_point};
 ghost use Rattle.ivp_domain.specs.Domains.{index_of, is_point, points_of};
 ghost use Rattle.ivp_problem.specs.Keys.{AtMost};
@@ -13,8 +13,8 @@ use ivp_domain::Point;
 /// What holds of the keys of a problem's points: their sums and indices are small, different points
 /// have different keys, and the best point is one whose key none exceeds. It does nothing.
 pub fn keys_law(problem: &Problem)
-    ensures sums { (p : Point) → IsTrue (is_point problem.now.axes p) → (key_at problem.now p).sum ≤ 64000000000 }
-    ensures indices { (p : Point) → IsTrue (is_point problem.now.axes p) → (key_at problem.now p).index < 2 ^ 22 }
+    ensures sums { (p : Point) → IsTrue (is_point problem.now.axes p) → (key_at problem.now p).sum ≤ 64 * 10 ^ 12 }
+    ensures indices { (p : Point) → IsTrue (is_point problem.now.axes p) → (key_at problem.now p).index < 2 ^ 28 }
     ensures distinct { (p q : Point) → IsTrue (is_point problem.now.axes p) → IsTrue (is_point problem.now.axes q) → length p.at ≡ 4 → length q.at ≡ 4 → key_at problem.now p ≡ key_at problem.now q → p ≡ q }
     ensures point { IsTrue (is_point problem.now.axes (best_of problem.now)) }
     ensures best { (p : Point) → IsTrue (is_point problem.now.axes p) → AtMost (key_at problem.now p) (key_at problem.now (best_of problem.now)) }

@@ -21,7 +21,7 @@ use std::sync::ledger::Ledger;
 pub struct Node {
     pub depth: u32,
     pub area: BoxN,
-    pub base: i64,
+    pub base: i128,
     pub slope: [i64; 4],
 }
 
@@ -54,7 +54,7 @@ fn with_chosen(weight: u32, piece: &Piece, node: &Node, area: BoxN) -> Node
     Node {
         depth: node.depth + 1,
         area,
-        base: node.base + weight as i64 * piece.base,
+        base: node.base + weight as i128 * piece.base as i128,
         slope: [
             slope_with(weight, piece, node, 0),
             slope_with(weight, piece, node, 1),
@@ -96,21 +96,21 @@ fn high_corner(node: &Node) -> Point
 }
 
 /// What an axis adds for the chosen pieces at a point: slope times place.
-fn rise(node: &Node, point: &Point, axis: usize) -> i64
+fn rise(node: &Node, point: &Point, axis: usize) -> i128
     requires axis { axis < 4 }
     requires node { IsSmall 64 node.now }
-    requires place { slice_index point.now.at axis < 2 ^ 22 }
+    requires place { slice_index point.now.at axis < 2 ^ 28 }
     ensures rise { result ≡ (slope_at node.now axis *ℤ pos (slice_index point.now.at axis)) }
-    ensures above { neg_ℤ (pos (64 * 10 ^ 9 * 2 ^ 22)) ≤ℤ result }
-    ensures below { result ≤ℤ pos (64 * 10 ^ 9 * 2 ^ 22) }
+    ensures above { neg_ℤ (pos (64 * 10 ^ 12 * 2 ^ 28)) ≤ℤ result }
+    ensures below { result ≤ℤ pos (64 * 10 ^ 12 * 2 ^ 28) }
 {
-    node.slope[axis] * point.at[axis] as i64
+    node.slope[axis] as i128 * point.at[axis] as i128
 }
 
 /// What the chosen pieces add at a point of the box.
-fn chosen(node: &Node, point: &Point) -> i64
+fn chosen(node: &Node, point: &Point) -> i128
     requires node { IsSmall 64 node.now }
-    requires places { (k : ℕ) → k < 4 → slice_index point.now.at k < 2 ^ 22 }
+    requires places { (k : ℕ) → k < 4 → slice_index point.now.at k < 2 ^ 28 }
     ensures { result ≡ chosen_at node.now point.now }
 {
     node.base
@@ -176,7 +176,7 @@ impl Problem {
         requires node { IsNode self.now node.now }
         requires point { IsTrue (has_point node.now.area point.now) }
         ensures sum { result ≡ weighted_sum (take node.now.depth self.now.terms) point.now }
-        ensures range { result ≤ 10 ^ 9 * node.now.depth }
+        ensures range { result ≤ 10 ^ 12 * node.now.depth }
     {
         problem_law(self);
         chosen(node, point) as u64

@@ -17,8 +17,8 @@ use std::sync::ledger::{Blank, Ledger};
 /// The most functions that a problem may have.
 pub const MOST_FUNCTIONS: usize = 64;
 
-/// The greatest weight.
-pub const MOST_WEIGHT: u32 = 10_000;
+/// The greatest weight, in thousandths.
+pub const MOST_WEIGHT: u32 = 10_000_000;
 
 /// A problem: what is maximized over a domain is the weighted sum of 1 to 64 functions.
 #[derive(Debug, Drop)]
@@ -40,7 +40,7 @@ impl Model for Problem {
     ghost invariant = { λ p. IsProblem (record { axes = p.domain; terms = p.terms.items }) × AreTops p.terms.items p.tops };
 }
 
-/// From 1 to 10,000.
+/// From 1 to 10,000,000 thousandths.
 fn good_weight(weight: u32) -> bool
     ensures { result ≡ is_weight weight }
 {
@@ -81,7 +81,7 @@ fn weighted_value<L: Ledger>(term: &Term, p: &Point, steps: &mut Steps<L>) -> u6
     requires point { IsTrue (is_point term.now.func.axes p.now) }
     requires weight { IsTrue (is_weight term.now.weight) }
     ensures value { result ≡ weighted_at p.now term.now }
-    ensures range { result ≤ 10 ^ 9 }
+    ensures range { result ≤ 10 ^ 12 }
 {
     let value = term.func.value_at(p, steps);
     term.weight as u64 * value as u64
@@ -92,7 +92,7 @@ fn top(term: &Term) -> u64
     requires weight { IsTrue (is_weight term.now.weight) }
     requires function { IsFunction term.now.func }
     ensures top { result ≡ top_of term.now.func.axes term.now }
-    ensures range { result ≤ 10 ^ 9 }
+    ensures range { result ≤ 10 ^ 12 }
 {
     let value = term.func.top();
     term.weight as u64 * value as u64
@@ -120,7 +120,7 @@ pub fn problem_law(problem: &Problem)
 
 impl Problem {
     /// The problem of these terms over the domain, or the first refusal: `NoFunction` where there is
-    /// none; `TooMany` above 64; `BadWeight` at the first weight outside 1 to 10,000; `OtherDomain`
+    /// none; `TooMany` above 64; `BadWeight` at the first weight outside 1 to 10,000,000; `OtherDomain`
     /// at the first function over another domain. No memory is taken.
     pub fn make(domain: Domain, terms: Vec<Term>) -> Result<Problem, ProblemFault>
         ensures { result ≡ problem_from domain terms.items }
@@ -193,7 +193,7 @@ impl Problem {
         requires parts { blank.parts ≡ L.parts }
         requires some { 0 < blank.parts }
         ensures sum { result ≡ sum_at self.now p.now }
-        ensures range { result ≤ 64000000000 }
+        ensures range { result ≤ 64 * 10 ^ 12 }
     {
         let mut steps = Steps::<L>::new(blank);
         let mut sum = 0;
@@ -208,7 +208,7 @@ impl Problem {
     pub fn sum_at<L: Ledger>(&self, p: &Point, steps: &mut Steps<L>) -> u64
         requires { IsTrue (is_point self.now.axes p.now) }
         ensures sum { result ≡ sum_at self.now p.now }
-        ensures range { result ≤ 64000000000 }
+        ensures range { result ≤ 64 * 10 ^ 12 }
         ensures counted { steps.new ≡ steps.old + 1 }
     {
         steps.tick();

@@ -1,7 +1,7 @@
 // A weighted function of a problem, and why terms make none.
 use ivp_func::Func;
 
-/// A function with its weight, from 1 to 10,000 in a problem.
+/// A function with its weight, in thousandths, from 1 to 10,000,000 in a problem.
 #[derive(Debug, Drop)]
 pub struct Term {
     pub weight: u32,

@@ -1,5 +1,5 @@
 // What callers ask of a problem who count no steps: a counter that nobody reads counts them.
-ghost use Rattle.std.specs.Prelude.{◌≡◌, ◌<◌, ◌≤◌, IsTrue};
+ghost use Rattle.std.specs.Prelude.{◌≡◌, ◌*◌, ◌^◌, ◌<◌, ◌≤◌, IsTrue};
 ghost use Rattle.ivp_domain.specs.declared.boxes.Point.{Point};
 ghost use Rattle.ivp_domain.specs.Boxes.{has_point};
 ghost use Rattle.ivp_domain.specs.Domains.{is_point};
@@ -44,7 +44,7 @@ fn sum_by<L: Ledger>(problem: &Problem, point: &Point, blank: Blank) -> u64
     requires parts { blank.parts ≡ L.parts }
     requires some { 0 < blank.parts }
     ensures sum { result ≡ sum_at problem.now point.now }
-    ensures range { result ≤ 64000000000 }
+    ensures range { result ≤ 64 * 10 ^ 12 }
 {
     let mut steps = Steps::<L>::new(blank);
     problem.sum_at(point, &mut steps)
@@ -55,7 +55,7 @@ fn sum_by<L: Ledger>(problem: &Problem, point: &Point, blank: Blank) -> u64
 pub fn sum_at(problem: &Problem, point: &Point) -> u64
     requires { IsTrue (is_point problem.now.axes point.now) }
     ensures sum { result ≡ sum_at problem.now point.now }
-    ensures range { result ≤ 64000000000 }
+    ensures range { result ≤ 64 * 10 ^ 12 }
 {
     sum_by::<Brand>(problem, point, Blank::new(1))
 }

@@ -89,7 +89,7 @@ from_named (name ∷ low ∷ high ∷ points ∷ more ∷ rest) = tt
 
 -- axes that make a domain keep their names
 names_kept : (axes : List Axis) → HaveAxisNames axes → IfOk (domain_of axes) HaveAxisNames
-names_kept axes named = at (bad_axis axes) (nat_le (size_of axes) (2 ^ 22)) (repeated_place axes)
+names_kept axes named = at (bad_axis axes) (nat_le (size_of axes) (2 ^ 28)) (repeated_place axes)
   where
     at : (place : Option ℕ) (fits : Bool) (same : Option ℕ) → IfOk (judged_axes axes place fits same) HaveAxisNames
     at (Some place) fits same = tt

@@ -32,6 +32,10 @@ const THREE: &[u8] =
 const HALVES: &[u8] =
     b"ivp 1\ndomain x:-0.5:2.25:2\nfunction 1\npiece 0 0 7 -7\npiece 1 1 -7 10\nend\n";
 
+/// A weight below one, and the least weight of all.
+const HALF: &[u8] = b"ivp 1\ndomain a:0:2:3\nfunction 0.5\npiece 0 2 0 10\nend\n";
+const LEAST: &[u8] = b"ivp 1\ndomain a:0:2:3\nfunction 0.001\npiece 0 2 7 0\nend\n";
+
 fn greatest_by<L: Ledger>(problem: &Problem, blank: Blank) -> Key
     requires name { blank.name ≡ L.name }
     requires parts { blank.parts ≡ L.parts }
@@ -110,6 +114,8 @@ const SOLVED: &[(&[u8], [u32; 4], &[u8])] = &[
         b"decision 0 15\ncut 0 0 0 : 15 0\ncut 0 1 : 15 1\ncut 1 : 10 2\ndone\n",
     ),
     (HALVES, [0; 4], b"decision 0 7\ncut : 7 0\ndone\n"),
+    (HALF, [2, 0, 0, 0], b"decision 2 10\ncut 0 : 10 2\ndone\n"),
+    (LEAST, [0; 4], b"decision 0 0.007\ncut : 0.007 0\ndone\n"),
 ];
 
 #[test]
@@ -155,12 +161,14 @@ fn prefix_stands_before_each_line(rt: HostRuntime) {
     assert_eq!(rt; is_accepted(&rt, rt.alloc(), expected), Some(true));
 }
 
-/// As many functions as there may be, each of the greatest weight and value.
-fn highest(rt: &impl Abort, alloc: Global) -> Vec<u8> {
-    let mut text = Vec::from_slice(alloc, b"ivp 1\ndomain course:0:359:360\n").expect(rt, "memory");
+/// As many functions as there may be over a domain, each of the greatest weight and of this piece.
+fn heaviest(rt: &impl Abort, alloc: Global, domain: &[u8], piece: &[u8]) -> Vec<u8> {
+    let mut text = Vec::from_slice(alloc, b"ivp 1\n").expect(rt, "memory");
+    text.extend_from_slice(domain).expect(rt, "memory");
     for _ in 0..64 {
-        text.extend_from_slice(b"function 10000\npiece 0 359 100000 0\n")
+        text.extend_from_slice(b"function 10000\n")
             .expect(rt, "memory");
+        text.extend_from_slice(piece).expect(rt, "memory");
     }
     text.extend_from_slice(b"end\n").expect(rt, "memory");
     text
@@ -169,7 +177,12 @@ fn highest(rt: &impl Abort, alloc: Global) -> Vec<u8> {
 #[test]
 fn greatest_sum(rt: HostRuntime) {
     let alloc = rt.alloc();
-    let text = highest(&rt, alloc);
+    let text = heaviest(
+        &rt,
+        alloc,
+        b"domain course:0:359:360\n",
+        b"piece 0 359 100000 0\n",
+    );
     let expected = joined(
         &rt,
         alloc,
@@ -181,11 +194,36 @@ fn greatest_sum(rt: HostRuntime) {
     assert_eq!(rt; is_accepted(&rt, alloc, &expected), Some(true));
 }
 
+/// A domain of the most points takes no more time and memory than a small one: nothing lists its points.
+#[test]
+fn most_points(rt: HostRuntime) {
+    let alloc = rt.alloc();
+    let text = heaviest(
+        &rt,
+        alloc,
+        b"domain a:0:268435455:268435456\n",
+        b"piece 0 268435455 0 0\n",
+    );
+    let expected = joined(&rt, alloc, &text, b"decision 0 0\ncut : 0 0\ndone\n");
+    let sink = solved(&rt, alloc, &text, [0; 4], b"");
+    assert!(rt; sink.bytes() == expected.as_slice());
+    assert_eq!(rt; is_accepted(&rt, alloc, &expected), Some(true));
+}
+
 // A good decision and changes of it, and whether each is accepted; None where it isn't read.
 const CHANGED_DECISIONS: &[(&[u8], Option<bool>)] = &[
     (
         b"decision 0 1 0 75\ncut 0 0 : 75 2\ncut 0 1 : 55 10\ndone\n",
         Some(true),
+    ),
+    // Digits past the third decimal don't count, and the third one does.
+    (
+        b"decision 0 1 0 75.0009\ncut 0 0 : 75.000 2\ncut 0 1 : 55 10\ndone\n",
+        Some(true),
+    ),
+    (
+        b"decision 0 1 0 75.001\ncut 0 0 : 75 2\ncut 0 1 : 55 10\ndone\n",
+        Some(false),
     ),
     (
         b"decision 0 1 0 75\ncut 0 0 : 74 2\ncut 0 1 : 55 10\ndone\n",

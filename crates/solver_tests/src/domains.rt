@@ -31,7 +31,7 @@ fn good(rt: &impl Abort) -> Axis {
 }
 
 fn many(rt: &impl Abort) -> Axis {
-    axis_from(rt, b"b", 0, 1, 4_194_305)
+    axis_from(rt, b"b", 0, 1, 268_435_457)
 }
 
 #[test]
@@ -55,9 +55,11 @@ fn refusals_in_order(rt: HostRuntime) {
     assert_eq!(rt; Domain::make(&axes).err(), Some(DomainFault::TooLarge));
     let axes = [good(&rt), axis_from(&rt, b"c", 5, 6, 2), good(&rt)];
     assert_eq!(rt; Domain::make(&axes).err(), Some(DomainFault::SameName(2)));
-    let axes = [axis_from(&rt, b"f", -1_000_000_000_000, 1_000_000_000_000, 4_194_304)];
+    let axes = [axis_from(&rt, b"f", -1_000_000_000_000, 1_000_000_000_000, 268_435_456)];
     let domain = Domain::make(&axes).expect(&rt, "the most points");
-    assert_eq!(rt; domain.points(), 4_194_304);
+    assert_eq!(rt; domain.points(), 268_435_456);
+    assert_eq!(rt; number_of(&domain, 0, 134_217_727), Some(-3_726));
+    assert_eq!(rt; number_of(&domain, 0, 268_435_455), Some(1_000_000_000_000));
 }
 
 #[test]

@@ -54,7 +54,7 @@ fn one_function(rt: HostRuntime) {
     assert!(rt; 0 < domain.axes());
     assert!(rt; is_axis(&domain.axis(0), b"course", 0, 359_000, 360));
     assert_eq!(rt; problem.len(), 1);
-    assert!(rt; is_term(&problem, 0, 100, &[piece(0, 359, 0, 7, [0, 0])]));
+    assert!(rt; is_term(&problem, 0, 100_000, &[piece(0, 359, 0, 7, [0, 0])]));
 }
 
 #[test]
@@ -64,9 +64,9 @@ fn two_functions(rt: HostRuntime) {
     let problem = read(&rt, rt.alloc(), text).expect(&rt, "a problem");
     assert_eq!(rt; problem.domain().axes(), 3);
     assert_eq!(rt; problem.len(), 2);
-    assert!(rt; is_term(&problem, 0, 2, &[piece(0, 2, 1, 0, [10, 0])]));
+    assert!(rt; is_term(&problem, 0, 2_000, &[piece(0, 2, 1, 0, [10, 0])]));
     let split = [piece(0, 0, 1, 20, [0, 5]), piece(1, 2, 1, 0, [0, 5])];
-    assert!(rt; is_term(&problem, 1, 3, &split));
+    assert!(rt; is_term(&problem, 1, 3_000, &split));
 }
 
 #[test]
@@ -77,7 +77,7 @@ fn written_otherwise(rt: HostRuntime) {
     let domain = problem.domain();
     assert!(rt; 0 < domain.axes());
     assert!(rt; is_axis(&domain.axis(0), b"x", -500, 0, 2));
-    assert!(rt; is_term(&problem, 0, 1, &[piece(0, 1, 0, 7, [-7, 0])]));
+    assert!(rt; is_term(&problem, 0, 1_000, &[piece(0, 1, 0, 7, [-7, 0])]));
 }
 
 // Files that are no problem, and the line and the cause of the refusal of each.
@@ -131,7 +131,7 @@ const REFUSED: &[(&[u8], u32, Cause)] = &[
         Cause::P1,
     ),
     (
-        b"ivp 1\ndomain a:0:1:2\nfunction 1\npiece 0 1 -1000000000001 0\n",
+        b"ivp 1\ndomain a:0:1:2\nfunction 1\npiece 0 1 -100000000000001 0\n",
         4,
         Cause::P1,
     ),
@@ -164,10 +164,11 @@ const REFUSED: &[(&[u8], u32, Cause)] = &[
         Cause::P2,
     ),
     (
-        b"ivp 1\ndomain a:0:1:2048\ndomain b:0:1:2049\n",
+        b"ivp 1\ndomain a:0:1:16384\ndomain b:0:1:16385\n",
         3,
         Cause::P2,
     ),
+    (b"ivp 1\ndomain a:0:268435456:268435457\n", 2, Cause::P2),
     // A box.
     (
         b"ivp 1\ndomain course:0:359:360\nfunction 100\npiece 0 360 7 0\nend\n",
@@ -213,8 +214,9 @@ const REFUSED: &[(&[u8], u32, Cause)] = &[
     ),
     // A weight.
     (b"ivp 1\ndomain a:0:1:2\nfunction 0\n", 3, Cause::P6),
-    (b"ivp 1\ndomain a:0:1:2\nfunction 10001\n", 3, Cause::P6),
-    (b"ivp 1\ndomain a:0:1:2\nfunction 1.5\n", 3, Cause::P6),
+    (b"ivp 1\ndomain a:0:1:2\nfunction 0.0009\n", 3, Cause::P6),
+    (b"ivp 1\ndomain a:0:1:2\nfunction -1\n", 3, Cause::P6),
+    (b"ivp 1\ndomain a:0:1:2\nfunction 10000.001\n", 3, Cause::P6),
     (b"ivp 1\ndomain a:0:1:2\nfunction one\n", 3, Cause::P6),
     // No function.
     (b"ivp 1\ndomain course:0:359:360\nend\n", 3, Cause::P8),

@@ -48,13 +48,13 @@ fn refusals_in_order(rt: HostRuntime) {
     assert_eq!(rt; fault(twelve(&rt), many), Some(ProblemFault::TooMany));
     let terms = then(
         &rt,
-        levels(&rt, alloc, 2, 10_000),
-        level(&rt, alloc, 10_001),
+        levels(&rt, alloc, 2, 10_000_000),
+        level(&rt, alloc, 10_000_001),
     );
     assert_eq!(rt; fault(twelve(&rt), terms), Some(ProblemFault::BadWeight(2)));
     let terms = then(&rt, levels(&rt, alloc, 1, 1), level(&rt, alloc, 0));
     assert_eq!(rt; fault(course(&rt), terms), Some(ProblemFault::BadWeight(1)));
-    let terms = then(&rt, levels(&rt, alloc, 1, 10_000), rising(&rt, alloc));
+    let terms = then(&rt, levels(&rt, alloc, 1, 10_000_000), rising(&rt, alloc));
     assert_eq!(rt;
         fault(course(&rt), terms),
         Some(ProblemFault::OtherDomain(1))
@@ -144,13 +144,13 @@ fn pieces_apart(rt: HostRuntime) {
 
 #[test]
 fn greatest_sum(rt: HostRuntime) {
-    let terms = levels(&rt, rt.alloc(), 64, 10_000);
+    let terms = levels(&rt, rt.alloc(), 64, 10_000_000);
     let problem = problem(&rt, course(&rt), terms);
-    assert_eq!(rt; sum(&problem, 359), Some(64_000_000_000));
-    assert_eq!(rt; bound(&problem, &problem.root()), (64_000_000_000, 0));
-    let key = key_of(64_000_000_000, 4_194_303);
-    assert_eq!(rt; sum_of(key), 64_000_000_000);
-    assert_eq!(rt; index_of_key(key), 4_194_303);
+    assert_eq!(rt; sum(&problem, 359), Some(64_000_000_000_000));
+    assert_eq!(rt; bound(&problem, &problem.root()), (64_000_000_000_000, 0));
+    let key = key_of(64_000_000_000_000, 268_435_455);
+    assert_eq!(rt; sum_of(key), 64_000_000_000_000);
+    assert_eq!(rt; index_of_key(key), 268_435_455);
 }
 
 /// The greater sum has the greater key, of equal sums the lesser index, and each key is greater than none.

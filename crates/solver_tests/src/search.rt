@@ -36,8 +36,8 @@ fn levels_of_the_course(rt: HostRuntime) {
     is_best(&rt, &levels(&rt, rt.alloc(), 1, 100, 7), 700, 0);
     is_best(
         &rt,
-        &levels(&rt, rt.alloc(), 64, 10_000, 100_000),
-        64_000_000_000,
+        &levels(&rt, rt.alloc(), 64, 10_000_000, 100_000),
+        64_000_000_000_000,
         0,
     );
     is_best(&rt, &levels(&rt, rt.alloc(), 3, 1, 0), 0, 0);

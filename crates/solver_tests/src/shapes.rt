@@ -117,6 +117,19 @@ fn limits(rt: HostRuntime) {
     assert_eq!(rt; value(&level, 4), Some(7));
 }
 
+/// On the most points of an axis a thousandth long, a width spans more places than 64 bits count, and a step is one place.
+#[test]
+fn limits_on_the_most_points(rt: HostRuntime) {
+    let domain = line(&rt, b"depth", 0, 1, 268_435_456);
+    let wide = limited(&rt, rt.alloc(), &domain, &upper(0, 1_000_000_000_000, 7));
+    let steep = limited(&rt, rt.alloc(), &domain, &lower(1, 0, 7));
+    let rows = [(0, 7, 0), (268_435_454, 7, 0), (268_435_455, 7, 7)];
+    for (place, most, least) in rows {
+        assert_eq!(rt; value(&wide, place), Some(most));
+        assert_eq!(rt; value(&steep, place), Some(least));
+    }
+}
+
 /// Whether the numbers of a peak are within their bounds.
 fn is_peak(shape: &Peak) -> bool
     ensures { IsTrue result → IsPeak shape.now }

@@ -49,9 +49,9 @@ fn worked_problems(rt: HostRuntime) {
     all_find(
         &rt,
         alloc,
-        &levels(&rt, alloc, 64, 10_000, 100_000),
+        &levels(&rt, alloc, 64, 10_000_000, 100_000),
         [0; 4],
-        64_000_000_000,
+        64_000_000_000_000,
     );
 }
 
@@ -140,7 +140,7 @@ fn is_best<R: Threads + Wait + Sync + Abort>(
     assert_eq!(rt; solved.work.len(), workers as usize);
     let domain = problem.domain();
     let index = index_of_key(key);
-    assert!(rt; index < domain.points() && index < 4_194_304);
+    assert!(rt; index < domain.points() && index < 268_435_456);
     assert_eq!(rt; solved.point, domain.point_at(index));
 }
 

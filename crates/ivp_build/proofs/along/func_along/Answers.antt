@@ -19,7 +19,7 @@ made : (axes : List Axis) (number count : ℕ) (p : Profile) (ends : List ℕ) (
 made axes number count p ends pieces h e e' e'' =
     e'' ∙ ap (λ es. map (piece_over axes number p) (runs_by 0 es)) (e' ∙ ap (λ n. cut_ends p.slopes n p.crest) e) ∙ by_ends axes number p h
 
-ready : (axes : List Axis) (number count : ℕ) (p : Profile) → count ≡ size_on number axes → is_domain axes ≡ true → number < length axes → count ≤ 2 ^ 22
+ready : (axes : List Axis) (number count : ℕ) (p : Profile) → count ≡ size_on number axes → is_domain axes ≡ true → number < length axes → count ≤ 2 ^ 28
     → IsProfileOf (size_on number axes) p → Fits axes number p
 ready axes number count p e lawful listed few h = fits axes number p lawful listed (omega arith) h
 

@@ -9,7 +9,7 @@ use Rattle.ivp_build.proofs.limits.limit_slopes.Goals as goal
 joined : (max max' foot foot' : ℕ) → max ≡ max' → foot ≡ foot' → ◌≡◌ {A = Slopes} (record { max = max; fall = 0; top = 0; foot = foot }) (record { max = max'; fall = 0; top = 0; foot = foot' })
 joined max max' foot foot' m f = cc
 
-sound : (max foot : ℕ) → 0 < foot → max ≤ 100000 → foot ≤ 10 ^ 12 * 2 ^ 22 → AreSlopes (record { max = max; fall = 0; top = 0; foot = foot })
+sound : (max foot : ℕ) → 0 < foot → max ≤ 100000 → foot ≤ 10 ^ 12 * 2 ^ 28 → AreSlopes (record { max = max; fall = 0; top = 0; foot = foot })
 sound max foot some most f = record { some = some; within = omega arith; one = omega arith; most = most; top = omega arith; foot = f }
 
 pub overflow_cast-result : goal.overflow_cast-result

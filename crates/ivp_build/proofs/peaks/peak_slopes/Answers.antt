@@ -13,7 +13,7 @@ joined : (max max' fall fall' top top' foot foot' : ℕ) → max ≡ max' → fa
 joined max max' fall fall' top top' foot foot' m f t b = cc
 
 -- they are sound where the loss is within the greatest
-sound : (max loss top foot : ℕ) → 0 < foot → loss ≤ max → max ≤ 100000 → top ≤ 10 ^ 12 * 2 ^ 22 → foot ≤ 10 ^ 12 * 2 ^ 22 → AreSlopes (record { max = max; fall = loss / top; top = top; foot = foot })
+sound : (max loss top foot : ℕ) → 0 < foot → loss ≤ max → max ≤ 100000 → top ≤ 10 ^ 12 * 2 ^ 28 → foot ≤ 10 ^ 12 * 2 ^ 28 → AreSlopes (record { max = max; fall = loss / top; top = top; foot = foot })
 sound max loss top foot some within most t f =
     record {
       some = some;

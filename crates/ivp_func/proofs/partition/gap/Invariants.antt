@@ -8,7 +8,7 @@ abbrev pub invariant-loop-axis : goal.invariant-loop-axis
 invariant-loop-axis l =
     record {
       proper : IsTrue (is_box l.short);
-      few : volume_of l.short ≤ 2 ^ 22;
+      few : volume_of l.short ≤ 2 ^ 28;
       short : covered_in l.short l.pieces < volume_of l.short;
       inside : (p : Point) → IsTrue (has_point l.short p) → IsTrue (has_point l.fn.area p);
     }

@@ -1,25 +1,20 @@
-use Rattle.std.proofs.Common.{rules, ◌≡◌, ◌+◌, ◌<◌, ◌≤◌, ◌⊎◌, ℕ, inl, inr, Option, Some, length, refl, sym, subst, ap, ◌∙◌, arith}
-use Rattle.std.specs.Prelude.{IsTrue}
+use Rattle.std.proofs.Common.{rules, ◌≡◌, ◌+◌, ◌<◌, ℕ, inr, Option, Some, length, refl, sym, subst, ap, ◌∙◌, arith}
 use Rattle.atomic_table.specs.Table.{Me}
-use Rattle.ivp_domain.specs.declared.boxes.Point.{Point}
-use Rattle.ivp_domain.specs.Domains.{is_point}
 use Rattle.ivp_problem.specs.Found.{IsKnownSum, IsOwnKey}
 use Rattle.best_word.specs.declared.best.View.{View}
 use Rattle.ivp_problem.specs.declared.key.Key.{Key}
 use Rattle.ivp_problem.specs.Keys.{greater_own, Reaches}
-use Rattle.ivp_problem.specs.Problems.{WeightedSum}
-use Rattle.ivp_problem.specs.Sums.{key_at}
 use Rattle.ivp_problem.specs.Trees.{bound_of}
-use Rattle.ivp_problem.proofs.KeyOrder.{at_most_self, greater_own_one, reaches_first, reaches_second}
+use Rattle.ivp_problem.proofs.KeyOrder.{at_most_self, reaches_first, reaches_second}
 use Rattle.ivp_problem.proofs.Pieces.{among_all, children_end, none_to}
 use Rattle.ivp_pool.specs.Closing.{Pushed}
-use Rattle.ivp_pool.specs.Parts.{Knowledge, Outdoes}
+use Rattle.ivp_pool.specs.Parts.{Incumbent, Outdoes}
 use Rattle.ivp_pool.proofs.Growing.{closed_covers, nothing_searched, pruned, Searched, searched_all, searched_closed, searched_few, searched_on, searched_passed}
 use Rattle.ivp_pool.proofs.Knowing.{knows_from, owned_greater}
 use Rattle.ivp_pool.proofs.close.+close_one.Goals as goal
 use Rattle.ivp_pool.proofs.close.+close_one.Goals.{in-Some-push, in_default-push}
 
-abbrev knows : ℕ → Option Key → Knowledge
+abbrev knows : ℕ → Option Key → Incumbent
 knows low own = record { low = low; own = own }
 
 -- a scout that learned, and then learned more

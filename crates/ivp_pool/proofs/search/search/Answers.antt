@@ -1,9 +1,9 @@
-use Rattle.std.proofs.Common.{◌≡◌, ℕ, List, [], ◌∷◌, get_or, length, map, set, arith, refl, ◌∙◌, subst}
+use Rattle.std.proofs.Common.{◌≡◌, List, [], ◌∷◌, get_or, length, map, set, arith, refl, ◌∙◌, subst}
 use Rattle.std.proofs.lemmas.List.Elements.{recursion_from_All}
 use Rattle.ivp_problem.specs.Trees.{root_of}
 use Rattle.ivp_pool.specs.declared.team.Member.{Member}
 use Rattle.ivp_pool.specs.Members.{deques_of, IsNewMember, new_door}
-use Rattle.ivp_pool.specs.Parts.{Knowledge}
+use Rattle.ivp_pool.specs.Parts.{Incumbent}
 use Rattle.ivp_pool.specs.Teams.{AllDid, AreBelow, closed_in}
 use Rattle.ivp_pool.proofs.Searching.{back_did, kept_doors, kept_parts, kept_rows, new_even, new_workers, root_did, searched_by}
 use Rattle.ivp_pool.proofs.Teams.{Searched}
@@ -40,7 +40,7 @@ pub finish-requires-clause-workers : goal.finish-requires-clause-workers
 finish-requires-clause-workers g c κs within =
     (back_did c.args.problem.now c.args.best.now c.work_all.new.members c.take_back.new.members c.take_back.ensures.workers c.take_back.ensures.put c.take_back.ensures.taken c.work_all.ensures.did.workers).workers
 
-all : (g : _) (c : goal.After-drop-nodes g) → (key : Knowledge) → AreBelow key c.finish.new.members → Searched c.args.problem.now key (closed_in c.finish.new.members)
+all : (g : _) (c : goal.After-drop-nodes g) → (key : Incumbent) → AreBelow key c.finish.new.members → Searched c.args.problem.now key (closed_in c.finish.new.members)
 all g c = λ key below.
     let problem = c.args.problem.now in
     let word = c.args.best.now in

@@ -1,5 +1,5 @@
 use Rattle.std.proofs.Common.{◌≡◌, is_some, Some, sym, ap, ◌∙◌, arith}
-use Rattle.ivp_problem.specs.Sums.{best_of, key_at, sum_at}
+use Rattle.ivp_problem.specs.Sums.{best_of, key_at}
 use Rattle.ivp_pool.proofs.Deciding.{best_own, known_most}
 use Rattle.ivp_pool.proofs.solved.best_key.Goals as goal
 

@@ -4,7 +4,7 @@ use Rattle.std.proofs.Math.Seq.{take-append_seam}
 use Rattle.ivp_pool.specs.declared.work.Work.{Work}
 use Rattle.ivp_pool.specs.declared.team.Member.{Member}
 use Rattle.ivp_problem.specs.declared.key.Key.{Key}
-use Rattle.ivp_pool.specs.Parts.{Knowledge, knows_only}
+use Rattle.ivp_pool.specs.Parts.{Incumbent, knows_only}
 use Rattle.ivp_pool.specs.Teams.{AreBelow, AreWorkers, closed_in}
 use Rattle.ivp_pool.specs.Solving.{IsSearched, total_of}
 use Rattle.ivp_pool.proofs.Deciding.{only_best}
@@ -36,7 +36,7 @@ returns-clause-closed g c =
     let problem = c.args.problem.now in
     let team = c.search.new.members in
     let back = came_back c.in_ok-team.team.len team (drop (length team) c.in_ok-team.team.items) (omega (arith, c.in_ok-search.ensures.len, ap length c.deref_mut.ensures.value, c.in_ok-team.team.ok)) in
-    let knows : Knowledge = record { low = c.works_of.new.scout.me.0.low; own = c.works_of.new.own.key } in
+    let knows : Incumbent = record { low = c.works_of.new.scout.me.0.low; own = c.works_of.new.own.key } in
     let known = subst (AreBelow knows) back c.in_ok-work.ensures.later in
     let only = only_best c.works_of.new.scout.me.0.low c.works_of.new.own.key c.best_key-key.result c.best_key-key.ensures.later c.best_key-key.ensures.own in
     let all = c.in_ok-search.ensures.searched (knows_only c.best_key-key.result) (λ k d within. λ key out. only key (known k d within key out)) in

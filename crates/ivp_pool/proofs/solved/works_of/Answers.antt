@@ -6,7 +6,7 @@ use Rattle.std.proofs.lemmas.List.Elements.{All-append, All-from_recursion}
 use Rattle.ivp_problem.specs.Keys.{greater_own}
 use Rattle.ivp_problem.proofs.KeyOrder.{reaches_first, reaches_second}
 use Rattle.ivp_pool.specs.declared.team.Member.{Member}
-use Rattle.ivp_pool.specs.Parts.{Knowledge, KnowsMore}
+use Rattle.ivp_pool.specs.Parts.{Incumbent, KnowsMore}
 use Rattle.ivp_pool.specs.Solving.{IsWorker, knows_of}
 use Rattle.ivp_pool.specs.Teams.{AreBelow, AreWorkers}
 use Rattle.ivp_pool.proofs.Knowing.{knows_from, owned_greater}
@@ -16,9 +16,9 @@ pub loop-member-preserved : goal.loop-member-preserved
 loop-member-preserved g c =
     let inv = c.loop-member.invariant in
     let member : Member g.row.K.Denot = c.in-Some.member in
-    let old : Knowledge = record { low = c.loop-member.scout.me.0.low; own = c.loop-member.own.key } in
+    let old : Incumbent = record { low = c.loop-member.scout.me.0.low; own = c.loop-member.own.key } in
     let own = greater_own c.loop-member.own.key member.worker.own.key in
-    let key : Knowledge = record { low = c.join.new.scout.me.0.low; own = own } in
+    let key : Incumbent = record { low = c.join.new.scout.me.0.low; own = own } in
     let up : c.loop-member.scout.me.0.low ≤ key.low = search rules in
     let mine : member.worker.scout.me.0.low ≤ key.low = search rules in
     let more : c.push.new.self ≡ c.loop-member.works ++ member.worker.work ∷ [] = search rules in

@@ -9,7 +9,7 @@ pub loop-place-init : goal.loop-place-init
 loop-place-init c =
     let terms = c.args.terms.now in
     let few = c.requires.few in
-    record { places = refl; sums = tops_past terms few; range = subst (λ n. n ≤ 10 ^ 9 * (length terms - length terms)) (sym (get_or-replicate 65 (length terms) 0 0 (omega arith))) (omega arith) }
+    record { places = refl; sums = tops_past terms few; range = subst (λ n. n ≤ 10 ^ 12 * (length terms - length terms)) (sym (get_or-replicate 65 (length terms) 0 0 (omega arith))) (omega arith) }
 
 pub top-requires-clause-weight : goal.top-requires-clause-weight
 top-requires-clause-weight c =
@@ -42,7 +42,7 @@ loop-place-preserved c =
     let here : slice_get terms place ≡ Some term = slice_get_read terms (length terms) place term refl (omega arith) c.index-terms-place.is in
     let next : place + 1 ≡ c.loop-place.place = omega arith in
     let behind = subst (TopsFrom terms tops) (sym next) c.loop-place.invariant.sums in
-    let most : get_or tops (place + 1) 0 ≤ 10 ^ 9 * (length terms - c.loop-place.place) = rw next c.loop-place.invariant.range in
+    let most : get_or tops (place + 1) 0 ≤ 10 ^ 12 * (length terms - c.loop-place.place) = rw next c.loop-place.invariant.range in
     let at = get_or-set_same tops place (get_or tops (place + 1) 0 + c.top.result) 0 (omega arith) in
     let top = c.top.ensures.range in
     record {

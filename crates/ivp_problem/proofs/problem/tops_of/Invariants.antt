@@ -7,5 +7,5 @@ invariant-loop-place l =
     record {
       places : length l.tops ≡ 65;
       sums : TopsFrom l.terms l.tops l.place;
-      range : get_or l.tops l.place 0 ≤ 10 ^ 9 * (length l.terms - l.place);
+      range : get_or l.tops l.place 0 ≤ 10 ^ 12 * (length l.terms - l.place);
     }

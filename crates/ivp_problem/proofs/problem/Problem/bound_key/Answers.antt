@@ -13,7 +13,7 @@ use Rattle.ivp_problem.proofs.Terms.{each_drop, tops_most}
 use Rattle.ivp_problem.proofs.problem.Problem.bound_key.Goals as goal
 
 -- what the chosen functions and the others add stays within the greatest sum
-sum_within : (problem : WeightedSum) (node : Node) (most rest : ℕ) → IsProblem problem → Keeps problem node → most ≤ 10 ^ 9 * node.depth → rest ≡ rest_of problem node → most + rest ≤ 64000000000
+sum_within : (problem : WeightedSum) (node : Node) (most rest : ℕ) → IsProblem problem → Keeps problem node → most ≤ 10 ^ 12 * node.depth → rest ≡ rest_of problem node → most + rest ≤ 64 * 10 ^ 12
 sum_within problem node most rest h keeps few e =
     let tops = tops_most problem.axes (drop node.depth problem.terms) (each_drop problem.axes node.depth problem.terms h.terms) in
     let depth = keeps.depth in

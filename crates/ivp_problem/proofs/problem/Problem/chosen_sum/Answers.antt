@@ -1,4 +1,5 @@
-use Rattle.std.proofs.Common.{◌≡◌, ◌≤◌, take, length, length-take, refl, ◌∙◌, to_z, of_z, w64, arith}
+use Rattle.std.proofs.Common.{◌≡◌, ◌≤◌, take, length, length-take, refl, ◌∙◌, to_z, of_z, arith}
+use mir.Syntax.{w128}
 use Rattle.std.proofs.lemmas.Int.{ints}
 use Rattle.ivp_problem.proofs.Nodes.{node_keeps, place_small, small_more}
 use Rattle.ivp_problem.proofs.Terms.{each_take, weighted_sums_most}
@@ -23,7 +24,7 @@ overflow_cast-result c =
     let node = c.args.node.now in
     let keeps = node_keeps problem node h c.requires.node in
     let terms = take node.depth problem.terms in
-    let kept : to_z w64 (of_z w64 c.chosen.result) ≡ c.chosen.result = omega (arith, ints) in
+    let kept : to_z w128 (of_z w128 c.chosen.result) ≡ c.chosen.result = omega (arith, ints) in
     let most = weighted_sums_most problem.axes terms c.args.point.now (each_take problem.axes node.depth problem.terms h.terms) (area_point problem.axes node.area c.args.point.now keeps.inside c.requires.point) in
     let few : length terms ≤ 64 = omega (arith, length-take node.depth problem.terms, keeps.depth, h.few) in
     rw (kept ∙ (c.chosen.ensures ∙ keeps.sum c.args.point.now c.requires.point)) (tt, omega arith)
@@ -32,7 +33,7 @@ pub returns-clause-sum : goal.returns-clause-sum
 returns-clause-sum c =
     let h = c.problem_law.ensures in
     let keeps = node_keeps c.args.self.now c.args.node.now h c.requires.node in
-    let kept : to_z w64 (of_z w64 c.chosen.result) ≡ c.chosen.result = omega (arith, ints) in
+    let kept : to_z w128 (of_z w128 c.chosen.result) ≡ c.chosen.result = omega (arith, ints) in
     rw (kept ∙ (c.chosen.ensures ∙ keeps.sum c.args.point.now c.requires.point)) refl
 
 pub returns-clause-range : goal.returns-clause-range
@@ -42,7 +43,7 @@ returns-clause-range c =
     let node = c.args.node.now in
     let keeps = node_keeps problem node h c.requires.node in
     let terms = take node.depth problem.terms in
-    let kept : to_z w64 (of_z w64 c.chosen.result) ≡ c.chosen.result = omega (arith, ints) in
+    let kept : to_z w128 (of_z w128 c.chosen.result) ≡ c.chosen.result = omega (arith, ints) in
     let most = weighted_sums_most problem.axes terms c.args.point.now (each_take problem.axes node.depth problem.terms h.terms) (area_point problem.axes node.area c.args.point.now keeps.inside c.requires.point) in
     let few : length terms ≤ node.depth = omega (arith, length-take node.depth problem.terms) in
     rw (kept ∙ (c.chosen.ensures ∙ keeps.sum c.args.point.now c.requires.point)) (omega arith)
