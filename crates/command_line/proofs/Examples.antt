@@ -113,13 +113,21 @@ a_bridge_has_no_workers : job_named (codes "share" ∷ codes "a" ∷ codes "b" �
 unfolding walked walk_passes
 a_bridge_has_no_workers = refl
 
-simulates : job_named (codes "simulate" ∷ codes "a" ∷ codes "b" ∷ codes "c" ∷ []) ≡ Some (Simulate (codes "a") (codes "b") (codes "c") 1)
+simulates : job_named (codes "simulate" ∷ codes "a" ∷ codes "b" ∷ codes "c" ∷ []) ≡ Some (Simulate (codes "a") (codes "b") (codes "c") None 1)
 unfolding walked walk_passes
 simulates = refl
 
-simulates_by_sixteen : job_named (codes "simulate" ∷ codes "a" ∷ codes "b" ∷ codes "c" ∷ codes "--workers" ∷ codes "16" ∷ []) ≡ Some (Simulate (codes "a") (codes "b") (codes "c") 16)
+simulates_by_sixteen : job_named (codes "simulate" ∷ codes "a" ∷ codes "b" ∷ codes "c" ∷ codes "--workers" ∷ codes "16" ∷ []) ≡ Some (Simulate (codes "a") (codes "b") (codes "c") None 16)
 unfolding walked walk_passes
 simulates_by_sixteen = refl
+
+simulates_with_contacts : job_named (codes "simulate" ∷ codes "a" ∷ codes "b" ∷ codes "c" ∷ codes "d" ∷ []) ≡ Some (Simulate (codes "a") (codes "b") (codes "c") (Some (codes "d")) 1)
+unfolding walked walk_passes
+simulates_with_contacts = refl
+
+no_fifth_is_simulated : job_named (codes "simulate" ∷ codes "a" ∷ codes "b" ∷ codes "c" ∷ codes "d" ∷ codes "e" ∷ []) ≡ None
+unfolding walked walk_passes
+no_fifth_is_simulated = refl
 
 a_vehicle_is_named : job_named (codes "simulate" ∷ codes "a" ∷ codes "b" ∷ []) ≡ None
 unfolding walked walk_passes

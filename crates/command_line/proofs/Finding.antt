@@ -15,7 +15,7 @@ use Rattle.clap.specs.declared.parser.matches.Found.{Found}
 use Rattle.clap.proofs.WalkLemmas.{both, first_value-rows, one_text-rows}
 use Rattle.moos_post.specs.Words.{control_place}
 use Rattle.command_line.specs.Commands.{bounded, bounded_in, bounded_of, file_in, is_set, text_of}
-use Rattle.command_line.specs.Jobs.{mission_in}
+use Rattle.command_line.specs.Jobs.{other_file_in}
 
 -- more bytes than a text can hold are no text, nor are bytes with one that it can't hold
 pub long_no_text : (bytes : List ℕ) → 4096 < length bytes → None ≡ text_of bytes
@@ -40,21 +40,21 @@ file_is f id found is = rw (← first_value-rows f id, ← found, is) refl
 pub file_none : (f : Found) (id : Text) {got : Option (Bor Text)} → option_map (λ text. text.now) got ≡ first_value f id → got ≡ None → None ≡ file_in id (rows_of f)
 file_none f id found is = rw (← first_value-rows f id, ← found, is) refl
 
--- no mission was found
-pub mission_none : (f : Found) (got : Option (Bor Text)) → option_map (λ text. text.now) got ≡ first_value f (codes "mission") → is_some got ≡ false → Some None ≡ mission_in (rows_of f)
-mission_none f None found none = rw (← first_value-rows f (codes "mission"), ← found) refl
-mission_none f (Some text) found none = let both : true ≡ false = none in absurd cc
+-- no such file was found
+pub other_file_none : (f : Found) (id : Text) (got : Option (Bor Text)) → option_map (λ text. text.now) got ≡ first_value f id → is_some got ≡ false → Some None ≡ other_file_in id (rows_of f)
+other_file_none f id None found none = rw (← first_value-rows f id, ← found) refl
+other_file_none f id (Some text) found none = let both : true ≡ false = none in absurd cc
 
--- a mission was found whose name is none
-pub mission_bad : (f : Found) (got : Option (Bor Text)) → option_map (λ text. text.now) got ≡ first_value f (codes "mission") → is_some got ≡ true
-    → None ≡ file_in (codes "mission") (rows_of f) → None ≡ mission_in (rows_of f)
-mission_bad f None found some bad = let both : false ≡ true = some in absurd cc
-mission_bad f (Some text) found some bad = found_bad (is_none (first_of (codes "mission") (rows_of f))) there
+-- one was found whose name is none
+pub other_file_bad : (f : Found) (id : Text) (got : Option (Bor Text)) → option_map (λ text. text.now) got ≡ first_value f id → is_some got ≡ true
+    → None ≡ file_in id (rows_of f) → None ≡ other_file_in id (rows_of f)
+other_file_bad f id None found some bad = let both : false ≡ true = some in absurd cc
+other_file_bad f id (Some text) found some bad = found_bad (is_none (first_of id (rows_of f))) there
   where
-    there : is_none (first_of (codes "mission") (rows_of f)) ≡ false
-    there = ap is_none (sym (first_value-rows f (codes "mission")) ∙ sym found)
+    there : is_none (first_of id (rows_of f)) ≡ false
+    there = ap is_none (sym (first_value-rows f id) ∙ sym found)
 
-    found_bad : (none : Bool) → none ≡ false → None ≡ (if none then Some None else option_map (λ name. Some name) (file_in (codes "mission") (rows_of f)))
+    found_bad : (none : Bool) → none ≡ false → None ≡ (if none then Some None else option_map (λ name. Some name) (file_in id (rows_of f)))
     found_bad false is = ap (λ (name : Option Text). option_map (λ name. Some name) name) bad
     found_bad true is = absurd cc
 

@@ -48,10 +48,10 @@ share_command =
     with_rule (with_rule (with_rule (with_rule (new_app (codes "share")) (file_rule (codes "first"))) (file_rule (codes "second"))) (file_rule (codes "bridge")))
     race_rule
 
--- `simulate SCRIPT MISSION VEHICLE [--workers N]`
+-- `simulate SCRIPT MISSION VEHICLE [CONTACTS] [--workers N]`
 abbrev pub simulate_command : App
 simulate_command =
-    with_rule (with_rule (with_rule (with_rule (new_app (codes "simulate")) (file_rule (codes "script"))) (file_rule (codes "mission"))) (file_rule (codes "vehicle")))
+    with_rule (with_rule (with_rule (with_rule (with_rule (new_app (codes "simulate")) (file_rule (codes "script"))) (file_rule (codes "mission"))) (file_rule (codes "vehicle"))) (other_file_rule (codes "contacts")))
     workers_rule
 
 -- the number of a mission, which must be there

@@ -11,14 +11,14 @@ use Rattle.script_reader.specs.declared.script.Order.TheVariants.{Stamp, Race}
 abbrev pub order_in : List Row → Order
 order_in found = if is_set (codes "race") found then Race else Stamp
 
--- where a mission was found its name, which a text can hold; and none where none was found
-abbrev pub mission_in : List Row → Option (Option (List ℕ))
-mission_in found = if is_none (first_of (codes "mission") found) then Some None else option_map (λ name. Some name) (file_in (codes "mission") found)
+-- where a file was found that need not be there its name, which a text can hold; and none where none was found
+abbrev pub other_file_in : Text → List Row → Option (Option (List ℕ))
+other_file_in id found = if is_none (first_of id found) then Some None else option_map (λ name. Some name) (file_in id found)
 
 -- the job of what `play` found; a name that no text can hold names no file
 abbrev pub play_of : List Row → Option Job
 play_of found =
-    option_and_then (λ script. option_map (λ mission. Play script mission (order_in found) (workers_in found)) (mission_in found))
+    option_and_then (λ script. option_map (λ mission. Play script mission (order_in found) (workers_in found)) (other_file_in (codes "mission") found))
     (file_in (codes "script") found)
 
 -- the job of what `solve` found, likewise
@@ -43,7 +43,8 @@ share_of found =
 -- the job of what `simulate` found, likewise
 abbrev pub simulate_of : List Row → Option Job
 simulate_of found =
-    option_and_then (λ script. option_and_then (λ mission. option_map (λ vehicle. Simulate script mission vehicle (workers_in found)) (file_in (codes "vehicle") found))
+    option_and_then (λ script. option_and_then (λ mission. option_and_then (λ vehicle. option_map (λ contacts. Simulate script mission vehicle contacts (workers_in found)) (other_file_in (codes "contacts") found))
+    (file_in (codes "vehicle") found))
     (file_in (codes "mission") found))
     (file_in (codes "script") found)
 
@@ -71,4 +72,4 @@ HasFewWorkers (Solve problem workers) = (1 ≤ workers) × (workers ≤ 16)
 HasFewWorkers (Check decision) = Unit {0}
 HasFewWorkers (Generate number) = Unit {0}
 HasFewWorkers (Share first second bridge order) = Unit {0}
-HasFewWorkers (Simulate script mission vehicle workers) = (1 ≤ workers) × (workers ≤ 16)
+HasFewWorkers (Simulate script mission vehicle contacts workers) = (1 ≤ workers) × (workers ≤ 16)

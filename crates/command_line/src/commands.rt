@@ -63,11 +63,13 @@ pub fn share_command<'a>(alloc: Global) -> Result<Command<'a>, NoMemory>
     three_files_command(alloc, "share", "first", "second", "bridge")?.arg(race_arg(alloc))
 }
 
-/// `simulate SCRIPT MISSION VEHICLE [--workers N]`
+/// `simulate SCRIPT MISSION VEHICLE [CONTACTS] [--workers N]`
 pub fn simulate_command<'a>(alloc: Global) -> Result<Command<'a>, NoMemory>
     ensures { IfOk result (λ command. app_of command ≡ simulate_command) }
 {
-    three_files_command(alloc, "simulate", "script", "mission", "vehicle")?.arg(workers_arg(alloc))
+    three_files_command(alloc, "simulate", "script", "mission", "vehicle")?
+        .arg(other_file_arg(alloc, "contacts"))?
+        .arg(workers_arg(alloc))
 }
 
 // A command of this name, with the names of three files that must be there.

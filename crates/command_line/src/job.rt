@@ -1,7 +1,7 @@
 // The job that a command line asks for.
 ghost use Rattle.std.specs.Prelude.{◌≡◌, IfOk, IfSome, option_and_then, option_map};
 ghost use Rattle.command_line.specs.Commands.{check_command, found_in, generate_command, play_command, share_command, simulate_command, solve_command};
-ghost use Rattle.command_line.specs.Jobs.{HasFewWorkers, check_of, generate_of, job_named, mission_in, order_in, play_of, share_of, simulate_of, solve_of};
+ghost use Rattle.command_line.specs.Jobs.{HasFewWorkers, check_of, generate_of, job_named, order_in, other_file_in, play_of, share_of, simulate_of, solve_of};
 ghost use Rattle.clap.specs.Words.{found_of, rows_of};
 
 use crate::commands::{
@@ -46,12 +46,13 @@ pub enum Job {
         bridge: Txt,
         order: Order,
     },
-    /// Plays a script in order of its stamps with the helm of a mission, which steers the simulated vehicle of a vehicle file.
-    /// The helm has so many workers, from 1 to 16.
+    /// Plays a script in order of its stamps with the helm of a mission, which steers the simulated vehicle of a vehicle file,
+    /// and with the contact manager of a contacts file, where one is named. The helm has so many workers, from 1 to 16.
     Simulate {
         script: Txt,
         mission: Txt,
         vehicle: Txt,
+        contacts: Option<Txt>,
         workers: u32,
     },
 }
@@ -93,7 +94,7 @@ fn play_of(alloc: Global, matches: &ArgMatches) -> Result<Option<Job>, NoMemory>
     let Some(script) = file_in(alloc, matches, "script")? else {
         return Ok(None);
     };
-    match mission_in(alloc, matches)? {
+    match other_file_in(alloc, matches, "mission")? {
         Some(mission) => Ok(Some(Job::Play {
             script,
             mission,
@@ -104,14 +105,18 @@ fn play_of(alloc: Global, matches: &ArgMatches) -> Result<Option<Job>, NoMemory>
     }
 }
 
-// The name of the mission, where one was found; and none where what was found is no name of a file.
-fn mission_in(alloc: Global, matches: &ArgMatches) -> Result<Option<Option<Txt>>, NoMemory>
-    ensures { IfOk result (λ mission. mission ≡ mission_in (rows_of (found_of matches.now))) }
+// The name of a file that need not be there, where one was found; and none where what was found is no name of a file.
+fn other_file_in(
+    alloc: Global,
+    matches: &ArgMatches,
+    id: &str,
+) -> Result<Option<Option<Txt>>, NoMemory>
+    ensures { IfOk result (λ name. name ≡ other_file_in id.now (rows_of (found_of matches.now))) }
 {
-    if matches.get_str("mission").is_none() {
+    if matches.get_str(id).is_none() {
         return Ok(Some(None));
     }
-    match file_in(alloc, matches, "mission")? {
+    match file_in(alloc, matches, id)? {
         Some(name) => Ok(Some(Some(name))),
         None => Ok(None),
     }
@@ -241,11 +246,15 @@ fn simulate_of(alloc: Global, matches: &ArgMatches) -> Result<Option<Job>, NoMem
     let Some(mission) = file_in(alloc, matches, "mission")? else {
         return Ok(None);
     };
-    match file_in(alloc, matches, "vehicle")? {
-        Some(vehicle) => Ok(Some(Job::Simulate {
+    let Some(vehicle) = file_in(alloc, matches, "vehicle")? else {
+        return Ok(None);
+    };
+    match other_file_in(alloc, matches, "contacts")? {
+        Some(contacts) => Ok(Some(Job::Simulate {
             script,
             mission,
             vehicle,
+            contacts,
             workers,
         })),
         None => Ok(None),

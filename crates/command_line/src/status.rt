@@ -16,6 +16,7 @@ pub enum FileKind {
     Second,
     Bridge,
     Vehicle,
+    Contacts,
 }
 
 /// The first refusal of a file: its line, counted from 1, and its cause.
@@ -37,6 +38,7 @@ impl fmt::Display for FileKind {
             FileKind::Second => "second",
             FileKind::Bridge => "bridge",
             FileKind::Vehicle => "vehicle",
+            FileKind::Contacts => "contacts",
         };
         write!(f, "{kind}")
     }

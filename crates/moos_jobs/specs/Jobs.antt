@@ -64,7 +64,7 @@ turn_of (Check name) [] = Wanted DecisionFile name
 turn_of (Check name) (bytes ∷ more) = turn_behind DecisionFile (λ decision. Ready (Checking decision)) (decision_of bytes)
 turn_of (Generate number) files = Ready (Generating number)
 turn_of (Share first second bridge order) files = turn_as Sharing (share_turn first second bridge order files)
-turn_of (Simulate script mission vehicle workers) files = turn_as Simulating (simulate_turn script mission vehicle files)
+turn_of (Simulate script mission vehicle contacts workers) files = turn_as Simulating (simulate_turn script mission vehicle contacts files)
 
 -- the iterations that the helm's own mails in a history come to
 abbrev pub iterations_on : Script → Option HelmFiles → History → List Iteration

@@ -91,9 +91,10 @@ fn do_job<R: Threads + Wait + Sync, F: Folder, K: Sink, G: Gate>(
             script,
             mission,
             vehicle,
+            contacts,
             workers,
         } => simulate(
-            rt, alloc, script, mission, vehicle, *workers, folder, out, gate,
+            rt, alloc, script, mission, vehicle, contacts, *workers, folder, out, gate,
         ),
     }
 }

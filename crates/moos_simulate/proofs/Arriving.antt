@@ -17,7 +17,7 @@ use Rattle.moos_post.specs.History.{History}
 use Rattle.moos_simulate.proofs.Going.{room_beside}
 use Rattle.moos_simulate.specs.declared.vehicle.Vehicle.{Vehicle}
 use Rattle.moos_simulate.specs.Sailing.{HasVoyage, IsSailing}
-use Rattle.moos_simulate.specs.Simulated.{IsSimulated, schedule_simulated}
+use Rattle.moos_simulate.specs.Simulated.{IsSimulated, schedule_simulated, vehicle_clients}
 use Rattle.script_reader.specs.declared.script.Script.{Script}
 
 -- the iterations of more ticks are those of fewer, and some more
@@ -78,17 +78,20 @@ module _ (vehicle : Vehicle) (helm : Steering) (play : Playing) (sailing : IsSai
             × (iterations_of helm.plan (heard_of names helm.client (history ++ rest)) (ticks_to script.stop helm) ≡ iterations_of helm.plan (heard_of names helm.client (history ++ rest)) play.ticks ++ more)
         on = iterations_behind helm.plan (heard_of names helm.client (history ++ rest)) play.ticks (ticks_to script.stop helm) (omega (arith, many, runs.few))
 
-    room_left : length script.names + 3 ≤ length names
-    room_left = let count : length names ≡ length script.names + 3 = room_beside vehicle helm play sailing.beside in omega (arith, count)
+    abbrev Room : Type 0
+    Room = length script.names + suc (length (vehicle_clients vehicle.gear helm.period)) ≤ length names
+
+    room_left : Room
+    room_left = let count = room_beside vehicle helm play sailing.beside in omega (arith, count)
 
     -- THE PLAY MAY BE COMPLETED
-    pub arrives : (length script.names + 3 ≤ length names → Completion (schedule_simulated script (Some helm) vehicle.craft names) history) → HasVoyage vehicle.craft play
+    pub arrives : (Room → Completion (schedule_simulated script (Some helm) vehicle.gear names) history) → HasVoyage vehicle.gear play
     arrives complete =
         let completion = complete room_left in
         let then = iterations_then completion.rest in
         record {
           rest = completion.rest;
-          simulated = subst (λ helm. IsSimulated script helm vehicle.craft names (history ++ completion.rest)) (sym sailing.beside.steered) completion.lawful;
+          simulated = subst (λ helm. IsSimulated script helm vehicle.gear names (history ++ completion.rest)) (sym sailing.beside.steered) completion.lawful;
           more = then.0;
           iterations = then.1;
         }

@@ -1,5 +1,5 @@
 -- How a simulated vehicle begins: behind the openings of its clients the history is one that it leaves, and no turn is made yet.
-use Rattle.std.proofs.Common.{◌≡◌, ℕ, ◌+◌, ◌-◌, ◌<◌, ◌≤◌, ◌==◌, ◌⊎◌, inl, inr, Bool, true, false, cond, List, [], ◌∷◌, ◌++◌, length, nat_le, nat_lt, refl, sym, ap, subst, ◌∙◌, arith, append-nil}
+use Rattle.std.proofs.Common.{◌≡◌, ℕ, suc, ◌+◌, ◌-◌, ◌<◌, ◌≤◌, ◌==◌, ◌⊎◌, inl, inr, Bool, true, false, cond, List, [], ◌∷◌, ◌++◌, length, nat_le, nat_lt, refl, sym, ap, subst, ◌∙◌, arith, append-nil}
 use Rattle.std.specs.Prelude.{map, not, Some}
 use Rattle.std.specs.List.{list_all}
 use Rattle.std.proofs.lemmas.Bool.{and_from}
@@ -22,17 +22,15 @@ use Rattle.moos_play.specs.Schedules.{answering}
 use Rattle.moos_post.specs.declared.entry.Call.TheVariants.{Post as Posts, Register}
 use Rattle.moos_post.specs.declared.entry.Entry.{Entry}
 use Rattle.moos_post.specs.Delivery.{is_fetch}
-use Rattle.moos_simulate.proofs.Answering.{due_a, due_b}
+use Rattle.moos_simulate.proofs.Answering.{due_other, IsOther, number_within, numbered}
 use Rattle.moos_simulate.proofs.Beside.{left_own, wider}
 use Rattle.moos_simulate.proofs.Rounding.{known_alone}
-use Rattle.moos_simulate.specs.Sailing.{HasMadeTurns, hears, IsUnderSail, pid_number, sim_number}
-use Rattle.moos_simulate.specs.Simulated.{mails_said, marine_pid, schedule_simulated, sim_marine, vehicle_clients}
+use Rattle.moos_simulate.specs.declared.vehicle.Vehicle.{Vehicle}
+use Rattle.moos_simulate.specs.Sailing.{HasMadeTurns, hears, IsUnderSail, KeepsContacts, mails_of, mgr_number, pid_number, sim_number}
+use Rattle.moos_simulate.specs.Simulated.{schedule_simulated, vehicle_clients}
 use Rattle.script_reader.specs.declared.script.Order.TheVariants.{Stamp}
 use Rattle.script_reader.specs.declared.script.Script.{Script}
-use Rattle.sim_clients.specs.declared.marine_pid.MarinePid.{MarinePid}
-use Rattle.sim_clients.specs.declared.sim_marine.SimMarine.{SimMarine}
 use Rattle.sim_clients.specs.Keeping.{IsPidAfter, IsSimAfter}
-use Rattle.sim_vehicle.specs.declared.settings.CraftSettings.{CraftSettings}
 
 -- every moment is from 0 on
 all_from : (key : Entry → ℕ) (xs : List Entry) → list_all (λ entry. nat_le 0 (key entry)) xs ≡ true
@@ -47,21 +45,25 @@ opening_deaf names client helm = heard_deaf (mailed_in names) client [] (opening
     by true = refl
     by false = refl
 
-module _ (craft : CraftSettings) (helm : Steering) (script : Script) (names : List (List ℕ)) (room : length script.names + 3 ≤ length names) (some : 1 ≤ helm.period)
+module _ (vehicle : Vehicle) (helm : Steering) (script : Script) (names : List (List ℕ)) (room : length script.names + suc (length (vehicle_clients vehicle.gear helm.period)) ≤ length names) (some : 1 ≤ helm.period)
   where
     abbrev whole : Schedule Tick
-    whole = schedule_simulated script (Some helm) craft names
+    whole = schedule_simulated script (Some helm) vehicle.gear names
 
     abbrev alone : Schedule Tick
-    alone = known_alone craft helm script names room some
+    alone = known_alone helm script names
+
+    -- one of the vehicle's clients has this number
+    abbrev IsAboard : ℕ → Answerer Tick → Type 0
+    IsAboard n answerer = IsOther script.lines (length script.names) script.stop helm.period (answering helm) (vehicle_clients vehicle.gear helm.period) (length names) (mailed_in names) room some n answerer
 
     is_wider : IsWider alone whole
-    is_wider = wider script.lines (length script.names) script.stop helm.period (answering helm) (marine_pid craft ∷ sim_marine craft helm.period ∷ []) (length names) (mailed_in names) room
+    is_wider = wider script.lines (length script.names) script.stop helm.period (answering helm) (vehicle_clients vehicle.gear helm.period) (length names) (mailed_in names) room
 
     -- the openings of the vehicle's clients stand behind the helm's
-    pub starts : helm.client ≡ length script.names → (schedule_simulated script (Some helm) craft names).start ≡ opening_of helm ++ openings (pid_number script) (vehicle_clients craft helm.period)
+    pub starts : helm.client ≡ length script.names → (schedule_simulated script (Some helm) vehicle.gear names).start ≡ opening_of helm ++ openings (pid_number script) (vehicle_clients vehicle.gear helm.period)
     starts number =
-        ap (λ front. front ++ openings (pid_number script) (vehicle_clients craft helm.period)) (sym (append-nil (map (entry_of (length script.names) 0) (answering helm).opening)) ∙ start_is (length script.names) helm number)
+        ap (λ front. front ++ openings (pid_number script) (vehicle_clients vehicle.gear helm.period)) (sym (append-nil (map (entry_of (length script.names) 0) (answering helm).opening)) ∙ start_is (length script.names) helm number)
 
     module _ (now : IsLawfulSoFar alone (opening_of helm)) (number : helm.client ≡ length script.names)
       where
@@ -79,24 +81,19 @@ module _ (craft : CraftSettings) (helm : Steering) (script : Script) (names : Li
             (left_own alone (is_playable Stamp script.lines (length script.names) script.stop helm.period (answering helm ∷ []) (length names) (mailed_in names) (omega (arith, room))) n (length script.names + 1) below [] [] (now.left n) (left_is n below))
             (all_from whole.moment (now.left n)) (subst (λ rest. rises 0 (map alone.moment (entries_below alone.known rest ++ now.left n)) ≡ true) none (now.moments n below)))
 
-        due_pid : whole.due (pid_number script) [] ≡ turns_from (marine_pid craft) (pid_number script) helm.period [] 0 (ticks_to script.stop helm)
-        due_pid = due_a script.lines (length script.names) script.stop helm.period (answering helm) (marine_pid craft) (sim_marine craft helm.period) (length names) (mailed_in names) room some []
+        due_aboard : (n : ℕ) (answerer : Answerer Tick) → IsAboard n answerer → whole.due n [] ≡ turns_from answerer n helm.period [] 0 (ticks_to script.stop helm)
+        due_aboard n answerer is = due_other script.lines (length script.names) script.stop helm.period (answering helm) (vehicle_clients vehicle.gear helm.period) (length names) (mailed_in names) room some n answerer is []
 
-        due_sim : whole.due (sim_number script) [] ≡ turns_from (sim_marine craft helm.period) (sim_number script) helm.period [] 0 (ticks_to script.stop helm)
-        due_sim = due_b script.lines (length script.names) script.stop helm.period (answering helm) (marine_pid craft) (sim_marine craft helm.period) (length names) (mailed_in names) room some []
-
-        turned : (answerer : Answerer Tick) (n : ℕ) → whole.due n [] ≡ turns_from answerer n helm.period [] 0 (ticks_to script.stop helm) → rises 0 (map whole.moment (whole.due n [])) ≡ true
-        turned answerer n is = subst (λ due. rises 0 (map whole.moment due) ≡ true) (sym is) (turns_rise answerer (length script.names) 3 n helm.period [] 0 (ticks_to script.stop helm) 0 (omega arith))
-
-        sorted : (n : ℕ) → n < length script.names + 3 → rises 0 (map whole.moment (whole.due n [])) ≡ true
-        sorted n below = by (either (nat_lt n (length script.names + 1))) (either (n == pid_number script))
+        sorted : (n : ℕ) → n < whole.known → rises 0 (map whole.moment (whole.due n [])) ≡ true
+        sorted n below = by (either (nat_lt n (length script.names + 1)))
           where
-            by : (nat_lt n (length script.names + 1) ≡ true) ⊎ (nat_lt n (length script.names + 1) ≡ false) → ((n == pid_number script) ≡ true) ⊎ ((n == pid_number script) ≡ false) → rises 0 (map whole.moment (whole.due n [])) ≡ true
-            by (inl e) other = own_rises n (grind (arith, nat_tests, e))
-            by (inr e) (inl same) = let is : n ≡ pid_number script = grind (arith, nat_tests, same) in subst (λ n. rises 0 (map whole.moment (whole.due n [])) ≡ true) (sym is) (turned (marine_pid craft) (pid_number script) due_pid)
-            by (inr e) (inr other) =
-                let is : n ≡ sim_number script = grind (arith, nat_tests, e, other, below) in
-                subst (λ n. rises 0 (map whole.moment (whole.due n [])) ≡ true) (sym is) (turned (sim_marine craft helm.period) (sim_number script) due_sim)
+            by : (nat_lt n (length script.names + 1) ≡ true) ⊎ (nat_lt n (length script.names + 1) ≡ false) → rises 0 (map whole.moment (whole.due n [])) ≡ true
+            by (inl e) = own_rises n (grind (arith, nat_tests, e))
+            by (inr e) =
+                let past : length script.names + 1 ≤ n = grind (arith, nat_tests, e) in
+                let found = numbered (pid_number script) (vehicle_clients vehicle.gear helm.period) n (omega (arith, past)) (omega (arith, below)) in
+                subst (λ due. rises 0 (map whole.moment due) ≡ true) (sym (due_aboard n found.0 found.1))
+                (turns_rise found.0 (length script.names) (suc (length (vehicle_clients vehicle.gear helm.period))) n helm.period [] 0 (ticks_to script.stop helm) 0 (omega arith))
 
         -- nothing but the openings stands, and all is left
         begin : (so : IsLawfulSoFar whole whole.start) × (so.rest ≡ []) × ((n : ℕ) → so.left n ≡ whole.due n [])
@@ -113,25 +110,26 @@ module _ (craft : CraftSettings) (helm : Steering) (script : Script) (names : Li
           λ n. refl,
         )
 
-        begin_turned : (answerer : Answerer Tick) (n : ℕ) → whole.due n [] ≡ turns_from answerer n helm.period [] 0 (ticks_to script.stop helm)
-            → HasMadeTurns whole answerer n helm.period (ticks_to script.stop helm) 0 whole.start begin.0
-        begin_turned answerer n due = record {
+        begin_turned : (n : ℕ) (answerer : Answerer Tick) → IsAboard n answerer → HasMadeTurns whole answerer n helm.period (ticks_to script.stop helm) 0 whole.start begin.0
+        begin_turned n answerer is = record {
           many = ap (λ rest. length (hears whole n rest)) begin.1;
           few = omega arith;
-          left = begin.2 n ∙ due ∙ (λ i. turns_from answerer n helm.period (hears whole n (sym begin.1 i)) 0 (all i));
+          left = begin.2 n ∙ due_aboard n answerer is ∙ (λ i. turns_from answerer n helm.period (hears whole n (sym begin.1 i)) 0 (all i));
         }
           where
             all : ticks_to script.stop helm ≡ ticks_to script.stop helm - 0
             all = omega arith
 
         -- THE OPENINGS ARE MADE
-        pub under_sail : (left next : ℕ) (first : MarinePid) (second : SimMarine) → IsPidAfter craft [] first → IsSimAfter craft helm.period [] second
-            → IsUnderSail craft helm script names 0 left next (schedule_simulated script (Some helm) craft names).start first second
-        under_sail left next first second pid_after sim_after = record {
+        pub under_sail : (left next : ℕ) → IsPidAfter vehicle.gear.craft [] vehicle.pid → IsSimAfter vehicle.gear.craft helm.period [] vehicle.sim → KeepsContacts vehicle.gear.ranges [] vehicle.mgr
+            → IsUnderSail vehicle helm script names 0 left next (schedule_simulated script (Some helm) vehicle.gear names).start
+        under_sail left next pid sim mgr = record {
           so_far = begin.0;
-          pid_turned = begin_turned (marine_pid craft) (pid_number script) due_pid;
-          sim_turned = begin_turned (sim_marine craft helm.period) (sim_number script) due_sim;
-          pid_after = subst (λ rest. IsPidAfter craft (mails_said (hears whole (pid_number script) rest)) first) (sym begin.1) pid_after;
-          sim_after = subst (λ rest. IsSimAfter craft helm.period (mails_said (hears whole (sim_number script) rest)) second) (sym begin.1) sim_after;
+          turned = begin_turned;
+          kept = record {
+            pid = subst (λ rest. IsPidAfter vehicle.gear.craft (mails_of script helm vehicle.gear names (pid_number script) rest) vehicle.pid) (sym begin.1) pid;
+            sim = subst (λ rest. IsSimAfter vehicle.gear.craft helm.period (mails_of script helm vehicle.gear names (sim_number script) rest) vehicle.sim) (sym begin.1) sim;
+            mgr = subst (λ rest. KeepsContacts vehicle.gear.ranges (mails_of script helm vehicle.gear names (mgr_number script) rest) vehicle.mgr) (sym begin.1) mgr;
+          };
           early = inr (ap (list_all (λ (entry : Entry). nat_lt entry.stamp next)) begin.1);
         }

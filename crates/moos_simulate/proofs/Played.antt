@@ -24,13 +24,14 @@ use Rattle.moos_play.specs.Plays.{AddsAt, clients_in, earliest, GoesOnWith, HasN
 use Rattle.moos_play.specs.Schedules.{answering, schedule_with}
 use Rattle.moos_post.specs.declared.entry.Entry.{Entry}
 use Rattle.moos_post.specs.History.{History}
+use Rattle.moos_simulate.proofs.Answering.{numbered}
 use Rattle.moos_simulate.proofs.Beside.{left_same, wider}
 use Rattle.moos_simulate.proofs.Going.{beside_on, lawful_on, room_beside}
 use Rattle.moos_simulate.proofs.Rounding.{known_alone, part, with_tick, without_tick}
 use Rattle.moos_simulate.proofs.Turning.{rest_is}
 use Rattle.moos_simulate.specs.declared.vehicle.Vehicle.{Vehicle}
-use Rattle.moos_simulate.specs.Sailing.{HasMadeTurns, hears, IsBeside, IsSailedOut, IsSailing, IsSimulating, IsUnderSail, pid_number, sim_number}
-use Rattle.moos_simulate.specs.Simulated.{IsSimulated, IsSimulatedSoFar, marine_pid, schedule_simulated, sim_marine}
+use Rattle.moos_simulate.specs.Sailing.{HasMadeTurns, hears, IsBeside, IsSailedOut, IsSailing, IsSimulating, IsUnderSail, KeepMails, pid_number}
+use Rattle.moos_simulate.specs.Simulated.{IsSimulated, IsSimulatedSoFar, schedule_simulated, vehicle_clients}
 use Rattle.moos_simulate.specs.Turns.{IsAnswering, IsAwaited}
 use Rattle.script_reader.specs.declared.script.Order.TheVariants.{Stamp}
 use Rattle.script_reader.specs.declared.script.Script.{Script}
@@ -143,8 +144,8 @@ module _ (vehicle : Vehicle) (helm : Steering) (old new : Playing) (sailing : Is
     abbrev pub history : History
     history = history_in old
 
-    room : length script.names + 3 ≤ length names
-    room = let many : length names ≡ length script.names + 3 = room_beside vehicle helm old beside in omega (arith, many)
+    room : length script.names + suc (length (vehicle_clients vehicle.gear helm.period)) ≤ length names
+    room = let many = room_beside vehicle helm old beside in omega (arith, many)
 
     some : 1 ≤ helm.period
     some = beside.some
@@ -154,7 +155,7 @@ module _ (vehicle : Vehicle) (helm : Steering) (old new : Playing) (sailing : Is
 
     -- the schedule that the play itself knows
     abbrev alone : Schedule Tick
-    alone = known_alone vehicle.craft helm script names room some
+    alone = known_alone helm script names
 
     schedule_old : schedule_in old ≡ alone
     schedule_old = λ i. schedule_with (beside.order i) script (beside.steered i) names
@@ -194,23 +195,23 @@ module _ (vehicle : Vehicle) (helm : Steering) (old new : Playing) (sailing : Is
         none_left none =
             subst (λ schedule. (so : IsLawfulSoFar schedule history) (n : ℕ) → n < length script.names + 1 → so.left n ≡ []) schedule_old (λ so n below. (left so n (omega (arith, below, known_old))).none none)
 
-        stopped_part : AddsAt (order_played old) next (known_clients_in old) history (history_in new) → IsLawfulSoFar (schedule_in new) (history_in new) → ((left_in old == 0) ≡ true) ⊎ ((left_in old == 0) ≡ false) → IsSimulatedSoFar script (Some helm) vehicle.craft names (history_in new)
+        stopped_part : AddsAt (order_played old) next (known_clients_in old) history (history_in new) → IsLawfulSoFar (schedule_in new) (history_in new) → ((left_in old == 0) ≡ true) ⊎ ((left_in old == 0) ≡ false) → IsSimulatedSoFar script (Some helm) vehicle.gear names (history_in new)
         stopped_part adds now (inl e) =
             let none : left_in old ≡ 0 = grind (arith, nat_tests, e) in
             let so_alone = subst (λ schedule. IsLawfulSoFar schedule history) schedule_old so in
             let still = nothing_more script.lines (length script.names) script.stop helm.period (answering helm ∷ []) (length names) (mailed_in names) history adds.later.0 so_alone (alone_now adds.later.0 adds.later.1 now) (none_left none so_alone)
             (subst (λ n. clients_below n adds.later.0 ≡ true) known_old adds.known) in
-            subst (IsSimulatedSoFar script (Some helm) vehicle.craft names) (sym (adds.later.1 ∙ ap (λ later. history ++ later) still ∙ append-nil history)) sailing.sail.so_far
+            subst (IsSimulatedSoFar script (Some helm) vehicle.gear names) (sym (adds.later.1 ∙ ap (λ later. history ++ later) still ∙ append-nil history)) sailing.sail.so_far
         stopped_part adds now (inr e) =
             let more : left_in old ≢ 0 = λ none. absurd (grind (arith, nat_tests, e, none)) in
-            subst (IsSimulatedSoFar script (Some helm) vehicle.craft names) (sym adds.later.1)
-            (part vehicle.craft helm script names room some count (left_in old) next history adds.later.0 vehicle.pid vehicle.sim sailing.sail (alone_now adds.later.0 adds.later.1 now) more
+            subst (IsSimulatedSoFar script (Some helm) vehicle.gear names) (sym adds.later.1)
+            (part vehicle helm script names room some count (left_in old) next history adds.later.0 sailing.sail (alone_now adds.later.0 adds.later.1 now) more
             (subst (λ n. clients_below n adds.later.0 ≡ true) known_old adds.known) (subst (λ order. KeepsStamp order next adds.later.0) beside.order adds.stamped) next_due)
 
         -- THE ROUND THAT FOUND NO MEMORY
         pub cut_off : AddsAt (order_played old) next (known_clients_in old) history (history_in new) → IsLawfulSoFar (schedule_in new) (history_in new)
-            → IsSimulatedSoFar (script_played new) (helm_in new) vehicle.craft (clients_in new) (history_in new)
-        cut_off adds now = lawful_on vehicle.craft helm old new beside.steered on (stopped_part adds now (either (left_in old == 0)))
+            → IsSimulatedSoFar (script_played new) (helm_in new) vehicle.gear (clients_in new) (history_in new)
+        cut_off adds now = lawful_on vehicle.gear helm old new beside.steered on (stopped_part adds now (either (left_in old == 0)))
 
     -- ---- a round that was played
 
@@ -260,7 +261,7 @@ module _ (vehicle : Vehicle) (helm : Steering) (old new : Playing) (sailing : Is
         made = ap (λ (made : List Iteration). length made) is_round.iterations ∙ length-append (iterations_made old) round.iterations
 
         beside_now : IsBeside vehicle helm new
-        beside_now = beside_on vehicle vehicle helm old new beside between on (record { pid = refl; sim = refl; period = refl })
+        beside_now = beside_on vehicle vehicle helm old new beside between on (record { gear = refl; pid = refl; sim = refl; mgr = refl; period = refl })
 
         -- the play's values at the names of those before
         moved : (P : Script → List (List ℕ) → History → Type 0) → P script names (history ++ later) → P (script_played new) (clients_in new) (history_in new)
@@ -272,9 +273,9 @@ module _ (vehicle : Vehicle) (helm : Steering) (old new : Playing) (sailing : Is
           helm,
           record {
             beside = beside_now;
-            sail = moved (λ script names history. IsUnderSail vehicle.craft helm script names (length (iterations_made new)) (left_in new) (next_stamp new) history vehicle.pid vehicle.sim)
-                (subst (λ count. IsUnderSail vehicle.craft helm script names count (left_in new) (next_stamp new) (history ++ later) vehicle.pid vehicle.sim) same
-                (without_tick vehicle.craft helm script names room some count (left_in old) next history later vehicle.pid vehicle.sim sailing.sail now_alone more below one next_due (left_in new) (next_stamp new) over));
+            sail = moved (λ script names history. IsUnderSail vehicle helm script names (length (iterations_made new)) (left_in new) (next_stamp new) history)
+                (subst (λ count. IsUnderSail vehicle helm script names count (left_in new) (next_stamp new) (history ++ later)) same
+                (without_tick vehicle helm script names room some count (left_in old) next history later sailing.sail now_alone more below one next_due (left_in new) (next_stamp new) over));
           },
         )
           where
@@ -302,16 +303,19 @@ module _ (vehicle : Vehicle) (helm : Steering) (old new : Playing) (sailing : Is
             by (inl none) left so = ap (list_all (λ (entry : Entry). nat_le (suc next) entry.stamp)) (so.none none)
             by (inr less) left so = later_than next (next_stamp new) left less (subst (λ order. KeepsLeft order (next_stamp new) left) (on.order ∙ beside.order) so.late)
 
-        pub answering_now : length round.iterations ≢ 0 → IsAnswering vehicle new round.stamp
+        -- that such a tick is awaited, with what the clients keep
+        abbrev Ticks : Script → List (List ℕ) → ℕ → History → Type 0
+        Ticks script names stamp history =
+            (awaited : IsAwaited vehicle.gear helm script names count (left_in new) (next_stamp new) stamp (pid_number script) history) × KeepMails vehicle helm script names history awaited.so_far
+
+        pub answering_now : length round.iterations ≢ 0 → IsAnswering vehicle new round.stamp (pid_number (script_played new))
         answering_now some_made = record {
           helm = helm;
           beside = beside_now;
           count = count;
           ticks = many;
-          awaited = moved (λ script names history. IsAwaited vehicle.craft helm script names count (left_in new) (next_stamp new) round.stamp history vehicle.pid vehicle.sim)
-              (subst (λ stamp. IsAwaited vehicle.craft helm script names count (left_in new) (next_stamp new) stamp (history ++ later) vehicle.pid vehicle.sim) (sym is_round.stamp)
-              (with_tick vehicle.craft helm script names room some count (left_in old) next history later vehicle.pid vehicle.sim sailing.sail now_alone more below one next_due (left_in new) (next_stamp new) over few at
-              (λ n under. subst (λ stamp. list_all (λ entry. nat_le (suc stamp) entry.stamp) (now_alone.left n) ≡ true) at (left_late now_alone n under))));
+          awaited = now_awaited.0;
+          kept = now_awaited.1;
         }
           where
             tick : HasTick helm count round
@@ -325,6 +329,13 @@ module _ (vehicle : Vehicle) (helm : Steering) (old new : Playing) (sailing : Is
 
             few : count < ticks_to script.stop helm
             few = subst (λ (script : Script). count < ticks_to script.stop helm) on.script (omega (arith, many, run_same.few))
+
+            now_awaited : Ticks (script_played new) (clients_in new) round.stamp (history_in new)
+            now_awaited =
+                moved (λ script names history. Ticks script names round.stamp history)
+                (subst (λ stamp. Ticks script names stamp (history ++ later)) (sym is_round.stamp)
+                (with_tick vehicle helm script names room some count (left_in old) next history later sailing.sail now_alone more below one next_due (left_in new) (next_stamp new) over few at
+                (λ n under. subst (λ stamp. list_all (λ entry. nat_le (suc stamp) entry.stamp) (now_alone.left n) ≡ true) at (left_late now_alone n under))))
 
 -- ---- nothing is left
 
@@ -340,14 +351,14 @@ module _ (vehicle : Vehicle) (helm : Steering) (play : Playing) (sailing : IsSai
     abbrev pub names_out : List (List ℕ)
     names_out = clients_in play
 
-    room_out : length script_out.names + 3 ≤ length names_out
-    room_out = let many : length names_out ≡ length script_out.names + 3 = room_beside vehicle helm play beside_out in omega (arith, many)
+    room_out : length script_out.names + suc (length (vehicle_clients vehicle.gear helm.period)) ≤ length names_out
+    room_out = let many = room_beside vehicle helm play beside_out in omega (arith, many)
 
     abbrev whole_out : Schedule Tick
-    whole_out = schedule_simulated script_out (Some helm) vehicle.craft names_out
+    whole_out = schedule_simulated script_out (Some helm) vehicle.gear names_out
 
     abbrev alone_out : Schedule Tick
-    alone_out = known_alone vehicle.craft helm script_out names_out room_out beside_out.some
+    alone_out = known_alone helm script_out names_out
 
     schedule_out : schedule_in play ≡ alone_out
     schedule_out = λ i. schedule_with (beside_out.order i) script_out (beside_out.steered i) names_out
@@ -374,26 +385,26 @@ module _ (vehicle : Vehicle) (helm : Steering) (play : Playing) (sailing : IsSai
     none_turned answerer n has = has.left ∙ ap (turns_from answerer n helm.period (hears whole_out n sailing.sail.so_far.rest) (length (iterations_made play))) all_made
 
     none_whole : (n : ℕ) → n < whole_out.known → sailing.sail.so_far.left n ≡ []
-    none_whole n below = by (either (nat_lt n (length script_out.names + 1))) (either (n == pid_number script_out))
+    none_whole n below = by (either (nat_lt n (length script_out.names + 1)))
       where
         so_alone : IsLawfulSoFar alone_out (history_in play)
         so_alone = subst (λ schedule. IsLawfulSoFar schedule (history_in play)) schedule_out now
 
-        by : (nat_lt n (length script_out.names + 1) ≡ true) ⊎ (nat_lt n (length script_out.names + 1) ≡ false) → ((n == pid_number script_out) ≡ true) ⊎ ((n == pid_number script_out) ≡ false) → sailing.sail.so_far.left n ≡ []
-        by (inl e) other =
+        by : (nat_lt n (length script_out.names + 1) ≡ true) ⊎ (nat_lt n (length script_out.names + 1) ≡ false) → sailing.sail.so_far.left n ≡ []
+        by (inl e) =
             let under : n < length script_out.names + 1 = grind (arith, nat_tests, e) in
-            left_same alone_out whole_out (wider script_out.lines (length script_out.names) script_out.stop helm.period (answering helm) (marine_pid vehicle.craft ∷ sim_marine vehicle.craft helm.period ∷ []) (length names_out) (mailed_in names_out) room_out) (history_in play) so_alone sailing.sail.so_far n under
+            left_same alone_out whole_out (wider script_out.lines (length script_out.names) script_out.stop helm.period (answering helm) (vehicle_clients vehicle.gear helm.period) (length names_out) (mailed_in names_out) room_out) (history_in play) so_alone sailing.sail.so_far n under
             ∙ none_own so_alone n under
-        by (inr e) (inl same) = let is : n ≡ pid_number script_out = grind (arith, nat_tests, same) in subst (λ n. sailing.sail.so_far.left n ≡ []) (sym is) (none_turned (marine_pid vehicle.craft) (pid_number script_out) sailing.sail.pid_turned)
-        by (inr e) (inr other) =
-            let is : n ≡ sim_number script_out = grind (arith, nat_tests, e, other, below) in
-            subst (λ n. sailing.sail.so_far.left n ≡ []) (sym is) (none_turned (sim_marine vehicle.craft helm.period) (sim_number script_out) sailing.sail.sim_turned)
+        by (inr e) =
+            let past : length script_out.names + 1 ≤ n = grind (arith, nat_tests, e) in
+            let found = numbered (pid_number script_out) (vehicle_clients vehicle.gear helm.period) n (omega (arith, past)) (omega (arith, below)) in
+            none_turned found.0 n (sailing.sail.turned n found.0 found.1)
 
     -- THE END: its history is that of a simulated vehicle
-    pub sailed_out : IsSailedOut vehicle.craft play
+    pub sailed_out : IsSailedOut vehicle.gear play
     sailed_out = record {
-      simulated = subst (λ helm. IsSimulated script_out helm vehicle.craft names_out (history_in play)) (sym beside_out.steered)
-          (lawful_then whole_out (is_playable Stamp script_out.lines (length script_out.names) script_out.stop helm.period (answering helm ∷ marine_pid vehicle.craft ∷ sim_marine vehicle.craft helm.period ∷ []) (length names_out) (mailed_in names_out) room_out)
+      simulated = subst (λ helm. IsSimulated script_out helm vehicle.gear names_out (history_in play)) (sym beside_out.steered)
+          (lawful_then whole_out (is_playable Stamp script_out.lines (length script_out.names) script_out.stop helm.period (answering helm ∷ vehicle_clients vehicle.gear helm.period) (length names_out) (mailed_in names_out) room_out)
           (history_in play) sailing.sail.so_far none_whole);
       iterations = out.iterations;
     }

@@ -11,19 +11,17 @@ use Rattle.moos_play.specs.Lawful.{mailed_in, Steering, ticks_to}
 use Rattle.moos_play.specs.Schedules.{answering}
 use Rattle.moos_post.specs.declared.entry.Entry.{Entry}
 use Rattle.moos_post.specs.History.{History}
-use Rattle.moos_simulate.proofs.Answering.{none_a, none_b, part_on, part_stands}
+use Rattle.moos_simulate.proofs.Answering.{none_answered, none_other, part_on, part_stands}
 use Rattle.moos_simulate.proofs.Beside.{left_same, wider}
 use Rattle.moos_simulate.proofs.Sailing.{below_next, sailed, Stands}
 use Rattle.moos_simulate.proofs.Turning.{rest_is, stays_heard}
-use Rattle.moos_simulate.specs.Sailing.{hears, IsUnderSail, pid_number, sim_number}
-use Rattle.moos_simulate.specs.Simulated.{mails_said, marine_pid, sim_marine}
+use Rattle.moos_simulate.specs.declared.vehicle.Vehicle.{Vehicle}
+use Rattle.moos_simulate.specs.Sailing.{hears, IsUnderSail, KeepMails, KeepsContacts, mails_of, mgr_number, pid_number, sim_number}
+use Rattle.moos_simulate.specs.Simulated.{mails_said, vehicle_clients}
 use Rattle.moos_simulate.specs.Turns.{IsAwaited}
 use Rattle.script_reader.specs.declared.script.Order.TheVariants.{Stamp}
 use Rattle.script_reader.specs.declared.script.Script.{Script}
-use Rattle.sim_clients.specs.declared.marine_pid.MarinePid.{MarinePid}
-use Rattle.sim_clients.specs.declared.sim_marine.SimMarine.{SimMarine}
 use Rattle.sim_clients.specs.Keeping.{IsPidAfter, IsSimAfter}
-use Rattle.sim_vehicle.specs.declared.settings.CraftSettings.{CraftSettings}
 
 -- entries before a stamp, and of it, aren't later
 before_not_later : (stamp : ℕ) (rest : History) → list_all (λ entry. nat_lt entry.stamp stamp) rest ≡ true → list_all (λ entry. nat_le entry.stamp stamp) rest ≡ true
@@ -40,16 +38,16 @@ at_not_later stamp (x ∷ rest) one =
     let test = tests.0 in
     and_from (nat_le x.stamp stamp) (list_all (λ entry. nat_le entry.stamp stamp) rest) (grind (arith, nat_tests, test)) (at_not_later stamp rest tests.1)
 
-module _ (craft : CraftSettings) (helm : Steering) (script : Script) (names : List (List ℕ)) (room : length script.names + 3 ≤ length names) (some : 1 ≤ helm.period)
+-- the schedule that the play itself knows
+abbrev pub known_alone : Steering → Script → List (List ℕ) → Schedule Tick
+known_alone helm script names = schedule_of Stamp script.lines (length script.names) script.stop helm.period (answering helm ∷ []) (length names) (mailed_in names)
+
+module _ (vehicle : Vehicle) (helm : Steering) (script : Script) (names : List (List ℕ)) (room : length script.names + suc (length (vehicle_clients vehicle.gear helm.period)) ≤ length names) (some : 1 ≤ helm.period)
   where
-    -- the schedule that the play itself knows
-    abbrev pub known_alone : Schedule Tick
-    known_alone = schedule_of Stamp script.lines (length script.names) script.stop helm.period (answering helm ∷ []) (length names) (mailed_in names)
-
     abbrev whole : Schedule Tick
-    whole = sailed craft helm script names room some
+    whole = sailed vehicle.gear helm script names room some
 
-    module _ (count left next : ℕ) (history later : History) (pid : MarinePid) (sim : SimMarine) (so : IsUnderSail craft helm script names count left next history pid sim) (now : IsLawfulSoFar known_alone (history ++ later)) (more : left ≢ 0)
+    module _ (count left next : ℕ) (history later : History) (so : IsUnderSail vehicle helm script names count left next history) (now : IsLawfulSoFar (known_alone helm script names) (history ++ later)) (more : left ≢ 0)
         (below : clients_below (length script.names + 1) later ≡ true) (one : list_all (λ entry. entry.stamp == next) later ≡ true) (due : count < ticks_to script.stop helm → next ≤ count * helm.period)
       where
         early : list_all (λ entry. nat_lt entry.stamp next) so.so_far.rest ≡ true
@@ -59,27 +57,24 @@ module _ (craft : CraftSettings) (helm : Steering) (script : Script) (names : Li
             by (inl none) = absurd (more none)
             by (inr so) = so
 
-        before : Stands craft helm script names room some count history so.so_far
-        before = record { one = so.pid_turned; other = so.sim_turned }
-
         -- THE ROUND, whole or cut off
         pub part : IsLawfulSoFar whole (history ++ later)
-        part = part_on script.lines (length script.names) script.stop helm.period (answering helm) (marine_pid craft) (sim_marine craft helm.period) (length names) (mailed_in names) room some next count history later so.so_far now before early below one due
+        part = part_on script.lines (length script.names) script.stop helm.period (answering helm) (vehicle_clients vehicle.gear helm.period) (length names) (mailed_in names) room some next count history later so.so_far now so.turned early below one due
 
-        stand : Stands craft helm script names room some count (history ++ later) part
-        stand = part_stands script.lines (length script.names) script.stop helm.period (answering helm) (marine_pid craft) (sim_marine craft helm.period) (length names) (mailed_in names) room some count history later so.so_far part below before
+        stand : Stands vehicle.gear helm script names room some (λ n. count) (history ++ later) part
+        stand = part_stands script.lines (length script.names) script.stop helm.period (answering helm) (vehicle_clients vehicle.gear helm.period) (length names) (mailed_in names) room some (λ n. count) history later so.so_far part below so.turned
 
-        pid_same : hears whole (pid_number script) part.rest ≡ hears whole (pid_number script) so.so_far.rest
-        pid_same = stays_heard whole (pid_number script) history later so.so_far part (none_a script.lines (length script.names) script.stop helm.period (answering helm) (marine_pid craft) (sim_marine craft helm.period) (length names) (mailed_in names) room some later below)
+        -- what a client of the vehicle has been mailed is the same
+        mails_same : (n : ℕ) → length script.names + 1 ≤ n → mails_of script helm vehicle.gear names n part.rest ≡ mails_of script helm vehicle.gear names n so.so_far.rest
+        mails_same n past =
+            ap mails_said (stays_heard whole n history later so.so_far part (none_other script.lines (length script.names) script.stop helm.period (answering helm) (vehicle_clients vehicle.gear helm.period) (length names) (mailed_in names) room some n later past below))
 
-        sim_same : hears whole (sim_number script) part.rest ≡ hears whole (sim_number script) so.so_far.rest
-        sim_same = stays_heard whole (sim_number script) history later so.so_far part (none_b script.lines (length script.names) script.stop helm.period (answering helm) (marine_pid craft) (sim_marine craft helm.period) (length names) (mailed_in names) room some later below)
-
-        pid_after : IsPidAfter craft (mails_said (hears whole (pid_number script) part.rest)) pid
-        pid_after = subst (λ heard. IsPidAfter craft (mails_said heard) pid) (sym pid_same) so.pid_after
-
-        sim_after : IsSimAfter craft helm.period (mails_said (hears whole (sim_number script) part.rest)) sim
-        sim_after = subst (λ heard. IsSimAfter craft helm.period (mails_said heard) sim) (sym sim_same) so.sim_after
+        kept : KeepMails vehicle helm script names (history ++ later) part
+        kept = record {
+          pid = subst (λ mails. IsPidAfter vehicle.gear.craft mails vehicle.pid) (sym (mails_same (pid_number script) (omega arith))) so.kept.pid;
+          sim = subst (λ mails. IsSimAfter vehicle.gear.craft helm.period mails vehicle.sim) (sym (mails_same (sim_number script) (omega arith))) so.kept.sim;
+          mgr = subst (λ mails. KeepsContacts vehicle.gear.ranges mails vehicle.mgr) (sym (mails_same (mgr_number script) (omega arith))) so.kept.mgr;
+        }
 
         not_later : list_all (λ entry. nat_le entry.stamp next) part.rest ≡ true
         not_later =
@@ -87,33 +82,32 @@ module _ (craft : CraftSettings) (helm : Steering) (script : Script) (names : Li
             ∙ and_from (list_all (λ entry. nat_le entry.stamp next) so.so_far.rest) (list_all (λ entry. nat_le entry.stamp next) later) (before_not_later next so.so_far.rest early) (at_not_later next later one)
 
         -- without a tick of the helm
-        pub without_tick : (left' next' : ℕ) → (left' ≡ 0) ⊎ (next < next') → IsUnderSail craft helm script names count left' next' (history ++ later) pid sim
+        pub without_tick : (left' next' : ℕ) → (left' ≡ 0) ⊎ (next < next') → IsUnderSail vehicle helm script names count left' next' (history ++ later)
         without_tick left' next' behind = record {
           so_far = part;
-          pid_turned = stand.one;
-          sim_turned = stand.other;
-          pid_after = pid_after;
-          sim_after = sim_after;
+          turned = stand;
+          kept = kept;
           early = by behind;
         }
           where
             by : (left' ≡ 0) ⊎ (next < next') → (left' ≡ 0) ⊎ (list_all (λ entry. nat_lt entry.stamp next') part.rest ≡ true)
             by (inl none) = inl none
-            by (inr less) = inr (below_next craft helm script names room some next next' part.rest less not_later)
+            by (inr less) = inr (below_next vehicle.gear helm script names room some next next' part.rest less not_later)
 
         -- with one
         pub with_tick : (left' next' : ℕ) → (left' ≡ 0) ⊎ (next < next') → count < ticks_to script.stop helm → next ≡ count * helm.period
-            → ((n : ℕ) → n < length script.names + 1 → list_all (λ entry. nat_le (suc (count * helm.period)) entry.stamp) (now.left n) ≡ true) → IsAwaited craft helm script names count left' next' next (history ++ later) pid sim
-        with_tick left' next' behind many at late = record {
-          so_far = part;
-          pid_turned = stand.one;
-          sim_turned = stand.other;
-          pid_after = pid_after;
-          sim_after = sim_after;
-          more = many;
-          at = at;
-          late = λ n under. subst (λ left. list_all (λ entry. nat_le (suc (count * helm.period)) entry.stamp) left ≡ true)
-              (sym (left_same known_alone whole (wider script.lines (length script.names) script.stop helm.period (answering helm) (marine_pid craft ∷ sim_marine craft helm.period ∷ []) (length names) (mailed_in names) room) (history ++ later) now part n under)) (late n under);
-          behind = behind;
-          early = not_later;
-        }
+            → ((n : ℕ) → n < length script.names + 1 → list_all (λ entry. nat_le (suc (count * helm.period)) entry.stamp) (now.left n) ≡ true)
+            → (awaited : IsAwaited vehicle.gear helm script names count left' next' next (pid_number script) (history ++ later)) × KeepMails vehicle helm script names (history ++ later) awaited.so_far
+        with_tick left' next' behind many at late = (
+          record {
+            so_far = part;
+            turned = none_answered script.lines (length script.names) script.stop helm.period (answering helm) (vehicle_clients vehicle.gear helm.period) (length names) (mailed_in names) room some count (history ++ later) part stand;
+            more = many;
+            at = at;
+            late = λ n under. subst (λ left. list_all (λ entry. nat_le (suc (count * helm.period)) entry.stamp) left ≡ true)
+                (sym (left_same (known_alone helm script names) whole (wider script.lines (length script.names) script.stop helm.period (answering helm) (vehicle_clients vehicle.gear helm.period) (length names) (mailed_in names) room) (history ++ later) now part n under)) (late n under);
+            behind = behind;
+            early = not_later;
+          },
+          kept,
+        )

@@ -1,6 +1,7 @@
--- Which histories a simulated vehicle leaves: those of a script's lines beside three clients that answer each tick, the helm, then
--- pMarinePID, then uSimMarine.
-use Rattle.std.specs.Prelude.{ℕ, List, [], ◌∷◌, ◌++◌, codes, length, map, Option}
+-- Which histories a simulated vehicle leaves: those of a script's lines beside clients that answer each tick, the helm, then pMarinePID,
+-- then uSimMarine, and then pBasicContactMgr, where the vehicle has one.
+use Rattle.std.specs.Prelude.{ℕ, Bool, true, false, List, [], ◌∷◌, ◌++◌, codes, is_some, length, map, Option, Some, None}
+use Rattle.contact_avoid.specs.declared.ranges.Ranges.{Ranges}
 use Rattle.moos_post.specs.declared.entry.Call.TheVariants.{Register, Post as Posts}
 use Rattle.moos_post.specs.declared.value.Pair.{Pair}
 use Rattle.moos_post.specs.History.{History}
@@ -9,9 +10,10 @@ use Rattle.moos_lawful.specs.Answering.{Answerer, schedule_of}
 use Rattle.moos_lawful.specs.Schedules.{IsLawfulFor, IsLawfulSoFar, Schedule}
 use Rattle.moos_play.specs.Lawful.{mailed_in, Steering}
 use Rattle.moos_play.specs.Schedules.{answerers, tick_period}
+use Rattle.moos_simulate.specs.declared.gear.Gear.{Gear}
 use Rattle.script_reader.specs.declared.script.Order.TheVariants.{Stamp}
 use Rattle.script_reader.specs.declared.script.Script.{Script}
-use Rattle.sim_clients.specs.Clients.{drive_by, drive_pairs, hull_by, hull_pairs, marine_pid_regs, sim_marine_regs}
+use Rattle.sim_clients.specs.Clients.{contact_mgr_regs, contacts_by, drive_by, drive_pairs, hull_by, hull_pairs, marine_pid_regs, sim_marine_regs}
 use Rattle.sim_vehicle.specs.declared.settings.CraftSettings.{CraftSettings}
 use Rattle.sim_vehicle.specs.Motion.{start_hull}
 
@@ -33,25 +35,46 @@ sim_marine craft period = record {
   says = λ heard. hull_pairs (hull_by craft period (mails_said heard));
 }
 
--- the clients of the vehicle, in their order
-abbrev pub vehicle_clients : CraftSettings → ℕ → List (Answerer Tick)
-vehicle_clients craft period = marine_pid craft ∷ sim_marine craft period ∷ []
+-- pBasicContactMgr: it registers, and posts at each turn what it tells of contacts by all its mails so far
+abbrev pub contact_mgr : Ranges → Answerer Tick
+contact_mgr ranges = record {
+  opening = Register contact_mgr_regs ∷ [];
+  says = λ heard. contacts_by ranges (mails_said heard);
+}
 
--- their names
-abbrev pub vehicle_names : List (List ℕ)
-vehicle_names = codes "pMarinePID" ∷ codes "uSimMarine" ∷ []
+-- the contact manager of these ranges, where there are any
+abbrev pub contact_clients : Option Ranges → List (Answerer Tick)
+contact_clients None = []
+contact_clients (Some ranges) = contact_mgr ranges ∷ []
 
--- the schedule of a script with a helm and this vehicle, under these names of the clients
-abbrev pub schedule_simulated : Script → Option Steering → CraftSettings → List (List ℕ) → Schedule Tick
-schedule_simulated script helm craft names =
-    schedule_of Stamp script.lines (length script.names) script.stop (tick_period helm) (answerers helm ++ vehicle_clients craft (tick_period helm)) (length names) (mailed_in names)
+-- the clients of a vehicle with this gear, in their order
+abbrev pub vehicle_clients : Gear → ℕ → List (Answerer Tick)
+vehicle_clients gear period = marine_pid gear.craft ∷ sim_marine gear.craft period ∷ contact_clients gear.ranges
+
+-- the name of the contact manager, where there is one
+abbrev pub contact_names : Bool → List (List ℕ)
+contact_names false = []
+contact_names true = codes "pBasicContactMgr" ∷ []
+
+-- the names of a vehicle's clients, with a contact manager or without one
+abbrev pub vehicle_names : Bool → List (List ℕ)
+vehicle_names watched = codes "pMarinePID" ∷ codes "uSimMarine" ∷ contact_names watched
+
+-- the names of the clients of a vehicle with this gear
+abbrev pub gear_names : Gear → List (List ℕ)
+gear_names gear = vehicle_names (is_some gear.ranges)
+
+-- the schedule of a script with a helm and a vehicle of this gear, under these names of the clients
+abbrev pub schedule_simulated : Script → Option Steering → Gear → List (List ℕ) → Schedule Tick
+schedule_simulated script helm gear names =
+    schedule_of Stamp script.lines (length script.names) script.stop (tick_period helm) (answerers helm ++ vehicle_clients gear (tick_period helm)) (length names) (mailed_in names)
 
 -- A history that a simulated vehicle leaves: The openings of the helm and of the vehicle's clients stand first. Behind them each client
--- of the script has its lines, and the three others fetch and post at each tick, over what they have heard by then. At a stamp the
--- script's clients come first, and then those three in their order. Nobody else has an entry.
-abbrev pub IsSimulated : Script → Option Steering → CraftSettings → List (List ℕ) → History → Type 0
-IsSimulated script helm craft names history = IsLawfulFor (schedule_simulated script helm craft names) history
+-- of the script has its lines, and those others fetch and post at each tick, over what they have heard by then. At a stamp the
+-- script's clients come first, and then the others in their order. Nobody else has an entry.
+abbrev pub IsSimulated : Script → Option Steering → Gear → List (List ℕ) → History → Type 0
+IsSimulated script helm gear names history = IsLawfulFor (schedule_simulated script helm gear names) history
 
 -- such a history as far as it goes
-abbrev pub IsSimulatedSoFar : Script → Option Steering → CraftSettings → List (List ℕ) → History → Type 0
-IsSimulatedSoFar script helm craft names history = IsLawfulSoFar (schedule_simulated script helm craft names) history
+abbrev pub IsSimulatedSoFar : Script → Option Steering → Gear → List (List ℕ) → History → Type 0
+IsSimulatedSoFar script helm gear names history = IsLawfulSoFar (schedule_simulated script helm gear names) history

@@ -1,15 +1,15 @@
 // What holds of every history that a simulated vehicle leaves.
-ghost use Rattle.std.specs.Prelude.{ℕ, ◌+◌, ◌≤◌, List, length, Some};
+ghost use Rattle.std.specs.Prelude.{ℕ, suc, ◌+◌, ◌≤◌, List, length, Some};
 ghost use Rattle.moos_lawful.specs.Schedules.{Completion};
 ghost use Rattle.moos_play.specs.Lawful.{Steering};
 ghost use Rattle.moos_post.specs.History.{History};
-ghost use Rattle.moos_simulate.specs.Simulated.{IsSimulatedSoFar, schedule_simulated};
+ghost use Rattle.moos_simulate.specs.declared.gear.Gear.{Gear};
+ghost use Rattle.moos_simulate.specs.Simulated.{IsSimulatedSoFar, schedule_simulated, vehicle_clients};
 ghost use Rattle.script_reader.specs.declared.script.Script.{Script};
-ghost use Rattle.sim_vehicle.specs.declared.settings.CraftSettings.{CraftSettings};
 
 /// A history that is that of a simulated vehicle as far as it goes can be completed to one, by entries of the script's clients, the
 /// helm and the vehicle's clients alone. It does nothing.
 pub fn sailing_law()
-    ensures { (script : Script) (helm : Steering) (craft : CraftSettings) (names : List (List ℕ)) → length script.names + 3 ≤ length names → (history : History)
-        → IsSimulatedSoFar script (Some helm) craft names history → Completion (schedule_simulated script (Some helm) craft names) history }
+    ensures { (script : Script) (helm : Steering) (gear : Gear) (names : List (List ℕ)) → length script.names + suc (length (vehicle_clients gear helm.period)) ≤ length names → (history : History)
+        → IsSimulatedSoFar script (Some helm) gear names history → Completion (schedule_simulated script (Some helm) gear names) history }
 {}

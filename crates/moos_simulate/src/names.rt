@@ -6,13 +6,16 @@ ghost use Rattle.moos_simulate.specs.Simulated.{vehicle_names};
 use moos_post::{List, Name, Names, NoMemory};
 use std::alloc::{AllocError, Global};
 
-/// The names of the clients of a vehicle, in their order: `pMarinePID` and `uSimMarine`.
-pub fn vehicle_names(alloc: Global) -> Result<Names, NoMemory>
-    ensures { IfOk result (λ names. names ≡ vehicle_names) }
+/// The names of the clients of a vehicle, in their order: `pMarinePID`, `uSimMarine`, and `pBasicContactMgr` where contacts are watched.
+pub fn vehicle_names(alloc: Global, watched: bool) -> Result<Names, NoMemory>
+    ensures { IfOk result (λ names. names ≡ vehicle_names watched) }
 {
     let mut names = List::new(alloc);
     add_name(alloc, &mut names, b"pMarinePID")?;
     add_name(alloc, &mut names, b"uSimMarine")?;
+    if watched {
+        add_name(alloc, &mut names, b"pBasicContactMgr")?;
+    }
     Ok(names)
 }
 

@@ -68,6 +68,7 @@ const OTHER_WORDS: &[&[&str]] = &[
     &["check", "d.txt", "--workers", "2"],
     &["simulate", "s.txt", "m.moos"],
     &["simulate", "s.txt", "m.moos", "v.txt", "--race"],
+    &["simulate", "s.txt", "m.moos", "v.txt", "c.txt", "d.txt"],
     &["--help"],
 ];
 

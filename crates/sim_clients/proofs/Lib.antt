@@ -1,3 +1,4 @@
 pub mod Hearing
 pub mod Ranging
 pub mod Examples
+pub mod Contacting

@@ -1,5 +1,5 @@
--- What pMarinePID and uSimMarine post, of all that was mailed to them: the mails of a client are a list of what each says, one for
--- each of its turns.
+-- What pMarinePID, uSimMarine and pBasicContactMgr post, of all that was mailed to them: the mails of a client are a list of what each
+-- says, one for each of its turns.
 use Rattle.std.specs.Prelude.{ℕ, zero, suc, ℤ, ◌-◌, List, [], ◌∷◌, codes, length, map, take, Option}
 use Rattle.std.specs.List.{flat_map}
 use Rattle.moos_post.specs.declared.registration.Reg.{Reg}
@@ -7,6 +7,8 @@ use Rattle.moos_post.specs.declared.value.Pair.{Pair}
 use Rattle.moos_post.specs.declared.value.Value.TheVariants.{Num}
 use Rattle.helm_cond.specs.Learnt.{latest_of}
 use Rattle.bhv_kinds.specs.Turns.{latest_number}
+use Rattle.contact_avoid.specs.Contacts.{batches_of}
+use Rattle.contact_avoid.specs.declared.ranges.Ranges.{Ranges}
 use Rattle.sim_vehicle.specs.declared.hull.Hull.{Hull}
 use Rattle.sim_vehicle.specs.declared.rig.Drive.{Drive}
 use Rattle.sim_vehicle.specs.declared.settings.CraftSettings.{CraftSettings}
@@ -45,6 +47,18 @@ hull_after_turns craft period mails (suc i) =
 abbrev pub hull_by : CraftSettings → ℕ → List (List Pair) → Hull
 hull_by craft period mails = hull_after_turns craft period mails (length mails)
 
+-- ---- pBasicContactMgr
+
+-- the last of these batches, an empty one where there is none
+abbrev pub last_batch : List (List Pair) → List Pair
+last_batch [] = []
+last_batch (batch ∷ []) = batch
+last_batch (batch ∷ next ∷ later) = last_batch (next ∷ later)
+
+-- what it posts at the turn of the last of these mails: the last of the batches that a manager of these ranges posts at all of them
+abbrev pub contacts_by : Ranges → List (List Pair) → List Pair
+contacts_by ranges mails = last_batch (batches_of ranges mails)
+
 -- ---- what they register for, and what they post
 
 -- a variable and a number
@@ -62,6 +76,10 @@ marine_pid_regs = map reg_simple (codes "DESIRED_HEADING" ∷ codes "DESIRED_SPE
 -- what uSimMarine registers for
 abbrev pub sim_marine_regs : List Reg
 sim_marine_regs = map reg_simple (codes "DESIRED_RUDDER" ∷ codes "DESIRED_THRUST" ∷ codes "DESIRED_DEPTH" ∷ [])
+
+-- what pBasicContactMgr registers for
+abbrev pub contact_mgr_regs : List Reg
+contact_mgr_regs = map reg_simple (codes "NODE_REPORT" ∷ codes "NAV_X" ∷ codes "NAV_Y" ∷ [])
 
 -- what pMarinePID posts of what it asks for
 abbrev pub drive_pairs : Drive → List Pair

@@ -1,9 +1,12 @@
--- What the two clients keep between their turns. This serves their calls alone: what they post is said without it, in Clients.
+-- What the clients keep between their turns. This serves their calls alone: what they post is said without it, in Clients.
 use Rattle.std.specs.Prelude.{◌≡◌, ℕ, ℤ, if◌then◌else◌, List, codes, bytes_eq, fold, length, map, Option}
 use Rattle.moos_db.specs.declared.mail.Letter.{Letter}
 use Rattle.moos_db.specs.Database.{pair_posted}
 use Rattle.moos_post.specs.declared.value.Pair.{Pair}
 use Rattle.bhv_kinds.specs.Turns.{as_number}
+use Rattle.contact_avoid.specs.declared.ranges.Ranges.{Ranges}
+use Rattle.contact_avoid.specs.Standing.{Knows}
+use Rattle.sim_clients.specs.declared.basic_contact_mgr.BasicContactMgr.{BasicContactMgr}
 use Rattle.sim_clients.specs.declared.marine_pid.MarinePid.{MarinePid}
 use Rattle.sim_clients.specs.declared.sim_marine.SimMarine.{SimMarine}
 use Rattle.sim_clients.specs.Clients.{hull_by, number_by, rig_after_turns}
@@ -36,3 +39,7 @@ pub record IsSimAfter (craft : CraftSettings) (period : ℕ) (mails : List (List
   pub rudder : sim.rudder ≡ number_by mails (codes "DESIRED_RUDDER")
   pub thrust : sim.thrust ≡ number_by mails (codes "DESIRED_THRUST")
   pub want_depth : sim.want_depth ≡ number_by mails (codes "DESIRED_DEPTH")
+
+-- and so has pBasicContactMgr: its manager has these ranges, and knows these mails
+abbrev pub IsMgrAfter : Ranges → List (List Pair) → BasicContactMgr → Type 0
+IsMgrAfter ranges mails mgr = Knows ranges mails mgr.manager

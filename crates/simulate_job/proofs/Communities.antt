@@ -1,11 +1,12 @@
 -- A history that a simulation leaves is that of a community: each client has a name of its own, and each entry is as its type lets it be.
 use Rattle.std.proofs.Common.{◌≡◌, ℕ, suc, zero, ◌+◌, ◌-◌, ◌*◌, ◌/◌, ◌<◌, ◌≤◌, ◌^◌, ◌||◌, Bool, true, false, cond, nat_eq, nat_lt, List, [], ◌∷◌, length, map, take, codes, refl, sym, ◌∙◌, subst, arith, length-append}
-use Rattle.std.specs.Prelude.{◌≤ℤ◌, ℤ, pos, IsTrue, Some}
-use Rattle.std.specs.List.{All, list_any}
+use Rattle.std.specs.Prelude.{◌≤ℤ◌, ℤ, is_some, pos, IsTrue, None, Option, Some}
+use Rattle.std.specs.List.{All, AllByRecursion as Each, list_any}
 use Rattle.std.proofs.lemmas.Bool.{and_parts, eqb-true, ltb-false, ltb-true}
 use Rattle.std.proofs.lemmas.Int.{ints}
 use Rattle.std.proofs.lemmas.List.Elements.{All-append, All-cons, All-from_recursion, All-head, All-map, All-nil, All-tail, All-weaker}
 use Rattle.std.proofs.lemmas.List.Folds.{list_any-append}
+use Rattle.contact_avoid.specs.declared.ranges.Ranges.{Ranges}
 use Rattle.helm_core.specs.Plans.{wants_of}
 use Rattle.helm_core.specs.Ticks.{Tick}
 use Rattle.helm_core.specs.WellFormed.{IsWellFormedPlan}
@@ -26,10 +27,11 @@ use Rattle.moos_post.specs.Words.{is_name, is_pattern, IsMilli}
 use Rattle.moos_report.proofs.Communities.{all_entries, apart_behind, AreApart, IsBy, own_lines, own_names}
 use Rattle.moos_report.specs.Community.{IsCommunity}
 use Rattle.moos_report.specs.Report.{ReportsTell}
-use Rattle.moos_simulate.specs.Simulated.{mails_said, marine_pid, sim_marine, vehicle_clients, vehicle_names}
+use Rattle.moos_simulate.proofs.Going.{as_many}
+use Rattle.moos_simulate.specs.Simulated.{contact_clients, contact_mgr, gear_names, mails_said, marine_pid, sim_marine, vehicle_clients, vehicle_names}
 use Rattle.script_reader.specs.Named.{has_name}
 use Rattle.script_reader.specs.Validity.{IsValid}
-use Rattle.sim_clients.specs.Clients.{drive_by, drive_pairs, hull_by, hull_pairs, marine_pid_regs, pair_numbered, reg_simple, sim_marine_regs}
+use Rattle.sim_clients.specs.Clients.{contact_mgr_regs, contacts_by, drive_by, drive_pairs, hull_by, hull_pairs, marine_pid_regs, pair_numbered, reg_simple, sim_marine_regs}
 use Rattle.sim_vehicle.specs.declared.hull.Hull.{Hull}
 use Rattle.sim_vehicle.specs.declared.rig.Drive.{Drive}
 use Rattle.sim_vehicle.specs.declared.setting.CraftSetting.TheVariants.{MaxRudder, MaxSpeed, MaxThrust}
@@ -98,6 +100,35 @@ sim_says craft period allowed keeps =
       says = λ heard. (omega arith, hull_pairs_are craft (hull_by craft period (mails_said heard)) most (keeps.hull period (mails_said heard)));
     }
 
+-- whatever was mailed, what is posted of contacts is at most 64 pairs, each as its type lets it be
+pub record PostsPairs : Type 0 where
+  pub few : (ranges : Ranges) (mails : List (List Pair)) → length (contacts_by ranges mails) ≤ 64
+  pub pairs : (ranges : Ranges) (mails : List (List Pair)) → All IsPair (contacts_by ranges mails)
+
+mgr_says : (ranges : Ranges) → PostsPairs → SaysCalls (contact_mgr ranges)
+mgr_says ranges posts = record {
+  opening = All-from_recursion IsCall (Register contact_mgr_regs ∷ []) (three_regs (codes "NODE_REPORT") (codes "NAV_X") (codes "NAV_Y") refl refl refl, tt);
+  says = λ heard. (omega (arith, posts.few ranges (mails_said heard)), posts.pairs ranges (mails_said heard));
+}
+
+contacts_say : (ranges : Option Ranges) → PostsPairs → Each SaysCalls (contact_clients ranges)
+contacts_say None posts = tt
+contacts_say (Some ranges) posts = (mgr_says ranges posts, tt)
+
+-- ---- their names
+
+aboard_apart : (watched : Bool) → AreApart (vehicle_names watched)
+aboard_apart false = (refl, (refl, tt))
+aboard_apart true = (refl, (refl, (refl, tt)))
+
+aboard_named : (watched : Bool) → Each (λ name. IsTrue (is_name name)) (vehicle_names watched)
+aboard_named false = (refl, (refl, tt))
+aboard_named true = (refl, (refl, (refl, tt)))
+
+helm_apart : (watched : Bool) → list_any (has_name (vehicle_names watched)) (codes "pHelmIvP" ∷ []) ≡ false
+helm_apart false = refl
+helm_apart true = refl
+
 -- ---- their entries
 
 openings_by : (clients client : ℕ) (answerers : List (Answerer Tick)) → All SaysCalls answerers → client + length answerers ≤ clients → All (IsBy clients) (openings client answerers)
@@ -145,7 +176,7 @@ none_unnamed By names n (entry ∷ rest) below past =
 
 -- ---- a simulation
 
-module _ (task : Simulation) (valid : IsValid task.script) (apart : list_any (has_name vehicle_names) task.script.names ≡ false) (good : AreGoodFiles task.files) (allowed : AreAllowed task.craft) (keeps : KeepsInRange task.craft) where
+module _ (task : Simulation) (valid : IsValid task.script) (apart : list_any (has_name (gear_names task.gear)) task.script.names ≡ false) (good : AreGoodFiles task.files) (allowed : AreAllowed task.gear.craft) (keeps : KeepsInRange task.gear.craft) (posts : PostsPairs) where
   abbrev names : List (List ℕ)
   names = names_sailed task
 
@@ -156,39 +187,39 @@ module _ (task : Simulation) (valid : IsValid task.script) (apart : list_any (ha
   period = task.files.mission.period
 
   abbrev all_answer : List (Answerer Tick)
-  all_answer = answering (helm_sailed task) ∷ vehicle_clients task.craft period
+  all_answer = answering (helm_sailed task) ∷ vehicle_clients task.gear period
 
-  many : length names ≡ clients + 3
-  many = omega (arith, length-append (names_with task.script (Some (helm_sailed task))) vehicle_names, clients_with task.script)
+  many : length names ≡ clients + length all_answer
+  many = omega (arith, length-append (names_with task.script (Some (helm_sailed task))) (gear_names task.gear), clients_with task.script, as_many task.gear.craft task.gear.ranges period)
 
   names_own : AreApart names
   names_own =
-      apart_behind (names_with task.script (Some (helm_sailed task))) vehicle_names (names_apart task.script (Some (helm_sailed task)) valid) (refl, (refl, tt))
-      (list_any-append (has_name vehicle_names) task.script.names (codes "pHelmIvP" ∷ []) ∙ (λ i. apart i || list_any (has_name vehicle_names) (codes "pHelmIvP" ∷ [])))
+      apart_behind (names_with task.script (Some (helm_sailed task))) (gear_names task.gear) (names_apart task.script (Some (helm_sailed task)) valid) (aboard_apart (is_some task.gear.ranges))
+      (list_any-append (has_name (gear_names task.gear)) task.script.names (codes "pHelmIvP" ∷ []) ∙ (λ i. apart i || helm_apart (is_some task.gear.ranges) i))
 
   all_say : All SaysCalls all_answer
   all_say =
-      All-from_recursion SaysCalls all_answer (helm_says (helm_sailed task) good.formed, (pid_says task.craft allowed keeps, (sim_says task.craft period allowed keeps, tt)))
+      All-from_recursion SaysCalls all_answer (helm_says (helm_sailed task) good.formed, (pid_says task.gear.craft allowed keeps, (sim_says task.gear.craft period allowed keeps, contacts_say task.gear.ranges posts)))
 
   -- the entries of one client behind the openings are its lines or its turns
   own_entries : (history : History) → (sailed : IsSailed task history) → (n : ℕ) → All (IsBy (length names)) (entries_of n sailed.rest)
-  own_entries history sailed n = by (nat_lt n (clients + 3)) refl
+  own_entries history sailed n = by (nat_lt n (clients + length all_answer)) refl
     where
-      by : (known : Bool) → nat_lt n (clients + 3) ≡ known → All (IsBy (length names)) (entries_of n sailed.rest)
+      by : (known : Bool) → nat_lt n (clients + length all_answer) ≡ known → All (IsBy (length names)) (entries_of n sailed.rest)
       by true is =
           let By : Entry → Type 0 = IsBy (length names) in
           let heard : List Tick = heard_in (mailed_in names) n (openings clients all_answer) sailed.rest in
           let ticks : ℕ = suc (task.script.stop / period) in
-          let below : n < clients + 3 = ltb-true n (clients + 3) is in
+          let below : n < clients + length all_answer = ltb-true n (clients + length all_answer) is in
           subst (All By) (sym (sailed.own n below))
           (either_all By (nat_lt n clients) (entries_of n task.script.lines) (answers_of period ticks clients all_answer n heard) (own_lines (length names) n task.script valid (omega (arith, many)))
           (answers_by period ticks (length names) clients all_answer n heard all_say (omega (arith, many, below)) (λ k within. tick_early task.script.stop period k valid.early within)))
-      by false is = none_unnamed (IsBy (length names)) (length names) n sailed.rest sailed.named (let past = ltb-false n (clients + 3) is in omega (arith, many, past))
+      by false is = none_unnamed (IsBy (length names)) (length names) n sailed.rest sailed.named (let past = ltb-false n (clients + length all_answer) is in omega (arith, many, past))
 
   pub sailed_community : (history : History) → IsSailed task history → IsCommunity names history
   sailed_community history sailed = record {
-    named = All-append (λ name. IsTrue (is_name name)) (names_with task.script (Some (helm_sailed task))) vehicle_names (all_named task.script (Some (helm_sailed task)) valid)
-        (All-from_recursion (λ name. IsTrue (is_name name)) vehicle_names (refl, (refl, tt)));
+    named = All-append (λ name. IsTrue (is_name name)) (names_with task.script (Some (helm_sailed task))) (gear_names task.gear) (all_named task.script (Some (helm_sailed task)) valid)
+        (All-from_recursion (λ name. IsTrue (is_name name)) (gear_names task.gear) (aboard_named (is_some task.gear.ranges)));
     own = own_names names names_own;
     entries = λ k d within. (all k d within).0;
     clients = λ k d within. (all k d within).1;

@@ -1,10 +1,12 @@
 -- Which files the job reads, what is to be simulated, and what may be written of it.
-use Rattle.std.specs.Prelude.{◌≡◌, ℕ, neg_ℤ, pos, List, [], ◌∷◌, ◌++◌, Option, Some, None, Result, Ok, Err}
+use Rattle.std.specs.Prelude.{◌≡◌, ℕ, Bool, is_some, neg_ℤ, pos, List, [], ◌∷◌, ◌++◌, Option, Some, None, Result, Ok, Err}
 use Rattle.command_line.specs.Endings.{Outcomes}
 use Rattle.command_line.specs.Turns.{FileTurn, Ready, Wanted, turn_behind}
-use Rattle.command_line.specs.declared.status.FileKind.TheVariants.{Script as ScriptFile, Vehicle as VehicleFile}
+use Rattle.command_line.specs.declared.status.FileKind.TheVariants.{Script as ScriptFile, Vehicle as VehicleFile, Contacts as ContactsFile}
 use Rattle.command_line.specs.declared.status.Status.{Status}
 use Rattle.command_line.specs.declared.status.Status.TheVariants.{Done}
+use Rattle.contact_avoid.specs.declared.ranges.Ranges.{Ranges}
+use Rattle.contact_avoid.specs.RangeFiles.{ranges_of}
 use Rattle.helm_core.specs.declared.iteration.Iteration.{Iteration}
 use Rattle.helm_core.specs.Plans.{plan_made}
 use Rattle.helm_core.specs.Worths.{DecidesByWorth}
@@ -16,7 +18,8 @@ use Rattle.moos_post.specs.declared.value.Pair.{Pair}
 use Rattle.moos_post.specs.History.{History}
 use Rattle.moos_report.specs.declared.setup.Setup.{Setup}
 use Rattle.moos_report.specs.Report.{report_text}
-use Rattle.moos_simulate.specs.Simulated.{IsSimulated, vehicle_names}
+use Rattle.moos_simulate.specs.declared.gear.Gear.{Gear}
+use Rattle.moos_simulate.specs.Simulated.{gear_names, IsSimulated, vehicle_names}
 use Rattle.moos_text.specs.declared.cause.Cause.TheVariants.{S11}
 use Rattle.moos_text.specs.declared.cause.ReadFault.{ReadFault}
 use Rattle.moos_text.specs.declared.cause.ReadFault.TheVariants.{At}
@@ -32,32 +35,42 @@ use Rattle.sim_vehicle.specs.Vehicles.{vehicle_of}
 
 -- ---- the files
 
--- what is to be simulated: a script, beside a helm of these files, which steers this vehicle
+-- what is to be simulated: a script, beside a helm of these files, which steers a vehicle of this gear
 pub record Simulation : Type 0 where
   pub script : Script
   pub files : HelmFiles
-  pub craft : CraftSettings
+  pub gear : Gear
 
 -- a line of a client of the vehicle is refused, the first one where there is one
 abbrev pub without_line : Option ℕ → Script → Result Script ReadFault
 without_line None script = Ok script
 without_line (Some line) script = Err (At line S11)
 
--- what the bytes of a script stand for that is played beside a vehicle
-abbrev pub simulated_script : List ℕ → Result Script ReadFault
-simulated_script bytes = and_then (without_line (line_of_client vehicle_names bytes)) (script_of bytes)
+-- what the bytes of a script stand for that is played beside a vehicle, whose contacts are watched or not
+abbrev pub simulated_script : Bool → List ℕ → Result Script ReadFault
+simulated_script watched bytes = and_then (without_line (line_of_client (vehicle_names watched) bytes)) (script_of bytes)
 
--- behind a script and a helm's files, by the bytes of the vehicle file of this name
-abbrev pub vehicle_turn : Script → List ℕ → HelmFiles → List (List ℕ) → FileTurn Simulation
-vehicle_turn script vehicle files [] = Wanted VehicleFile vehicle
-vehicle_turn script vehicle files (bytes ∷ more) = turn_behind VehicleFile (λ craft. Ready (record { script = script; files = files; craft = craft })) (vehicle_of bytes)
+-- a script, a helm's files and a craft are all that a simulation needs, with the ranges of contacts, where there are any
+abbrev pub all_read : Script → HelmFiles → CraftSettings → Option Ranges → FileTurn Simulation
+all_read script files craft ranges = Ready (record { script = script; files = files; gear = record { craft = craft; ranges = ranges } })
+
+-- behind a script, a helm's files and a craft, by the bytes of the contacts file of this name, or without one
+abbrev pub contacts_turn : Script → HelmFiles → Option (List ℕ) → CraftSettings → List (List ℕ) → FileTurn Simulation
+contacts_turn script files None craft more = all_read script files craft None
+contacts_turn script files (Some contacts) craft [] = Wanted ContactsFile contacts
+contacts_turn script files (Some contacts) craft (bytes ∷ more) = turn_behind ContactsFile (λ ranges. all_read script files craft (Some ranges)) (ranges_of bytes)
+
+-- behind a script and a helm's files, by the bytes of the vehicle file of this name, and then of the contacts file
+abbrev pub vehicle_turn : Script → List ℕ → Option (List ℕ) → HelmFiles → List (List ℕ) → FileTurn Simulation
+vehicle_turn script vehicle contacts files [] = Wanted VehicleFile vehicle
+vehicle_turn script vehicle contacts files (bytes ∷ more) = turn_behind VehicleFile (λ craft. contacts_turn script files contacts craft more) (vehicle_of bytes)
 
 -- Where the job stands, by the bytes of the files that were loaded so far, in order: a script, a mission, the behaviour file that the
--- mission names, and a vehicle file.
-abbrev pub simulate_turn : List ℕ → List ℕ → List ℕ → List (List ℕ) → FileTurn Simulation
-simulate_turn script mission vehicle [] = Wanted ScriptFile script
-simulate_turn script mission vehicle (bytes ∷ more) =
-    turn_behind ScriptFile (λ read. helm_turn (vehicle_turn read vehicle) read mission more) (simulated_script bytes)
+-- mission names, a vehicle file, and a contacts file, where one is named.
+abbrev pub simulate_turn : List ℕ → List ℕ → List ℕ → Option (List ℕ) → List (List ℕ) → FileTurn Simulation
+simulate_turn script mission vehicle contacts [] = Wanted ScriptFile script
+simulate_turn script mission vehicle contacts (bytes ∷ more) =
+    turn_behind ScriptFile (λ read. helm_turn (vehicle_turn read vehicle contacts) read mission more) (simulated_script (is_some contacts) bytes)
 
 -- ---- what may be written
 
@@ -67,11 +80,11 @@ helm_sailed task = steering_by task.script task.files
 
 -- the names of the clients: the script's, the helm's and the vehicle's
 abbrev pub names_sailed : Simulation → List (List ℕ)
-names_sailed task = names_with task.script (Some (helm_sailed task)) ++ vehicle_names
+names_sailed task = names_with task.script (Some (helm_sailed task)) ++ gear_names task.gear
 
 -- a history that the simulation may leave
 abbrev pub IsSailed : Simulation → History → Type 0
-IsSailed task history = IsSimulated task.script (Some (helm_sailed task)) task.craft (names_sailed task) history
+IsSailed task history = IsSimulated task.script (Some (helm_sailed task)) task.gear (names_sailed task) history
 
 -- the helm's iterations in a history: what its own mails there come to
 abbrev pub iterations_sailed : Simulation → History → List Iteration
@@ -95,7 +108,7 @@ pub record IsVoyage (task : Simulation) (text : List ℕ) : Type 0 where
   pub sailed : IsSailed task history
   pub printed : text ≡ voyage_text task history
   pub listed : (other : History) → IsSailed task other → text ≡ voyage_text task other → other ≡ history
-  pub ranges : KeepsInRange task.craft
+  pub ranges : KeepsInRange task.gear.craft
   pub worth : DecidesByWorth (plan_made task.files.mission task.files.file)
 
 -- the job may write this text and end with this status
@@ -109,14 +122,14 @@ simulate_outcomes = record { MayWrite = MayReport; IsWrittenAsItComes = λ task.
 
 -- ---- a play of a simulation; this serves `telling` alone
 
--- a script, a helm, names of clients, a vehicle and a setup that are those of this simulation, whose reports tell their histories, whose
+-- a script, a helm, names of clients, a gear and a setup that are those of this simulation, whose reports tell their histories, whose
 -- vehicle keeps in range and whose helm decides by worth
-pub record IsOfSimulation (task : Simulation) (setup : Setup) (craft : CraftSettings) (script : Script) (helm : Option Steering) (names : List (List ℕ)) : Type 0 where
+pub record IsOfSimulation (task : Simulation) (setup : Setup) (gear : Gear) (script : Script) (helm : Option Steering) (names : List (List ℕ)) : Type 0 where
   pub same_script : script ≡ task.script
   pub same_helm : helm ≡ Some (helm_sailed task)
   pub same_names : names ≡ names_sailed task
-  pub same_craft : craft ≡ task.craft
+  pub same_gear : gear ≡ task.gear
   pub same_setup : setup ≡ setup_of (Some task.files)
   pub told : (one other : History) → IsSailed task one → IsSailed task other → voyage_text task other ≡ voyage_text task one → other ≡ one
-  pub ranges : KeepsInRange task.craft
+  pub ranges : KeepsInRange task.gear.craft
   pub worth : DecidesByWorth (plan_made task.files.mission task.files.file)

@@ -12,19 +12,19 @@ use moos_text::{Cause, ReadFault};
 use script_reader::{Script, client_law, line_of_client, read_script};
 use std::alloc::Global;
 
-/// Reads a script, none of whose lines may be of a client of the vehicle.
-pub fn read_simulated(alloc: Global, bytes: &[u8]) -> Result<Script, ReadFault>
+/// Reads a script, none of whose lines may be of a client of the vehicle, whose contacts are watched or not.
+pub fn read_simulated(alloc: Global, bytes: &[u8], watched: bool) -> Result<Script, ReadFault>
     requires { length bytes.now < 2 ^ 32 }
-    ensures read { IfOk result (λ script. simulated_script bytes.now ≡ Ok script) }
-    ensures refused { IfErr result (λ fault. IsFirst fault (simulated_script bytes.now)) }
+    ensures read { IfOk result (λ script. simulated_script watched bytes.now ≡ Ok script) }
+    ensures refused { IfErr result (λ fault. IsFirst fault (simulated_script watched bytes.now)) }
     ensures valid { IfOk result IsValid }
-    ensures apart { IfOk result (λ script. list_any (has_name vehicle_names) script.names ≡ false) }
+    ensures apart { IfOk result (λ script. list_any (has_name (vehicle_names watched)) script.names ≡ false) }
 {
     let script = match read_script(alloc, bytes) {
         Ok(script) => script,
         Err(fault) => return Err(fault),
     };
-    let Ok(names) = vehicle_names(alloc) else {
+    let Ok(names) = vehicle_names(alloc, watched) else {
         return Err(ReadFault::NoMemory);
     };
     client_law();

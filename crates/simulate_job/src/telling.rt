@@ -6,7 +6,7 @@ ghost use Rattle.moos_io.specs.Faults.{Faring, FaresOn};
 ghost use Rattle.moos_play.specs.Lawful.{MayStart, names_with, steering_with};
 ghost use Rattle.moos_play.specs.Plays.{clients_in, GoesOnWith, helm_in, iterations_made, left_in, script_played};
 ghost use Rattle.moos_simulate.specs.Sailing.{IsSailedOut, IsSimulating};
-ghost use Rattle.moos_simulate.specs.Simulated.{vehicle_names};
+ghost use Rattle.moos_simulate.specs.Simulated.{gear_names};
 ghost use Rattle.moos_telling.specs.Telling.{IsToldSoFar, Tells};
 ghost use Rattle.script_reader.specs.Validity.{IsValid};
 ghost use Rattle.simulate_job.specs.Simulating.{IsOfSimulation, IsVoyage, Simulation};
@@ -15,22 +15,21 @@ use command_line::{Status, written};
 use moos_io::{Buffer, Gate, Sink};
 use moos_play::{HelmRun, Order, Play};
 use moos_report::{Setup, parts_law};
-use moos_simulate::{Vehicle, vehicle_names};
+use moos_simulate::{Gear, Vehicle, vehicle_names};
 use moos_telling::{tell_end, tell_opening, tell_part};
 use script_reader::Script;
-use sim_vehicle::Craft;
 use std::alloc::Global;
 use std::sync::Wait;
 use std::thread::Threads;
 
-/// Plays the script with this helm, which steers this vehicle, round by round, and writes the report of each round before the next
-/// one begins.
+/// Plays the script with this helm, which steers a vehicle of this gear, round by round, and writes the report of each round before the
+/// next one begins.
 pub fn sail<R: Threads + Wait + Sync, K: Sink, G: Gate>(
     rt: &R,
     alloc: Global,
     script: &Script,
     helm: HelmRun,
-    craft: Craft,
+    gear: Gear,
     setup: &Setup,
     workers: u32,
     out: &mut K,
@@ -41,18 +40,19 @@ pub fn sail<R: Threads + Wait + Sync, K: Sink, G: Gate>(
     requires period { helm.period ≤ 10 ^ 6 }
     requires few { (1 ≤ workers) × (workers ≤ 16) }
     // Whichever simulation this is.
-    ensures { (task : Simulation) → IsOfSimulation task setup.now craft script.now (Some (steering_with script.now helm)) (names_with script.now (Some helm) ++ vehicle_names)
+    ensures { (task : Simulation) → IsOfSimulation task setup.now gear script.now (Some (steering_with script.now helm)) (names_with script.now (Some helm) ++ gear_names gear)
         → Tells (IsVoyage task) (sinking (K.taken out.old) (K.taken out.new) (K.faults out.old) (K.faults out.new)) result }
 {
     let period = helm.period;
     let pid_client = script.names.len() as u32 + 1;
-    let Ok(names) = vehicle_names(alloc) else {
+    let watched = gear.ranges.is_some();
+    let Ok(names) = vehicle_names(alloc, watched) else {
         return Status::NoMemory;
     };
     let Ok(mut play) = Play::make(rt, alloc, script, Some(helm), names, Order::Stamp, gate) else {
         return Status::NoMemory;
     };
-    match Vehicle::launch(rt, alloc, &mut play, craft, period, pid_client) {
+    match Vehicle::launch(rt, alloc, &mut play, gear, period, pid_client) {
         Ok(mut vehicle) => tell(
             rt,
             alloc,
@@ -81,7 +81,7 @@ fn tell<R: Threads + Wait + Sync, K: Sink, G: Gate>(
     requires simulating { IsSimulating vehicle.old play.old }
     requires begun { iterations_made play.old ≡ [] }
     requires few { (1 ≤ workers) × (workers ≤ 16) }
-    ensures { (task : Simulation) → IsOfSimulation task setup.now vehicle.old.craft (script_played play.old) (helm_in play.old) (clients_in play.old)
+    ensures { (task : Simulation) → IsOfSimulation task setup.now vehicle.old.gear (script_played play.old) (helm_in play.old) (clients_in play.old)
         → Tells (IsVoyage task) (sinking (K.taken out.old) (K.taken out.new) (K.faults out.old) (K.faults out.new)) result }
 {
     parts_law();
@@ -132,7 +132,7 @@ fn tell_round<R: Threads + Wait + Sync, K: Sink, G: Gate>(
     requires few { (1 ≤ workers) × (workers ≤ 16) }
     ensures empty { OnOk result (buffer.new ≡ []) }
     ensures simulating { OnOk result (IsSimulating vehicle.new play.new) }
-    ensures craft { OnOk result (vehicle.new.craft ≡ vehicle.old.craft) }
+    ensures gear { OnOk result (vehicle.new.gear ≡ vehicle.old.gear) }
     ensures same { OnOk result (GoesOnWith play.old play.new) }
     ensures later { FaresOn (K.faults out.old) (K.faults out.new) }
     ensures made { IfOk result (λ more. IfSome more (λ more. length (iterations_made play.new) ≡ made + more)) }
@@ -141,9 +141,9 @@ fn tell_round<R: Threads + Wait + Sync, K: Sink, G: Gate>(
     // Whatever was told before.
     ensures told { IfOk result (λ more. IfSome more (λ _. (before : Option (List ℕ))
         → IsToldSoFar setup.now before (K.taken out.old) play.old → IsToldSoFar setup.now before (K.taken out.new) play.new)) }
-    ensures over { IfOk result (λ more. IfNone more (IsSailedOut vehicle.old.craft play.new × (play.new ≡ play.old) × (K.taken out.new ≡ K.taken out.old))) }
+    ensures over { IfOk result (λ more. IfNone more (IsSailedOut vehicle.old.gear play.new × (play.new ≡ play.old) × (K.taken out.new ≡ K.taken out.old))) }
     ensures stopped { IfErr result (λ status. (task : Simulation) (before : Option (List ℕ)) (faults : Faring)
-        → IsOfSimulation task setup.now vehicle.old.craft (script_played play.old) (helm_in play.old) (clients_in play.old)
+        → IsOfSimulation task setup.now vehicle.old.gear (script_played play.old) (helm_in play.old) (clients_in play.old)
         → FaresOn faults (K.faults out.old) → IsToldSoFar setup.now before (K.taken out.old) play.old
         → Tells (IsVoyage task) (sinking before (K.taken out.new) faults (K.faults out.new)) status) }
 {

@@ -23,4 +23,4 @@ returns-in-Simulate-clause-ends g c =
     let run = surroundings (g.F.Folder.told c.args.folder.now) (g.F.Folder.sure c.args.folder.now) (g.F.Folder.faults c.args.folder.now) (g.F.Folder.faults c.simulate.new.folder)
     (sinking (g.K.Sink.taken c.args.out.now) (g.K.Sink.taken c.simulate.new.out) (g.K.Sink.faults c.args.out.now) (g.K.Sink.faults c.simulate.new.out)) in
     subst (λ (named : Job). EndsFrom outcomes run (turn_of named) [] c.simulate.result) (sym job.is)
-    (ends_as Simulating simulate_outcomes outcomes (λ task status text may. may) (λ task comes. comes) run (simulate_turn job.script job.mission job.vehicle) [] c.simulate.result c.simulate.ensures.ends)
+    (ends_as Simulating simulate_outcomes outcomes (λ task status text may. may) (λ task comes. comes) run (simulate_turn job.script job.mission job.vehicle job.contacts) [] c.simulate.result c.simulate.ensures.ends)

@@ -8,7 +8,7 @@ use Rattle.simulate_job.proofs.files.with_helm.Goals as goal
 
 pub returns-in-Ok-clause-ends : goal.returns-in-Ok-clause-ends
 returns-in-Ok-clause-ends g c = λ turn front turns.
-    let next = vehicle_turn c.args.script.now c.args.vehicle.now in
+    let next = vehicle_turn c.args.script.now c.args.vehicle.now c.args.contacts.now in
     let were = c.in-Ok.ensures.loaded in
     let run = surroundings (g.F.Folder.told c.args.folder.now) (g.F.Folder.sure c.args.folder.now) (g.F.Folder.faults c.args.folder.now) (g.F.Folder.faults c.with_vehicle.new.folder) _ in
     let later = surroundings (g.F.Folder.told c.load_helm.new.folder) (g.F.Folder.sure c.load_helm.new.folder) (g.F.Folder.faults c.load_helm.new.folder) (g.F.Folder.faults c.with_vehicle.new.folder) _ in
@@ -19,5 +19,5 @@ returns-in-Ok-clause-ends g c = λ turn front turns.
 
 pub returns-in-Err-clause-ends : goal.returns-in-Err-clause-ends
 returns-in-Err-clause-ends g c = λ turn front turns.
-    ends_so simulate_outcomes (vehicle_turn c.args.script.now c.args.vehicle.now) c.args.script.now c.args.name.now turn front turns (surroundings _ _ _ _ _) c.in-Err.status
+    ends_so simulate_outcomes (vehicle_turn c.args.script.now c.args.vehicle.now c.args.contacts.now) c.args.script.now c.args.name.now turn front turns (surroundings _ _ _ _ _) c.in-Err.status
     (c.in-Err.ensures.ends (g.K.Sink.taken c.args.out.now) (g.K.Sink.faults c.args.out.now))

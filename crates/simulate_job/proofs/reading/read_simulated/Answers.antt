@@ -9,22 +9,22 @@ use Rattle.simulate_job.specs.Simulating.{without_line}
 use Rattle.simulate_job.proofs.reading.read_simulated.Goals as goal
 
 pub returns-in-Err-clause-refused : goal.returns-in-Err-clause-refused
-returns-in-Err-clause-refused c = refused_first (without_line (line_of_client vehicle_names c.args.bytes.now)) c.in-Err.fault (script_of c.args.bytes.now) c.in-Err.ensures.refused
+returns-in-Err-clause-refused c = refused_first (without_line (line_of_client (vehicle_names c.args.watched) c.args.bytes.now)) c.in-Err.fault (script_of c.args.bytes.now) c.in-Err.ensures.refused
 
 pub returns-in-None-clause-read : goal.returns-in-None-clause-read
 returns-in-None-clause-read c =
     let bytes = c.args.bytes.now in
-    let none : line_of_client vehicle_names bytes ≡ None = ap (λ (names : List (List ℕ)). line_of_client names bytes) (sym c.in-Ok-vehicle_names.ensures) ∙ sym c.line_of_client.ensures ∙ c.in-None.is in
-    ap (and_then (without_line (line_of_client vehicle_names bytes))) c.in-Ok.ensures.read ∙ ap (λ (line : Option ℕ). without_line line c.in-Ok.script) none
+    let none : line_of_client (vehicle_names c.args.watched) bytes ≡ None = ap (λ (names : List (List ℕ)). line_of_client names bytes) (sym c.in-Ok-vehicle_names.ensures) ∙ sym c.line_of_client.ensures ∙ c.in-None.is in
+    ap (and_then (without_line (line_of_client (vehicle_names c.args.watched) bytes))) c.in-Ok.ensures.read ∙ ap (λ (line : Option ℕ). without_line line c.in-Ok.script) none
 
 pub returns-in-None-clause-apart : goal.returns-in-None-clause-apart
 returns-in-None-clause-apart c =
     let bytes = c.args.bytes.now in
-    let none : line_of_client vehicle_names bytes ≡ None = ap (λ (names : List (List ℕ)). line_of_client names bytes) (sym c.in-Ok-vehicle_names.ensures) ∙ sym c.line_of_client.ensures ∙ c.in-None.is in
-    c.client_law.ensures vehicle_names bytes c.in-Ok.script c.in-Ok.ensures.read none
+    let none : line_of_client (vehicle_names c.args.watched) bytes ≡ None = ap (λ (names : List (List ℕ)). line_of_client names bytes) (sym c.in-Ok-vehicle_names.ensures) ∙ sym c.line_of_client.ensures ∙ c.in-None.is in
+    c.client_law.ensures (vehicle_names c.args.watched) bytes c.in-Ok.script c.in-Ok.ensures.read none
 
 pub returns-in-Some-clause-refused : goal.returns-in-Some-clause-refused
 returns-in-Some-clause-refused c =
     let bytes = c.args.bytes.now in
-    let some : line_of_client vehicle_names bytes ≡ Some c.in-Some.line = ap (λ (names : List (List ℕ)). line_of_client names bytes) (sym c.in-Ok-vehicle_names.ensures) ∙ sym c.line_of_client.ensures ∙ c.in-Some.is in
-    ap (and_then (without_line (line_of_client vehicle_names bytes))) c.in-Ok.ensures.read ∙ ap (λ (line : Option ℕ). without_line line c.in-Ok.script) some
+    let some : line_of_client (vehicle_names c.args.watched) bytes ≡ Some c.in-Some.line = ap (λ (names : List (List ℕ)). line_of_client names bytes) (sym c.in-Ok-vehicle_names.ensures) ∙ sym c.line_of_client.ensures ∙ c.in-Some.is in
+    ap (and_then (without_line (line_of_client (vehicle_names c.args.watched) bytes))) c.in-Ok.ensures.read ∙ ap (λ (line : Option ℕ). without_line line c.in-Ok.script) some

@@ -4,6 +4,8 @@ use Rattle.std.specs.Prelude.{Some}
 use Rattle.moos_play.specs.Lawful.{names_with, opening, Steering, steering_with}
 use Rattle.moos_play.specs.Plays.{script_played}
 use Rattle.script_reader.specs.declared.script.Script.{Script}
+use Rattle.moos_simulate.specs.Simulated.{vehicle_names}
+use Rattle.simulate_job.proofs.Reporting.{few_aboard}
 use Rattle.simulate_job.proofs.telling.sail.Goals as goal
 
 pub overflow_cast-pid_client : goal.overflow_cast-pid_client
@@ -18,7 +20,7 @@ returns-in_default g c = λ task of. inl (record { taken = refl; faults = refl }
 pub make-requires-clause-few : goal.make-requires-clause-few
 make-requires-clause-few g c =
     let many = ap length c.in-Ok.ensures in
-    omega (arith, c.requires.valid.few_clients, many, length-append (names_with c.args.script.now (Some c.args.helm)) c.in-Ok.names, length-append c.args.script.now.names (codes "pHelmIvP" ∷ []))
+    omega (arith, c.requires.valid.few_clients, many, few_aboard c.is_some.result, length-append (names_with c.args.script.now (Some c.args.helm)) c.in-Ok.names, length-append c.args.script.now.names (codes "pHelmIvP" ∷ []))
 
 pub returns-in_default-make : goal.returns-in_default-make
 returns-in_default-make g c = λ task of. inl (record { taken = refl; faults = refl })
@@ -33,7 +35,7 @@ launch-requires g c =
       between = made.between;
       order = made.order;
       steered = made.helm;
-      named = made.names ∙ (λ i. names_with (sym made.script i) (Some helm) ++ c.in-Ok.ensures i);
+      named = made.names ∙ (λ i. names_with (sym made.script i) (Some helm) ++ (c.in-Ok.ensures ∙ ap vehicle_names c.is_some.ensures) i);
       begun = made.begun ∙ ap opening made.helm;
       period = refl;
       few = c.requires.period;
@@ -48,8 +50,8 @@ returns-in-Ok-launch g c = λ task of.
     c.tell.ensures task (record {
       same_script = on.script ∙ made.script ∙ of.same_script;
       same_helm = on.helm ∙ made.helm ∙ of.same_helm;
-      same_names = on.names ∙ made.names ∙ ap (λ further. names_with c.args.script.now (Some c.args.helm) ++ further) c.in-Ok.ensures ∙ of.same_names;
-      same_craft = c.in-Ok-launch.ensures.craft ∙ of.same_craft;
+      same_names = on.names ∙ made.names ∙ ap (λ further. names_with c.args.script.now (Some c.args.helm) ++ further) (c.in-Ok.ensures ∙ ap vehicle_names c.is_some.ensures) ∙ of.same_names;
+      same_gear = c.in-Ok-launch.ensures.gear ∙ of.same_gear;
       same_setup = of.same_setup;
       told = of.told;
       ranges = of.ranges;

@@ -25,7 +25,7 @@ returns-in-Err g c = λ task of.
     let well : IsRunWell play = record { valid = law.valid; helm = law.helm; steered = law.steered } in
     let front = subst (λ made. TookFront before after (front_text setup (clients_in play) (history_in play) made)) (sym c.requires.begun) c.in-Err.ensures.front in (
       told_front setup play c.parts_law.ensures.fronts well (named_sailing vehicle play c.requires.simulating law.valid) voyage.rest voyage.more (IsVoyage task)
-          (may_report task setup vehicle.craft (script_played play) (helm_in play) (clients_in play) (history_in play ++ voyage.rest) (iterations_made play ++ voyage.more) of voyage.simulated voyage.iterations)
+          (may_report task setup vehicle.gear (script_played play) (helm_in play) (clients_in play) (history_in play ++ voyage.rest) (iterations_made play ++ voyage.more) of voyage.simulated voyage.iterations)
           before after _ _ front,
       c.in-Err.ensures.rose,
     )
@@ -40,7 +40,7 @@ loop-more-init g c =
     record {
       empty = c.new-buffer.ensures;
       simulating = subst (IsSimulating c.args.vehicle.now) same c.requires.simulating;
-      craft = refl;
+      gear = refl;
       same = subst (GoesOnWith play) same (record { script = refl; order = refl; names = refl; helm = refl });
       made = sym (ap length c.requires.begun) ∙ ap (λ (play : Playing). length (iterations_made play)) same;
       told = subst (IsToldSoFar setup before after) same
@@ -62,7 +62,7 @@ loop-more-preserved g c =
     record {
       empty = c.in-Ok-Some.ensures.empty;
       simulating = c.in-Ok-Some.ensures.simulating;
-      craft = c.in-Ok-Some.ensures.craft ∙ kept.craft;
+      gear = c.in-Ok-Some.ensures.gear ∙ kept.gear;
       same = goes_on_twice c.args.play.now old new kept.same c.in-Ok-Some.ensures.same;
       made = sym (subst (λ more. IfSome more (λ more. length (iterations_made new) ≡ c.loop-more.made + more)) is c.in-Ok-Some.ensures.made);
       told = (subst (λ more. IfSome more (λ _. (before : Option (List ℕ)) → IsToldSoFar c.args.setup.now before (g.K.Sink.taken c.loop-more.out) old → IsToldSoFar c.args.setup.now before (g.K.Sink.taken c.tell_round.new.out) new))
@@ -78,17 +78,17 @@ returns-in-Ok-None g c = λ task of.
     let setup = c.args.setup.now in
     let before = g.K.Sink.taken c.args.out.now in
     let between = g.K.Sink.taken c.tell_round.new.out in
-    let craft = c.loop-more.vehicle.craft in
-    let over = subst (λ more. IfNone more (IsSailedOut craft new × (new ≡ old) × (between ≡ g.K.Sink.taken c.loop-more.out))) c.in-Ok-None.field-0-is c.in-Ok-None.ensures.over in
+    let gear = c.loop-more.vehicle.gear in
+    let over = subst (λ more. IfNone more (IsSailedOut gear new × (new ≡ old) × (between ≡ g.K.Sink.taken c.loop-more.out))) c.in-Ok-None.field-0-is c.in-Ok-None.ensures.over in
     let on = goes_on_twice c.args.play.now old new kept.same c.in-Ok-None.ensures.same in
     let told = subst (IsToldSoFar setup before between) (sym over.1) (subst (λ between. IsToldSoFar setup before between old) (sym over.2) kept.told) in
-    let of_new = of_on task setup c.args.vehicle.now.craft craft c.args.play.now new on kept.craft of in
+    let of_new = of_on task setup c.args.vehicle.now.gear gear c.args.play.now new on kept.gear of in
     end_told setup new (IsVoyage task) before between _ _ (g.K.Sink.faults c.tell_round.new.out) _ c.tell_end.result c.written.result
-    (may_report task setup craft (script_played new) (helm_in new) (clients_in new) (history_in new) (iterations_made new) of_new over.0.simulated (sym over.0.iterations)) told
+    (may_report task setup gear (script_played new) (helm_in new) (clients_in new) (history_in new) (iterations_made new) of_new over.0.simulated (sym over.0.iterations)) told
     c.tell_end.ensures.ok c.tell_end.ensures.front (fares_further _ _ _ kept.later c.in-Ok-None.ensures.later) c.tell_end.ensures.rose c.written.ensures.all c.written.ensures.fault
 
 pub returns-in-Err-tell_round : goal.returns-in-Err-tell_round
 returns-in-Err-tell_round g c = λ task of.
     let kept = c.loop-more.invariant in
     c.in-Err-tell_round.ensures.stopped task (g.K.Sink.taken c.args.out.now) (g.K.Sink.faults c.args.out.now)
-    (of_on task c.args.setup.now c.args.vehicle.now.craft c.loop-more.vehicle.craft c.args.play.now c.loop-more.play kept.same kept.craft of) kept.later kept.told
+    (of_on task c.args.setup.now c.args.vehicle.now.gear c.loop-more.vehicle.gear c.args.play.now c.loop-more.play kept.same kept.gear of) kept.later kept.told

@@ -10,7 +10,7 @@ abbrev pub invariant-loop-more : goal.invariant-loop-more
 invariant-loop-more g l = record {
   empty : l.buffer ≡ [];
   simulating : IsSimulating l.vehicle l.play;
-  craft : l.vehicle.craft ≡ l.fn.vehicle.craft;
+  gear : l.vehicle.gear ≡ l.fn.vehicle.gear;
   same : GoesOnWith l.fn.play l.play;
   made : l.made ≡ length (iterations_made l.play);
   told : IsToldSoFar l.setup (g.K.Sink.taken l.fn.out) (g.K.Sink.taken l.out) l.play;

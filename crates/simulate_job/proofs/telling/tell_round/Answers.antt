@@ -20,7 +20,7 @@ returns-in_default-clause-stopped g c = λ task before faults of later told.
     let law = c.front_law-2.ensures in
     let well : IsRunWell play = record { valid = law.valid; helm = law.helm; steered = law.steered } in
     inr (told_so_far setup play c.parts_law.ensures.fronts well (named_sailing vehicle play c.requires.simulating law.valid) voyage.rest voyage.more (IsVoyage task)
-    (may_report task setup vehicle.craft (script_played play) (helm_in play) (clients_in play) (history_in play ++ voyage.rest) (iterations_made play ++ voyage.more) of voyage.simulated voyage.iterations)
+    (may_report task setup vehicle.gear (script_played play) (helm_in play) (clients_in play) (history_in play ++ voyage.rest) (iterations_made play ++ voyage.more) of voyage.simulated voyage.iterations)
     before _ faults _ told)
 
 pub tell_part-requires-clause-fetched : goal.tell_part-requires-clause-fetched
@@ -50,8 +50,8 @@ returns-in-Err-clause-stopped g c = λ task before faults of later told.
     let front = part_front setup old new c.in-Some.round c.parts_law.ensures.parts well well_on (named_sailing c.args.vehicle.now old c.requires.simulating law.valid) on c.round.ensures.seated part.from part.iterations
     before _ _ c.args.made c.requires.made told c.in-Err.ensures.front in (
       told_front setup new c.parts_law.ensures.fronts well_on (named_sailing vehicle new c.in-Ok.ensures.simulating next.valid) voyage.rest voyage.more (IsVoyage task)
-          (may_report task setup vehicle.craft (script_played new) (helm_in new) (clients_in new) (history_in new ++ voyage.rest) (iterations_made new ++ voyage.more)
-          (of_on task setup c.args.vehicle.now.craft vehicle.craft old new on c.round.ensures.craft of) voyage.simulated voyage.iterations)
+          (may_report task setup vehicle.gear (script_played new) (helm_in new) (clients_in new) (history_in new ++ voyage.rest) (iterations_made new ++ voyage.more)
+          (of_on task setup c.args.vehicle.now.gear vehicle.gear old new on c.round.ensures.gear of) voyage.simulated voyage.iterations)
           before _ faults _ front,
       fell_later faults _ _ _ later c.in-Err.ensures.rose,
     )
@@ -81,5 +81,5 @@ returns-in_default-next-clause-over g c =
     let old = c.args.play.now in
     let new = c.round.new.play in
     let none = subst (λ round. IfNone round ((left_in old ≡ 0) × (new ≡ old))) c.in_default-next.is c.in-Ok.ensures.none in
-    let over = subst (λ round. IfNone round (IsSailedOut c.round.new.self.craft new)) c.in_default-next.is c.in-Ok.ensures.over in
-    (subst (λ craft. IsSailedOut craft new) c.round.ensures.craft over, none.1, refl)
+    let over = subst (λ round. IfNone round (IsSailedOut c.round.new.self.gear new)) c.in_default-next.is c.in-Ok.ensures.over in
+    (subst (λ gear. IsSailedOut gear new) c.round.ensures.gear over, none.1, refl)

@@ -1,14 +1,14 @@
 -- Each client's call is its turn, and where no memory was left what was entered is lawful so far.
-use Rattle.std.proofs.Common.{◌++◌, ◌∷◌, [], ◌∙◌, List, suc, ap, subst, sym}
+use Rattle.std.proofs.Common.{◌++◌, ◌∷◌, [], ◌∙◌, List, ap, subst, sym}
 use Rattle.moos_db.specs.Database.{letters_after}
-use Rattle.moos_play.specs.Plays.{clients_in, helm_in, history_in, left_in, next_stamp, script_played}
+use Rattle.moos_play.specs.Plays.{clients_in, helm_in, history_in, Playing, script_played}
 use Rattle.moos_post.specs.declared.value.Pair.{Pair}
-use Rattle.moos_simulate.proofs.Going.{always_err, lawful_on, stays_on_twice}
-use Rattle.moos_simulate.proofs.Voyage.{both_answered, pid_answered, pid_stopped, sim_answered, sim_stopped}
+use Rattle.moos_simulate.proofs.Going.{always_err, lawful_on}
+use Rattle.moos_simulate.proofs.Voyage.{pid_answered, pid_stopped, sim_answered, sim_known, sim_stopped}
 use Rattle.moos_simulate.specs.declared.vehicle.Vehicle.{Vehicle}
-use Rattle.moos_simulate.specs.Sailing.{IsUnderSail}
 use Rattle.moos_simulate.specs.Simulated.{IsSimulatedSoFar}
-use Rattle.moos_simulate.specs.Turns.{HasHeardAtMost, HasSaid}
+use Rattle.moos_simulate.specs.Sailing.{mgr_number, pid_number, sim_number}
+use Rattle.moos_simulate.specs.Turns.{HasHeardAtMost, HasSaid, IsAnswering}
 use Rattle.sim_clients.specs.Clients.{hull_by, hull_pairs}
 use Rattle.sim_clients.specs.Keeping.{IsSimAfter, pairs_in_mail}
 use Rattle.moos_simulate.proofs.vehicle.Vehicle.answer.Goals as goal
@@ -18,41 +18,45 @@ returns-in_err-control-clause-so_far g c =
     let a = c.requires in
     let old = c.args.play.now in
     let new = c.control.new.play in
-    let craft = c.args.self.now.craft in
-    always_err c.from_residual.result (IsSimulatedSoFar (script_played new) (helm_in new) craft (clients_in new) (history_in new))
-    (lawful_on craft a.helm old new a.beside.steered c.in_err-control.ensures.goes_on.same (pid_stopped c.args.self.now old c.args.stamp a new c.in_err-control.ensures.stopped))
+    let gear = c.args.self.now.gear in
+    always_err c.from_residual.result (IsSimulatedSoFar (script_played new) (helm_in new) gear (clients_in new) (history_in new))
+    (lawful_on gear a.helm old new a.beside.steered c.in_err-control.ensures.goes_on.same (pid_stopped c.args.self.now old c.args.stamp a new c.in_err-control.ensures.stopped))
 
 pub returns-in_err-sail-clause-so_far : goal.returns-in_err-sail-clause-so_far
 returns-in_err-sail-clause-so_far g c =
-    let a = c.requires in
     let vehicle = c.args.self.now in
     let old = c.args.play.now in
     let mid = c.control.new.play in
     let new = c.sail.new.play in
-    let stays = c.in_ok-control.ensures.goes_on in
-    let after = pid_answered vehicle old c.args.stamp a mid c.control.new.self.pid c.in_ok-control.ensures.turned c.in_ok-control.ensures.after in
-    let stopped = subst (λ (v : Vehicle). HasHeardAtMost v.sim_client c.args.stamp mid new) c.in_ok-control.ensures.vehicle c.in_err-sail.ensures.stopped in
-    always_err c.from_residual-in_err-sail.result (IsSimulatedSoFar (script_played new) (helm_in new) vehicle.craft (clients_in new) (history_in new))
-    (lawful_on vehicle.craft a.helm old new a.beside.steered (stays_on_twice old mid new stays c.in_err-sail.ensures.goes_on).same (sim_stopped vehicle old c.args.stamp a mid c.control.new.self.pid stays after new stopped))
-
-pub returns-clause-simulating : goal.returns-clause-simulating
-returns-clause-simulating g c =
-    let a = c.requires in
-    let vehicle = c.args.self.now in
-    let old = c.args.play.now in
-    let mid = c.control.new.play in
-    let new = c.sail.new.play in
-    let other = c.sail.new.self in
-    let stays = c.in_ok-control.ensures.goes_on in
     let first = c.in_ok-control.ensures.vehicle in
-    let second = c.in_ok-sail.ensures.vehicle in
-    let pid = c.control.new.self.pid in
-    let after = pid_answered vehicle old c.args.stamp a mid pid c.in_ok-control.ensures.turned c.in_ok-control.ensures.after in
-    let said = subst (λ (v : Vehicle). (mails : List (List Pair)) → IsSimAfter v.craft v.period mails v.sim → HasSaid v.sim_client c.args.stamp (hull_pairs (hull_by v.craft v.period (mails ++ pairs_in_mail (letters_after (clients_in mid) v.sim_client (history_in mid)) ∷ []))) mid new) first c.in_ok-sail.ensures.turned in
-    let kept = subst (λ (v : Vehicle). (mails : List (List Pair)) → IsSimAfter v.craft v.period mails v.sim → IsSimAfter v.craft v.period (mails ++ pairs_in_mail (letters_after (clients_in mid) v.sim_client (history_in mid)) ∷ []) other.sim) first c.in_ok-sail.ensures.after in
-    let sail = sim_answered vehicle old c.args.stamp a mid pid stays after new other.sim said kept in
-    let whole = stays_on_twice old mid new stays c.in_ok-sail.ensures.goes_on in
-    both_answered vehicle old c.args.stamp a other new
-    (record { pid = ap (λ (v : Vehicle). v.pid_client) second ∙ ap (λ (v : Vehicle). v.pid_client) first; sim = ap (λ (v : Vehicle). v.sim_client) second ∙ ap (λ (v : Vehicle). v.sim_client) first; period = ap (λ (v : Vehicle). v.period) second ∙ ap (λ (v : Vehicle). v.period) first })
-    (ap (λ (v : Vehicle). v.craft) second ∙ ap (λ (v : Vehicle). v.craft) first) whole
-    (subst (λ pid. IsUnderSail vehicle.craft a.helm (script_played old) (clients_in old) (suc a.count) (left_in old) (next_stamp old) (history_in new) pid other.sim) (sym (ap (λ (v : Vehicle). v.pid) second)) sail)
+    let on = c.in_ok-control.ensures.goes_on in
+    let after = pid_answered vehicle old c.args.stamp c.requires c.control.new.self mid on first c.in_ok-control.ensures.turned c.in_ok-control.ensures.after in
+    let gear = ap (λ (v : Vehicle). v.gear) first in
+    always_err c.from_residual-in_err-sail.result (IsSimulatedSoFar (script_played new) (helm_in new) vehicle.gear (clients_in new) (history_in new))
+    (subst (λ gear. IsSimulatedSoFar (script_played new) (helm_in new) gear (clients_in new) (history_in new)) gear
+    (lawful_on c.control.new.self.gear after.helm mid new after.beside.steered c.in_err-sail.ensures.goes_on.same
+    (sim_stopped c.control.new.self mid c.args.stamp after new c.in_err-sail.ensures.stopped)))
+
+pub sail-requires-clause-known : goal.sail-requires-clause-known
+sail-requires-clause-known g c =
+    let on = c.in_ok-control.ensures.goes_on in
+    let after = pid_answered c.args.self.now c.args.play.now c.args.stamp c.requires c.control.new.self c.control.new.play on c.in_ok-control.ensures.vehicle c.in_ok-control.ensures.turned c.in_ok-control.ensures.after in
+    sim_known c.control.new.self c.control.new.play c.args.stamp after
+
+pub watch-requires : goal.watch-requires
+watch-requires g c =
+    let vehicle = c.args.self.now in
+    let old = c.args.play.now in
+    let mid = c.control.new.play in
+    let new = c.sail.new.play in
+    let on = c.in_ok-control.ensures.goes_on in
+    let after = pid_answered vehicle old c.args.stamp c.requires c.control.new.self mid on c.in_ok-control.ensures.vehicle c.in_ok-control.ensures.turned c.in_ok-control.ensures.after in
+    sim_answered c.control.new.self mid c.args.stamp after c.sail.new.self new c.in_ok-sail.ensures.goes_on c.in_ok-sail.ensures.vehicle c.in_ok-sail.ensures.turned c.in_ok-sail.ensures.after
+
+pub returns-in_err-watch-clause-so_far : goal.returns-in_err-watch-clause-so_far
+returns-in_err-watch-clause-so_far g c =
+    let new = c.watch.new.play in
+    let vehicle = c.args.self.now in
+    let gear = ap (λ (v : Vehicle). v.gear) c.in_ok-sail.ensures.vehicle ∙ ap (λ (v : Vehicle). v.gear) c.in_ok-control.ensures.vehicle in
+    always_err c.from_residual-in_err-watch.result (IsSimulatedSoFar (script_played new) (helm_in new) vehicle.gear (clients_in new) (history_in new))
+    (subst (λ gear. IsSimulatedSoFar (script_played new) (helm_in new) gear (clients_in new) (history_in new)) gear c.in_err-watch.ensures.so_far)

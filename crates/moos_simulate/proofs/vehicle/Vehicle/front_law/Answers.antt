@@ -7,6 +7,6 @@ pub returns : goal.returns
 returns c =
     let so = c.requires in
     let play = c.args.play.now in
-    let craft = c.args.self.now.craft in
+    let gear = c.args.self.now.gear in
     arrives c.args.self.now so.0 play so.1 c.front_law.ensures.steered c.front_law.ensures.helm
-    (λ room. c.sailing_law.ensures (script_played play) so.0 craft (clients_in play) room (history_in play) so.1.sail.so_far)
+    (λ room. c.sailing_law.ensures (script_played play) so.0 gear (clients_in play) room (history_in play) so.1.sail.so_far)

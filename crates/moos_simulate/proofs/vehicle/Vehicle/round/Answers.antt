@@ -14,7 +14,7 @@ returns-in_err-round-clause-so_far g c =
     let new = c.round.new.self in
     let vehicle = c.args.self.now in
     let so = c.requires.simulating in
-    always_err c.from_residual.result (IsSimulatedSoFar (script_played new) (helm_in new) vehicle.craft (clients_in new) (history_in new))
+    always_err c.from_residual.result (IsSimulatedSoFar (script_played new) (helm_in new) vehicle.gear (clients_in new) (history_in new))
     (cut_off vehicle so.0 old new so.1 c.in_err-round.ensures.same c.front_law.ensures.so_far c.front_law.ensures.left c.in_err-round.ensures.stamped c.in_err-round.ensures.so_far)
 
 pub answer-requires : goal.answer-requires
@@ -47,7 +47,7 @@ returns-in_default-clause-over g c =
     let so = c.requires.simulating in
     let none = subst (λ round. IfNone round ((left_in old ≡ 0) × (new ≡ old))) c.in_default.is c.in_ok-round.ensures.none in
     let over = subst (λ round. IfNone round (IsPlayedOut new)) c.in_default.is c.in_ok-round.ensures.over in
-    subst (IsSailedOut vehicle.craft) (sym none.1) (sailed_out vehicle so.0 old so.1 none.0 (subst IsPlayedOut none.1 over) c.front_law.ensures.left c.front_law.ensures.so_far)
+    subst (IsSailedOut vehicle.gear) (sym none.1) (sailed_out vehicle so.0 old so.1 none.0 (subst IsPlayedOut none.1 over) c.front_law.ensures.left c.front_law.ensures.so_far)
 
 pub returns-in_default-clause-simulating : goal.returns-in_default-clause-simulating
 returns-in_default-clause-simulating g c =
