@@ -1,5 +1,5 @@
 -- How a simulated vehicle begins: behind the openings of its clients the history is one that it leaves, and no turn is made yet.
-use Rattle.std.proofs.Common.{◌≡◌, ℕ, suc, ◌+◌, ◌-◌, ◌<◌, ◌≤◌, ◌==◌, ◌⊎◌, inl, inr, Bool, true, false, cond, List, [], ◌∷◌, ◌++◌, length, nat_le, nat_lt, refl, sym, ap, subst, ◌∙◌, arith, append-nil}
+use Rattle.std.proofs.Common.{◌≡◌, ℕ, suc, ◌+◌, ◌-◌, ◌<◌, ◌≤◌, ◌⊎◌, inl, inr, Bool, true, false, cond, List, [], ◌∷◌, ◌++◌, length, nat_le, nat_lt, refl, sym, ap, subst, ◌∙◌, arith, append-nil}
 use Rattle.std.specs.Prelude.{map, not, Some}
 use Rattle.std.specs.List.{list_all}
 use Rattle.std.proofs.lemmas.Bool.{and_from}
@@ -22,7 +22,7 @@ use Rattle.moos_play.specs.Schedules.{answering}
 use Rattle.moos_post.specs.declared.entry.Call.TheVariants.{Post as Posts, Register}
 use Rattle.moos_post.specs.declared.entry.Entry.{Entry}
 use Rattle.moos_post.specs.Delivery.{is_fetch}
-use Rattle.moos_simulate.proofs.Answering.{due_other, IsOther, number_within, numbered}
+use Rattle.moos_simulate.proofs.Answering.{due_other, IsOther, numbered}
 use Rattle.moos_simulate.proofs.Beside.{left_own, wider}
 use Rattle.moos_simulate.proofs.Rounding.{known_alone}
 use Rattle.moos_simulate.specs.declared.vehicle.Vehicle.{Vehicle}

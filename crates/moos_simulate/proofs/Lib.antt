@@ -5,6 +5,7 @@ pub mod Sailing
 pub mod Rounding
 pub mod Going
 pub mod Voyage
+pub mod Counting
 pub mod Played
 pub mod Begun
 pub mod Opening

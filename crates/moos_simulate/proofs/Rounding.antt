@@ -16,7 +16,7 @@ use Rattle.moos_simulate.proofs.Beside.{left_same, wider}
 use Rattle.moos_simulate.proofs.Sailing.{below_next, sailed, Stands}
 use Rattle.moos_simulate.proofs.Turning.{rest_is, stays_heard}
 use Rattle.moos_simulate.specs.declared.vehicle.Vehicle.{Vehicle}
-use Rattle.moos_simulate.specs.Sailing.{hears, IsUnderSail, KeepMails, KeepsContacts, mails_of, mgr_number, pid_number, sim_number}
+use Rattle.moos_simulate.specs.Sailing.{IsUnderSail, KeepMails, KeepsContacts, mails_of, mgr_number, pid_number, sim_number}
 use Rattle.moos_simulate.specs.Simulated.{mails_said, vehicle_clients}
 use Rattle.moos_simulate.specs.Turns.{IsAwaited}
 use Rattle.script_reader.specs.declared.script.Order.TheVariants.{Stamp}

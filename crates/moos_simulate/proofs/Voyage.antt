@@ -6,11 +6,11 @@ use Rattle.helm_core.specs.declared.iteration.Iteration.{Iteration}
 use Rattle.moos_db.specs.Database.{letters_after}
 use Rattle.moos_lawful.specs.Schedules.{IsLawfulSoFar}
 use Rattle.moos_play.specs.Lawful.{Steering}
-use Rattle.moos_play.specs.Plays.{clients_in, history_in, iterations_made, left_in, next_stamp, Playing, script_played}
+use Rattle.moos_play.specs.Plays.{clients_in, history_in, left_in, next_stamp, Playing, script_played}
 use Rattle.moos_post.specs.declared.value.Pair.{Pair}
 use Rattle.moos_post.specs.History.{History}
 use Rattle.moos_simulate.proofs.Going.{beside_on, IsSameVehicle, names_on, room_beside}
-use Rattle.moos_simulate.proofs.Sailing.{all_turned, fetched, has_fetched, has_turned, mails_then, mgr_kept, mgr_numbered, MgrTurned, pid_kept, pid_numbered, PidTurned, posted, sim_kept, sim_numbered, SimTurned}
+use Rattle.moos_simulate.proofs.Sailing.{all_turned, fetched, has_fetched, has_turned, mgr_kept, mgr_numbered, MgrTurned, pid_kept, pid_numbered, PidTurned, posted, sim_kept, sim_numbered, SimTurned}
 use Rattle.moos_simulate.specs.declared.gear.Gear.{Gear}
 use Rattle.moos_simulate.specs.declared.vehicle.Vehicle.{Vehicle}
 use Rattle.moos_simulate.specs.Sailing.{IsSimulating, IsUnderSail, KeepMails, KeepsContacts, mails_of, mgr_number, pid_number, sim_number}

@@ -1,15 +1,12 @@
 -- The contacts file is loaded last, where there is one, and then all is played, or it is refused.
-use Rattle.std.proofs.Common.{◌≡◌, ◌∙◌, ◌∷◌, [], ap, append-nil, false, subst, sym}
-use Rattle.std.specs.List.{list_any}
-use Rattle.std.specs.Prelude.{Err, is_some, None, Ok, Option, Some}
+use Rattle.std.proofs.Common.{◌≡◌, ◌∙◌, ◌∷◌, [], ap, append-nil, subst, sym}
+use Rattle.std.specs.Prelude.{Err, Ok, Some}
 use Rattle.contact_avoid.specs.declared.ranges.Ranges.{Ranges}
 use Rattle.contact_avoid.specs.RangeFiles.{ranges_of}
 use Rattle.command_line.proofs.Loading.{ends_here, last_ends, load_ends, refusal_ends}
 use Rattle.command_line.specs.declared.status.FileKind.TheVariants.{Contacts as ContactsFile}
 use Rattle.command_line.specs.Endings.{Ended, sinking, surroundings}
 use Rattle.command_line.specs.Turns.{FileTurn, turn_behind}
-use Rattle.moos_simulate.specs.Simulated.{vehicle_names}
-use Rattle.script_reader.specs.Named.{has_name}
 use Rattle.simulate_job.proofs.Reporting.{the_first}
 use Rattle.simulate_job.specs.Simulating.{all_read, contacts_turn, simulate_outcomes, Simulation}
 use Rattle.simulate_job.proofs.files.with_contacts.Goals as goal

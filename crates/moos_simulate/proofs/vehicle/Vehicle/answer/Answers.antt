@@ -1,16 +1,10 @@
 -- Each client's call is its turn, and where no memory was left what was entered is lawful so far.
-use Rattle.std.proofs.Common.{◌++◌, ◌∷◌, [], ◌∙◌, List, ap, subst, sym}
-use Rattle.moos_db.specs.Database.{letters_after}
-use Rattle.moos_play.specs.Plays.{clients_in, helm_in, history_in, Playing, script_played}
-use Rattle.moos_post.specs.declared.value.Pair.{Pair}
+use Rattle.std.proofs.Common.{◌∙◌, ap, subst}
+use Rattle.moos_play.specs.Plays.{clients_in, helm_in, history_in, script_played}
 use Rattle.moos_simulate.proofs.Going.{always_err, lawful_on}
 use Rattle.moos_simulate.proofs.Voyage.{pid_answered, pid_stopped, sim_answered, sim_known, sim_stopped}
 use Rattle.moos_simulate.specs.declared.vehicle.Vehicle.{Vehicle}
 use Rattle.moos_simulate.specs.Simulated.{IsSimulatedSoFar}
-use Rattle.moos_simulate.specs.Sailing.{mgr_number, pid_number, sim_number}
-use Rattle.moos_simulate.specs.Turns.{HasHeardAtMost, HasSaid, IsAnswering}
-use Rattle.sim_clients.specs.Clients.{hull_by, hull_pairs}
-use Rattle.sim_clients.specs.Keeping.{IsSimAfter, pairs_in_mail}
 use Rattle.moos_simulate.proofs.vehicle.Vehicle.answer.Goals as goal
 
 pub returns-in_err-control-clause-so_far : goal.returns-in_err-control-clause-so_far
