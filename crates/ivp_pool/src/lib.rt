@@ -2,8 +2,8 @@
 //! children go to the worker's deque or are closed at once.
 //!
 //! The contract for the layer above: `solve` finds the best point of a problem by 1 to 16 workers, whatever their number.
-//! What `close_one` makes of a node is a part of its tree: each node without children there was handed to the tray or has a
-//! bound that the scout's key reaches, so no point of the node is lost.
+//! What `close_one` makes of a node is a part of its tree: each node without children there was handed to the tray, or its
+//! bound's sum is below what the scout knows, or the own key reaches its bound. So no point of the node is lost.
 //!
 //! Reading order: `tray`, `close`, `at_once`, `law`, `work`, `rule`, `deque`, `team`, `setup`, `search`, `solved`.
 #![tactic(auto)]
@@ -21,7 +21,7 @@ mod tray;
 mod work;
 
 pub use at_once::close_whole;
-pub use close::close_one;
+pub use close::{Own, close_one};
 pub use law::{parts_law, tally_law};
 pub use solved::{Solved, solve};
 pub use tray::Tray;

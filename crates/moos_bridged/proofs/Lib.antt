@@ -1,6 +1,5 @@
 pub mod Alone
 pub mod Beginning
-pub mod Beside
 pub mod Bridging
 pub mod Carried
 pub mod CarryingLines

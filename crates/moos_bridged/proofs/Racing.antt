@@ -4,7 +4,7 @@ use Rattle.std.specs.List.{All, AllZip, list_all}
 use Rattle.std.specs.declared.alloc.AllocError.{AllocError}
 use Rattle.std.proofs.lemmas.List.{take_all}
 use Rattle.std.proofs.lemmas.List.Elements.{filter-append}
-use Rattle.moos_bridged.proofs.Beside.{client_absent, client_with, race_step}
+use Rattle.moos_step.proofs.Beside.{client_absent, client_with, race_step}
 use Rattle.moos_bridged.proofs.Lines.{lines_below}
 use Rattle.moos_bridged.proofs.Playing.{bridge_last}
 use Rattle.moos_bridged.specs.Communities.{bridge_in, community_history, community_script, IsResting}

@@ -1,10 +1,11 @@
 -- The posts of an entry are mailed one after the other.
-use Rattle.std.proofs.Common.{◌≡◌, ◌∙◌, ◌<◌, ◌≤◌, ◌+◌, ◌-◌, ℕ, suc, Bool, true, false, ◌==◌, ◌^◌, List, [], ◌∷◌, ◌++◌, append-nil, append_assoc, map, length, take, slice_get, Option, None, Some, option_map, refl, ap, sym, subst, inl, inr, if◌then◌else◌, get_or, set, arith, length-append}
+use Rattle.std.proofs.Common.{◌≡◌, ◌∙◌, ◌<◌, ◌≤◌, ◌+◌, ◌-◌, ℕ, suc, Bool, true, false, ◌==◌, ◌^◌, List, [], ◌∷◌, ◌++◌, append-nil, append_assoc, map, length, ◌||◌, take, slice_get, Option, None, Some, option_map, refl, ap, sym, subst, inl, inr, if◌then◌else◌, get_or, set, arith, length-append}
 use Rattle.std.specs.List.{All, list_any}
-use Rattle.std.proofs.lemmas.Bool.{cases_Bool, eqb-false, eqb-true}
+use Rattle.std.proofs.lemmas.Bool.{cases_Bool, eqb-false, eqb-true, ne_eqb}
 use Rattle.std.proofs.lemmas.List.{length-map, length-take-le, map-append, take_all, take_more}
 use Rattle.std.proofs.lemmas.List.Concat.{flat_map-append}
 use Rattle.std.proofs.lemmas.List.Elements.{All-map, All-weaker}
+use Rattle.std.proofs.lemmas.List.Folds.{list_any_none}
 use Rattle.std.proofs.lemmas.List.Sums.{fold-append}
 use Rattle.std.proofs.lemmas.Option.{get_or_from_slice_get, none-some, same_Some, slice_get-get_or, slice_get-map, slice_get_within}
 use Rattle.moos_post.specs.declared.entry.Call.{Call}
@@ -12,11 +13,11 @@ use Rattle.moos_post.specs.declared.entry.Call.TheVariants.{Register, Unregister
 use Rattle.moos_post.specs.declared.entry.Entry.{Entry}
 use Rattle.moos_post.specs.declared.value.Pair.{Pair}
 use Rattle.moos_post.specs.declared.value.Post.{Post}
-use Rattle.moos_post.specs.Delivery.{empty_inbox, inbox_of, with_entry}
+use Rattle.moos_post.specs.Delivery.{empty_inbox, Inbox, inbox_of, Mailing, with_entry}
 use Rattle.moos_post.specs.History.{History, name_of, post_of, posts_of, posts_of_call, posts_of_entry}
 use Rattle.moos_mail.specs.Mailboxes.{is_one_of}
-use Rattle.moos_mail.proofs.Inboxes.{entries-inbox_of, posts-inbox_of}
-use Rattle.moos_mail.proofs.Orderly.{settled-inbox_of}
+use Rattle.moos_mail.proofs.Inboxes.{posts-inbox_of}
+use Rattle.moos_mail.proofs.Orderly.{IsPast, settled-inbox_of}
 use Rattle.moos_db.specs.declared.mail.Origin.{Origin}
 use Rattle.moos_db.specs.Clients.{ClientState}
 use Rattle.moos_db.specs.Database.{origin_of}
@@ -25,8 +26,7 @@ use Rattle.moos_db.specs.Places.{AreKept, kept_after}
 use Rattle.moos_db.specs.Subscribers.{IsFresh, SubscriberState, is_due_held, kept_after_posts, kept_batch, kept_of, kept_own, kept_post, kept_posts, makes_posts, with_mailed}
 use Rattle.moos_db.proofs.Adding.{stands-at}
 use Rattle.moos_db.proofs.AfterPosts.{posted-kept}
-use Rattle.moos_db.proofs.Catching.{fresh-due}
-use Rattle.moos_db.proofs.Growth.{IsSubscriber-fresh}
+use Rattle.moos_mail.proofs.Appending.{any_in_order, any_with}
 use Rattle.moos_db.proofs.Hearing.{heard-client}
 use Rattle.moos_db.proofs.Keeping.{kept-entry}
 use Rattle.moos_db.proofs.Mailing.{name-set, set-at, set-other}
@@ -44,11 +44,14 @@ posts-after names kept [] = omega arith
 posts-after names kept (post ∷ posts) = omega (arith, posts-after names (kept_post post.stamp (name_of names post.source) kept post.var) posts)
 
 pub fresh-post : (stamp : ℕ) (source : List ℕ) (kept : SubscriberState) (var : List ℕ) → IsFresh kept → IsFresh (kept_post stamp source kept var)
-fresh-post stamp source kept var fresh n from = fresh-due stamp source kept var fresh n (omega (arith, from, counted (list_any (is_due_held stamp var source) kept.lives)))
+fresh-post stamp source kept var fresh = by (list_any (is_due_held stamp var source) kept.lives)
   where
-    counted : (due : Bool) → (if due then with_mailed kept.posts kept else kept).posts ≡ kept.posts
-    counted true = refl
-    counted false = refl
+    by : (due : Bool) (n : ℕ) → suc kept.posts ≤ n → list_any (λ one. one == n) (if due then with_mailed kept.posts kept else kept).mailed ≡ false
+    by true n from =
+        any_with (λ one. one == n) kept.posts kept.mailed
+        ∙ ap (λ b. b || list_any (λ one. one == n) kept.mailed) (ne_eqb kept.posts n (λ same. omega (arith, from, same)))
+        ∙ fresh n (omega (arith, from))
+    by false n from = fresh n (omega (arith, from))
 
 pub fresh-after : (names : List (List ℕ)) (kept : SubscriberState) (posts : List Post) → IsFresh kept → IsFresh (kept_after_posts names kept posts)
 fresh-after names kept [] fresh = fresh
@@ -225,12 +228,12 @@ pub after-counted : (names : List (List ℕ)) (history : History) (client : ℕ)
 after-counted names history client = ap length (posts-inbox_of names client history)
 
 pub after-fresh : (names : List (List ℕ)) (history : History) (client : ℕ) → IsFresh (kept_after names history client)
-after-fresh names history client =
-    let seen : (kept_after names history client).seen ≡ length history = entries-inbox_of names client history in
-    IsSubscriber-fresh names history client (kept_after names history client) (record {
-      within = omega (arith, seen);
-      same = ap (λ h. kept_of (inbox_of names client h)) (sym (take_all (kept_after names history client).seen history (omega (arith, seen))));
-    })
+after-fresh names history client n from =
+    let here : Inbox = inbox_of names client history in
+    any_in_order (λ number. number == n) (map (λ (one : Mailing). one.number) here.mailed)
+    ∙ list_any_none (λ number. number == n) (map (λ (one : Mailing). one.number) here.mailed)
+    (All-map (λ number. (number == n) ≡ false) (λ (one : Mailing). one.number) here.mailed
+    (All-weaker (IsPast here.entries (length here.posts)) (λ one. (one.number == n) ≡ false) (λ one is. ne_eqb one.number n (λ same. omega (arith, is.number, from, same))) here.mailed (settled-inbox_of names client history).orderly.past))
 
 -- all is ready for more posts, and is as the history says where those that were noted more are forgotten
 pub ready-from : (names : List (List ℕ)) (history : History) (variables : VariablesState) (clients : List ClientState) → AreKept names history variables clients → AreReady (kept_after names history) (posts_of history) variables clients

@@ -13,11 +13,11 @@ use Rattle.moos_post.specs.Delivery.{inbox_of, mail_at}
 use Rattle.moos_post.specs.History.{History, posts_of}
 use Rattle.moos_db.specs.Database.{after_entry, AreLetters, AreMails, Database, letter_at, letter_of, origin_of, pair_posted}
 use Rattle.moos_db.specs.declared.mail.Letter.{Letter}
-use Rattle.moos_db.specs.Subscribers.{catch_found, catch_number, catch_post, held_of_reg, IsFresh, IsSubscriber, SubscriberState, SubscriptionState, kept_entry, kept_of}
+use Rattle.moos_db.specs.Subscribers.{catch_found, catch_number, catch_post, held_of_reg, IsFresh, SubscriberState, SubscriptionState, kept_entry, kept_of}
 use Rattle.moos_db.specs.Clients.{ClientState, IsClient}
 use Rattle.moos_db.specs.Hearers.{AreKnown, HearerState, hearers_of, IsHeardBy, of_client, VariableState, VariablesState}
 use Rattle.moos_db.specs.Places.{IsDb, IsLog, Journal, kept_after, place_at, post_in}
-use Rattle.moos_db.specs.Tables.{Row, rows_of, number_of, latest_from, lasts_of}
+use Rattle.moos_db.specs.Tables.{Row, rows_of, number_of, lasts_of}
 
 abbrev post : List ℕ → ℕ → Post
 post var stamp = record { stamp = stamp; source = 0; var = var; value = Num (pos 0) }
@@ -27,9 +27,6 @@ posts = post (codes "C") 10 ∷ post (codes "B") 20 ∷ post (codes "A") 30 ∷ 
 
 abbrev row : List ℕ → ℕ → Row
 row var number = record { var = var; number = number }
-
-latest_posts : latest_from 0 posts ≡ 1 ∷ 2 ∷ 3 ∷ []
-latest_posts = refl
 
 table_of_latest_posts : rows_of posts ≡ row (codes "C") 3 ∷ row (codes "B") 1 ∷ row (codes "A") 2 ∷ []
 table_of_latest_posts = refl
@@ -94,16 +91,6 @@ placed = refl
 
 misplaced : post_in history (place_at 3 1) ≡ None
 misplaced = refl
-
--- That is where client 0 stands after all four entries; after three it had one post less, and client 1 has no mail.
-is_inbox : IsSubscriber names history 0 kept
-is_inbox = record { within = omega arith; same = refl }
-
-earlier_inbox : IsSubscriber names history 0 (record kept { seen = 3 }) → ⊥
-earlier_inbox inbox = omega (arith, ap (λ (one : SubscriberState). one.posts) inbox.same)
-
-others_inbox : IsSubscriber names history 1 kept → ⊥
-others_inbox inbox = omega (arith, ap (λ (one : SubscriberState). length one.mailed) inbox.same)
 
 -- Numbers from 3 on, of posts to come, were not mailed; from 2 on one was.
 fresh : IsFresh kept

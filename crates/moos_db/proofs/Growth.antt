@@ -1,15 +1,10 @@
--- How an inbox of the delivery rule, and what is kept of it, grows with the history.
-use Rattle.std.proofs.Common.{◌≡◌, ℕ, ◌+◌, ◌<◌, ◌≤◌, Bool, true, false, ◌==◌, nat_le, List, [], length, map, filter, take, drop, slice_get, Option, None, Some, All, add-one, ap, sym, ◌∙◌, arith, subst, length-append, if◌then◌else◌}
-use Rattle.std.proofs.lemmas.Bool.{ne_eqb}
-use Rattle.std.proofs.lemmas.List.{take_all}
+-- How the posts of a history and what is mailed grow with it.
+use Rattle.std.proofs.Common.{◌≡◌, ℕ, ◌+◌, ◌<◌, ◌≤◌, Bool, true, false, nat_le, List, [], length, filter, take, drop, slice_get, Option, None, Some, All, add-one, ap, ◌∙◌, arith, subst, length-append, if◌then◌else◌}
 use Rattle.std.proofs.lemmas.List.Elements.{All-map, All-weaker, All-filter}
-use Rattle.std.proofs.lemmas.List.Folds.{list_any_none}
 use Rattle.std.proofs.Math.Seq.{take-append_seam}
 use Rattle.moos_post.specs.declared.entry.Entry.{Entry}
 use Rattle.moos_post.specs.Delivery.{Inbox, Mailing, inbox_of, mail_after, mail_at, mail_of_entry, is_fetch}
 use Rattle.moos_post.specs.History.{History, posts_of, posts_of_entry}
-use Rattle.moos_db.specs.Subscribers.{SubscriberState, kept_of, IsSubscriber, IsFresh}
-use Rattle.moos_mail.proofs.Appending.{any_in_order}
 use Rattle.moos_mail.proofs.Inboxes.{posts-inbox_of}
 use Rattle.moos_mail.proofs.Living.{before-next, posts-split}
 use Rattle.moos_mail.proofs.Orderly.{IsPast, settled-inbox_of}
@@ -25,9 +20,6 @@ posts-take history n = omega (arith, ap length (posts-split history n), length-a
 
 pub posts-more : (history : History) (k : ℕ) {entry : Entry} → slice_get history k ≡ Some entry → length (posts_of (take (k + 1) history)) ≡ length (posts_of (take k history)) + length (posts_of_entry entry)
 posts-more history k {entry = entry} there = rw add-one (before-next history k entry there)
-
-whole : (names : List (List ℕ)) (history : History) (client : ℕ) (kept : SubscriberState) → kept.seen ≡ length history → IsSubscriber names history client kept → kept ≡ kept_of (inbox_of names client history)
-whole names history client kept all inbox = inbox.same ∙ ap (λ n. kept_of (inbox_of names client (take n history))) all ∙ ap (λ h. kept_of (inbox_of names client h)) (take_all (length history) history (omega arith))
 
 -- Each number of a mail is that of a post.
 pub mail-below : (names : List (List ℕ)) (history : History) (client : ℕ) → All (λ number. number < length (posts_of history)) (mail_after names client history)
@@ -51,14 +43,3 @@ mail_at-below names history k = through (slice_get history k)
     through : (entry : Option Entry) → All (λ number. number < length (posts_of (take k history))) (mail_of_entry names (take k history) entry)
     through None = λ i d below. absurd (omega arith)
     through (Some entry) = given (is_fetch entry.call) entry.client
-
--- No number from the count of its posts on was mailed.
-pub IsSubscriber-fresh : (names : List (List ℕ)) (history : History) (client : ℕ) (kept : SubscriberState) → IsSubscriber names history client kept → IsFresh kept
-IsSubscriber-fresh names history client kept inbox =
-    let here : Inbox = inbox_of names client (take kept.seen history) in
-    let past : All (IsPast here.entries (length here.posts)) here.mailed = (settled-inbox_of names client (take kept.seen history)).orderly.past in
-    subst IsFresh (sym inbox.same) (λ n from.
-    any_in_order (λ number. number == n) (map (λ (one : Mailing). one.number) here.mailed)
-    ∙ list_any_none (λ number. number == n) (map (λ (one : Mailing). one.number) here.mailed)
-    (All-map (λ number. (number == n) ≡ false) (λ (one : Mailing). one.number) here.mailed
-    (All-weaker (IsPast here.entries (length here.posts)) (λ one. (one.number == n) ≡ false) (λ one is. ne_eqb one.number n (λ same. omega (arith, is.number, from, same))) here.mailed past)))

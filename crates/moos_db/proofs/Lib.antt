@@ -3,7 +3,6 @@ pub mod AfterCalls
 pub mod AfterPosts
 pub mod AfterRegistering
 pub mod Batches
-pub mod Catching
 pub mod CatchingUp
 pub mod Caught
 pub mod Changes
@@ -22,7 +21,6 @@ pub mod Registered
 pub mod Rooms
 pub mod Rows
 pub mod Runs
-pub mod Sorting
 pub mod Standing
 pub mod Stars
 pub mod Whole

@@ -1,5 +1,5 @@
 -- What is kept of one client: its inbox of the delivery rule, without the posts themselves.
-use Rattle.std.specs.Prelude.{◌≡◌, ℕ, suc, ◌≤◌, Bool, true, false, ◌&&◌, ◌==◌, not, if◌then◌else◌, List, [], ◌∷◌, ◌++◌, length, map, filter, fold, take, Option, None, Some, bytes_eq, slice_get}
+use Rattle.std.specs.Prelude.{◌≡◌, ℕ, suc, ◌≤◌, Bool, true, false, ◌&&◌, ◌==◌, not, if◌then◌else◌, List, [], ◌∷◌, ◌++◌, length, map, filter, fold, Option, None, Some, bytes_eq, slice_get}
 use Rattle.std.specs.List.{list_any}
 use Rattle.moos_post.specs.declared.entry.Call.{Call}
 use Rattle.moos_post.specs.declared.entry.Call.TheVariants.{Register, Unregister, Post as Posts, Fetch}
@@ -7,8 +7,8 @@ use Rattle.moos_post.specs.declared.entry.Entry.{Entry}
 use Rattle.moos_post.specs.declared.registration.Reg.{Reg}
 use Rattle.moos_post.specs.declared.value.Pair.{Pair}
 use Rattle.moos_post.specs.declared.value.Post.{Post}
-use Rattle.moos_post.specs.Delivery.{Inbox, Live, inbox_of, is_past, is_latest, waiting}
-use Rattle.moos_post.specs.History.{History, name_of}
+use Rattle.moos_post.specs.Delivery.{Inbox, Live, is_past, is_latest, waiting}
+use Rattle.moos_post.specs.History.{name_of}
 use Rattle.moos_post.specs.Patterns.{matches}
 use Rattle.moos_mail.specs.Mailboxes.{in_rising_order, with_number}
 use Rattle.moos_db.specs.Tables.{Row, number_of, with_row, lasts_of}
@@ -177,11 +177,6 @@ abbrev pub kept_entry : List (List ℕ) → ℕ → List Post → SubscriberStat
 kept_entry names client posts kept entry =
     let own = if entry.client == client then kept_own names posts kept entry.call else kept
     in record (kept_posts names entry.stamp entry.client own entry.call) { seen = suc kept.seen }
-
--- the inbox of the client stands where the history's first entries, as many as it has seen, have brought it
-pub record IsSubscriber (names : List (List ℕ)) (history : History) (client : ℕ) (kept : SubscriberState) : Type 0 where
-  pub within : kept.seen ≤ length history
-  pub same : kept ≡ kept_of (inbox_of names client (take kept.seen history))
 
 -- no number from the count of its posts on was mailed
 abbrev pub IsFresh : SubscriberState → Type 0

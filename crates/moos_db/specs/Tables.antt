@@ -1,8 +1,7 @@
 -- Tables with a number for each variable: the stamps of the last posts that came through a registration, and the
 -- numbers of the latest posts.
-use Rattle.std.specs.Prelude.{◌≡◌, ℕ, suc, Bool, if◌then◌else◌, List, [], ◌∷◌, fold, find, Option, Some, option_map, bytes_eq, slice_get}
+use Rattle.std.specs.Prelude.{ℕ, suc, Bool, if◌then◌else◌, List, [], ◌∷◌, fold, find, Option, option_map, bytes_eq}
 use Rattle.moos_post.specs.declared.value.Post.{Post}
-use Rattle.moos_post.specs.Delivery.{is_latest, is_past}
 
 -- a variable and its number
 pub record Row : Type 0 where
@@ -23,15 +22,6 @@ with_row var number [] = record { var = var; number = number } ∷ []
 with_row var number (row ∷ rows) =
     if is_of var row then record row { number = number } ∷ rows else row ∷ with_row var number rows
 
--- the variable's row stands at this place
-abbrev pub HasRow : ℕ → List ℕ → List Row → Type 0
-HasRow place var rows = (row : Row) × (slice_get rows place ≡ Some row) × (row.var ≡ var)
-
--- this number takes the place of the variable's just where it passes: where that one is at least the interval below
-pub record IsPassed (var : List ℕ) (number interval : ℕ) (passes : Bool) (before after : List Row) : Type 0 where
-  pub past : passes ≡ is_past (number_of var before) number interval
-  pub rows : after ≡ (if passes then with_row var number before else before)
-
 -- the last stamp of each variable among the posts that came
 abbrev pub lasts_of : List Post → List Row
 lasts_of came = fold (λ lasts post. with_row post.var post.stamp lasts) [] came
@@ -44,9 +34,3 @@ rows_from number rows (post ∷ posts) = rows_from (suc number) (with_row post.v
 -- the number of the latest post of each variable, in the order in which the variables were first posted
 abbrev pub rows_of : List Post → List Row
 rows_of posts = rows_from 0 [] posts
-
--- the numbers of the posts that are the latest of their variable, in rising order, the first post having this number
-abbrev pub latest_from : ℕ → List Post → List ℕ
-latest_from number [] = []
-latest_from number (post ∷ later) =
-    if is_latest post later then number ∷ latest_from (suc number) later else latest_from (suc number) later

@@ -1,7 +1,8 @@
 -- The sentences of the delivery rule worked by hand.
-use Rattle.std.proofs.Common.{◌≡◌, ℕ, zero, suc, ◌*◌, ◌<◌, ◌≤◌, ◌≢◌, inl, inr, List, [], ◌∷◌, get_or, map, Some, None, Option, AllPairs, refl, ap, ◌∙◌, true, false, arith}
+use Rattle.std.proofs.Common.{◌≡◌, ℕ, zero, suc, ◌*◌, ◌<◌, ◌≤◌, ◌≢◌, inl, inr, List, [], ◌∷◌, get_or, map, take, Some, None, Option, AllPairs, refl, ap, ◌∙◌, true, false, arith}
 use Rattle.std.specs.Prelude.{pos, codes, slice_get}
-use Rattle.std.proofs.lemmas.List.Elements.{All-cons, All-nil}
+use Rattle.std.specs.List.{list_all}
+use Rattle.std.proofs.lemmas.List.Elements.{All-cons, All-head, All-nil}
 use Rattle.std.proofs.lemmas.List.Kept.{AllPairs-cons}
 use Rattle.moos_post.specs.declared.entry.Call.{Call}
 use Rattle.moos_post.specs.declared.entry.Call.TheVariants.{Register, Unregister, Post as Posts, Fetch}
@@ -10,12 +11,12 @@ use Rattle.moos_post.specs.declared.registration.Reg.{Reg}
 use Rattle.moos_post.specs.declared.value.Pair.{Pair}
 use Rattle.moos_post.specs.declared.value.Post.{Post}
 use Rattle.moos_post.specs.declared.value.Value.TheVariants.{Num}
-use Rattle.moos_post.specs.Delivery.{Mailing, mailed_to, mailing}
-use Rattle.moos_post.specs.History.{History}
+use Rattle.moos_post.specs.Delivery.{mail_after, Mailing, mailed_to, mailing}
+use Rattle.moos_post.specs.History.{History, posts_of}
 use Rattle.moos_mail.specs.declared.stretches.Stretch.{Stretch}
 use Rattle.moos_mail.specs.Mailboxes.{MailboxState, AreStretches, in_rising_order, is_one_of, IsPlaceAmong, numbers_of_all, with_number}
 use Rattle.moos_mail.specs.Registrations.{MadeReg, made_at, live_before, came_through, is_to_mail, is_mailed_at, IsLive, regs_of}
-use Rattle.moos_mail.specs.Sentences.{given_at, mailed_between, posts_before, since, AreOnceEach, IsBefore, IsMadeBy}
+use Rattle.moos_mail.specs.Sentences.{given_at, given_before, HearsAll, keeps_lives, mailed_between, numbers_mailed, numbers_selected, posts_before, since, StampsRise, AreOnceEach, IsBefore, IsMadeBy}
 
 abbrev at : ℕ → ℕ → Call → Entry
 at stamp client call = record { stamp = stamp; client = client; call = call }
@@ -225,3 +226,49 @@ to-mail-later = refl
 
 mailed-then : map (λ n. is_mailed_at n 4 (mailed_to names 0 history)) (0 ∷ 1 ∷ 2 ∷ 3 ∷ 4 ∷ []) ≡ false ∷ false ∷ false ∷ true ∷ false ∷ []
 mailed-then = refl
+
+-- By entry 5 the first fetch alone has given its mail, and nothing waits then but post 3. In the end all three were given.
+joined-then : given_before names 0 history 5 ≡ 1 ∷ 2 ∷ []
+joined-then = refl
+
+waits-then : mail_after names 0 (take 5 history) ≡ 3 ∷ []
+waits-then = refl
+
+joined-all : (given_before names 0 history 8 ≡ 1 ∷ 2 ∷ 3 ∷ []) × (numbers_mailed names 0 history ≡ 1 ∷ 2 ∷ 3 ∷ [])
+joined-all = (refl, refl)
+
+-- A client that registers for A first, and without an interval, is mailed each post of A and none of B.
+abbrev wants : ℕ → Reg
+wants interval = record { var = codes "A"; source = codes "*"; interval = interval }
+
+abbrev listening : History
+listening =
+    at 0 0 (Register (wants 0 ∷ []))
+    ∷ at 0 1 (Posts (says (codes "A") 1 ∷ says (codes "B") 2 ∷ []))
+    ∷ at 1000 1 (Posts (says (codes "A") 3 ∷ []))
+    ∷ at 2000 0 Fetch ∷ []
+
+hears-all : HearsAll 0 (wants 0 ∷ []) listening
+hears-all = record {
+  before = [];
+  stamp = 0;
+  later = at 0 1 (Posts (says (codes "A") 1 ∷ says (codes "B") 2 ∷ [])) ∷ at 1000 1 (Posts (says (codes "A") 3 ∷ [])) ∷ at 2000 0 Fetch ∷ [];
+  is = refl;
+  first = refl;
+  once = refl;
+  always = All-cons (λ (reg : Reg). reg.interval ≡ 0) (wants 0) [] refl (All-nil (λ (reg : Reg). reg.interval ≡ 0));
+  rising = (omega arith, (omega arith, (omega arith, tt)));
+}
+
+selected-all : (numbers_selected names (wants 0 ∷ []) 0 (posts_of listening) ≡ 0 ∷ 2 ∷ []) × (numbers_mailed names 0 listening ≡ 0 ∷ 2 ∷ [])
+selected-all = (refl, refl)
+
+-- It isn't so with an interval, where it registers again, or where stamps fall.
+with-interval : HearsAll 0 (wants 5 ∷ []) listening → ⊥
+with-interval hears = omega (arith, All-head (λ (reg : Reg). reg.interval ≡ 0) (wants 5) [] hears.always)
+
+registers-again : list_all (keeps_lives 0) listening ≡ false
+registers-again = refl
+
+stamps-fall : StampsRise 0 (record { stamp = 5; source = 1; var = codes "A"; value = Num (pos 0) } ∷ record { stamp = 3; source = 1; var = codes "A"; value = Num (pos 0) } ∷ []) → ⊥
+stamps-fall rise = omega (arith, rise.1.0)

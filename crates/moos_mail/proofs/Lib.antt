@@ -4,11 +4,13 @@ pub mod Catching
 pub mod Coming
 pub mod Examples
 pub mod Inboxes
+pub mod Joined
 pub mod Lists
 pub mod Living
 pub mod Mailed
 pub mod Orderly
 pub mod Places
 pub mod Rising
+pub mod Selected
 pub mod Sending
 pub mod Standing

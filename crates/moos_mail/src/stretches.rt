@@ -9,8 +9,21 @@ pub(crate) struct Stretch {
     last: u64,
 }
 
-// Where the stretch of the number stands among these, or would.
+// Where the stretch of the number stands among these, or would. A number that is mailed is mostly above all before it, so the
+// last stretch is looked at first.
 fn place_of(stretches: &[Stretch], number: u64) -> usize
+    requires { AreStretches 0 stretches.now }
+    ensures { IsPlaceAmong number stretches.now result }
+{
+    let count = stretches.len();
+    if count > 0 && stretches[count - 1].last < number {
+        return count;
+    }
+    sought_place(stretches, number)
+}
+
+// The same by halves.
+fn sought_place(stretches: &[Stretch], number: u64) -> usize
     requires { AreStretches 0 stretches.now }
     ensures { IsPlaceAmong number stretches.now result }
 {

@@ -6,3 +6,4 @@ pub mod Played
 pub mod Growing
 pub mod Leading
 pub mod Calling
+pub mod Beside

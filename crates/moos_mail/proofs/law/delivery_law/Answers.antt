@@ -1,6 +1,8 @@
+use Rattle.moos_mail.proofs.Joined.{joined}
 use Rattle.moos_mail.proofs.Living.{lives-are}
 use Rattle.moos_mail.proofs.Mailed.{given, once-each}
 use Rattle.moos_mail.proofs.Places.{live-places, places-live}
+use Rattle.moos_mail.proofs.Selected.{selected}
 use Rattle.moos_mail.proofs.Sending.{sent}
 use Rattle.moos_mail.proofs.law.delivery_law.Goals as goal
 
@@ -18,3 +20,9 @@ returns-clause-live c = lives-are
 
 pub returns-clause-places : goal.returns-clause-places
 returns-clause-places c = λ client history k made. (live-places client history k made, places-live client history k made)
+
+pub returns-clause-joined : goal.returns-clause-joined
+returns-clause-joined c = joined
+
+pub returns-clause-selected : goal.returns-clause-selected
+returns-clause-selected c = selected

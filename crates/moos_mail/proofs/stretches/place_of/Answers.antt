@@ -1,15 +1,18 @@
-use Rattle.std.proofs.Common.{nat_lt, rules, arith}
-use Rattle.std.proofs.lemmas.Bool.{ltb-true, ltb-false}
-use Rattle.std.proofs.lemmas.List.Sorted.{IsPartitionPoint-from_clause, IsPartitionedBy-ltb}
+use Rattle.std.proofs.Common.{◌≤◌, ◌<◌, ◌-◌, length, List, slice_index_or, subst, arith}
+use Rattle.std.proofs.lemmas.List.{get_or_default}
 use Rattle.moos_mail.specs.declared.stretches.Stretch.{Stretch}
 use Rattle.moos_mail.proofs.Among.{rising}
 use Rattle.moos_mail.proofs.stretches.place_of.Goals as goal
 
-pub returns : goal.returns
-returns c =
-    let point = IsPartitionPoint-from_clause (λ (one : Stretch). nat_lt one.last c.args.number) c.args.stretches.now c.partition_point.result c.partition_point.ensures.partitioned (IsPartitionedBy-ltb (λ (one : Stretch). one.last) c.args.stretches.now c.args.number (rising 0 c.args.stretches.now c.requires)) (λ a r q k. search rules) in
+pub returns-then-stretches-count : goal.returns-then-stretches-count
+returns-then-stretches-count c =
+    let all : List Stretch = c.args.stretches.now in
+    let none : Stretch = record { first = 0; last = 0 } in
     record {
-      within = c.partition_point.ensures.bound;
-      below = λ k d before. ltb-true _ _ (point.0 k d (omega arith) before);
-      from = λ k d behind inside. ltb-false _ _ (point.1 k d behind inside);
+      within = omega arith;
+      below = λ k d before.
+          let end : (slice_index_or all (length all - 1) d).last < c.args.number = subst (λ (one : Stretch). one.last < c.args.number) (get_or_default all (length all - 1) none d (omega (arith, c.if-count-gt0.true))) c.if-stretches-count.true in
+          let up : (slice_index_or all k d).last ≤ (slice_index_or all (length all - 1) d).last = rising 0 all c.requires k (length all - 1) d (omega (arith, before)) (omega (arith, c.if-count-gt0.true)) in
+          omega arith;
+      from = λ k d behind inside. absurd (omega (arith, behind, inside));
     }

@@ -4,10 +4,11 @@ use Rattle.moos_post.specs.declared.entry.Entry.{Entry}
 use Rattle.moos_play.specs.Steered.{HasLed}
 use Rattle.moos_client.specs.Calls.{entries_of, SeatState}
 use Rattle.moos_step.specs.Steps.{AreBusy, IsPlayedBeside, times_met}
+use Rattle.moos_step.proofs.Beside.{alone_beside, client_absent, client_with, race_led}
 use Rattle.moos_step.proofs.Leading.{known_met, led_gathered}
 use Rattle.moos_play.proofs.Leading.{has_led}
 use Rattle.moos_step.proofs.Played.{ok_part}
-use Rattle.moos_play.proofs.Racing.{alone_beside, helm_absent, helm_with, race_steers, race_step}
+use Rattle.moos_play.proofs.Racing.{race_steers}
 use Rattle.moos_step.proofs.Lines.{err_any}
 use Rattle.moos_step.proofs.Steps.{none_past}
 use Rattle.moos_play.proofs.Stopping.{steered_stops}
@@ -52,7 +53,7 @@ pub part-seat-requires-clause-first : goal.part-seat-requires-clause-first
 part-seat-requires-clause-first g c =
     let may = c.requires.lead in
     let busy = subst (λ n. AreBusy c.args.lines.now n c.in_ok-players.players.items) (sym c.requires.number) c.in_ok-players.ensures.busy in
-    let here = helm_with c.args.lock.now c.args.lines.now c.args.steersman.now.number c.args.first.now.seat c.part_busy.new.first c.in_ok-players.players.items may.gathered c.in_ok-players.ensures.parted busy
+    let here = client_with c.args.lock.now c.args.lines.now c.args.steersman.now.number c.args.first.now.seat c.part_busy.new.first c.in_ok-players.players.items may.gathered c.in_ok-players.ensures.parted busy
     (omega (arith, c.if-steersman-eq0.false)) may.client in
     (ap (λ s. s.number) c.in_ok-players.ensures.parted.same ∙ may.gathered.number, is_taken c.args.steersman.now.number c.part_busy.new.first.met (omega (arith, here)))
 
@@ -67,7 +68,7 @@ take_in-others-requires-clause-players g c = ended_apart c.args.lock.now c.args.
 pub see_all-requires-clause-all : goal.see_all-requires-clause-all
 see_all-requires-clause-all g c =
     let gathered = led_gathered c.args.lock.now (IsPlayedBeside c.args.steersman.now.number c.args.lines.now (Err (record {}))) c.args.first.now.seat c.meet.new.pass
-    (race_step c.args.lock.now c.args.lines.now c.args.steersman.now.number (Err (record {})) _ c.take_in-others.result c.args.first.now.seat c.part_busy.new.first c.part-seat.new.pass c.steer_beside-steered.new.first.seat c.take_in-others.new.first c.meet.new.pass c.part-seat.result c.steer_beside-steered.new.seat c.in_ok-players.players.items c.steer_beside-steered.new.players.items
+    (race_led c.args.lock.now c.args.lines.now c.args.steersman.now.number (Err (record {})) _ c.take_in-others.result c.args.first.now.seat c.part_busy.new.first c.part-seat.new.pass c.steer_beside-steered.new.first.seat c.take_in-others.new.first c.meet.new.pass c.part-seat.result c.steer_beside-steered.new.seat c.in_ok-players.players.items c.steer_beside-steered.new.players.items
     c.requires.lead.gathered c.in_ok-players.ensures.parted (subst (λ n. AreBusy c.args.lines.now n c.in_ok-players.players.items) (sym c.requires.number) c.in_ok-players.ensures.busy) (subst (λ n. list_all (λ (line : Entry). nat_lt line.client n) c.args.lines.now ≡ true) (sym c.requires.number) c.requires.lines)
     (omega (arith, c.if-steersman-eq0.false)) c.requires.lead.client c.part-seat.ensures.pass c.part-seat.ensures.part c.steer_beside-steered.ensures.first c.steer_beside-steered.ensures.players c.steer_beside-steered.ensures.steered.made
     c.take_in-others.ensures.taken c.meet.ensures.pass c.meet.ensures.seen.0 c.take_in-others.ensures.ended tt) in
@@ -81,7 +82,7 @@ returns g c =
     let busy = subst (λ n. AreBusy c.args.lines.now n c.in_ok-players.players.items) (sym c.requires.number) c.in_ok-players.ensures.busy in
     let number : seat.number ≡ s.number = ap (λ s. s.number) steered.made.made.same ∙ ap (λ s. s.number) c.part-seat.ensures.part in
     has_led c.args.lock.now (IsPlayedBeside s.number c.args.lines.now c.both-2.result) c.args.ticks c.args.first.now.seat c.meet.new.pass c.see_all.new.first c.part-seat.result seat s c.steer_beside-steered.new.steersman c.both-2.result c.steer_beside-steered.result
-    (race_step c.args.lock.now c.args.lines.now s.number c.both-2.result _ c.take_in-others.result c.args.first.now.seat c.part_busy.new.first c.part-seat.new.pass c.steer_beside-steered.new.first.seat c.take_in-others.new.first c.meet.new.pass c.part-seat.result seat c.in_ok-players.players.items c.steer_beside-steered.new.players.items
+    (race_led c.args.lock.now c.args.lines.now s.number c.both-2.result _ c.take_in-others.result c.args.first.now.seat c.part_busy.new.first c.part-seat.new.pass c.steer_beside-steered.new.first.seat c.take_in-others.new.first c.meet.new.pass c.part-seat.result seat c.in_ok-players.players.items c.steer_beside-steered.new.players.items
     c.requires.lead.gathered c.in_ok-players.ensures.parted busy (subst (λ n. list_all (λ (line : Entry). nat_lt line.client n) c.args.lines.now ≡ true) (sym c.requires.number) c.requires.lines)
     (omega (arith, c.if-steersman-eq0.false)) c.requires.lead.client c.part-seat.ensures.pass c.part-seat.ensures.part c.steer_beside-steered.ensures.first c.steer_beside-steered.ensures.players steered.made
     c.take_in-others.ensures.taken c.meet.ensures.pass c.meet.ensures.seen.0 c.take_in-others.ensures.ended (ok_part c.both-2.result c.both-2.ensures (λ b. at_ok c.both.result _ b.1 c.both.ensures)))
@@ -89,6 +90,6 @@ returns g c =
     (known_met c.take_in-others.new.first c.meet.new.pass seat c.meet.ensures.pass (ap (λ s. s.met) steered.made.made.same ∙ ap (λ s. s.met) c.part-seat.ensures.part)
     (λ e. omega (arith, e, number, ap (λ s. s.number) c.take_in-others.ensures.taken.same, ap (λ s. s.number) c.steer_beside-steered.ensures.first.made.same, ap (λ s. s.number) c.part-seat.ensures.pass, ap (λ s. s.number) c.in_ok-players.ensures.parted.same, c.requires.lead.gathered.number, c.if-steersman-eq0.false))
     (subst (λ n. times_met n c.take_in-others.new.first.met ≡ 0) (sym number)
-    (helm_absent c.args.lines.now s.number c.part_busy.new.first c.part-seat.new.pass c.steer_beside-steered.new.first.seat c.take_in-others.new.first _ c.in_ok-players.players.items c.steer_beside-steered.new.players.items busy c.part-seat.ensures.pass
+    (client_absent c.args.lines.now s.number c.part_busy.new.first c.part-seat.new.pass c.steer_beside-steered.new.first.seat c.take_in-others.new.first _ c.in_ok-players.players.items c.steer_beside-steered.new.players.items busy c.part-seat.ensures.pass
     c.steer_beside-steered.ensures.first.made c.steer_beside-steered.ensures.players c.take_in-others.ensures.taken)))
     c.see_all.ensures

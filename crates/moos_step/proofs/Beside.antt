@@ -1,12 +1,12 @@
 -- One client more that plays beside those that have lines.
-use Rattle.std.proofs.Common.{◌≡◌, ℕ, ◌<◌, true, List, [], ◌∷◌, ◌++◌, length, map, Ok, OnOk, Result, refl, ap, ◌∙◌, arith, nat_lt}
+use Rattle.std.proofs.Common.{◌≡◌, ℕ, ◌<◌, true, List, [], ◌∷◌, ◌++◌, length, map, Ok, OnOk, Result, refl, sym, ap, ◌∙◌, subst, arith, nat_lt}
 use Rattle.std.specs.List.{All, AllZip, list_all}
 use Rattle.std.specs.declared.alloc.AllocError.{AllocError}
-use Rattle.moos_client.specs.Calls.{SeatState}
+use Rattle.moos_client.specs.Calls.{entries_of, SeatState}
 use Rattle.moos_post.specs.declared.entry.Entry.{Entry}
 use Rattle.moos_step.specs.declared.player.Player.{Player}
-use Rattle.moos_step.specs.Steps.{Anything, AreBusy, AreParted, CommunityLock, HasEnded, HasMade, HasTaken, IsGathered, IsPlayed, IsPlayedBeside, Makes, met_of, times_met}
-use Rattle.moos_step.proofs.Leading.{player_of}
+use Rattle.moos_step.specs.Steps.{Anything, AreBusy, AreParted, CommunityLock, GoesOn, HasEnded, HasMade, HasTaken, IsAlone, IsGathered, IsPlayed, IsPlayedBeside, Makes, met_of, times_met}
+use Rattle.moos_step.proofs.Leading.{IsLed, player_of}
 use Rattle.moos_step.proofs.Played.{all_make, idle_lines, makes_with, nothing_played, ok_part}
 use Rattle.moos_step.proofs.Steps.{is_with, parted_more}
 use Rattle.moos_step.proofs.Taking.{at_ok, HaveMade, made_times, taken_more, IsStep}
@@ -59,6 +59,20 @@ race_step lock lines client result ended others before parted apart played taken
     fewer : (n : ℕ) → times_met n (map met_of (befores ++ player_of seat ∷ [])) ≡ 0 → times_met n (map met_of befores) ≡ 0
     fewer n absent = omega (arith, absent, ap (times_met n) (map-append met_of befores (player_of seat ∷ [])), count_more n (map met_of befores) (map met_of (player_of seat ∷ [])))
 
+-- so the whole is a step
+pub race_led : (lock : CommunityLock) (lines : List Entry) (client : ℕ) (result ended others : Result (Unit {0}) AllocError) (before parted apart played taken after seat sailed : SeatState) (befores afters : List Player)
+    → IsGathered lock before → AreParted lock before parted befores → AreBusy lines client befores → list_all (λ line. nat_lt line.client client) lines ≡ true → 0 < client → client < length lock.base
+    → apart ≡ record parted { met = without_number client parted.met } → seat ≡ beside parted client (events_in parted.met client)
+    → Makes (IsPlayed lines ended) apart played → AllZip (HasEnded lines) befores afters → Makes Anything seat sailed → HasTaken played taken afters → after ≡ met_with taken sailed → Begins after.seen taken.seen
+    → OnOk others (All (λ player. player.ended ≡ Ok tt) afters) → OnOk result ((ended ≡ Ok tt) × (others ≡ Ok tt)) → IsLed lock (IsPlayedBeside client lines result) before after
+race_led lock lines client result ended others before parted apart played taken after seat sailed befores afters gathered are busy all above below apart_is seat_is makes zip sails taken' after_is later ok both = record {
+  parted = apart;
+  played = played;
+  players = befores ++ player_of seat ∷ [];
+  ended = afters ++ player_of sailed ∷ [];
+  step = race_step lock lines client result ended others before parted apart played taken after seat sailed befores afters gathered are busy all above below apart_is seat_is makes zip sails taken' after_is later ok both;
+}
+
 -- that one is with the first seat, once, after the clients with lines are parted
 pub client_with : (lock : CommunityLock) (lines : List Entry) (client : ℕ) (before parted : SeatState) (players : List Player) → IsGathered lock before → AreParted lock before parted players → AreBusy lines client players → 0 < client → client < length lock.base
     → times_met client parted.met ≡ 1
@@ -78,3 +92,11 @@ client_absent lines client parted apart played taken added befores afters busy a
       made_times Anything client befores afters (any_made lines befores afters zip),
       busy.fresh client (omega arith),
     )
+
+-- that one alone, beside clients without lines
+pub alone_beside : {E : Type 0} (client : ℕ) (lines : List Entry) (result : Result (Unit {0}) E) (before after : SeatState) → ((n : ℕ) → entries_of n lines ≡ []) → GoesOn (IsAlone client) before after → GoesOn (IsPlayedBeside client lines result) before after
+alone_beside client lines result before after none on = record {
+  later = on.later;
+  known = λ n. let grows = on.known n in record { added = grows.added; is = grows.is; allowed = λ other. subst (IsPlayed lines result n) (sym (grows.allowed other)) (nothing_played lines result n (none n)) };
+  whole = on.whole;
+}
