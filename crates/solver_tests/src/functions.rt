@@ -37,10 +37,10 @@ fn fault(rt: &impl Abort, alloc: Global, points: u32, pieces: &[Piece]) -> Optio
 
 // The low and the high place of a piece, its base and its slope, and whether it is one of a line of three points.
 const PIECES: &[(u32, u32, i64, i64, bool)] = &[
-    (0, 2, -1_000_000_000_000, 100_000, true),
+    (0, 2, -100_000_000_000_000, 100_000, true),
     (0, 3, 0, 0, false),
     (2, 1, 0, 0, false),
-    (0, 2, 1_000_000_000_001, 0, false),
+    (0, 2, 100_000_000_000_001, 0, false),
     (0, 2, 0, -100_001, false),
 ];
 

@@ -1,5 +1,5 @@
 use Rattle.std.proofs.Common.{ap, ◌∙◌}
 use Rattle.solver_tests.proofs.closing.close_root.Goals as goal
 
-pub known-word-requires-clause-problem : goal.known-word-requires-clause-problem
-known-word-requires-clause-problem g c = (c.args.problem.now, ap (λ m. m.0.about) c.close_one-closed.ensures.scout.1 ∙ ap (λ m. m.0.about) (rw c.expect-best.ensures at c.make.ensures.scout))
+pub known-requires-clause-problem : goal.known-requires-clause-problem
+known-requires-clause-problem g c = (c.args.problem.now, ap (λ m. m.0.about) c.close_one-closed.ensures.scout.1 ∙ ap (λ m. m.0.about) (rw c.expect-best.ensures at c.make.ensures.scout))
