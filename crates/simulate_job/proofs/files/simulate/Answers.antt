@@ -1,15 +1,12 @@
 -- The script is loaded first, and then its mission, or it is refused.
-use Rattle.std.proofs.Common.{◌≡◌, ◌∙◌, ◌∷◌, [], false, refl, ap, sym, subst}
+use Rattle.std.proofs.Common.{◌≡◌, ◌∙◌, ◌∷◌, [], refl, ap, sym, subst}
 use Rattle.std.specs.Prelude.{is_some, Ok}
-use Rattle.std.specs.List.{list_any}
 use Rattle.command_line.proofs.Loading.{last_ends, load_ends, refusal_ends, went_on}
 use Rattle.command_line.specs.declared.status.FileKind.TheVariants.{Script as ScriptFile}
 use Rattle.command_line.specs.Endings.{surroundings}
 use Rattle.command_line.specs.Turns.{FileTurn, turn_behind}
 use Rattle.helm_files.specs.Loading.{helm_turn}
-use Rattle.moos_simulate.specs.Simulated.{vehicle_names}
 use Rattle.moos_text.specs.Refusals.{IsFirst}
-use Rattle.script_reader.specs.Named.{has_name}
 use Rattle.script_reader.specs.declared.script.Script.{Script}
 use Rattle.simulate_job.specs.Simulating.{simulate_outcomes, simulate_turn, simulated_script, Simulation, vehicle_turn}
 use Rattle.simulate_job.proofs.files.simulate.Goals as goal
@@ -38,7 +35,3 @@ returns-clause-ends g c =
     last_ends simulate_outcomes _ _ _ _ _ (simulate_turn c.args.script.now c.args.mission.now c.args.vehicle.now c.args.contacts.now) [] ScriptFile c.args.script.now _ bytes _ c.refused.result refl c.bytes.ensures.value
     c.in-Ok.ensures.content c.in-Ok.ensures.later refl
     (refusal_ends simulate_outcomes next ScriptFile _ c.in-Err-read_simulated.fault c.refused.result _ _ first c.refused.ensures)
-
-pub with_helm-requires-clause-apart : goal.with_helm-requires-clause-apart
-with_helm-requires-clause-apart g c =
-    subst (λ watched. list_any (has_name (vehicle_names watched)) c.in-Ok-read_simulated.script.names ≡ false) c.is_some.ensures c.in-Ok-read_simulated.ensures.apart
