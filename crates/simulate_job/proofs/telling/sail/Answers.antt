@@ -20,7 +20,7 @@ returns-in_default g c = λ task of. inl (record { taken = refl; faults = refl }
 pub make-requires-clause-few : goal.make-requires-clause-few
 make-requires-clause-few g c =
     let many = ap length c.in-Ok.ensures in
-    omega (arith, c.requires.valid.few_clients, many, few_aboard c.is_some.result, length-append (names_with c.args.script.now (Some c.args.helm)) c.in-Ok.names, length-append c.args.script.now.names (codes "pHelmIvP" ∷ []))
+    omega (arith, c.requires.valid.few_clients, many, few_aboard c.is_some-watched.result, length-append (names_with c.args.script.now (Some c.args.helm)) c.in-Ok.names, length-append c.args.script.now.names (codes "pHelmIvP" ∷ []))
 
 pub returns-in_default-make : goal.returns-in_default-make
 returns-in_default-make g c = λ task of. inl (record { taken = refl; faults = refl })
@@ -35,7 +35,7 @@ launch-requires g c =
       between = made.between;
       order = made.order;
       steered = made.helm;
-      named = made.names ∙ (λ i. names_with (sym made.script i) (Some helm) ++ (c.in-Ok.ensures ∙ ap vehicle_names c.is_some.ensures) i);
+      named = made.names ∙ (λ i. names_with (sym made.script i) (Some helm) ++ (c.in-Ok.ensures ∙ ap vehicle_names c.is_some-watched.ensures) i);
       begun = made.begun ∙ ap opening made.helm;
       period = refl;
       few = c.requires.period;
@@ -50,7 +50,7 @@ returns-in-Ok-launch g c = λ task of.
     c.tell.ensures task (record {
       same_script = on.script ∙ made.script ∙ of.same_script;
       same_helm = on.helm ∙ made.helm ∙ of.same_helm;
-      same_names = on.names ∙ made.names ∙ ap (λ further. names_with c.args.script.now (Some c.args.helm) ++ further) (c.in-Ok.ensures ∙ ap vehicle_names c.is_some.ensures) ∙ of.same_names;
+      same_names = on.names ∙ made.names ∙ ap (λ further. names_with c.args.script.now (Some c.args.helm) ++ further) (c.in-Ok.ensures ∙ ap vehicle_names c.is_some-watched.ensures) ∙ of.same_names;
       same_gear = c.in-Ok-launch.ensures.gear ∙ of.same_gear;
       same_setup = of.same_setup;
       told = of.told;
