@@ -194,7 +194,7 @@ other_faults = refl
 
 -- a decision with a mark before each line, last of its iteration; its `end` is not the report's
 decided : iteration_text no_modes 0 (record (in_mode 0 false []) { decision = Some decision })
-    ≡ codes "%% iteration 0 0 DRIVE\n%% ivp 1\n%% domain a:0:2:3\n%% domain b:0:1:2\n%% domain d:0:1:2\n%% function 2\n%% piece 0 2 0 1 0 1 0 10 0 0\n%% function 3\n%% piece 0 0 0 1 0 1 20 0 5 0\n%% piece 1 2 0 1 0 1 0 0 5 0\n%% end\n%% decision 0 1 0 75\n%% cut 0 0 : 75 2\n%% cut 0 1 : 55 10\n%% done\n"
+    ≡ codes "%% iteration 0 0 DRIVE\n%% ivp 1\n%% domain a:0:2:3\n%% domain b:0:1:2\n%% domain d:0:1:2\n%% function 0.002\n%% piece 0 2 0 1 0 1 0 10 0 0\n%% function 0.003\n%% piece 0 0 0 1 0 1 20 0 5 0\n%% piece 1 2 0 1 0 1 0 0 5 0\n%% end\n%% decision 0 1 0 0.075\n%% cut 0 0 : 0.075 2\n%% cut 0 1 : 0.055 10\n%% done\n"
 unfolding digits
 decided = refl
 

@@ -9,12 +9,12 @@ pub returns-in-Err : goal.returns-in-Err
 returns-in-Err g c =
     let pair = c.args.pair.now in
     let value = value_text pair.value ++ codes "\n" in
-    let failed = rw (c.as_bytes-number.ensures.value, c.format.ensures.text, c.bytes-seconds.ensures.value, c.print_unsigned-stamp.ensures, c.bytes-var.ensures.value) at c.in-Err.ensures.front in
+    let failed = rw (c.as_bytes-number.ensures.value, c.format.ensures.text, c.bytes-seconds.ensures.value, c.print_unsigned-stamp.ensures.text, c.bytes-var.ensures.value) at c.in-Err.ensures.front in
     record { ok = tt; front = rw (mail_line c.args.number c.args.stamp pair.var c.args.source.now value) at (stopped_before value failed) }
 
 pub returns : goal.returns
 returns g c =
     let pair = c.args.pair.now in
     let value = value_text pair.value ++ codes "\n" in
-    let said = rw (c.as_bytes-number.ensures.value, c.format.ensures.text, c.bytes-seconds.ensures.value, c.print_unsigned-stamp.ensures, c.bytes-var.ensures.value) at c.in_default.ensures.ok in
+    let said = rw (c.as_bytes-number.ensures.value, c.format.ensures.text, c.bytes-seconds.ensures.value, c.print_unsigned-stamp.ensures.text, c.bytes-var.ensures.value) at c.in_default.ensures.ok in
     rw (mail_line c.args.number c.args.stamp pair.var c.args.source.now value) at (wrote_on c.put_value.result said c.put_value.ensures)

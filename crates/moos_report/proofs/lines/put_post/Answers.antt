@@ -6,10 +6,10 @@ use Rattle.moos_report.proofs.lines.put_post.Goals as goal
 
 pub returns-in-Err : goal.returns-in-Err
 returns-in-Err g c =
-    let failed = rw (c.bytes.ensures.value, c.print_unsigned-stamp.ensures, c.bytes-var.ensures.value) at c.in-Err.ensures.front in
+    let failed = rw (c.bytes.ensures.value, c.print_unsigned-stamp.ensures.text, c.bytes-var.ensures.value) at c.in-Err.ensures.front in
     record { ok = tt; front = stopped_before (value_text c.args.pair.now.value ++ codes "\n") failed }
 
 pub returns : goal.returns
 returns g c =
-    let said = rw (c.bytes.ensures.value, c.print_unsigned-stamp.ensures, c.bytes-var.ensures.value) at c.in_default.ensures.ok in
+    let said = rw (c.bytes.ensures.value, c.print_unsigned-stamp.ensures.text, c.bytes-var.ensures.value) at c.in_default.ensures.ok in
     wrote_on c.put_value.result said c.put_value.ensures
