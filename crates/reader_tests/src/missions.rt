@@ -116,10 +116,18 @@ const HELM: &[(&[u8], u32, Cause)] = &[
         Cause::M3,
     ),
     (b"domain = a:0:1:268435457", 2, Cause::M4),
-    (b"domain = a:0:1:16384\ndomain = b:0:1:16385\n}", 3, Cause::M4),
+    (
+        b"domain = a:0:1:16384\ndomain = b:0:1:16385\n}",
+        3,
+        Cause::M4,
+    ),
     // A bad axis and a name that is there are told before too many points.
     (b"domain = a:1:1:268435457", 2, Cause::M3),
-    (b"domain = a:0:1:16384\ndomain = A:0:1:16385\n}", 3, Cause::M3),
+    (
+        b"domain = a:0:1:16384\ndomain = A:0:1:16385\n}",
+        3,
+        Cause::M3,
+    ),
     // At the end a domain is missing before a behaviour file is.
     (b"}\n\n", 3, Cause::M5),
     (b"behaviors = a\n}", 3, Cause::M5),
