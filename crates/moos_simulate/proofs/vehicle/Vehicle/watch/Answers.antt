@@ -1,7 +1,10 @@
 -- The contact manager's call is its turn, and all have answered with it, or without it where there is none.
 use Rattle.moos_simulate.proofs.Going.{both_ok, err_then, lawful_on, stays_here}
-use Rattle.moos_simulate.proofs.Voyage.{found, mails'', mgr_stopped, none_watches, one_watches}
+use Rattle.moos_simulate.proofs.Voyage.{found, mails'', mgr_further, mgr_stopped, none_watches, one_watches}
 use Rattle.moos_simulate.proofs.vehicle.Vehicle.watch.Goals as goal
+
+pub watch_contacts-requires-clause-further : goal.watch_contacts-requires-clause-further
+watch_contacts-requires-clause-further g c = mgr_further c.args.self.now c.args.play.now c.args.stamp c.requires c.in-Some.mgr c.in-Some.is
 
 pub returns-in-None-clause-goes_on : goal.returns-in-None-clause-goes_on
 returns-in-None-clause-goes_on g c = stays_here c.args.play.now c.requires.beside.between
