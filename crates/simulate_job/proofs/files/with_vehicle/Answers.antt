@@ -26,8 +26,8 @@ returns-in-Ok-read-clause-ends g c = λ turn front turns.
     (c.with_contacts.ensures.ends turn (front ++ bytes ∷ [])
     (λ more. ap turn (append_assoc front (bytes ∷ []) more) ∙ turns (bytes ∷ more) ∙ ap (turn_behind VehicleFile (λ craft. contacts_turn c.args.script.now c.args.files c.args.contacts.now craft more)) read))
 
-pub returns-clause-ends : goal.returns-clause-ends
-returns-clause-ends g c = λ turn front turns.
+pub returns-in-Err-read-clause-ends : goal.returns-in-Err-read-clause-ends
+returns-in-Err-read-clause-ends g c = λ turn front turns.
     let bytes = c.in-Ok.bytes.items in
     let next : CraftSettings → FileTurn Simulation = λ craft. contacts_turn c.args.script.now c.args.files c.args.contacts.now craft [] in
     let read : vehicle_of bytes ≡ Err c.in-Err-read.fault = ap vehicle_of (sym c.deref.ensures.value) ∙ c.in-Err-read.ensures.refused in
