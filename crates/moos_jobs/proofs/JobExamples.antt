@@ -108,7 +108,7 @@ pub not_accepted : IsAccepted poor → ⊥
 not_accepted is = let line = is.lines 0 (record { path = 0 ∷ []; sum = 6000; index = 1 }) refl in omega (arith, line.sum, line.most)
 
 no_line : IsAccepted (record decision { cert = [] }) → ⊥
-no_line is = omega (arith, is.once (0 ∷ []) (record { depth = 1; area = record { low = 0 ∷ 0 ∷ 0 ∷ 0 ∷ []; high = 1 ∷ 0 ∷ 0 ∷ 0 ∷ [] }; base = pos 5; slope = pos 1 ∷ pos 0 ∷ pos 0 ∷ pos 0 ∷ [] }) refl (omega arith))
+no_line is = omega (arith, is.once (0 ∷ []) (record { depth = 1; area = record { low = 0 ∷ 0 ∷ 0 ∷ 0 ∷ []; high = 1 ∷ 0 ∷ 0 ∷ 0 ∷ [] }; base = pos 5000; slope = pos 1000 ∷ pos 0 ∷ pos 0 ∷ pos 0 ∷ [] }) refl (omega arith))
 
 -- so a check of the first ends with Done, and of the other one with CheckNo, and each writes which it is, to the last byte
 outputs : IsOutput (Checking decision) Done (codes "accepted\n") × IsOutput (Checking poor) CheckNo (codes "not accepted\n")
