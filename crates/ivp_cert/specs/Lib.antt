@@ -13,3 +13,4 @@ pub mod Stages
 pub mod Texts
 pub mod PathTexts
 pub mod Printed
+pub mod Topmost

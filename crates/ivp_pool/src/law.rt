@@ -9,20 +9,15 @@ ghost use Rattle.ivp_problem.specs.Trees.{has_in, IsNode, root_of};
 ghost use Rattle.ivp_pool.specs.Parts.{Handed, handed_within, IsPart, Incumbent, KnowsMore, Outdoes, TreePart, part_size};
 ghost use Rattle.ivp_pool.specs.Tallies.{AreLinked, IsTally, IsWholeTree, Tally};
 
-use ivp_problem::{Node, Problem, problem_law};
-
 /// What holds of the parts of a node: one stays a part where more is known; it has each point of the node that is still
 /// wanted in a node that was handed to others; where the node itself wasn't handed, these are deeper nodes of the tree; and
 /// a part is small. It does nothing.
-pub fn parts_law(problem: &Problem, node: &Node)
-    requires node { IsNode problem.now node.now }
-    ensures raised { (low high : Incumbent) (part : TreePart) → KnowsMore low high → IsPart problem.now low node.now part → IsPart problem.now high node.now part }
-    ensures covered { (low : Incumbent) (part : TreePart) → IsPart problem.now low node.now part → (p : Point) → IsTrue (has_point node.now.area p) → Outdoes low (key_at problem.now p) ⊎ IsTrue (has_in (handed_within problem.now node.now part) p) }
-    ensures deeper { (low : Incumbent) (part : TreePart) → IsPart problem.now low node.now part → part ≢ Handed → (place : ℕ) (child : Node) → slice_get (handed_within problem.now node.now part) place ≡ Some child → IsNode problem.now child × (node.now.depth < child.depth) }
-    ensures few { (low : Incumbent) (part : TreePart) → IsPart problem.now low node.now part → part_size part ≤ 65 * 2 ^ 28 }
-{
-    problem_law(problem);
-}
+pub fn parts_law()
+    ensures raised { (problem : WeightedSum) (node : Node) (low high : Incumbent) (part : TreePart) → KnowsMore low high → IsPart problem low node part → IsPart problem high node part }
+    ensures covered { (problem : WeightedSum) (node : Node) (low : Incumbent) (part : TreePart) → IsProblem problem → IsNode problem node → IsPart problem low node part → (p : Point) → IsTrue (has_point node.area p) → Outdoes low (key_at problem p) ⊎ IsTrue (has_in (handed_within problem node part) p) }
+    ensures deeper { (problem : WeightedSum) (node : Node) (low : Incumbent) (part : TreePart) → IsNode problem node → IsPart problem low node part → part ≢ Handed → (place : ℕ) (child : Node) → slice_get (handed_within problem node part) place ≡ Some child → IsNode problem child × (node.depth < child.depth) }
+    ensures few { (problem : WeightedSum) (node : Node) (low : Incumbent) (part : TreePart) → IsProblem problem → IsNode problem node → IsPart problem low node part → part_size part ≤ 65 * 2 ^ 28 }
+{}
 
 /// What holds of the calls that closed nodes, whoever made them: where their nodes are the root and all handed nodes, each
 /// once, and each call's part is one for this key, they are together one part of the whole tree. It does nothing.

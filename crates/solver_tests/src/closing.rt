@@ -73,7 +73,7 @@ fn close_root(
         second,
     };
     let root = problem.root();
-    parts_law(problem, &root);
+    parts_law();
     tally_law();
     let mut own = Own { key: None };
     let closed = close_one(problem, &best, &mut scout, &mut own, root, &mut pile);

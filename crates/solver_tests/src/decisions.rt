@@ -70,7 +70,7 @@ pub(crate) fn read(rt: &impl Abort, alloc: Global, text: &[u8]) -> Result<Decisi
 fn solved(rt: &impl Abort, alloc: Global, text: &[u8], at: [u32; 4], prefix: &[u8]) -> MemSink {
     assert!(rt; text.len() < 4_000_000_000);
     let problem = read_problem(alloc, text).expect(rt, "a problem");
-    certificate_law(&problem);
+    certificate_law();
     let key = greatest_key(&problem);
     let cert = cut(alloc, &problem, key).expect(rt, "memory");
     let claim = Claim {
@@ -92,7 +92,7 @@ fn is_accepted(rt: &impl Abort, alloc: Global, text: &[u8]) -> Option<bool> {
     assert!(rt; text.len() < 4_000_000_000);
     match read_decision(alloc, text) {
         Ok(decision) => {
-            accepted_law(&decision.problem, &decision.claim, &decision.cert);
+            accepted_law();
             printed_law(&decision, b"");
             printed_law(&decision, b"%% ");
             Some(accepts(&decision.problem, &decision.claim, &decision.cert))
