@@ -1,7 +1,7 @@
 """Draws the track of a report as a picture: python3 track.py REPORT [BEHAVIOURS] > track.svg
 
 The track joins the places that uSimMarine posts, north up, with a mark each minute; the points of the behaviour file, where one is
-given, are drawn as rings of their capture radius."""
+given, are drawn as rings of their capture radius. A dashed line with a dot for each node report joins the places of a contact."""
 import re
 import sys
 
@@ -22,6 +22,16 @@ def places(report):
     return track
 
 
+def contacts(report):
+    """The places of each contact's node reports, in order."""
+    found = {}
+    for line in report:
+        said = re.match(r'[\d.]+ NODE_REPORT \S+ "NAME=(\w+),X=([-\d.]+),Y=([-\d.]+)', line)
+        if said:
+            found.setdefault(said[1], []).append((float(said[2]), float(said[3])))
+    return found
+
+
 def rings(behaviours):
     """The points of each behaviour with points, and their capture radius."""
     found = []
@@ -34,10 +44,11 @@ def rings(behaviours):
     return found
 
 
-def picture(track, marks):
+def picture(track, marks, others):
     """The picture as SVG, two pixels a metre."""
-    xs = [x for _, x, _ in track] + [x for points, _ in marks for x, _ in points]
-    ys = [y for _, _, y in track] + [y for points, _ in marks for _, y in points]
+    near = [point for points, _ in marks for point in points] + [point for points in others.values() for point in points]
+    xs = [x for _, x, _ in track] + [x for x, _ in near]
+    ys = [y for _, _, y in track] + [y for _, y in near]
     left, top, edge, scale = min(xs), max(ys), 20, 2
     wide, high = (max(xs) - left + 2 * edge) * scale, (top - min(ys) + 2 * edge) * scale
 
@@ -55,6 +66,13 @@ def picture(track, marks):
             yield circle(x, y, radius * scale, f'fill="none" stroke="{COLOURS[k % len(COLOURS)]}"')
             cx, cy = at(x, y).split(",")
             yield f'<text x="{cx}" y="{cy}" dx="12" dy="-6" fill="{COLOURS[k % len(COLOURS)]}">{n + 1}</text>'
+    for name, points in others.items():
+        path = " ".join(at(x, y) for x, y in points)
+        yield f'<polyline points="{path}" fill="none" stroke="#7f8c8d" stroke-dasharray="4 3"/>'
+        for x, y in points:
+            yield circle(x, y, 1.5, 'fill="#7f8c8d"')
+        cx, cy = at(*points[0]).split(",")
+        yield f'<text x="{cx}" y="{cy}" dx="6" dy="-6" fill="#7f8c8d">{name}</text>'
     path = " ".join(at(x, y) for _, x, y in track)
     yield f'<polyline points="{path}" fill="none" stroke="#2c3e50" stroke-width="1.5"/>'
     for stamp, x, y in track:
@@ -67,10 +85,10 @@ def picture(track, marks):
 
 
 def main():
-    with open(sys.argv[1]) as report:
-        track = places(report)
+    with open(sys.argv[1]) as file:
+        report = file.readlines()
     marks = rings(open(sys.argv[2]).read()) if len(sys.argv) > 2 else []
-    print("\n".join(picture(track, marks)))
+    print("\n".join(picture(places(report), marks, contacts(report))))
 
 
 main()

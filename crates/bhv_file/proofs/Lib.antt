@@ -1,2 +1,4 @@
 pub mod Listed
+pub mod Named
+pub mod Pairwise
 pub mod Ranged

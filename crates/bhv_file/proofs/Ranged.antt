@@ -9,17 +9,17 @@ use Rattle.helm_geo.specs.declared.spot.Spot.{Spot}
 use Rattle.helm_geo.specs.Plane.{is_coordinate, is_spot}
 use Rattle.helm_geo.specs.Polygons.{are_spots, convex}
 use Rattle.bhv_file.specs.declared.setting.Setting.{Setting}
-use Rattle.bhv_file.specs.declared.setting.Setting.TheVariants.{Number, Time, Flag, Repeat, Places, Place}
+use Rattle.bhv_file.specs.declared.setting.Setting.TheVariants.{Number, Time, Flag, Repeat, Places, Place, Contact as ContactName, Size}
 use Rattle.bhv_file.specs.declared.spec.Shape.{Shape}
-use Rattle.bhv_file.specs.declared.spec.Shape.TheVariants.{Heading, Speed, Depth, MaxDepth, Timer, Waypoint, Loiter, StationKeep, OpRegion}
+use Rattle.bhv_file.specs.declared.spec.Shape.TheVariants.{Heading, Speed, Depth, MaxDepth, Timer, Waypoint, Loiter, StationKeep, OpRegion, AvoidCollision}
 use Rattle.bhv_file.specs.declared.spec.Spec.{Spec}
 use Rattle.bhv_file.specs.declared.table.Parameter.{Parameter}
-use Rattle.bhv_file.specs.declared.table.Parameter.TheVariants.{Heading as OfHeading, Speed as OfSpeed, Depth as OfDepth, PeakWidth, BaseWidth, SummitDelta, MaxDepth as OfMaxDepth, Points, CaptureRadius, SlipRadius, Order as OrderParameter, Repeat as RepeatParameter, Polygon, Clockwise, StationPoint, CenterActivate, InnerRadius, OuterRadius, OuterSpeed, MaxTime}
-use Rattle.bhv_file.specs.declared.table.ValueRange.TheVariants.{Number as OfNumber, Time as OfTime, Flag as OfFlag, Order as OfOrder, Repeat as OfRepeat, Places as OfPlaces, Polygon as OfPolygon, Place as OfPlace}
+use Rattle.bhv_file.specs.declared.table.Parameter.TheVariants.{Heading as OfHeading, Speed as OfSpeed, Depth as OfDepth, PeakWidth, BaseWidth, SummitDelta, MaxDepth as OfMaxDepth, Points, CaptureRadius, SlipRadius, Order as OrderParameter, Repeat as RepeatParameter, Polygon, Clockwise, StationPoint, CenterActivate, InnerRadius, OuterRadius, OuterSpeed, MaxTime, Contact, ContactX, ContactY, ContactSpeed, ContactHeading, NearDistance, FarDistance, Resolved, PieceSize}
+use Rattle.bhv_file.specs.declared.table.ValueRange.TheVariants.{Number as OfNumber, Time as OfTime, Flag as OfFlag, Order as OfOrder, Repeat as OfRepeat, Places as OfPlaces, Polygon as OfPolygon, Place as OfPlace, Contact as OfContact, Size as OfSize}
 use Rattle.bhv_file.specs.Params.{with_field, with_value_of}
 use Rattle.bhv_file.specs.Ranges.{are_places, are_vertices, InRanges, KeepsRanges}
 use Rattle.bhv_file.specs.Table.{is_called, parameter_of, parameters_of}
-use Rattle.bhv_file.specs.Values.{all_of, flag_of, lies_between, kept_if, number_value, only_spot, order_of, polygon_of, repeat_of, setting_of, spot_of, spot_of_numbers, spot_of_parts, spot_of_text, spots_between, spots_of, time_value, weight_of, without_blanks, without_pts}
+use Rattle.bhv_file.specs.Values.{all_of, contact_of, flag_of, is_contact, is_piece_size, piece_size_of, lies_between, kept_if, number_value, only_spot, order_of, polygon_of, repeat_of, setting_of, spot_of, spot_of_numbers, spot_of_parts, spot_of_text, spots_between, spots_of, time_value, weight_of, without_blanks, without_pts}
 use Rattle.bhv_file.proofs.Listed.{some_part}
 
 -- a number that was read is in its range
@@ -212,6 +212,16 @@ polygon_kept P put value good = mapped_twice (λ s. are_vertices true s ≡ true
 place_kept : (P : Shape → Type 0) (put : Setting → Shape) (value : List ℕ) → ((s : Spot) → is_spot s ≡ true → P (put (Place s))) → IfSome (option_map put (setting_of OfPlace value)) P
 place_kept P put value good = mapped_twice (λ s. is_spot s ≡ true) P Place put (spot_of value) (place_within value) good
 
+contact_kept : (P : Shape → Type 0) (put : Setting → Shape) (value : List ℕ) → ((name : List ℕ) → is_contact name ≡ true → P (put (ContactName name))) → IfSome (option_map put (setting_of OfContact value)) P
+contact_kept P put value good = mapped_twice (λ name. is_contact name ≡ true) P ContactName put (contact_of value) (at (is_contact value) refl) good
+  where
+    at : (b : Bool) → is_contact value ≡ b → IfSome (cond b (Some value) None) (λ name. is_contact name ≡ true)
+    at true e = e
+    at false e = tt
+
+size_kept : (P : Shape → Type 0) (put : Setting → Shape) (value : List ℕ) → ((n : ℕ) → is_piece_size n ≡ true → P (put (Size n))) → IfSome (option_map put (setting_of OfSize value)) P
+size_kept P put value good = mapped_twice (λ n. is_piece_size n ≡ true) P Size put (piece_size_of value) (kept (λ n. Unit {0}) (λ n. is_piece_size n ≡ true) is_piece_size (whole_of value) (anything (whole_of value)) (λ n h e. e)) good
+
 -- Every parameter of a type keeps the ranges.
 all_kept : (given : Bool) (shape : Shape) → InRanges given shape → AllKeep (Keeps (InRanges given) shape) (parameters_of shape)
 unfolding AllKeep
@@ -311,6 +321,33 @@ all_kept given (OpRegion a b c) h =
       (
         λ v. number_kept P (put OfMaxDepth) (pos 0) (pos 10000000) v (λ n good. (h.0, good, h.2)),
         (λ v. time_kept P (put MaxTime) v (λ t good. (h.0, h.1, good)), tt),
+      ),
+    )
+all_kept given (AvoidCollision a) h =
+    let P = InRanges given in
+    let put = with_field (AvoidCollision a) in (
+      λ v. contact_kept P (put Contact) v (λ name good. (good, h.1, h.2, h.3, h.4, h.5, h.6, h.7)),
+      (
+        λ v. number_kept P (put ContactX) (neg_ℤ (pos 1000000000)) (pos 1000000000) v (λ n good. (h.0, good, h.2, h.3, h.4, h.5, h.6, h.7)),
+        (
+          λ v. number_kept P (put ContactY) (neg_ℤ (pos 1000000000)) (pos 1000000000) v (λ n good. (h.0, h.1, good, h.3, h.4, h.5, h.6, h.7)),
+          (
+            λ v. number_kept P (put ContactSpeed) (pos 0) (pos 100000) v (λ n good. (h.0, h.1, h.2, good, h.4, h.5, h.6, h.7)),
+            (
+              λ v. number_kept P (put ContactHeading) (pos 0) (pos 360000) v (λ n good. (h.0, h.1, h.2, h.3, good, h.5, h.6, h.7)),
+              (
+                λ v. number_kept P (put NearDistance) (pos 0) (pos 10000000) v (λ n good. (h.0, h.1, h.2, h.3, h.4, good, h.6, h.7)),
+                (
+                  λ v. number_kept P (put FarDistance) (pos 0) (pos 10000000) v (λ n good. (h.0, h.1, h.2, h.3, h.4, h.5, good, h.7)),
+                  (
+                    λ v. flag_kept P (put Resolved) v (λ flag. h),
+                    (λ v. size_kept P (put PieceSize) v (λ n good. (h.0, h.1, h.2, h.3, h.4, h.5, h.6, good)), tt),
+                  ),
+                ),
+              ),
+            ),
+          ),
+        ),
       ),
     )
 

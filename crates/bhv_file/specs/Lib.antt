@@ -4,3 +4,7 @@ pub mod Params
 pub mod Ranges
 pub mod Paths
 pub mod Validity
+pub mod Updates
+pub mod Known
+pub mod Named
+pub mod Serving

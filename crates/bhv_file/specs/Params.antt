@@ -4,15 +4,26 @@ use Rattle.std.specs.List.{list_all, list_any}
 use Rattle.helm_geo.specs.declared.spot.Spot.{Spot}
 use Rattle.ivp_domain.specs.declared.axis.Axis.{Axis}
 use Rattle.bhv_file.specs.declared.setting.Setting.{Setting}
-use Rattle.bhv_file.specs.declared.setting.Setting.TheVariants.{Number, Time, Flag, Repeat, Places, Place}
+use Rattle.bhv_file.specs.declared.setting.Setting.TheVariants.{Number, Time, Flag, Repeat, Places, Place, Contact as ContactName, Size}
+use Rattle.bhv_file.specs.declared.spec.Avoidance.{Avoidance}
 use Rattle.bhv_file.specs.declared.spec.Shape.{Shape}
-use Rattle.bhv_file.specs.declared.spec.Shape.TheVariants.{Heading, Speed, Depth, MaxDepth, Timer, Waypoint, Loiter, StationKeep, OpRegion}
+use Rattle.bhv_file.specs.declared.spec.Shape.TheVariants.{Heading, Speed, Depth, MaxDepth, Timer, Waypoint, Loiter, StationKeep, OpRegion, AvoidCollision}
 use Rattle.bhv_file.specs.declared.spec.Spec.{Spec}
 use Rattle.bhv_file.specs.declared.table.Parameter.{Parameter}
-use Rattle.bhv_file.specs.declared.table.Parameter.TheVariants.{Heading as OfHeading, Speed as OfSpeed, Depth as OfDepth, PeakWidth, BaseWidth, SummitDelta, MaxDepth as OfMaxDepth, CaptureRadius, SlipRadius, InnerRadius, OuterRadius, OuterSpeed}
+use Rattle.bhv_file.specs.declared.table.Parameter.TheVariants.{Heading as OfHeading, Speed as OfSpeed, Depth as OfDepth, PeakWidth, BaseWidth, SummitDelta, MaxDepth as OfMaxDepth, CaptureRadius, SlipRadius, InnerRadius, OuterRadius, OuterSpeed, ContactX, ContactY, ContactSpeed, ContactHeading, NearDistance, FarDistance}
 use Rattle.bhv_file.specs.Table.{parameter_of, value_range, states_common}
 use Rattle.bhv_file.specs.declared.table.CommonParameter.TheVariants.{Weight}
 use Rattle.bhv_file.specs.Values.{setting_of, weight_of}
+
+-- the parameters of a behaviour that keeps clear of a contact, with this number in the field of one
+abbrev pub with_approach : Avoidance → Parameter → ℤ → Avoidance
+with_approach avoidance ContactX n = record avoidance { contact_x = Some n }
+with_approach avoidance ContactY n = record avoidance { contact_y = Some n }
+with_approach avoidance ContactSpeed n = record avoidance { contact_speed = Some n }
+with_approach avoidance ContactHeading n = record avoidance { contact_heading = Some n }
+with_approach avoidance NearDistance n = record avoidance { near = n }
+with_approach avoidance FarDistance n = record avoidance { far = n }
+with_approach avoidance parameter n = avoidance
 
 -- a behaviour with this number in the field of a parameter
 abbrev pub with_number_field : Shape → Parameter → ℤ → Shape
@@ -40,6 +51,7 @@ with_number_field (StationKeep point anew inner outer speed) InnerRadius n = Sta
 with_number_field (StationKeep point anew inner outer speed) OuterRadius n = StationKeep point anew inner n speed
 with_number_field (StationKeep point anew inner outer speed) OuterSpeed n = StationKeep point anew inner outer n
 with_number_field (OpRegion polygon depth time) OfMaxDepth n = OpRegion polygon (Some n) time
+with_number_field (AvoidCollision avoidance) parameter n = AvoidCollision (with_approach avoidance parameter n)
 with_number_field shape parameter n = shape
 
 -- a behaviour with this time; a type has at most one, and likewise with what follows
@@ -52,6 +64,7 @@ abbrev pub with_flag : Shape → Bool → Shape
 with_flag (Waypoint points speed capture slip reverse repeat) flag = Waypoint points speed capture slip flag repeat
 with_flag (Loiter polygon speed capture slip clockwise) flag = Loiter polygon speed capture slip flag
 with_flag (StationKeep point anew inner outer speed) flag = StationKeep point flag inner outer speed
+with_flag (AvoidCollision avoidance) flag = AvoidCollision (record avoidance { resolved = flag })
 with_flag shape flag = shape
 
 -- a behaviour with this number of repeats
@@ -71,6 +84,16 @@ abbrev pub with_place : Shape → Spot → Shape
 with_place (StationKeep point anew inner outer speed) spot = StationKeep (Some spot) anew inner outer speed
 with_place shape spot = shape
 
+-- a behaviour with this contact
+abbrev pub with_contact : Shape → List ℕ → Shape
+with_contact (AvoidCollision avoidance) name = AvoidCollision (record avoidance { contact = Some name })
+with_contact shape name = shape
+
+-- a behaviour with pieces of this size
+abbrev pub with_size : Shape → ℕ → Shape
+with_size (AvoidCollision avoidance) size = AvoidCollision (record avoidance { piece_size = size })
+with_size shape size = shape
+
 -- a behaviour with this value in the field of a parameter
 abbrev pub with_field : Shape → Parameter → Setting → Shape
 with_field shape parameter (Number n) = with_number_field shape parameter n
@@ -79,6 +102,8 @@ with_field shape parameter (Flag flag) = with_flag shape flag
 with_field shape parameter (Repeat n) = with_repeat shape n
 with_field shape parameter (Places spots) = with_places shape spots
 with_field shape parameter (Place spot) = with_place shape spot
+with_field shape parameter (ContactName name) = with_contact shape name
+with_field shape parameter (Size size) = with_size shape size
 
 -- a behaviour with a parameter's value as it stands in a file, where it is one of its range
 abbrev pub with_value_of : Shape → Parameter → List ℕ → Option Shape
@@ -102,10 +127,16 @@ lacks_places (Loiter [] speed capture slip clockwise) = true
 lacks_places (StationKeep point anew inner outer speed) = not (is_some point || anew)
 lacks_places other = false
 
--- the outer radius of a station is above the inner one
+-- the outer radius of a station is above the inner one, and the far distance of a contact above the near one
 abbrev pub keeps_relations : Shape → Bool
 keeps_relations (StationKeep point anew inner outer speed) = int_lt inner outer
+keeps_relations (AvoidCollision avoidance) = int_lt avoidance.near avoidance.far
 keeps_relations other = true
+
+-- a behaviour that keeps clear of a contact
+abbrev pub is_avoid : Shape → Bool
+is_avoid (AvoidCollision avoidance) = true
+is_avoid other = false
 
 -- the names of the axes that a behaviour's function mentions
 abbrev pub axes_of : Shape → List (List ℕ)
@@ -118,6 +149,7 @@ axes_of (Waypoint points speed capture slip reverse repeat) = codes "course" ∷
 axes_of (Loiter polygon speed capture slip clockwise) = codes "course" ∷ codes "speed" ∷ []
 axes_of (StationKeep point anew inner outer speed) = codes "course" ∷ codes "speed" ∷ []
 axes_of (OpRegion polygon depth time) = []
+axes_of (AvoidCollision avoidance) = codes "course" ∷ codes "speed" ∷ []
 
 -- the domain has an axis of this name
 abbrev pub has_axis : List Axis → List ℕ → Bool

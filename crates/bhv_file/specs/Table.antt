@@ -1,16 +1,16 @@
 -- The table of the parameters of behaviours: under which names each stands in a file, which values it may have, which
 -- types have it, and what it is where it isn't given.
-use Rattle.std.specs.Prelude.{ℕ, pos, Bool, true, false, if◌then◌else◌, List, [], ◌∷◌, codes, bytes_eq, find, Option, Some, None}
+use Rattle.std.specs.Prelude.{ℕ, pos, neg_ℤ, Bool, true, false, if◌then◌else◌, List, [], ◌∷◌, codes, bytes_eq, find, Option, Some, None}
 use Rattle.std.specs.List.{list_any}
 use Rattle.std.specs.Str.{str_eq_ignore_ascii_case}
 use Rattle.bhv_file.specs.declared.spec.Shape.{Shape}
-use Rattle.bhv_file.specs.declared.spec.Shape.TheVariants.{Heading, Speed, Depth, MaxDepth, Timer, Waypoint, Loiter, StationKeep, OpRegion}
+use Rattle.bhv_file.specs.declared.spec.Shape.TheVariants.{Heading, Speed, Depth, MaxDepth, Timer, Waypoint, Loiter, StationKeep, OpRegion, AvoidCollision}
 use Rattle.bhv_file.specs.declared.table.Parameter.{Parameter}
-use Rattle.bhv_file.specs.declared.table.Parameter.TheVariants.{Heading as OfHeading, Speed as OfSpeed, Depth as OfDepth, PeakWidth, BaseWidth, SummitDelta, MaxDepth as OfMaxDepth, Points, CaptureRadius, SlipRadius, Order, Repeat, Polygon, Clockwise, StationPoint, CenterActivate, InnerRadius, OuterRadius, OuterSpeed, MaxTime}
+use Rattle.bhv_file.specs.declared.table.Parameter.TheVariants.{Heading as OfHeading, Speed as OfSpeed, Depth as OfDepth, PeakWidth, BaseWidth, SummitDelta, MaxDepth as OfMaxDepth, Points, CaptureRadius, SlipRadius, Order, Repeat, Polygon, Clockwise, StationPoint, CenterActivate, InnerRadius, OuterRadius, OuterSpeed, MaxTime, Contact, ContactX, ContactY, ContactSpeed, ContactHeading, NearDistance, FarDistance, Resolved, PieceSize}
 use Rattle.bhv_file.specs.declared.table.CommonParameter.{CommonParameter}
 use Rattle.bhv_file.specs.declared.table.CommonParameter.TheVariants.{Name, Weight, Condition, RunFlag, IdleFlag, ActiveFlag, InactiveFlag, EndFlag, Updates, Duration, IdleDecay, Perpetual, Templating}
 use Rattle.bhv_file.specs.declared.table.ValueRange.{ValueRange}
-use Rattle.bhv_file.specs.declared.table.ValueRange.TheVariants.{Number, Time, Flag, Order as OrderWord, Repeat as Repeats, Places, Polygon as PolygonOf, Place}
+use Rattle.bhv_file.specs.declared.table.ValueRange.TheVariants.{Number, Time, Flag, Order as OrderWord, Repeat as Repeats, Places, Polygon as PolygonOf, Place, Contact as ContactName, Size}
 
 -- the names of a parameter, the first of them its own
 abbrev pub parameter_names : Parameter → List (List ℕ)
@@ -34,12 +34,26 @@ parameter_names InnerRadius = codes "inner_radius" ∷ []
 parameter_names OuterRadius = codes "outer_radius" ∷ []
 parameter_names OuterSpeed = codes "outer_speed" ∷ []
 parameter_names MaxTime = codes "max_time" ∷ []
+parameter_names Contact = codes "contact" ∷ []
+parameter_names ContactX = codes "contact_x" ∷ []
+parameter_names ContactY = codes "contact_y" ∷ []
+parameter_names ContactSpeed = codes "contact_speed" ∷ []
+parameter_names ContactHeading = codes "contact_heading" ∷ []
+parameter_names NearDistance = codes "min_util_cpa_dist" ∷ []
+parameter_names FarDistance = codes "max_util_cpa_dist" ∷ []
+parameter_names Resolved = codes "resolved" ∷ []
+parameter_names PieceSize = codes "piece_size" ∷ []
 
 -- numbers from `low` to `high`, in thousandths
 abbrev pub numbers : ℕ → ℕ → ValueRange
 numbers low high = Number (pos low) (pos high)
 
--- the values that a parameter may have: widths and radii are up to 1,000,000, speeds up to 1,000, depths up to 10,000
+-- numbers up to this one, either way
+abbrev pub numbers_within : ℕ → ValueRange
+numbers_within most = Number (neg_ℤ (pos most)) (pos most)
+
+-- the values that a parameter may have: widths and radii are up to 1,000,000, speeds up to 1,000, depths and distances up to
+-- 10,000; a contact is within 1,000,000 either way, and its speed is up to 100
 abbrev pub value_range : Parameter → ValueRange
 value_range OfHeading = numbers 0 360000
 value_range OfSpeed = numbers 0 1000000
@@ -61,6 +75,15 @@ value_range InnerRadius = numbers 1 1000000000
 value_range OuterRadius = numbers 0 1000000000
 value_range OuterSpeed = numbers 0 1000000
 value_range MaxTime = Time
+value_range Contact = ContactName
+value_range ContactX = numbers_within 1000000000
+value_range ContactY = numbers_within 1000000000
+value_range ContactSpeed = numbers 0 100000
+value_range ContactHeading = numbers 0 360000
+value_range NearDistance = numbers 0 10000000
+value_range FarDistance = numbers 0 10000000
+value_range Resolved = Flag
+value_range PieceSize = Size
 
 -- the parameters of a type
 abbrev pub parameters_of : Shape → List Parameter
@@ -73,6 +96,8 @@ parameters_of (Waypoint points speed capture slip reverse repeat) = Points ∷ O
 parameters_of (Loiter polygon speed capture slip clockwise) = Polygon ∷ OfSpeed ∷ CaptureRadius ∷ SlipRadius ∷ Clockwise ∷ []
 parameters_of (StationKeep point anew inner outer speed) = StationPoint ∷ CenterActivate ∷ InnerRadius ∷ OuterRadius ∷ OuterSpeed ∷ []
 parameters_of (OpRegion polygon depth time) = Polygon ∷ OfMaxDepth ∷ MaxTime ∷ []
+parameters_of (AvoidCollision avoidance) =
+    Contact ∷ ContactX ∷ ContactY ∷ ContactSpeed ∷ ContactHeading ∷ NearDistance ∷ FarDistance ∷ Resolved ∷ PieceSize ∷ []
 
 -- a type by its name in a file, and its parameters where they aren't given
 pub record TypeRow : Type 0 where
@@ -90,7 +115,11 @@ types =
     ∷ record { type = codes "BHV_Waypoint"; defaults = Waypoint [] (pos 0) (pos 3000) (pos 15000) false (Some 0) }
     ∷ record { type = codes "BHV_Loiter"; defaults = Loiter [] (pos 0) (pos 10000) (pos 20000) true }
     ∷ record { type = codes "BHV_StationKeep"; defaults = StationKeep None false (pos 4000) (pos 15000) (pos 1200) }
-    ∷ record { type = codes "BHV_OpRegion"; defaults = OpRegion None None None } ∷ []
+    ∷ record { type = codes "BHV_OpRegion"; defaults = OpRegion None None None }
+    ∷ record {
+      type = codes "BHV_AvoidCollision";
+      defaults = AvoidCollision (record { contact = None; contact_x = None; contact_y = None; contact_speed = None; contact_heading = None; near = pos 10000; far = pos 75000; resolved = false; piece_size = 12 });
+    } ∷ []
 
 -- the defaults of the type of this name among these; the case of letters counts
 abbrev pub defaults_among : List ℕ → List TypeRow → Option Shape
@@ -106,6 +135,7 @@ abbrev pub needs_number : Shape → Bool
 needs_number Timer = false
 needs_number (StationKeep point anew inner outer speed) = false
 needs_number (OpRegion polygon depth time) = false
+needs_number (AvoidCollision avoidance) = false
 needs_number other = true
 
 -- that number is one of these

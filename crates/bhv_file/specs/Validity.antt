@@ -19,6 +19,7 @@ use Rattle.bhv_file.specs.declared.spec.Spec.{Spec}
 use Rattle.bhv_file.specs.Paths.{the_one, meant_by, parent_path, paths_of}
 use Rattle.bhv_file.specs.Params.{has_axes, keeps_relations, lacks_places}
 use Rattle.bhv_file.specs.Ranges.{KeepsRanges}
+use Rattle.bhv_file.specs.Serving.{suits}
 
 -- the condition names the mode
 abbrev pub names_mode : Condition → Bool
@@ -111,6 +112,6 @@ pub record IsValidFile (file : BhvFile) : Type 0 where
   pub few_blocks : length file.blocks ≤ 64
   pub blocks : AreBlocks [] file.blocks
 
--- the domain has the axes that each of these behaviours needs
+-- the domain has the axes that each of these behaviours needs, and suits it
 abbrev pub serves : List Axis → List Block → Bool
-serves domain blocks = list_all (λ block. has_axes domain block.spec.shape) blocks
+serves domain blocks = list_all (λ block. has_axes domain block.spec.shape && suits domain block.spec.shape) blocks

@@ -1,14 +1,15 @@
 -- What the values of a behaviour's parameters say: numbers in a range, words, and lists of places.
 use Rattle.std.specs.Prelude.{ℕ, ◌^◌, ◌==◌, ℤ, pos, int_le, nat_abs, Bool, true, false, ◌&&◌, ◌||◌, not, nat_le, if◌then◌else◌, List, [], ◌∷◌, length, take, drop, map, filter, codes, bytes_eq, Option, Some, None, option_map, option_and_then}
 use Rattle.std.specs.List.{slice_split}
+use Rattle.moos_post.specs.Words.{is_name}
 use Rattle.moos_text.specs.Lines.{ends_with, is_blank, without_last}
 use Rattle.moos_text.specs.Numbers.{milli_of, whole_of}
 use Rattle.helm_geo.specs.declared.spot.Spot.{Spot}
 use Rattle.helm_geo.specs.Polygons.{convex}
 use Rattle.bhv_file.specs.declared.setting.Setting.{Setting}
-use Rattle.bhv_file.specs.declared.setting.Setting.TheVariants.{Number, Time, Flag, Repeat, Places, Place}
+use Rattle.bhv_file.specs.declared.setting.Setting.TheVariants.{Number, Time, Flag, Repeat, Places, Place, Contact, Size}
 use Rattle.bhv_file.specs.declared.table.ValueRange.{ValueRange}
-use Rattle.bhv_file.specs.declared.table.ValueRange.TheVariants.{Number as OfNumber, Time as OfTime, Flag as OfFlag, Order as OfOrder, Repeat as OfRepeat, Places as OfPlaces, Polygon as OfPolygon, Place as OfPlace}
+use Rattle.bhv_file.specs.declared.table.ValueRange.TheVariants.{Number as OfNumber, Time as OfTime, Flag as OfFlag, Order as OfOrder, Repeat as OfRepeat, Places as OfPlaces, Polygon as OfPolygon, Place as OfPlace, Contact as OfContact, Size as OfSize}
 
 -- what was read, where it passes a test
 abbrev pub kept_if : {A : Type 0} → (A → Bool) → Option A → Option A
@@ -102,6 +103,22 @@ spot_of text = option_and_then only_spot (spots_of text)
 abbrev pub polygon_of : List ℕ → Option (List Spot)
 polygon_of text = kept_if convex (spots_of text)
 
+-- a contact's name: one of at most 32 bytes
+abbrev pub is_contact : List ℕ → Bool
+is_contact name = nat_le (length name) 32 && is_name name
+
+-- such a name as a value
+abbrev pub contact_of : List ℕ → Option (List ℕ)
+contact_of text = if is_contact text then Some text else None
+
+-- a piece has 1 to 268,435,456 places on an axis
+abbrev pub is_piece_size : ℕ → Bool
+is_piece_size number = nat_le 1 number && nat_le number 268435456
+
+-- so many places, by a whole number
+abbrev pub piece_size_of : List ℕ → Option ℕ
+piece_size_of text = kept_if is_piece_size (whole_of text)
+
 -- What a value of a parameter says, where it is one of its range.
 abbrev pub setting_of : ValueRange → List ℕ → Option Setting
 setting_of (OfNumber low high) text = option_map Number (number_value low high text)
@@ -112,3 +129,5 @@ setting_of OfRepeat text = option_map Repeat (repeat_of text)
 setting_of OfPlaces text = option_map Places (spots_of text)
 setting_of OfPolygon text = option_map Places (polygon_of text)
 setting_of OfPlace text = option_map Place (spot_of text)
+setting_of OfContact text = option_map Contact (contact_of text)
+setting_of OfSize text = option_map Size (piece_size_of text)

@@ -8,21 +8,29 @@
 //! `put`; `out` stands by itself. Of specs/ read `Table`, `Values` and `Params`, `Paths`, `Ranges` and `Validity`.
 #![tactic(auto)]
 
+mod axis;
 mod common;
 mod decl;
 mod file;
+mod known;
 mod out;
 mod places;
 mod put;
+mod serving;
 mod setting;
 mod spec;
 mod table;
+mod updating;
 
+pub use axis::{axis_number, has_axis};
 pub use common::Common;
 pub use decl::{Conds, Decl, Decls};
 pub use file::{BhvFile, Block, Blocks, Unused, UnusedList};
+pub use known::{latest_number, position};
 pub use out::{BhvFault, Out};
 pub use put::{set_param, set_value};
+pub use serving::suits;
 pub use setting::{read_duration, read_flag, read_templating, read_weight};
-pub use spec::{Shape, Spec, Spots};
+pub use spec::{Avoidance, Shape, Spec, Spots};
 pub use table::{CommonParameter, Parameter, common_named, is_needed, parameter_named};
+pub use updating::{names_places, updated, updated_anywhere};

@@ -1,17 +1,17 @@
 // A value in its field, and one more pair of a behaviour.
 ghost use Rattle.std.specs.Prelude.{◌≡◌, IfOk, OnErr, Some, None, true, false, if◌then◌else◌, option_map};
 ghost use Rattle.bhv_file.specs.declared.table.CommonParameter.TheVariants.{Weight};
-ghost use Rattle.bhv_file.specs.Params.{with_flag, with_number_field, with_param, with_place, with_places, with_repeat, with_field, with_time, with_value_of};
+ghost use Rattle.bhv_file.specs.Params.{with_contact, with_flag, with_number_field, with_approach, with_size, with_param, with_place, with_places, with_repeat, with_field, with_time, with_value_of};
 ghost use Rattle.bhv_file.specs.Ranges.{KeepsRanges};
 ghost use Rattle.bhv_file.specs.Values.{setting_of};
 
 use crate::setting::{Setting, read_number, read_setting, read_weight};
-use crate::spec::{Shape, Spec, Spots};
+use crate::spec::{Avoidance, Shape, Spec, Spots};
 use crate::table::{
     CommonParameter, Parameter, ValueRange, is_common_name, parameter_named, value_range,
 };
 use helm_geo::Spot;
-use moos_post::NoMemory;
+use moos_post::{Name, NoMemory};
 use std::alloc::Global;
 
 // The field of a parameter.
@@ -25,6 +25,8 @@ fn put(shape: &mut Shape, parameter: Parameter, setting: Setting)
         Setting::Repeat(n) => put_repeat(shape, n),
         Setting::Places(spots) => put_places(shape, spots),
         Setting::Place(spot) => put_place(shape, spot),
+        Setting::Contact(name) => put_contact(shape, name),
+        Setting::Size(size) => put_size(shape, size),
     }
 }
 
@@ -56,6 +58,22 @@ fn put_number(shape: &mut Shape, parameter: Parameter, n: i64)
         (Shape::StationKeep { outer_radius, .. }, Parameter::OuterRadius) => *outer_radius = n,
         (Shape::StationKeep { outer_speed, .. }, Parameter::OuterSpeed) => *outer_speed = n,
         (Shape::OpRegion { max_depth, .. }, Parameter::MaxDepth) => *max_depth = Some(n),
+        (Shape::AvoidCollision(avoidance), parameter) => put_approach(avoidance, parameter, n),
+        _ => {},
+    }
+}
+
+// A number of a behaviour that keeps clear of a contact.
+fn put_approach(avoidance: &mut Avoidance, parameter: Parameter, n: i64)
+    ensures { avoidance.new ≡ with_approach avoidance.old parameter n }
+{
+    match parameter {
+        Parameter::ContactX => avoidance.contact_x = Some(n),
+        Parameter::ContactY => avoidance.contact_y = Some(n),
+        Parameter::ContactSpeed => avoidance.contact_speed = Some(n),
+        Parameter::ContactHeading => avoidance.contact_heading = Some(n),
+        Parameter::NearDistance => avoidance.near = n,
+        Parameter::FarDistance => avoidance.far = n,
         _ => {},
     }
 }
@@ -78,6 +96,7 @@ fn put_flag(shape: &mut Shape, flag: bool)
             center_activate,
             ..
         } => *center_activate = flag,
+        Shape::AvoidCollision(avoidance) => avoidance.resolved = flag,
         _ => {},
     }
 }
@@ -106,6 +125,22 @@ fn put_place(shape: &mut Shape, spot: Spot)
 {
     if let Shape::StationKeep { station_pt, .. } = shape {
         *station_pt = Some(spot);
+    }
+}
+
+fn put_contact(shape: &mut Shape, name: Name)
+    ensures { shape.new ≡ with_contact shape.old name }
+{
+    if let Shape::AvoidCollision(avoidance) = shape {
+        avoidance.contact = Some(name);
+    }
+}
+
+fn put_size(shape: &mut Shape, size: u32)
+    ensures { shape.new ≡ with_size shape.old size }
+{
+    if let Shape::AvoidCollision(avoidance) = shape {
+        avoidance.piece_size = size;
     }
 }
 

@@ -1,14 +1,14 @@
 // What the values of parameters say.
 ghost use Rattle.std.specs.Prelude.{◌≡◌, IfOk};
-ghost use Rattle.bhv_file.specs.Values.{flag_of, templating_of, number_value, order_of, repeat_of, setting_of, time_value, weight_of, duration_of};
+ghost use Rattle.bhv_file.specs.Values.{contact_of, flag_of, templating_of, number_value, order_of, repeat_of, setting_of, piece_size_of, time_value, weight_of, duration_of};
 
 use crate::places::{read_only_place, read_places, read_polygon};
 use crate::spec::Spots;
 use crate::table::ValueRange;
 use helm_geo::Spot;
-use moos_post::NoMemory;
+use moos_post::{Name, NameFault, NoMemory};
 use moos_text::{read_milli, read_whole};
-use std::alloc::Global;
+use std::alloc::{AllocError, Global};
 
 /// A value of a parameter. A number is in thousandths, a time in milliseconds, and no number of repeats is for ever.
 #[derive(Drop)]
@@ -19,6 +19,8 @@ pub enum Setting {
     Repeat(Option<u32>),
     Places(Spots),
     Place(Spot),
+    Contact(Name),
+    Size(u32),
 }
 
 /// What a value of a parameter says; None exactly where it isn't in the range.
@@ -38,6 +40,8 @@ pub fn read_setting(
         ValueRange::Places => read_places(alloc, text)?.map(Setting::Places),
         ValueRange::Polygon => read_polygon(alloc, text)?.map(Setting::Places),
         ValueRange::Place => read_only_place(alloc, text)?.map(Setting::Place),
+        ValueRange::Contact => read_contact(alloc, text)?.map(Setting::Contact),
+        ValueRange::Size => read_size(text).map(Setting::Size),
     })
 }
 
@@ -129,6 +133,32 @@ fn read_repeat(text: &[u8]) -> Option<Option<u32>>
     let number = read_whole(text)?;
     if number <= 1_000_000 {
         Some(Some(number))
+    } else {
+        None
+    }
+}
+
+// The name of a contact, of at most 32 bytes.
+fn read_contact(alloc: Global, text: &[u8]) -> Result<Option<Name>, NoMemory>
+    ensures { IfOk result (λ name. name ≡ contact_of text.now) }
+{
+    if text.len() > 32 {
+        return Ok(None);
+    }
+    match Name::new(alloc, text) {
+        Ok(name) => Ok(Some(name)),
+        Err(NameFault::BadName) => Ok(None),
+        Err(NameFault::NoMemory) => Err(AllocError),
+    }
+}
+
+// How many places: a whole number from 1 to 268,435,456.
+fn read_size(text: &[u8]) -> Option<u32>
+    ensures { result ≡ piece_size_of text.now }
+{
+    let number = read_whole(text)?;
+    if 1 <= number && number <= 268_435_456 {
+        Some(number)
     } else {
         None
     }

@@ -2,7 +2,7 @@
 ghost use Rattle.std.specs.Prelude.{◌≡◌, IfOk};
 
 use helm_geo::Spot;
-use moos_post::{Copied, List, NoMemory};
+use moos_post::{Copied, List, Name, NoMemory};
 use std::alloc::Global;
 
 /// Places on the plane, in order.
@@ -70,6 +70,26 @@ pub enum Shape {
         max_depth: Option<i64>,
         max_time: Option<u64>,
     },
+    AvoidCollision(Avoidance),
+}
+
+/// The parameters of a behaviour that keeps clear of a contact. Each i64 is in thousandths of its unit.
+#[derive(Drop)]
+pub struct Avoidance {
+    /// The contact's name.
+    pub contact: Option<Name>,
+    pub contact_x: Option<i64>,
+    pub contact_y: Option<i64>,
+    pub contact_speed: Option<i64>,
+    pub contact_heading: Option<i64>,
+    /// The closest approach up to which a course is worth nothing.
+    pub near: i64,
+    /// The closest approach from which on it is worth most.
+    pub far: i64,
+    /// Whether the contact is clear for good.
+    pub resolved: bool,
+    /// How many places a piece of the function has on each axis.
+    pub piece_size: u32,
 }
 
 impl Copied for Spec {
@@ -179,6 +199,27 @@ impl Copied for Shape {
                 max_depth: *max_depth,
                 max_time: *max_time,
             },
+            Shape::AvoidCollision(avoidance) => Shape::AvoidCollision(avoidance.copy(alloc)?),
+        })
+    }
+}
+
+impl Copied for Avoidance {
+    fn copy(&self, alloc: Global) -> Result<Avoidance, NoMemory> {
+        let contact = match &self.contact {
+            Some(contact) => Some(contact.copy(alloc)?),
+            None => None,
+        };
+        Ok(Avoidance {
+            contact,
+            contact_x: self.contact_x,
+            contact_y: self.contact_y,
+            contact_speed: self.contact_speed,
+            contact_heading: self.contact_heading,
+            near: self.near,
+            far: self.far,
+            resolved: self.resolved,
+            piece_size: self.piece_size,
         })
     }
 }

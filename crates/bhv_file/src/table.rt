@@ -29,6 +29,15 @@ pub enum Parameter {
     OuterRadius,
     OuterSpeed,
     MaxTime,
+    Contact,
+    ContactX,
+    ContactY,
+    ContactSpeed,
+    ContactHeading,
+    NearDistance,
+    FarDistance,
+    Resolved,
+    PieceSize,
 }
 
 /// A parameter that all types of behaviours have.
@@ -68,6 +77,10 @@ pub enum ValueRange {
     Polygon,
     /// One place.
     Place,
+    /// A name of at most 32 bytes.
+    Contact,
+    /// A whole number from 1 to 268,435,456.
+    Size,
 }
 
 /// Whether a name in a file is that of a parameter.
@@ -99,6 +112,15 @@ fn is_called(parameter: Parameter, name: &[u8]) -> bool
         Parameter::OuterRadius => is_named(name, b"outer_radius"),
         Parameter::OuterSpeed => is_named(name, b"outer_speed"),
         Parameter::MaxTime => is_named(name, b"max_time"),
+        Parameter::Contact => is_named(name, b"contact"),
+        Parameter::ContactX => is_named(name, b"contact_x"),
+        Parameter::ContactY => is_named(name, b"contact_y"),
+        Parameter::ContactSpeed => is_named(name, b"contact_speed"),
+        Parameter::ContactHeading => is_named(name, b"contact_heading"),
+        Parameter::NearDistance => is_named(name, b"min_util_cpa_dist"),
+        Parameter::FarDistance => is_named(name, b"max_util_cpa_dist"),
+        Parameter::Resolved => is_named(name, b"resolved"),
+        Parameter::PieceSize => is_named(name, b"piece_size"),
     }
 }
 
@@ -107,22 +129,28 @@ pub fn value_range(parameter: Parameter) -> ValueRange
     ensures { result ≡ value_range parameter }
 {
     let (low, high) = match parameter {
-        Parameter::Heading => (0, 360_000),
+        Parameter::Heading | Parameter::ContactHeading => (0, 360_000),
         Parameter::Speed | Parameter::OuterSpeed => (0, 1_000_000),
-        Parameter::Depth | Parameter::MaxDepth => (0, 10_000_000),
+        Parameter::Depth | Parameter::MaxDepth | Parameter::NearDistance | Parameter::FarDistance =>
+            (0, 10_000_000),
         Parameter::PeakWidth
         | Parameter::BaseWidth
         | Parameter::SlipRadius
         | Parameter::OuterRadius => (0, 1_000_000_000),
         Parameter::CaptureRadius | Parameter::InnerRadius => (1, 1_000_000_000),
-        Parameter::SummitDelta => (0, 100_000),
+        Parameter::SummitDelta | Parameter::ContactSpeed => (0, 100_000),
+        Parameter::ContactX | Parameter::ContactY => (-1_000_000_000, 1_000_000_000),
         Parameter::MaxTime => return ValueRange::Time,
-        Parameter::Clockwise | Parameter::CenterActivate => return ValueRange::Flag,
+        Parameter::Clockwise | Parameter::CenterActivate | Parameter::Resolved => {
+            return ValueRange::Flag;
+        },
         Parameter::Order => return ValueRange::Order,
         Parameter::Repeat => return ValueRange::Repeat,
         Parameter::Points => return ValueRange::Places,
         Parameter::Polygon => return ValueRange::Polygon,
         Parameter::StationPoint => return ValueRange::Place,
+        Parameter::Contact => return ValueRange::Contact,
+        Parameter::PieceSize => return ValueRange::Size,
     };
     ValueRange::Number { low, high }
 }
@@ -171,6 +199,9 @@ pub fn parameter_named(shape: &Shape, name: &[u8]) -> Option<Parameter>
             first_called!(name; StationPoint, CenterActivate, InnerRadius, OuterRadius, OuterSpeed)
         },
         Shape::OpRegion { .. } => first_called!(name; Polygon, MaxDepth, MaxTime),
+        Shape::AvoidCollision(_) => {
+            first_called!(name; Contact, ContactX, ContactY, ContactSpeed, ContactHeading, NearDistance, FarDistance, Resolved, PieceSize)
+        },
     }
 }
 

@@ -18,7 +18,8 @@ use Rattle.ivp_build.specs.Places.{axis_on}
 use Rattle.ivp_build.specs.Sums.{HaveRoom, couple_pieces, met_sum, met_sums, slope_apart}
 use Rattle.ivp_build.proofs.Sides.{peak_most, room_below, shapes_apart}
 use Rattle.bhv_file.specs.Params.{has_axis}
-use Rattle.bhv_kinds.specs.Utilities.{PeakOn, Sum, Utility, axis_number, cruise, function_of, named_axis, place_on, steer, utility_pieces, worth_at}
+use Rattle.bhv_file.specs.Named.{axis_number, named_axis, place_on}
+use Rattle.bhv_kinds.specs.Utilities.{PeakOn, Sum, Utility, cruise, function_of, steer, utility_pieces, worth_at}
 
 -- a sum has at most as many pieces as there are pairs
 sums_few : (p : Piece) (qs : List Piece) → length (met_sums p qs) ≤ length qs

@@ -5,14 +5,15 @@ use Rattle.moos_post.specs.declared.value.Value.TheVariants.{Num, Text}
 use Rattle.helm_cond.specs.Learnt.{Knowledge}
 use Rattle.helm_geo.specs.declared.spot.Spot.{Spot}
 use Rattle.bhv_file.specs.declared.spec.Shape.{Shape}
-use Rattle.bhv_file.specs.declared.spec.Shape.TheVariants.{Heading, Speed, Depth, MaxDepth, Timer, Waypoint, Loiter, StationKeep, OpRegion}
+use Rattle.bhv_file.specs.declared.spec.Shape.TheVariants.{Heading, Speed, Depth, MaxDepth, Timer, Waypoint, Loiter, StationKeep, OpRegion, AvoidCollision}
 use Rattle.bhv_file.specs.declared.spec.Spec.{Spec}
 use Rattle.bhv_file.specs.Params.{has_axes, has_axis}
 use Rattle.bhv_file.specs.Validity.{IsValidSpec}
 use Rattle.ivp_domain.specs.declared.axis.Axis.{Axis}
 use Rattle.std.proofs.lemmas.Bool.{and_from}
-use Rattle.bhv_kinds.specs.Updates.{gives_places, updated}
-use Rattle.bhv_kinds.specs.Turns.{KindTurn, Stepped, Updated, first_step, params_at, position_of}
+use Rattle.bhv_file.specs.Updates.{gives_places, updated}
+use Rattle.bhv_file.specs.Known.{position_of}
+use Rattle.bhv_kinds.specs.Turns.{KindTurn, Stepped, Updated, first_step, params_at}
 use Rattle.bhv_kinds.specs.declared.waypoint.Headway.{Headway}
 use Rattle.bhv_kinds.specs.Targets.{first_headway, headway_at, vertex_at}
 use Rattle.bhv_kinds.specs.Stations.{centre_at}
@@ -54,24 +55,24 @@ abbrev come : ℕ → ℕ → Headway
 come captured again = record { captured = captured; again = again }
 
 -- An update is refused as a whole, or all its pairs are taken. It is cut at each `#`, and a weight counts thousandths.
-whole : (updated two (codes "speed=1 # radius=abc") ≡ None) × (updated two (codes "speed=1 # radius=4") ≡ Some (spec (Waypoint (spot 10 0 ∷ spot 12 0 ∷ []) (pos 1000) (pos 4000) (pos 5000) false (Some 0))))
-    × (updated two (codes "Speed") ≡ None) × (updated two (codes "speed=1#") ≡ None) × (updated two (codes "heading=4") ≡ None) × (updated two (codes "PWT = 7.9") ≡ Some (record { weight = 7900; shape = two.shape }))
-    × (updated (spec Timer) (codes "duration=4") ≡ None)
+whole : (updated [] two (codes "speed=1 # radius=abc") ≡ None) × (updated [] two (codes "speed=1 # radius=4") ≡ Some (spec (Waypoint (spot 10 0 ∷ spot 12 0 ∷ []) (pos 1000) (pos 4000) (pos 5000) false (Some 0))))
+    × (updated [] two (codes "Speed") ≡ None) × (updated [] two (codes "speed=1#") ≡ None) × (updated [] two (codes "heading=4") ≡ None) × (updated [] two (codes "PWT = 7.9") ≡ Some (record { weight = 7900; shape = two.shape }))
+    × (updated [] (spec Timer) (codes "duration=4") ≡ None)
 whole = (refl, refl, refl, refl, refl, refl, refl)
 
-refused : params_at two (Updated (codes "speed=1 # radius=abc") ∷ []) ≡ two
+refused : params_at two (Updated [] (codes "speed=1 # radius=abc") ∷ []) ≡ two
 refused = refl
 
 -- the relations are judged after all pairs
 abbrev pub station : Bool → Option Spot → Spec
 station anew point = spec (StationKeep point anew (pos 4000) (pos 15000) (pos 1200))
 
-relations : (updated (station true None) (codes "inner_radius=15") ≡ None) × (is_some (updated (station true None) (codes "inner_radius=20#outer_radius=30")) ≡ true)
-    × (updated (station true None) (codes "center_activate=false") ≡ None) × (is_some (updated (station true None) (codes "center_activate=false#point=1,2")) ≡ true)
+relations : (updated [] (station true None) (codes "inner_radius=15") ≡ None) × (is_some (updated [] (station true None) (codes "inner_radius=20#outer_radius=30")) ≡ true)
+    × (updated [] (station true None) (codes "center_activate=false") ≡ None) × (is_some (updated [] (station true None) (codes "center_activate=false#point=1,2")) ≡ true)
 relations = (refl, refl, refl, refl)
 
 -- a good update that names a list gives it anew, also where it is the same
-anew : (gives_places two (codes "Polygon=10,0:12,0") ≡ true) × (gives_places two (codes "order=reverse") ≡ false) × (gives_places two (codes "points=10,0#speed=x") ≡ false)
+anew : (gives_places [] two (codes "Polygon=10,0:12,0") ≡ true) × (gives_places [] two (codes "order=reverse") ≡ false) × (gives_places [] two (codes "points=10,0#speed=x") ≡ false)
 anew = (refl, refl, refl)
 
 -- captured exactly at the radius, and not beyond it; one target a step
@@ -87,8 +88,8 @@ apart : headway_at (waypoint (spot 10 0 ∷ spot 16 0 ∷ spot 90 0 ∷ []) (Som
 apart = refl
 
 -- not after a step without a position, nor after an update of the points, but after one of the speed or one refused
-not_slipped : (headway_at two (at 4000 ∷ lost ∷ at 5000 ∷ []) ≡ first_headway) × (headway_at two (at 4000 ∷ Updated (codes "points=10,0:12,0") ∷ at 5000 ∷ []) ≡ first_headway)
-    × (headway_at two (at 4000 ∷ Updated (codes "speed=1") ∷ at 5000 ∷ []) ≡ come 1 0) × (headway_at two (at 4000 ∷ Updated (codes "points=10,0:12,0#speed=x") ∷ at 5000 ∷ []) ≡ come 1 0)
+not_slipped : (headway_at two (at 4000 ∷ lost ∷ at 5000 ∷ []) ≡ first_headway) × (headway_at two (at 4000 ∷ Updated [] (codes "points=10,0:12,0") ∷ at 5000 ∷ []) ≡ first_headway)
+    × (headway_at two (at 4000 ∷ Updated [] (codes "speed=1") ∷ at 5000 ∷ []) ≡ come 1 0) × (headway_at two (at 4000 ∷ Updated [] (codes "points=10,0:12,0#speed=x") ∷ at 5000 ∷ []) ≡ come 1 0)
 not_slipped = (refl, refl, refl, refl)
 
 -- a list of one point begins again as often as it may and then anew; for ever it goes on counting; an update keeps the repeats
@@ -96,7 +97,7 @@ abbrev one : Option ℕ → Spec
 one repeat = waypoint (spot 10 0 ∷ []) repeat
 
 repeated : (headway_at (one (Some 1)) (at 10000 ∷ []) ≡ come 0 1) × (headway_at (one (Some 1)) (at 10000 ∷ at 10000 ∷ []) ≡ come 0 0) × (headway_at (one None) (at 10000 ∷ at 10000 ∷ []) ≡ come 0 2)
-    × (headway_at (one (Some 1)) (Updated (codes "points=10,0:20,0") ∷ at 10000 ∷ []) ≡ come 0 1)
+    × (headway_at (one (Some 1)) (Updated [] (codes "points=10,0:20,0") ∷ at 10000 ∷ []) ≡ come 0 1)
 repeated = (refl, refl, refl, refl)
 
 -- a loiter behaviour on a square that is listed counterclockwise: the nearest vertex, then the one before it in the list
@@ -112,7 +113,7 @@ loitering = (refl, refl, refl, refl, refl, refl)
 
 -- chosen anew when it is fresh or has a new polygon, and else kept; a fresh step with no position leaves the choice to the next
 chosen : (vertex_at (loiter true) (step (ship_at 0 9000) false ∷ fresh 40000 30000 ∷ []) ≡ Some 2) × (vertex_at (loiter true) (fresh 0 9000 ∷ fresh 40000 30000 ∷ []) ≡ Some 0)
-    × (vertex_at (loiter true) (step (ship_at 0 9000) false ∷ Updated (codes "polygon=0,0:40,0:40,40") ∷ fresh 40000 30000 ∷ []) ≡ Some 0)
+    × (vertex_at (loiter true) (step (ship_at 0 9000) false ∷ Updated [] (codes "polygon=0,0:40,0:40,40") ∷ fresh 40000 30000 ∷ []) ≡ Some 0)
     × (vertex_at (loiter true) (step (ship_at 0 9000) false ∷ step ship_lost true ∷ fresh 40000 30000 ∷ []) ≡ Some 0)
 chosen = (refl, refl, refl, refl)
 
@@ -126,7 +127,7 @@ centred : (centre_at (at 9 ∷ at 8 ∷ step ship_lost true ∷ at 7 ∷ []) ≡
 centred = (refl, refl, refl)
 
 -- the first step of all, fresh or not
-first : first_step (Stepped (record { axes = []; known = ship_lost; stamp = 9; fresh = true }) ∷ Updated (codes "speed=1") ∷ lost ∷ []) ≡ Some 7000
+first : first_step (Stepped (record { axes = []; known = ship_lost; stamp = 9; fresh = true }) ∷ Updated [] (codes "speed=1") ∷ lost ∷ []) ≡ Some 7000
 first = refl
 
 -- a station that is taken anew has valid parameters
@@ -163,6 +164,7 @@ three_axes axes (Waypoint a b c d e f) course speed depth = and_from _ _ course 
 three_axes axes (Loiter a b c d e) course speed depth = and_from _ _ course (and_from _ _ speed refl)
 three_axes axes (StationKeep a b c d e) course speed depth = and_from _ _ course (and_from _ _ speed refl)
 three_axes axes (OpRegion a b c) course speed depth = refl
+three_axes axes (AvoidCollision a) course speed depth = and_from _ _ course (and_from _ _ speed refl)
 
 -- a list of one point, and a polygon that is a square
 pub waypoint_valid : (points : List Spot) → points ≡ record { x = pos 0; y = pos 0 } ∷ [] → IsValidSpec (spec (Waypoint points (pos 1000) (pos 10000) (pos 15000) false (Some 1)))

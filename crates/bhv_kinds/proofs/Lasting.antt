@@ -1,6 +1,7 @@
 -- The parameters after any updates and steps are valid where those of the file are, and the type needs the same axes.
 use Rattle.std.proofs.Common.{◌≡◌, ◌≤◌, ◌^◌, ℕ, Bool, true, false, cond, Option, Some, None, List, [], ◌∷◌, refl, sym, ◌∙◌, subst}
 use Rattle.std.specs.Prelude.{fold, IfSome, option_map, option_and_then, unwrap_or}
+use Rattle.ivp_domain.specs.declared.axis.Axis.{Axis}
 use Rattle.moos_text.specs.Pairs.{Sides, sides_of}
 use Rattle.bhv_file.specs.declared.spec.Shape.{Shape}
 use Rattle.bhv_file.specs.declared.spec.Spec.{Spec}
@@ -10,11 +11,11 @@ use Rattle.bhv_file.specs.Params.{axes_of, with_param, with_value_of}
 use Rattle.bhv_file.specs.Ranges.{InRanges, KeepsRanges}
 use Rattle.bhv_file.specs.Table.{parameter_of, states_common}
 use Rattle.bhv_file.specs.Validity.{IsValidSpec}
-use Rattle.bhv_file.specs.Values.{kept_if, weight_of}
+use Rattle.bhv_file.specs.Values.{weight_of}
 use Rattle.bhv_file.proofs.Ranged.{own_kept, weight_within}
 use Rattle.bhv_kinds.specs.Turns.{KindTurn, Stepped, Updated, params_at}
-use Rattle.bhv_kinds.specs.Updates.{is_consistent, update_parts, updated, with_update_part}
-use Rattle.bhv_kinds.proofs.Pairwise.{consistent, none_after, updated_axes}
+use Rattle.bhv_file.specs.Updates.{update_parts, updated, with_update_part}
+use Rattle.bhv_file.proofs.Pairwise.{good_valid, none_after, updated_axes, updated_good}
 
 -- a parameter more keeps the ranges
 param_ranges : (spec : Spec) (name value : List ℕ) → KeepsRanges spec → IfSome (with_param spec name value) KeepsRanges
@@ -51,33 +52,27 @@ pairs_ranges spec after (part ∷ parts) is e = by (with_update_part (Some spec)
     by (Some s) h k rest = rest s h k
 
 -- an update that is good leaves valid parameters
-pub updated_valid : (spec after : Spec) (text : List ℕ) → KeepsRanges spec → updated spec text ≡ Some after → IsValidSpec after
-updated_valid spec after text is e = by (fold with_update_part (Some spec) (update_parts text)) refl e
-  where
-    at : (s : Spec) → KeepsRanges s → (b : Bool) → is_consistent s.shape ≡ b → cond b (Some s) None ≡ Some after → IsValidSpec after
-    at s ranges true good k = subst (λ (o : Option Spec). IfSome o IsValidSpec) k (consistent s ranges good)
-    at s ranges false good k = absurd cc
-
-    by : (o : Option Spec) → fold with_update_part (Some spec) (update_parts text) ≡ o → kept_if (λ (s : Spec). is_consistent s.shape) o ≡ Some after → IsValidSpec after
-    by None same k = absurd cc
-    by (Some s) same k = at s (pairs_ranges spec s (update_parts text) is same) (is_consistent s.shape) refl k
+pub updated_valid : (axes : List Axis) (spec after : Spec) (text : List ℕ) → KeepsRanges spec → updated axes spec text ≡ Some after → IsValidSpec after
+updated_valid axes spec after text is e =
+    let good = updated_good axes spec after text e in
+    good_valid axes after (pairs_ranges spec after (update_parts text) is good.0) good.1
 
 -- so the parameters stay valid
 pub params_valid : (spec : Spec) (turns : List KindTurn) → IsValidSpec spec → IsValidSpec (params_at spec turns)
 params_valid spec [] valid = valid
 params_valid spec (Stepped step ∷ past) valid = params_valid spec past valid
-params_valid spec (Updated text ∷ past) valid = by (updated (params_at spec past) text) refl (params_valid spec past valid)
+params_valid spec (Updated axes text ∷ past) valid = by (updated axes (params_at spec past) text) refl (params_valid spec past valid)
   where
-    by : (o : Option Spec) → updated (params_at spec past) text ≡ o → IsValidSpec (params_at spec past) → IsValidSpec (unwrap_or o (params_at spec past))
+    by : (o : Option Spec) → updated axes (params_at spec past) text ≡ o → IsValidSpec (params_at spec past) → IsValidSpec (unwrap_or o (params_at spec past))
     by None e before = before
-    by (Some after) e before = updated_valid (params_at spec past) after text before.ranges e
+    by (Some after) e before = updated_valid axes (params_at spec past) after text before.ranges e
 
 -- and the type needs the same axes
 pub params_axes : (spec : Spec) (turns : List KindTurn) → axes_of (params_at spec turns).shape ≡ axes_of spec.shape
 params_axes spec [] = refl
 params_axes spec (Stepped step ∷ past) = params_axes spec past
-params_axes spec (Updated text ∷ past) = by (updated (params_at spec past) text) refl (params_axes spec past)
+params_axes spec (Updated axes text ∷ past) = by (updated axes (params_at spec past) text) refl (params_axes spec past)
   where
-    by : (o : Option Spec) → updated (params_at spec past) text ≡ o → axes_of (params_at spec past).shape ≡ axes_of spec.shape → axes_of (unwrap_or o (params_at spec past)).shape ≡ axes_of spec.shape
+    by : (o : Option Spec) → updated axes (params_at spec past) text ≡ o → axes_of (params_at spec past).shape ≡ axes_of spec.shape → axes_of (unwrap_or o (params_at spec past)).shape ≡ axes_of spec.shape
     by None e before = before
-    by (Some after) e before = updated_axes (params_at spec past) after text e ∙ before
+    by (Some after) e before = updated_axes axes (params_at spec past) after text e ∙ before

@@ -13,24 +13,28 @@ use Rattle.helm_cond.specs.Learnt.{Knowledge}
 use Rattle.helm_geo.specs.declared.spot.Spot.{Spot}
 use Rattle.helm_geo.specs.Angles.{along, farthest}
 use Rattle.bhv_file.specs.declared.spec.Shape.{Shape}
-use Rattle.bhv_file.specs.declared.spec.Shape.TheVariants.{Heading, Speed, Depth, MaxDepth, Timer, Waypoint, Loiter, StationKeep, OpRegion}
+use Rattle.bhv_file.specs.declared.spec.Shape.TheVariants.{Heading, Speed, Depth, MaxDepth, Timer, Waypoint, Loiter, StationKeep, OpRegion, AvoidCollision}
 use Rattle.bhv_file.specs.declared.spec.Spec.{Spec}
 use Rattle.bhv_file.specs.Params.{axes_of, has_axes, has_axis}
 use Rattle.bhv_file.specs.Ranges.{InRanges}
-use Rattle.bhv_file.specs.Values.{lies_between}
+use Rattle.bhv_file.specs.Values.{is_piece_size, lies_between}
 use Rattle.ivp_func.specs.Functions.{Function}
 use Rattle.bhv_file.specs.declared.out.Out.{Out}
+use Rattle.contact_avoid.specs.declared.motion.Track.{Track}
+use Rattle.contact_avoid.specs.Avoids.{track_in}
+use Rattle.contact_avoid.proofs.Sampled.{clearance_worth}
 use Rattle.bhv_kinds.specs.declared.situation.Situation.{Situation}
 use Rattle.std.specs.Ordering.{int_eq}
-use Rattle.bhv_kinds.specs.Giving.{Given, all_done, given_here, gives_by_type, gives_at, keeping, keeping_station, out_of, situation_at, towards, towards_number}
+use Rattle.bhv_kinds.specs.Giving.{Given, all_done, given_here, gives_by_type, gives_at, keeping, keeping_clear, keeping_station, out_of, situation_at, towards, towards_number}
 use Rattle.bhv_kinds.specs.Stations.{distance_of, return_speed}
 use Rattle.bhv_kinds.specs.Targets.{spot_at, target_number}
-use Rattle.bhv_kinds.specs.Utilities.{Utility, AtMostOn, Flat, PeakOn, Sum, axis_number, cruise, function_of, steer, utility_pieces, worth_at}
+use Rattle.bhv_file.specs.Named.{axis_number}
+use Rattle.bhv_kinds.specs.Utilities.{Utility, AtMostOn, Clear, Flat, PeakOn, Sum, cruise, function_of, steer, utility_pieces, worth_at}
 use Rattle.bhv_kinds.specs.Worths.{IsWorth, StepsAreWorth}
 use Rattle.bhv_kinds.specs.Turns.{params_at}
 use Rattle.bhv_kinds.proofs.Lasting.{params_axes, params_valid}
 use Rattle.std.specs.List.{list_all}
-use Rattle.bhv_kinds.proofs.Named.{named_at}
+use Rattle.bhv_file.proofs.Named.{named_at}
 use Rattle.bhv_kinds.proofs.Peaks.{peak_between, width_between}
 
 -- a utility that fits a domain: the domain has the axes that it names, and its numbers are within their bounds
@@ -39,6 +43,7 @@ FitsOn axes (Flat value) = Unit {0}
 FitsOn axes (PeakOn name peak) = (has_axis axes name ≡ true) × IsPeak peak
 FitsOn axes (AtMostOn name limit basewidth max) = (has_axis axes name ≡ true) × (basewidth ≤ 10 ^ 12) × (max ≤ 100000)
 FitsOn axes (Sum one other) = FitsOn axes one × FitsOn axes other
+FitsOn axes (Clear avoidance here track) = 0 < avoidance.piece_size
 
 -- its pieces are worth what it says
 pub fits_worth : ShapesAreWorth → (axes : List Axis) → is_domain axes ≡ true → (utility : Utility) → FitsOn axes utility → AreWorth axes (utility_pieces axes utility) (worth_at axes utility)
@@ -47,6 +52,7 @@ fits_worth law axes lawful (PeakOn name peak) fits = law.peak axes (axis_number 
 fits_worth law axes lawful (AtMostOn name limit basewidth max) fits = law.at_most axes (axis_number axes name) limit basewidth max lawful (named_at axes name fits.0).1 fits.1 fits.2
 fits_worth law axes lawful (Sum one other) fits =
     law.couple axes (utility_pieces axes one) (utility_pieces axes other) (worth_at axes one) (worth_at axes other) (fits_worth law axes lawful one fits.0) (fits_worth law axes lawful other fits.1)
+fits_worth law axes lawful (Clear avoidance here track) fits = clearance_worth axes avoidance here track lawful fits
 
 -- so is the function of what a step gives, where that fits
 pub given_worth : ShapesAreWorth → (axes : List Axis) → is_domain axes ≡ true → (utility : Option Utility) → IfSome utility (FitsOn axes) → IsWorth axes utility (option_map (function_of axes) utility)
@@ -144,6 +150,10 @@ goes_of axes has =
     let one = and_parts (has_axis axes (codes "course")) (has_axis axes (codes "speed") && true) has in
     (one.0, (and_parts (has_axis axes (codes "speed")) true one.1).0)
 
+-- a piece size in its range
+size_some : (size : ℕ) → is_piece_size size ≡ true → 0 < size
+size_some size in' = grind (arith, nat_tests)
+
 -- a range within that of all summits
 course_summit : (n : ℤ) → lies_between (pos 0) (pos 360000) n ≡ true → lies_between (pos 0) (pos (10 ^ 7)) n ≡ true
 course_summit n in' = grind (arith, nat_tests, ints)
@@ -171,6 +181,15 @@ gives_fits axes (StationKeep point anew inner outer speed) known found ranges ha
     here_fits axes (keeping_station (nat_abs inner) (nat_abs outer) (nat_abs speed) (if anew then found.centre else point)) found.here
     (λ here. station_fits axes (nat_abs inner) (nat_abs outer) (nat_abs speed) (if anew then found.centre else point) here (goes_of axes has) (speed_few speed ranges.3))
 gives_fits axes (OpRegion polygon depth time) known found ranges has = tt
+gives_fits axes (AvoidCollision avoidance) known found ranges has = by avoidance.resolved
+  where
+    clear : (here : Spot) (track : Option Track) → IfSome (option_map (Clear avoidance here) track) (FitsOn axes)
+    clear here None = tt
+    clear here (Some track) = size_some avoidance.piece_size ranges.7
+
+    by : (b : Bool) → IfSome (if b then all_done else given_here (keeping_clear avoidance) found.here).utility (FitsOn axes)
+    by true = tt
+    by false = here_fits axes (keeping_clear avoidance) found.here (λ here. clear here (track_in avoidance))
 
 -- so each step of a behaviour with valid parameters is worth what it gives
 pub steps_worth : ShapesAreWorth → StepsAreWorth

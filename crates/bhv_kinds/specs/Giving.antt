@@ -5,16 +5,19 @@ use Rattle.ivp_domain.specs.declared.axis.Axis.{Axis}
 use Rattle.helm_cond.specs.Learnt.{Knowledge}
 use Rattle.helm_geo.specs.declared.spot.Spot.{Spot}
 use Rattle.helm_geo.specs.Angles.{bearing}
+use Rattle.bhv_file.specs.declared.spec.Avoidance.{Avoidance}
 use Rattle.bhv_file.specs.declared.spec.Shape.{Shape}
-use Rattle.bhv_file.specs.declared.spec.Shape.TheVariants.{Heading, Speed, Depth, MaxDepth, Timer, Waypoint, Loiter, StationKeep, OpRegion}
+use Rattle.bhv_file.specs.declared.spec.Shape.TheVariants.{Heading, Speed, Depth, MaxDepth, Timer, Waypoint, Loiter, StationKeep, OpRegion, AvoidCollision}
 use Rattle.bhv_file.specs.declared.spec.Spec.{Spec}
 use Rattle.bhv_file.specs.Params.{axes_of}
 use Rattle.bhv_file.specs.declared.out.BhvFault.{BhvFault}
 use Rattle.bhv_file.specs.declared.out.BhvFault.TheVariants.{NoPosition}
 use Rattle.bhv_file.specs.declared.out.Out.{Out}
 use Rattle.bhv_kinds.specs.declared.situation.Situation.{Situation}
-use Rattle.bhv_kinds.specs.Utilities.{Utility, AtMostOn, Flat, Sum, cruise, function_of, peak_of, steer}
-use Rattle.bhv_kinds.specs.Turns.{KindStep, KindTurn, Stepped, first_step, latest_number, params_at, position_of}
+use Rattle.contact_avoid.specs.Avoids.{track_in}
+use Rattle.bhv_kinds.specs.Utilities.{Utility, AtMostOn, Clear, Flat, Sum, cruise, function_of, peak_of, steer}
+use Rattle.bhv_file.specs.Known.{latest_number, position_of}
+use Rattle.bhv_kinds.specs.Turns.{KindStep, KindTurn, Stepped, first_step, params_at}
 use Rattle.bhv_kinds.specs.Targets.{captures, headway_at, is_last, spot_at, target_number, vertex_at}
 use Rattle.bhv_kinds.specs.Stations.{centre_at, distance_of, return_speed}
 use Rattle.bhv_kinds.specs.Regions.{depth_fault, late_fault, outside_fault, region_fault}
@@ -60,6 +63,10 @@ towards_number speed places number here = option_and_then (λ n. towards speed (
 abbrev pub keeping_station : ℕ → ℕ → ℕ → Option Spot → Spot → Option Utility
 keeping_station inner outer speed station here = option_and_then (λ spot. keeping inner outer speed spot here) station
 
+-- to keep clear of a contact, where it is known how that moves
+abbrev pub keeping_clear : Avoidance → Spot → Option Utility
+keeping_clear avoidance here = option_map (Clear avoidance here) (track_in avoidance)
+
 -- what a step of a type gives by what it finds, and by what is known
 abbrev pub gives_by_type : Shape → Knowledge → Situation → Given
 gives_by_type (Heading summit peak base delta) known found = gives (Some (peak_of (codes "course") summit peak base delta 100000))
@@ -74,6 +81,7 @@ gives_by_type (StationKeep point anew inner outer speed) known found =
     given_here (keeping_station (nat_abs inner) (nat_abs outer) (nat_abs speed) (if anew then found.centre else point)) found.here
 gives_by_type (OpRegion polygon depth time) known found =
     raises (region_fault (outside_fault polygon found.here) (depth_fault depth (latest_number known (codes "NAV_DEPTH"))) (late_fault time found.time))
+gives_by_type (AvoidCollision avoidance) known found = if avoidance.resolved then all_done else given_here (keeping_clear avoidance) found.here
 
 -- a step behind these turns captures the last target for the last time
 abbrev pub finishes_at : Spec → List KindTurn → KindStep → Bool

@@ -1,4 +1,3 @@
-pub mod Updates
 pub mod Turns
 pub mod Utilities
 pub mod Targets

@@ -3,7 +3,8 @@ use Rattle.std.specs.Prelude.{ℕ, ◌-◌, ◌*◌, ◌/◌, nat_le, Bool, if�
 use Rattle.std.specs.Option.{option_or}
 use Rattle.helm_geo.specs.declared.spot.Spot.{Spot}
 use Rattle.helm_geo.specs.Plane.{distance_squared, isqrt}
-use Rattle.bhv_kinds.specs.Turns.{KindTurn, Updated, Stepped, position_of}
+use Rattle.bhv_file.specs.Known.{position_of}
+use Rattle.bhv_kinds.specs.Turns.{KindTurn, Updated, Stepped}
 
 -- the centre after a step: where it stands, unless it is taken anew or wasn't known before
 abbrev pub centre_after : Bool → Option Spot → Option Spot → Option Spot
@@ -12,7 +13,7 @@ centre_after fresh centre here = if fresh then here else option_or centre here
 -- where the ship was at the first step with a known position since the last fresh one
 abbrev pub centre_at : List KindTurn → Option Spot
 centre_at [] = None
-centre_at (Updated text ∷ past) = centre_at past
+centre_at (Updated axes text ∷ past) = centre_at past
 centre_at (Stepped step ∷ past) = centre_after step.fresh (centre_at past) (position_of step.known)
 
 -- the distance of two places, rounded down

@@ -7,8 +7,9 @@ use Rattle.bhv_file.specs.declared.spec.Shape.{Shape}
 use Rattle.bhv_file.specs.declared.spec.Shape.TheVariants.{Waypoint, Loiter}
 use Rattle.bhv_file.specs.declared.spec.Spec.{Spec}
 use Rattle.bhv_kinds.specs.declared.waypoint.Headway.{Headway}
-use Rattle.bhv_kinds.specs.Updates.{gives_places}
-use Rattle.bhv_kinds.specs.Turns.{KindStep, KindTurn, Updated, Stepped, params_at, params_at_step, position_of}
+use Rattle.bhv_file.specs.Updates.{gives_places}
+use Rattle.bhv_file.specs.Known.{position_of}
+use Rattle.bhv_kinds.specs.Turns.{KindStep, KindTurn, Updated, Stepped, params_at, params_at_step}
 
 -- the place of this number in a list
 abbrev pub spot_at : List Spot → ℕ → Spot
@@ -17,7 +18,7 @@ spot_at places number = unwrap_or (slice_get places number) (record { x = pos 0;
 -- where the last step found the ship, unless the places were given anew since
 abbrev pub last_position : Spec → List KindTurn → Option Spot
 last_position spec [] = None
-last_position spec (Updated text ∷ past) = if gives_places (params_at spec past) text then None else last_position spec past
+last_position spec (Updated axes text ∷ past) = if gives_places axes (params_at spec past) text then None else last_position spec past
 last_position spec (Stepped step ∷ past) = position_of step.known
 
 -- the ship was within the slip radius and is farther away now
@@ -83,8 +84,8 @@ captures spec past headway step =
 -- How far a waypoint behaviour has come after these turns: an update of the points begins at the first.
 abbrev pub headway_at : Spec → List KindTurn → Headway
 headway_at spec [] = first_headway
-headway_at spec (Updated text ∷ past) =
-    if gives_places (params_at spec past) text then record { captured = 0; again = (headway_at spec past).again } else headway_at spec past
+headway_at spec (Updated axes text ∷ past) =
+    if gives_places axes (params_at spec past) text then record { captured = 0; again = (headway_at spec past).again } else headway_at spec past
 headway_at spec (Stepped step ∷ past) = headway_after (params_at spec past).shape (captures spec past (headway_at spec past) step) (headway_at spec past)
 
 -- of two vertices the first, unless the second is nearer
@@ -138,6 +139,6 @@ unless_fresh fresh vertex = if fresh then None else vertex
 -- The vertex that a loiter behaviour makes for after these turns: none where it is to be chosen anew.
 abbrev pub vertex_at : Spec → List KindTurn → Option ℕ
 vertex_at spec [] = None
-vertex_at spec (Updated text ∷ past) = if gives_places (params_at spec past) text then None else vertex_at spec past
+vertex_at spec (Updated axes text ∷ past) = if gives_places axes (params_at spec past) text then None else vertex_at spec past
 vertex_at spec (Stepped step ∷ past) =
     vertex_after (params_at spec past).shape (vertex_at spec past) (unless_fresh step.fresh (vertex_at spec past)) (last_position spec past) (position_of step.known)

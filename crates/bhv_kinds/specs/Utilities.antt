@@ -1,34 +1,27 @@
 -- Utilities: shapes on named axes, and the function of each.
-use Rattle.std.specs.Prelude.{ℕ, ◌+◌, ◌*◌, ℤ, pos, List, codes, bytes_eq, slice_index}
-use Rattle.std.specs.List.{position_or_len}
+use Rattle.std.specs.Prelude.{ℕ, ◌+◌, ◌*◌, ℤ, pos, List, codes}
 use Rattle.ivp_domain.specs.declared.axis.Axis.{Axis}
 use Rattle.ivp_domain.specs.declared.boxes.Point.{Point}
 use Rattle.ivp_func.specs.declared.piece.Piece.{Piece}
 use Rattle.ivp_func.specs.Functions.{Function}
 use Rattle.ivp_build.specs.declared.shape.Peak.{Peak}
 use Rattle.ivp_build.specs.Builders.{at_most_pieces, flat_pieces, peak_pieces}
-use Rattle.ivp_build.specs.Places.{axis_on}
 use Rattle.ivp_build.specs.Shapes.{at_most_at, peak_at}
 use Rattle.ivp_build.specs.Sums.{couple_pieces}
+use Rattle.helm_geo.specs.declared.spot.Spot.{Spot}
+use Rattle.bhv_file.specs.declared.spec.Avoidance.{Avoidance}
+use Rattle.bhv_file.specs.Named.{axis_number, named_axis, place_on}
+use Rattle.contact_avoid.specs.declared.motion.Track.{Track}
+use Rattle.contact_avoid.specs.Avoids.{clearance_pieces, sampled_clearance}
 
--- what a behaviour wants: one value everywhere, a peak or an upper limit on an axis, or the sum of two
+-- what a behaviour wants: one value everywhere, a peak or an upper limit on an axis, the sum of two, or to keep clear of a contact
+-- that moves so, from where the ship is
 pub data Utility : Type 0 where
   Flat : ℕ → Utility
   PeakOn : List ℕ → Peak → Utility
   AtMostOn : List ℕ → ℤ → ℕ → ℕ → Utility
   Sum : Utility → Utility → Utility
-
--- the number of the axis of this name
-abbrev pub axis_number : List Axis → List ℕ → ℕ
-axis_number axes name = position_or_len (λ axis. bytes_eq axis.name name) axes
-
--- the axis of this name
-abbrev pub named_axis : List Axis → List ℕ → Axis
-named_axis axes name = axis_on axes (axis_number axes name)
-
--- the place of a point on the axis of this name
-abbrev pub place_on : List Axis → List ℕ → Point → ℕ
-place_on axes name point = slice_index point.at (axis_number axes name)
+  Clear : Avoidance → Spot → Track → Utility
 
 -- the utility at a point
 abbrev pub worth_at : List Axis → Utility → Point → ℕ
@@ -36,6 +29,7 @@ worth_at axes (Flat value) point = value
 worth_at axes (PeakOn name peak) point = peak_at (named_axis axes name) peak (place_on axes name point)
 worth_at axes (AtMostOn name limit basewidth max) point = at_most_at (named_axis axes name) limit basewidth max (place_on axes name point)
 worth_at axes (Sum one other) point = worth_at axes one point + worth_at axes other point
+worth_at axes (Clear avoidance here track) point = sampled_clearance axes avoidance here track point
 
 -- the pieces
 abbrev pub utility_pieces : List Axis → Utility → List Piece
@@ -43,6 +37,7 @@ utility_pieces axes (Flat value) = flat_pieces axes (pos value)
 utility_pieces axes (PeakOn name peak) = peak_pieces axes (axis_number axes name) peak
 utility_pieces axes (AtMostOn name limit basewidth max) = at_most_pieces axes (axis_number axes name) limit basewidth max
 utility_pieces axes (Sum one other) = couple_pieces (utility_pieces axes one) (utility_pieces axes other)
+utility_pieces axes (Clear avoidance here track) = clearance_pieces axes avoidance here track
 
 -- the function over these axes
 abbrev pub function_of : List Axis → Utility → Function

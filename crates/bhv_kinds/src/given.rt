@@ -4,12 +4,11 @@ ghost use Rattle.ivp_domain.specs.declared.axis.Axis.{Axis};
 ghost use Rattle.helm_cond.specs.Infos.{knowledge_of};
 ghost use Rattle.helm_geo.specs.Plane.{is_spot};
 ghost use Rattle.helm_geo.specs.Polygons.{are_spots};
-ghost use Rattle.bhv_file.specs.Params.{has_axes, has_axis, keeps_relations};
+ghost use Rattle.bhv_file.specs.Params.{has_axes, has_axis, is_avoid, keeps_relations};
 ghost use Rattle.bhv_file.specs.Ranges.{InRanges};
 ghost use Rattle.bhv_kinds.specs.Giving.{given_here, gives_by_type, keeping_station, towards_number};
 ghost use Rattle.bhv_kinds.specs.Wants.{CanMake, given_of, utility_of};
 
-use crate::known::latest_number;
 use crate::region::{depth_fault, late_fault, outside_fault};
 use crate::situation::Situation;
 use crate::station::{Ring, keep};
@@ -17,7 +16,7 @@ use crate::steady::of_hundred;
 use crate::want::{Aim, Want};
 use crate::waypoint::{spot_at, target_number};
 use crate::ways::towards;
-use bhv_file::{BhvFault, Shape};
+use bhv_file::{BhvFault, Shape, latest_number};
 use helm_cond::Info;
 use helm_geo::Spot;
 
@@ -129,6 +128,7 @@ pub fn given(info: &Info, shape: &Shape, found: &Situation) -> Aim
     requires here { IfSome found.now.here (λ spot. IsTrue (is_spot spot)) }
     requires centre { IfSome found.now.centre (λ spot. IsTrue (is_spot spot)) }
     requires relations { IsTrue (keeps_relations shape.now) }
+    requires other { is_avoid shape.now ≡ false }
     ensures given { given_of result ≡ gives_by_type shape.now (knowledge_of info.now) found.now }
     ensures can { (axes : List Axis) → IsTrue (has_axes axes shape.now) → IfSome result.want (CanMake axes) }
 {
@@ -210,5 +210,6 @@ pub fn given(info: &Info, shape: &Shape, found: &Situation) -> Aim
             let station = station_of(*center_activate, found.centre, *station_pt);
             stay(&ring, station, found.here)
         },
+        Shape::AvoidCollision(_) => unreachable!(),
     }
 }

@@ -5,13 +5,11 @@
 //! `step` gives what specs/Giving says of that list: a function whose value at each point is what its utility says there
 //! (specs/Worths).
 //!
-//! Reading order: `updating`, `situation` and `want`; `region`, `station`, `waypoint` and `loiter`; `given`, with `known` and `ways` on
-//! the way; `steady`, `steering` and `making`; `out` and `kind`; `law`.
+//! Reading order: `situation` and `want`; `region`, `station`, `waypoint` and `loiter`; `given`, with `ways` on the way; `steady`, `steering` and `making`; `out` and `kind`; `law`.
 #![tactic(auto)]
 
 mod given;
 mod kind;
-mod known;
 mod law;
 mod loiter;
 mod making;
@@ -21,7 +19,6 @@ mod situation;
 mod station;
 mod steady;
 mod steering;
-mod updating;
 mod want;
 mod waypoint;
 mod ways;

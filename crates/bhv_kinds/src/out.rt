@@ -27,9 +27,10 @@ fn mentions(shape: &Shape) -> Mentioned
         Shape::Heading { .. } => (true, false, false),
         Shape::Speed { .. } => (false, true, false),
         Shape::Depth { .. } | Shape::MaxDepth { .. } => (false, false, true),
-        Shape::Waypoint { .. } | Shape::Loiter { .. } | Shape::StationKeep { .. } => {
-            (true, true, false)
-        },
+        Shape::Waypoint { .. }
+        | Shape::Loiter { .. }
+        | Shape::StationKeep { .. }
+        | Shape::AvoidCollision(_) => (true, true, false),
         Shape::Timer | Shape::OpRegion { .. } => (false, false, false),
     };
     Mentioned {

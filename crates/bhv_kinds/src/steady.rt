@@ -1,5 +1,5 @@
 // Behaviours that want the same in each step: a peak or an upper limit on one axis.
-ghost use Rattle.std.specs.Prelude.{◌≡◌, ◌<◌, ◌≤◌, ◌^◌, bytes_eq, codes, length, position, pos, nat_abs, IfOk, IfSome, IsTrue};
+ghost use Rattle.std.specs.Prelude.{◌≡◌, ◌<◌, ◌≤◌, ◌^◌, codes, length, pos, nat_abs, IfOk, IsTrue};
 ghost use Rattle.ivp_domain.specs.declared.boxes.Point.{Point};
 ghost use Rattle.ivp_domain.specs.Axes.{is_end};
 ghost use Rattle.ivp_domain.specs.Domains.{is_point};
@@ -8,39 +8,15 @@ ghost use Rattle.ivp_build.specs.Places.{IsWidth};
 ghost use Rattle.ivp_build.specs.Shapes.{IsPeak};
 ghost use Rattle.bhv_file.specs.Params.{has_axis};
 ghost use Rattle.bhv_file.specs.Values.{lies_between};
-ghost use Rattle.bhv_kinds.specs.Utilities.{AtMostOn, PeakOn, axis_number, function_of, worth_at};
+ghost use Rattle.bhv_file.specs.Named.{axis_number};
+ghost use Rattle.bhv_kinds.specs.Utilities.{AtMostOn, PeakOn, function_of, worth_at};
 
+use bhv_file::axis_number;
 use ivp_build::{Peak, at_most, peak};
 use ivp_domain::Domain;
 use ivp_func::Func;
 use moos_post::NoMemory;
 use std::alloc::Global;
-
-/// The number of the axis of this name.
-#[tactic(auto, using(crate::proofs::Named::named_at))]
-pub fn axis_number(domain: &Domain, name: &[u8]) -> u32
-    requires { IsTrue (has_axis domain.now name.now) }
-    ensures number { result ≡ axis_number domain.now name.now }
-    ensures within { result < length domain.now }
-{
-    match place_named(domain, name) {
-        Some(place) => place as u32,
-        None => 0,
-    }
-}
-
-// The place of the first axis of this name.
-#[tactic(auto, using(ivp_domain::proofs::Sizes::four_axes, crate::proofs::Named::place_within))]
-fn place_named(domain: &Domain, name: &[u8]) -> Option<usize>
-    ensures place { result ≡ position (λ axis. bytes_eq axis.name name.now) domain.now }
-    ensures within { IfSome result (λ place. place < length domain.now) }
-    ensures few { length domain.now ≤ 4 }
-{
-    domain
-        .all()
-        .iter()
-        .position(|axis| axis.name.bytes() == name)
-}
 
 /// A peak of 100 about a number, in thousandths.
 #[tactic(auto, using(crate::proofs::Peaks::peak_between))]

@@ -15,7 +15,7 @@ use Rattle.bhv_file.specs.declared.common.Common.{Common}
 use Rattle.bhv_file.specs.declared.file.BhvFile.{BhvFile}
 use Rattle.bhv_file.specs.declared.file.Unused.{Unused}
 use Rattle.bhv_file.specs.declared.spec.Shape.{Shape}
-use Rattle.bhv_file.specs.declared.spec.Shape.TheVariants.{Speed, Depth, MaxDepth, Timer, Waypoint, Loiter, StationKeep, OpRegion}
+use Rattle.bhv_file.specs.declared.spec.Shape.TheVariants.{Speed, Depth, MaxDepth, Timer, Waypoint, Loiter, StationKeep, OpRegion, AvoidCollision}
 use Rattle.bhv_file.specs.declared.spec.Spec.{Spec}
 use Rattle.bhv_reader.specs.Behaviors.{behaviors_of}
 use Rattle.bhv_file.specs.Params.{with_param}
@@ -254,6 +254,41 @@ stations : shapes_of (behaviors_of domain (codes "Behavior = BHV_StationKeep {\n
     ≡ Ok (StationKeep None true (pos 4000) (pos 15000) (pos 1200) ∷ StationKeep (Some (record { x = neg_ℤ (pos 1000); y = pos 2000 })) false (pos 4000) (pos 15000) (pos 3000)
     ∷ MaxDepth (pos 7000) (pos 20000) ∷ OpRegion None (Some (pos 8000)) (Some 500) ∷ [])
 stations = refl
+
+-- a behaviour that keeps clear of a contact: by its defaults, and with all its parameters
+clear_of_nobody : shapes_of (behaviors_of domain (codes "Behavior = BHV_AvoidCollision {\nname = avd\n}"))
+    ≡ Ok (AvoidCollision (record { contact = None; contact_x = None; contact_y = None; contact_speed = None; contact_heading = None; near = pos 10000; far = pos 75000; resolved = false; piece_size = 12 }) ∷ [])
+clear_of_nobody = refl
+
+clear_of_one : shapes_of (behaviors_of domain (codes "Behavior = BHV_AvoidCollision {\nname = avd\ncontact = b\ncontact_x = -3\ncontact_y = 4.5\ncontact_speed = 100\ncontact_heading = 360\nmin_util_cpa_dist = 5\nmax_util_cpa_dist = 5.001\nresolved = true\npiece_size = 3\n}"))
+    ≡ Ok (AvoidCollision (record {
+      contact = Some (codes "b");
+      contact_x = Some (neg_ℤ (pos 3000));
+      contact_y = Some (pos 4500);
+      contact_speed = Some (pos 100000);
+      contact_heading = Some (pos 360000);
+      near = pos 5000;
+      far = pos 5001;
+      resolved = true;
+      piece_size = 3;
+    }) ∷ [])
+clear_of_one = refl
+
+far_as_near : behaviors_of domain (codes "Behavior = BHV_AvoidCollision {\nname = avd\nmax_util_cpa_dist = 10\n}") ≡ Err (At 4 B6)
+far_as_near = refl
+
+pieces_without_places : behaviors_of domain (codes "Behavior = BHV_AvoidCollision {\npiece_size = 0\n}") ≡ Err (At 2 B6)
+pieces_without_places = refl
+
+-- a domain whose speeds go up to this one, and that has no course
+abbrev up_to : ℕ → List Axis
+up_to high = record { name = codes "speed"; low = pos 0; high = pos high; points = 2 } ∷ []
+
+fast_without_course : behaviors_of (up_to 101000) (codes "Behavior = BHV_AvoidCollision {\nname = avd\n}") ≡ Err (At 3 B6)
+fast_without_course = refl
+
+slow_without_course : behaviors_of (up_to 100000) (codes "Behavior = BHV_AvoidCollision {\nname = avd\n}") ≡ Err (At 3 B10)
+slow_without_course = refl
 
 -- one parameter of a station
 abbrev station : Spec

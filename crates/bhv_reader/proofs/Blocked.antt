@@ -25,7 +25,7 @@ use Rattle.bhv_file.specs.declared.file.BhvFile.{BhvFile}
 use Rattle.bhv_file.specs.declared.file.Block.{Block}
 use Rattle.bhv_file.specs.declared.file.Unused.{Unused}
 use Rattle.bhv_file.specs.declared.spec.Shape.{Shape}
-use Rattle.bhv_file.specs.declared.spec.Shape.TheVariants.{Heading, Speed, Depth, MaxDepth, Timer, Waypoint, Loiter, StationKeep, OpRegion}
+use Rattle.bhv_file.specs.declared.spec.Shape.TheVariants.{Heading, Speed, Depth, MaxDepth, Timer, Waypoint, Loiter, StationKeep, OpRegion, AvoidCollision}
 use Rattle.bhv_file.specs.declared.table.CommonParameter.{CommonParameter}
 use Rattle.bhv_file.specs.declared.table.CommonParameter.TheVariants.{Name, Weight, Condition as OfCondition, RunFlag, IdleFlag, ActiveFlag, InactiveFlag, EndFlag, Updates, Duration, IdleDecay, Perpetual, Templating}
 use Rattle.bhv_file.specs.declared.table.Parameter.{Parameter}
@@ -33,6 +33,7 @@ use Rattle.bhv_file.specs.Validity.{is_taken, AreBlocks, IsBlock, IsValidFile, s
 use Rattle.bhv_reader.specs.Blocks.{after_known, behavior_closed, behavior_of_type, BehaviorBlock, block_of, flag_value, flag_with_room, flags_in, if_good, is_unfinished, is_unheard, name_value, of_shape, one_flag, when_good, with_behavior_condition, with_behavior_name, with_block, with_common, with_found, with_parameter, with_sides}
 use Rattle.bhv_file.specs.Params.{has_axes, keeps_relations, lacks_places, with_value_of}
 use Rattle.bhv_file.specs.Ranges.{are_places, are_vertices, InRanges}
+use Rattle.bhv_file.specs.Serving.{suits}
 use Rattle.bhv_file.specs.Table.{common_named, defaults_among, defaults_of, is_needed, parameter_of, TypeRow, types}
 use Rattle.bhv_file.specs.Values.{duration_of, flag_of, templating_of, time_value, weight_of}
 use Rattle.bhv_file.proofs.Ranged.{own_kept, time_within, weight_within}
@@ -67,7 +68,7 @@ defaults_ranged : (name : List ℕ) → IfSome (defaults_of name) (InRanges fals
 unfolding AllDefaults
 defaults_ranged name =
     some_default (InRanges false) name types
-    ((refl, refl, refl, refl), ((refl, refl, refl, refl), ((refl, refl, refl, refl), ((refl, refl), (tt, ((refl, refl, refl, refl, omega arith), ((refl, refl, refl, refl), ((tt, refl, refl, refl), ((tt, tt, tt), tt)))))))))
+    ((refl, refl, refl, refl), ((refl, refl, refl, refl), ((refl, refl, refl, refl), ((refl, refl), (tt, ((refl, refl, refl, refl, omega arith), ((refl, refl, refl, refl), ((tt, refl, refl, refl), ((tt, tt, tt), ((tt, tt, tt, tt, tt, refl, refl, refl), tt))))))))))
 
 pub begun_drafted : (blocks : List Block) (name : List ℕ) → IfOk (behavior_of_type name) (IsDraft blocks)
 begun_drafted blocks [] = tt
@@ -228,7 +229,7 @@ given_vertices spot spots h =
     at false rest false e h = absurd cc
 
 -- what is in its ranges and lacks no places
-whole_ranges : (shape : Shape) → InRanges false shape → lacks_places shape ≡ false → InRanges true shape
+pub whole_ranges : (shape : Shape) → InRanges false shape → lacks_places shape ≡ false → InRanges true shape
 whole_ranges (Heading a b c d) h given = h
 whole_ranges (Speed a b c d) h given = h
 whole_ranges (Depth a b c d) h given = h
@@ -240,17 +241,22 @@ whole_ranges (Loiter [] b c d e) h given = absurd cc
 whole_ranges (Loiter (spot ∷ spots) b c d e) h given = (given_vertices spot spots h.0, h.1, h.2, h.3)
 whole_ranges (StationKeep a b c d e) h given = h
 whole_ranges (OpRegion a b c) h given = h
+whole_ranges (AvoidCollision a) h given = h
 
 -- one behaviour more
 blocks_more : (earlier blocks : List Block) (new : Block) → AreBlocks earlier blocks → IsBlock (earlier ++ blocks) new → AreBlocks earlier (blocks ++ new ∷ [])
 blocks_more earlier [] new are is = (subst (λ all. IsBlock all new) (append-nil earlier) is, tt)
 blocks_more earlier (block ∷ blocks) new are is = (are.0, blocks_more (earlier ++ block ∷ []) blocks new are.1 (subst (λ all. IsBlock all new) (sym (append_assoc earlier (block ∷ []) blocks)) is))
 
-serves_more : (domain : List Axis) (blocks : List Block) (new : Block) → serves domain blocks ≡ true → has_axes domain new.spec.shape ≡ true → serves domain (blocks ++ new ∷ []) ≡ true
-serves_more domain [] new all one = and_from (has_axes domain new.spec.shape) true one refl
+-- a domain serves one behaviour
+abbrev serves_one : List Axis → Block → Bool
+serves_one domain block = has_axes domain block.spec.shape && suits domain block.spec.shape
+
+serves_more : (domain : List Axis) (blocks : List Block) (new : Block) → serves domain blocks ≡ true → serves_one domain new ≡ true → serves domain (blocks ++ new ∷ []) ≡ true
+serves_more domain [] new all one = and_from (serves_one domain new) true one refl
 serves_more domain (block ∷ blocks) new all one =
-    let both = and_parts (has_axes domain block.spec.shape) (serves domain blocks) all in
-    and_from (has_axes domain block.spec.shape) (serves domain (blocks ++ new ∷ [])) both.0 (serves_more domain blocks new both.1 one)
+    let both = and_parts (serves_one domain block) (serves domain blocks) all in
+    and_from (serves_one domain block) (serves domain (blocks ++ new ∷ [])) both.0 (serves_more domain blocks new both.1 one)
 
 -- a file over a domain with the axes that its behaviours need
 pub record IsSoundFile (domain : List Axis) (file : BhvFile) : Type 0 where
@@ -264,9 +270,9 @@ flags_all a b c d e h = All-append IsPair a (b ++ (c ++ (d ++ e))) h.0 (All-appe
 flags_counted : (a b c d e : List Pair) → length (a ++ (b ++ (c ++ (d ++ e)))) ≡ length a + length b + length c + length d + length e
 flags_counted a b c d e = omega (arith, length-append a (b ++ (c ++ (d ++ e))), length-append b (c ++ (d ++ e)), length-append c (d ++ e), length-append d e)
 
-added_sound : (domain : List Axis) (block : BehaviorBlock) (name : Option (List ℕ)) → IsSoundBehavior domain block → block.behavior.name ≡ name → lacks_places block.behavior.spec.shape ≡ false → keeps_relations block.behavior.spec.shape ≡ true → has_axes domain block.behavior.spec.shape ≡ true → IfOk (with_block block name) (IsSoundFile domain)
-added_sound domain block None sound named given relations axes = tt
-added_sound domain block (Some name) sound named given relations axes =
+added_sound : (domain : List Axis) (block : BehaviorBlock) (name : Option (List ℕ)) → IsSoundBehavior domain block → block.behavior.name ≡ name → lacks_places block.behavior.spec.shape ≡ false → keeps_relations block.behavior.spec.shape ≡ true → has_axes domain block.behavior.spec.shape ≡ true → suits domain block.behavior.spec.shape ≡ true → IfOk (with_block block name) (IsSoundFile domain)
+added_sound domain block None sound named given relations axes suited = tt
+added_sound domain block (Some name) sound named given relations axes suited =
     cond_good (IsSoundFile domain) (nat_le 64 (length block.file.blocks)) (Err B9) (Ok (record block.file { blocks = block.file.blocks ++ new ∷ [] })) (λ _. tt)
     (λ room. let below = leb-false 64 (length block.file.blocks) room in
     record {
@@ -279,7 +285,7 @@ added_sound domain block (Some name) sound named given relations axes =
         few_blocks = omega (arith, below, length-append block.file.blocks (new ∷ []));
         blocks = blocks_more [] block.file.blocks new sound.file.blocks is;
       };
-      served = serves_more domain block.file.blocks new sound.served axes;
+      served = serves_more domain block.file.blocks new sound.served (and_from (has_axes domain new.spec.shape) (suits domain new.spec.shape) axes suited);
     })
   where
     new : Block
@@ -312,13 +318,16 @@ last_false false true c d h = absurd cc
 last_false false false true d h = absurd cc
 last_false false false false d h = h
 
-good_sound : (domain : List Axis) (block : BehaviorBlock) (unfinished relations axes : Bool) → IsSoundBehavior domain block → is_unfinished block.behavior ≡ unfinished → keeps_relations block.behavior.spec.shape ≡ relations → has_axes domain block.behavior.spec.shape ≡ axes
-    → IfOk (when_good block (cond unfinished (Some B11) (cond (not relations) (Some B6) (cond (not axes) (Some B10) None)))) (IsSoundFile domain)
-good_sound domain block true relations axes sound u r a = tt
-good_sound domain block false false axes sound u r a = tt
-good_sound domain block false true false sound u r a = tt
-good_sound domain block false true true sound u r a = added_sound domain block block.behavior.name sound refl (last_false (is_none block.behavior.name) (not block.behavior.given) (is_unheard block.behavior) (lacks_places block.behavior.spec.shape) u) r a
+good_sound : (domain : List Axis) (block : BehaviorBlock) (unfinished relations suited axes : Bool) → IsSoundBehavior domain block → is_unfinished block.behavior ≡ unfinished → keeps_relations block.behavior.spec.shape ≡ relations
+    → suits domain block.behavior.spec.shape ≡ suited → has_axes domain block.behavior.spec.shape ≡ axes
+    → IfOk (when_good block (cond unfinished (Some B11) (cond (not (relations && suited)) (Some B6) (cond (not axes) (Some B10) None)))) (IsSoundFile domain)
+good_sound domain block true relations suited axes sound u r s a = tt
+good_sound domain block false false suited axes sound u r s a = tt
+good_sound domain block false true false axes sound u r s a = tt
+good_sound domain block false true true false sound u r s a = tt
+good_sound domain block false true true true sound u r s a = added_sound domain block block.behavior.name sound refl (last_false (is_none block.behavior.name) (not block.behavior.given) (is_unheard block.behavior) (lacks_places block.behavior.spec.shape) u) r a s
 
 pub behavior_sound : (domain : List Axis) (block : BehaviorBlock) (behind : List ℕ) → IsSoundBehavior domain block → IfOk (behavior_closed domain block behind) (IsSoundFile domain)
-behavior_sound domain block [] sound = good_sound domain block (is_unfinished block.behavior) (keeps_relations block.behavior.spec.shape) (has_axes domain block.behavior.spec.shape) sound refl refl refl
+behavior_sound domain block [] sound =
+    good_sound domain block (is_unfinished block.behavior) (keeps_relations block.behavior.spec.shape) (suits domain block.behavior.spec.shape) (has_axes domain block.behavior.spec.shape) sound refl refl refl refl
 behavior_sound domain block (byte ∷ bytes) sound = tt

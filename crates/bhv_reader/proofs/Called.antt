@@ -21,7 +21,7 @@ use Rattle.bhv_file.specs.declared.file.BhvFile.{BhvFile}
 use Rattle.bhv_file.specs.declared.table.CommonParameter.{CommonParameter}
 use Rattle.bhv_file.specs.declared.table.CommonParameter.TheVariants.{Name, Weight, Condition, RunFlag, IdleFlag, ActiveFlag, InactiveFlag, EndFlag, Updates, Duration, IdleDecay, Perpetual, Templating}
 use Rattle.bhv_file.specs.declared.table.Parameter.{Parameter}
-use Rattle.bhv_file.specs.declared.table.Parameter.TheVariants.{Heading as OfHeading, Speed as OfSpeed, Depth as OfDepth, PeakWidth, BaseWidth, SummitDelta, MaxDepth as OfMaxDepth, Points, CaptureRadius, SlipRadius, Order, Repeat, Polygon, Clockwise, StationPoint, CenterActivate, InnerRadius, OuterRadius, OuterSpeed, MaxTime}
+use Rattle.bhv_file.specs.declared.table.Parameter.TheVariants.{Heading as OfHeading, Speed as OfSpeed, Depth as OfDepth, PeakWidth, BaseWidth, SummitDelta, MaxDepth as OfMaxDepth, Points, CaptureRadius, SlipRadius, Order, Repeat, Polygon, Clockwise, StationPoint, CenterActivate, InnerRadius, OuterRadius, OuterSpeed, MaxTime, Contact, ContactX, ContactY, ContactSpeed, ContactHeading, NearDistance, FarDistance, Resolved, PieceSize}
 use Rattle.bhv_reader.specs.Blocks.{after_known, BehaviorBlock, with_common, with_found, with_parameter, with_sides}
 use Rattle.bhv_reader.specs.Places.{behavior_block}
 use Rattle.bhv_file.specs.Table.{common_name, common_named, common_parameters, is_called, parameter_names, parameter_of, parameters_of, states_common}
@@ -113,6 +113,15 @@ own_names InnerRadius = refl
 own_names OuterRadius = refl
 own_names OuterSpeed = refl
 own_names MaxTime = refl
+own_names Contact = refl
+own_names ContactX = refl
+own_names ContactY = refl
+own_names ContactSpeed = refl
+own_names ContactHeading = refl
+own_names NearDistance = refl
+own_names FarDistance = refl
+own_names Resolved = refl
+own_names PieceSize = refl
 
 common_names : (parameter : CommonParameter) → is_name (common_name parameter) ≡ true
 common_names Name = refl

@@ -7,6 +7,7 @@ pub mod Faults
 pub mod Following
 pub mod Naming
 pub mod PathsAt
+pub mod Ranging
 pub mod Splits
 pub mod Valid
 pub mod Within

@@ -38,7 +38,7 @@ use Rattle.bhv_reader.proofs.Blocked.{begun_drafted, behavior_sound, IsDraft, Is
 use Rattle.bhv_reader.proofs.PathsAt.{length-paths_of}
 
 -- an unfinished declaration behind a valid file
-record IsSound (block : ModeBlock) : Type 0 where
+pub record IsSound (block : ModeBlock) : Type 0 where
   file : IsValidFile block.file
   name : IsTrue (is_name block.name)
   conds : All HasNames block.conds
@@ -69,7 +69,7 @@ outside_sound file text valid =
     cond_good IsValidFile (begins_by (codes "initialize") text) (with_opening file (pair_of (behind_word text))) (Err B1) (λ _. opening_sound file (pair_of (behind_word text)) (pair_is (behind_word text)) valid) (λ _. tt)
 
 -- an unfinished declaration behind a file that its domain serves
-abbrev IsSoundMode : List Axis → ModeBlock → Type 0
+abbrev pub IsSoundMode : List Axis → ModeBlock → Type 0
 IsSoundMode domain block = IsSound block × (serves domain block.file.blocks ≡ true)
 
 mode_sound : (domain : List Axis) (file : BhvFile) (sides : Option Sides) → IsSoundFile domain file → IfOk (mode_begun file sides) (IsSoundMode domain)
@@ -237,7 +237,7 @@ close_sound block text sound =
     }))
 
 -- an unfinished block behind a good file
-abbrev IsSoundBlock : List Axis → OpenBlock → Type 0
+abbrev pub IsSoundBlock : List Axis → OpenBlock → Type 0
 IsSoundBlock domain (OfMode block) = IsSoundMode domain block
 IsSoundBlock domain (OfBehavior block) = IsSoundBehavior domain block
 
@@ -309,7 +309,7 @@ outside_good domain file text sound =
     if_ok (λ more. IsValidFile more × (serves domain more.blocks ≡ true)) (IsSoundFile domain) (line_outside file text)
     (both_ok IsValidFile (λ more. serves domain more.blocks ≡ true) (line_outside file text) (outside_sound file text sound.valid) (outside_served domain file text sound.served)) (λ more is. record { valid = is.0; served = is.1 })
 
-sound_form : (domain : List Axis) → Keeps (behavior_form domain) (IsSoundFile domain) (IsSoundBlock domain)
+pub sound_form : (domain : List Axis) → Keeps (behavior_form domain) (IsSoundFile domain) (IsSoundBlock domain)
 sound_form domain = record {
   loose = λ file said sound. outside_good domain file said.text sound;
   begin = λ file said sound. begun_sound domain file said.text sound;
@@ -317,9 +317,16 @@ sound_form domain = record {
   close = λ block said sound. closed_good domain block said sound;
 }
 
+-- what stands before the first line is
+pub nothing_sound : (domain : List Axis) → IsSoundFile domain nothing_said
+nothing_sound domain = record {
+  valid = record { opening = All-nil IsPair; unused = All-nil (λ (unused : Unused). IsTrue (is_name unused.name)); few_pairs = omega arith; few_decls = omega arith; decls = tt; few_blocks = omega arith; blocks = tt };
+  served = refl;
+}
+
 -- what the bytes of a behaviour file stand for is valid, and served by its domain
 behaviors_sound : (domain : List Axis) (bytes : List ℕ) → IfOk (behaviors_of domain bytes) (IsSoundFile domain)
-behaviors_sound domain bytes = file_good (behavior_form domain) (IsSoundFile domain) (IsSoundBlock domain) (sound_form domain) nothing_said bytes (record { valid = record { opening = All-nil IsPair; unused = All-nil (λ (unused : Unused). IsTrue (is_name unused.name)); few_pairs = omega arith; few_decls = omega arith; decls = tt; few_blocks = omega arith; blocks = tt }; served = refl })
+behaviors_sound domain bytes = file_good (behavior_form domain) (IsSoundFile domain) (IsSoundBlock domain) (sound_form domain) nothing_said bytes (nothing_sound domain)
 
 pub behaviors_valid : (domain : List Axis) (bytes : List ℕ) → IfOk (behaviors_of domain bytes) IsValidFile
 behaviors_valid domain bytes = if_ok (IsSoundFile domain) IsValidFile (behaviors_of domain bytes) (behaviors_sound domain bytes) (λ file sound. sound.valid)

@@ -18,6 +18,7 @@ use Rattle.bhv_file.specs.declared.table.CommonParameter.{CommonParameter}
 use Rattle.bhv_file.specs.declared.table.CommonParameter.TheVariants.{Name, Weight, Condition as OfCondition, RunFlag, IdleFlag, ActiveFlag, InactiveFlag, EndFlag, Updates, Duration, IdleDecay, Perpetual, Templating}
 use Rattle.bhv_file.specs.declared.table.Parameter.{Parameter}
 use Rattle.bhv_file.specs.Params.{has_axes, keeps_relations, lacks_places, with_value_of}
+use Rattle.bhv_file.specs.Serving.{suits}
 use Rattle.bhv_file.specs.Table.{common_named, defaults_of, is_needed, needs_number, parameter_of}
 use Rattle.bhv_file.specs.Validity.{is_taken}
 use Rattle.bhv_file.specs.Values.{duration_of, flag_of, templating_of, weight_of}
@@ -137,7 +138,7 @@ is_unfinished behavior = is_none behavior.name || not behavior.given || is_unhea
 abbrev pub closing_fault : List Axis → Behavior → Option Cause
 closing_fault domain behavior =
     if is_unfinished behavior then Some B11
-    else if not (keeps_relations behavior.spec.shape) then Some B6
+    else if not (keeps_relations behavior.spec.shape && suits domain behavior.spec.shape) then Some B6
     else if not (has_axes domain behavior.spec.shape) then Some B10
     else None
 

@@ -14,6 +14,7 @@ use Rattle.bhv_reader.specs.declared.reading.Position.{Position}
 use Rattle.bhv_reader.specs.declared.reading.Position.TheVariants.{Loose, Headed, Braced}
 use Rattle.bhv_reader.specs.declared.reading.Unclosed.{Unclosed}
 use Rattle.bhv_reader.specs.declared.reading.Unclosed.TheVariants.{OfMode, OfBehavior}
+use Rattle.bhv_file.specs.Ranges.{InRanges}
 use Rattle.bhv_file.specs.Paths.{the_one, meant_by, parent_path, paths_of}
 use Rattle.bhv_reader.specs.Behaviors.{begins_by_brace, ModeBlock, named_by, OfBehavior as BehaviorOpen, OfMode as ModeOpen, OpenBlock}
 use Rattle.bhv_reader.specs.Blocks.{behavior_of_type, BehaviorBlock}
@@ -30,6 +31,17 @@ behavior_block file behavior = record { file = file; behavior = behavior }
 abbrev pub open_block : BhvFile → Unclosed → OpenBlock
 open_block file (OfMode mode) = ModeOpen (mode_block file mode)
 open_block file (OfBehavior behavior) = BehaviorOpen (behavior_block file behavior.value)
+
+-- the parameters of an unfinished behaviour are in their ranges
+abbrev pub IsRanged : Unclosed → Type 0
+IsRanged (OfMode mode) = Unit {0}
+IsRanged (OfBehavior behavior) = InRanges false behavior.value.spec.shape
+
+-- so they are where the reader stands
+abbrev pub IsRangedAt : Position → Type 0
+IsRangedAt Loose = Unit {0}
+IsRangedAt (Headed block) = IsRanged block
+IsRangedAt (Braced block) = IsRanged block
 
 -- where the reader stands with this file
 abbrev pub standing_at : BhvFile → Position → Standing BhvFile OpenBlock

@@ -1,14 +1,16 @@
 // One behaviour, line by line.
-ghost use Rattle.std.specs.Prelude.{◌≡◌, ◌<◌, ◌^◌, ◌++◌, ◌∷◌, [], length, nat_le, ok_or, Ok, Err, IfOk, OnOk, IfErr, Some, None, option_map, true, false, if◌then◌else◌};
+ghost use Rattle.std.specs.Prelude.{◌≡◌, ◌<◌, ◌^◌, ◌++◌, ◌∷◌, [], length, ok_or, Ok, Err, IfOk, OnOk, IfErr, Some, None, option_map, true, false, if◌then◌else◌};
 ghost use Rattle.moos_post.specs.Words.{is_name};
-ghost use Rattle.moos_text.specs.Pairs.{pair_of, sides_of};
+ghost use Rattle.moos_text.specs.Pairs.{sides_of};
 ghost use Rattle.moos_text.specs.Refusals.{and_then, IsLineFault};
+ghost use Rattle.bhv_file.specs.Ranges.{InRanges};
 ghost use Rattle.bhv_file.specs.Validity.{is_taken};
-ghost use Rattle.bhv_reader.specs.Blocks.{behavior_closed, block_of, closing_fault, with_block, behavior_of_type, flag_value, flags_in, is_unheard, name_value, one_flag, with_behavior_condition, with_behavior_name, with_common, with_parameter, with_sides};
+ghost use Rattle.bhv_reader.specs.Blocks.{behavior_closed, block_of, closing_fault, with_block, behavior_of_type, flags_in, is_unheard, name_value, one_flag, with_behavior_condition, with_behavior_name, with_common, with_parameter, with_sides};
 ghost use Rattle.helm_cond.specs.Grammar.{condition_of};
 ghost use Rattle.bhv_reader.specs.Places.{behavior_block};
 ghost use Rattle.bhv_file.specs.declared.file.BhvFile.{BhvFile};
 
+use crate::element::{add_cond, add_flag, flag_in, good, name_in};
 use crate::judging::{has_axes, keeps_relations, lacks_places};
 use crate::mode::condition_in;
 use crate::name::is_name;
@@ -16,17 +18,14 @@ use crate::types::{defaults, needs_number};
 use bhv_file::{
     BhvFile, Block, Common, CommonParameter, Conds, Parameter, Spec, Unused, common_named,
     is_needed, parameter_named, read_duration, read_flag, read_templating, read_weight, set_value,
+    suits,
 };
-use helm_cond::Cond;
 use ivp_domain::Domain;
-use moos_post::{Batch, Name, NameFault, Pair, Txt};
-use moos_text::{Cause, LineFault, PairFault, cut_at_equals, read_pair};
+use moos_post::{Batch, Name, Pair, Txt};
+use moos_text::{Cause, LineFault, cut_at_equals};
 use std::alloc::Global;
 
-// The most conditions and the most flags of a behaviour.
-const MOST_CONDITIONS: usize = 64;
-
-// The most behaviours of a file.
+// The most behaviours of a file, and the most flags of one.
 const MOST_BEHAVIORS: usize = 64;
 
 const MOST_FLAGS: u128 = 32;
@@ -116,6 +115,7 @@ impl Behavior {
 
     /// Closes the block, behind whose `}` this stands, in a file over this domain.
     pub fn close(self, domain: &Domain, file: &mut BhvFile, behind: &[u8]) -> Result<(), LineFault>
+        requires { InRanges false self.spec.shape }
         ensures read { IfOk result (λ _. behavior_closed domain.now (behavior_block file.old self) behind.now ≡ Ok file.new) }
         ensures refused { IfErr result (λ fault. IsLineFault fault (behavior_closed domain.now (behavior_block file.old self) behind.now)) }
         ensures decls { file.new.decls ≡ file.old.decls }
@@ -126,6 +126,7 @@ impl Behavior {
 
     // Refuses it at the end of its block, behind whose `}` this stands, where it isn't good.
     fn judge(&self, domain: &Domain, behind: &[u8]) -> Result<(), LineFault>
+        requires { InRanges false self.now.spec.shape }
         ensures good { OnOk result ((behind.now ≡ []) × (closing_fault domain.now self.now ≡ None)) }
         ensures refused { (file : BhvFile) → IfErr result (λ fault. IsLineFault fault (behavior_closed domain.now (behavior_block file self.now) behind.now)) }
     {
@@ -140,13 +141,14 @@ impl Behavior {
 
     // Why it is refused at the end of its block, where it is.
     fn closing_fault(&self, domain: &Domain) -> Option<Cause>
+        requires { InRanges false self.now.spec.shape }
         ensures { result ≡ closing_fault domain.now self.now }
     {
         let shape = &self.spec.shape;
         if self.name.is_none() || !self.given || self.is_unheard() || lacks_places(shape) {
             return Some(Cause::B11);
         }
-        if !keeps_relations(shape) {
+        if !(keeps_relations(shape) && suits(domain, shape)) {
             return Some(Cause::B6);
         }
         if !has_axes(domain, shape) {
@@ -329,55 +331,6 @@ impl Behavior {
             + self.inactiveflags.len() as u128
             + self.endflags.len() as u128
     }
-}
-
-// What a value says, where it is a good one.
-fn good<T: Drop>(value: Option<T>) -> Result<T, LineFault>
-    ensures { result ≡ ok_or value (LineFault.Refused Cause.B6) }
-{
-    value.ok_or(LineFault::Refused(Cause::B6))
-}
-
-fn name_in(alloc: Global, value: &[u8]) -> Result<Name, LineFault>
-    ensures name { IfOk result (λ name. name_value value.now ≡ Ok name) }
-    ensures refused { IfErr result (λ fault. IsLineFault fault (name_value value.now)) }
-{
-    match Name::new(alloc, value) {
-        Ok(name) => Ok(name),
-        Err(NameFault::BadName) => Err(LineFault::Refused(Cause::B6)),
-        Err(NameFault::NoMemory) => Err(LineFault::NoMemory),
-    }
-}
-
-fn flag_in(alloc: Global, value: &[u8]) -> Result<Pair, LineFault>
-    ensures pair { IfOk result (λ pair. flag_value (pair_of value.now) ≡ Ok pair) }
-    ensures refused { IfErr result (λ fault. IsLineFault fault (flag_value (pair_of value.now))) }
-{
-    match read_pair(alloc, value) {
-        Ok(pair) => Ok(pair),
-        Err(PairFault::NoMemory) => Err(LineFault::NoMemory),
-        Err(_) => Err(LineFault::Refused(Cause::B6)),
-    }
-}
-
-// One condition more, where there is room.
-fn add_cond(conds: &mut Conds, cond: Cond) -> Result<(), LineFault>
-    ensures ok { OnOk result ((if nat_le 64 (length conds.old) then Err Cause.B9 else Ok (conds.old ++ cond ∷ [])) ≡ Ok conds.new) }
-    ensures refused { IfErr result (λ fault. IsLineFault fault (if nat_le 64 (length conds.old) then Err Cause.B9 else Ok (conds.old ++ cond ∷ []))) }
-{
-    if conds.len() >= MOST_CONDITIONS {
-        return Err(LineFault::Refused(Cause::B9));
-    }
-    conds.add(cond)?;
-    Ok(())
-}
-
-fn add_flag(flags: &mut Batch, pair: Pair) -> Result<(), LineFault>
-    ensures ok { OnOk result (flags.new ≡ flags.old ++ pair ∷ []) }
-    ensures refused { IfErr result (λ fault. fault ≡ LineFault.NoMemory) }
-{
-    flags.add(pair)?;
-    Ok(())
 }
 
 // Whether one of these behaviours has this name.

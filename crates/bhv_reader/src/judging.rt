@@ -1,8 +1,8 @@
 // What has to hold of a behaviour's parameters together, and of the domain beside them.
 ghost use Rattle.std.specs.Prelude.{◌≡◌};
-ghost use Rattle.bhv_file.specs.Params.{has_axes, has_axis, keeps_relations, lacks_places};
+ghost use Rattle.bhv_file.specs.Params.{has_axes, keeps_relations, lacks_places};
 
-use bhv_file::Shape;
+use bhv_file::{Shape, has_axis};
 use ivp_domain::Domain;
 
 /// Whether a list of places isn't given, or a station that isn't taken anew.
@@ -21,7 +21,7 @@ pub fn lacks_places(shape: &Shape) -> bool
     }
 }
 
-/// Whether the outer radius of a station is above the inner one.
+/// Whether the outer radius of a station is above the inner one, and the far distance of a contact above the near one.
 pub fn keeps_relations(shape: &Shape) -> bool
     ensures { result ≡ keeps_relations shape.now }
 {
@@ -31,6 +31,7 @@ pub fn keeps_relations(shape: &Shape) -> bool
             outer_radius,
             ..
         } => *inner_radius < *outer_radius,
+        Shape::AvoidCollision(avoidance) => avoidance.near < avoidance.far,
         _ => true,
     }
 }
@@ -43,16 +44,10 @@ pub fn has_axes(domain: &Domain, shape: &Shape) -> bool
         Shape::Heading { .. } => has_axis(domain, b"course"),
         Shape::Speed { .. } => has_axis(domain, b"speed"),
         Shape::Depth { .. } | Shape::MaxDepth { .. } => has_axis(domain, b"depth"),
-        Shape::Waypoint { .. } | Shape::Loiter { .. } | Shape::StationKeep { .. } => {
-            has_axis(domain, b"course") && has_axis(domain, b"speed")
-        },
+        Shape::Waypoint { .. }
+        | Shape::Loiter { .. }
+        | Shape::StationKeep { .. }
+        | Shape::AvoidCollision(_) => { has_axis(domain, b"course") && has_axis(domain, b"speed") },
         Shape::Timer | Shape::OpRegion { .. } => true,
     }
-}
-
-// Whether a domain has an axis of this name.
-fn has_axis(domain: &Domain, name: &[u8]) -> bool
-    ensures { result ≡ has_axis domain.now name.now }
-{
-    domain.all().iter().any(|axis| axis.name.bytes() == name)
 }

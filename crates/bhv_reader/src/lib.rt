@@ -4,11 +4,12 @@
 //! its first refusal with its line and cause, and every file that it gives is valid. What a file says is `bhv_file`, whose
 //! types are given on from here.
 //!
-//! Read `types`, then `behavior` with `name` and `judging`, and `parent` and `mode`; `reading`, and `read` last. Of specs/
-//! read `Blocks` and `Behaviors`; `Places` serves the reader alone.
+//! Read `types`, then `behavior` with `element`, `name` and `judging`, and `parent` and `mode`; `reading`, and `read` last. Of
+//! specs/ read `Blocks` and `Behaviors`; `Places` serves the reader alone.
 #![tactic(auto)]
 
 mod behavior;
+mod element;
 mod judging;
 mod mode;
 mod name;

@@ -6,7 +6,7 @@ ghost use Rattle.moos_text.specs.Pairs.{pair_of, sides_of};
 ghost use Rattle.moos_text.specs.Refusals.{IsFirst, IsLineFault};
 ghost use Rattle.moos_text.specs.Standing.{after_statement, after_text, at_end, Outside};
 ghost use Rattle.bhv_reader.specs.Behaviors.{OfBehavior as BehaviorOpen, begins_behavior, begins_by_brace, behavior_form, behind_close, block_closed, with_opening};
-ghost use Rattle.bhv_reader.specs.Places.{behavior_block, behavior_in, is_within, open_block, standing_at};
+ghost use Rattle.bhv_reader.specs.Places.{behavior_block, behavior_in, is_within, IsRanged, IsRangedAt, open_block, standing_at};
 ghost use Rattle.moos_text.specs.Sections.{Statement};
 ghost use Rattle.bhv_file.specs.declared.file.BhvFile.{BhvFile};
 ghost use Rattle.ivp_domain.specs.declared.axis.Axis.{Axis};
@@ -54,6 +54,7 @@ pub fn after_line(
     text: &[u8],
     unclosed: bool,
 ) -> Result<(), ReadFault>
+    requires ranged { IsRangedAt place.old }
     requires quotes { unclosed ≡ is_unclosed text.now }
     requires text { length text.now < 2 ^ 32 }
     requires few { length file.old.decls ≤ 256 }
@@ -86,6 +87,7 @@ fn after_statement(
     line: u32,
     text: &[u8],
 ) -> Result<(), LineFault>
+    requires ranged { IsRangedAt place.old }
     requires text { length text.now < 2 ^ 32 }
     requires few { length file.old.decls ≤ 256 }
     ensures read { IfOk result (λ _. after_statement (behavior_form domain.now) (standing_at file.old place.old) (record { line = line; text = text.now }) ≡ Ok (standing_at file.new place.new)) }
@@ -108,6 +110,7 @@ fn pass_edge(
     line: u32,
     text: &[u8],
 ) -> Result<(), LineFault>
+    requires ranged { IsRangedAt place.old }
     requires edge { is_within place.old text.now ≡ false }
     requires few { length file.old.decls ≤ 256 }
     ensures read { IfOk result (λ _. after_statement (behavior_form domain.now) (standing_at file.old place.old) (record { line = line; text = text.now }) ≡ Ok (standing_at file.new place.new)) }
@@ -170,6 +173,7 @@ fn read_at_edge(
     line: u32,
     text: &[u8],
 ) -> Result<Position, LineFault>
+    requires ranged { IsRangedAt place }
     requires edge { is_within place text.now ≡ false }
     requires few { length file.old.decls ≤ 256 }
     ensures read { IfOk result (λ next. after_statement (behavior_form domain.now) (standing_at file.old place) (record { line = line; text = text.now }) ≡ Ok (standing_at file.new next)) }
@@ -194,6 +198,7 @@ fn close(
     block: Unclosed,
     behind: &[u8],
 ) -> Result<(), LineFault>
+    requires ranged { IsRanged block }
     requires few { length file.old.decls ≤ 256 }
     ensures read { (said : Statement) → behind_close said.text ≡ behind.now → IfOk result (λ _. block_closed domain.now (open_block file.old block) said ≡ Ok file.new) }
     ensures refused { (said : Statement) → behind_close said.text ≡ behind.now → IfErr result (λ fault. IsLineFault fault (block_closed domain.now (open_block file.old block) said)) }

@@ -2,7 +2,7 @@
 ghost use Rattle.std.specs.Prelude.{◌≡◌, drop, take};
 ghost use Rattle.bhv_file.specs.Table.{defaults_among, defaults_of, needs_number, types};
 
-use bhv_file::{Shape, Spots};
+use bhv_file::{Avoidance, Shape, Spots};
 use std::alloc::Global;
 
 /// A behaviour of the type of this name before its first parameter. None exactly where no type has it.
@@ -15,7 +15,7 @@ pub fn defaults(alloc: Global, name: &[u8]) -> Option<Shape>
     }
 }
 
-// The same for the types that have no place.
+// The same for the types that go nowhere.
 fn plain_defaults(name: &[u8]) -> Option<Shape>
     ensures { result ≡ defaults_among name.now (take 5 types) }
 {
@@ -52,7 +52,7 @@ fn plain_defaults(name: &[u8]) -> Option<Shape>
     }
 }
 
-// The same for the types that have places.
+// The same for the types that look at a position.
 fn placed_defaults(alloc: Global, name: &[u8]) -> Option<Shape>
     ensures { result ≡ defaults_among name.now (drop 5 types) }
 {
@@ -87,6 +87,18 @@ fn placed_defaults(alloc: Global, name: &[u8]) -> Option<Shape>
             max_depth: None,
             max_time: None,
         })
+    } else if name == b"BHV_AvoidCollision".as_slice() {
+        Some(Shape::AvoidCollision(Avoidance {
+            contact: None,
+            contact_x: None,
+            contact_y: None,
+            contact_speed: None,
+            contact_heading: None,
+            near: 10_000,
+            far: 75_000,
+            resolved: false,
+            piece_size: 12,
+        }))
     } else {
         None
     }
@@ -98,6 +110,6 @@ pub fn needs_number(shape: &Shape) -> bool
 {
     !matches!(
         shape,
-        Shape::Timer | Shape::StationKeep { .. } | Shape::OpRegion { .. }
+        Shape::Timer | Shape::StationKeep { .. } | Shape::OpRegion { .. } | Shape::AvoidCollision(_)
     )
 }

@@ -1,10 +1,13 @@
 pub mod ApproachExamples
+pub mod AvoidExamples
+pub mod Clearing
 pub mod ContactExamples
 pub mod Fields
 pub mod Hearing
 pub mod Learning
 pub mod Lines
 pub mod Named
+pub mod Sampled
 pub mod Shares
 pub mod Turning
 pub mod Worded

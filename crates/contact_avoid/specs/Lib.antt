@@ -1,3 +1,4 @@
+pub mod Avoids
 pub mod Approach
 pub mod Bounds
 pub mod Contacts

@@ -105,15 +105,15 @@ long_more (first ∷ xs) x = ap suc (long_more xs x)
 abbrev update : Block → How → Update
 update template how = record { name = template.common.name; how = how }
 
-letters_ordered : (file blocks : List Block) (at : ℕ) → LastsLetters blocks at (λ block. Unit {0}) (IsOrdered file at)
-letters_ordered file blocks at = record {
+letters_ordered : (axes : List Axis) (file blocks : List Block) (at : ℕ) → LastsLetters axes blocks at (λ block. Unit {0}) (IsOrdered file at)
+letters_ordered axes file blocks at = record {
   refuses = λ template so_far q is. record {
     order = is.order;
     before = subst (λ n. AreBefore at n so_far.ones) (sym (long_more so_far.answers (update template Refused))) (all_later at (length so_far.answers) so_far.ones is.before);
   };
-  makes = λ template so_far said q named room is.
+  makes = λ template so_far said q named room free is.
       let n = length so_far.answers in
-      let one : BhvSoFar = made_from template (next_birth at so_far) said in
+      let one : BhvSoFar = made_from axes template (next_birth at so_far) said in
       record {
         order = order_more at n file so_far.ones one refl is.before is.order;
         before = subst (λ m. AreBefore at m (so_far.ones ++ one ∷ [])) (sym (long_more so_far.answers (update template (Spawned said.name))))
@@ -121,7 +121,7 @@ letters_ordered file blocks at = record {
       };
   changes = λ template so_far said place one q there is.
       let n = length so_far.answers in
-      let other : BhvSoFar = changed_by said one in
+      let other : BhvSoFar = changed_by axes said one in
       record {
         order = order_set file so_far.ones place one other there refl refl is.order;
         before = subst (λ m. AreBefore at m (slice_set so_far.ones place other)) (sym (long_more so_far.answers (update template Changed)))
@@ -192,7 +192,7 @@ abbrev file_of : Plan → List Block
 file_of plan = filter (λ (block : Block). not (is_template block)) plan.blocks
 
 spawned_ordered : (plan : Plan) (ticks : List Tick) (i : ℕ) (ones : List BhvSoFar) → IsOrdered (file_of plan) i (none_spawned ones) → IsOrdered (file_of plan) i (spawned_in plan ticks i ones)
-spawned_ordered plan ticks i ones is = spawned_last plan.blocks i (λ block. Unit {0}) (IsOrdered (file_of plan) i) (letters_ordered (file_of plan) plan.blocks i) (seen_at plan.decls ticks i).letters ones (any_block plan.blocks) is
+spawned_ordered plan ticks i ones is = spawned_last plan.axes plan.blocks i (λ block. Unit {0}) (IsOrdered (file_of plan) i) (letters_ordered plan.axes (file_of plan) plan.blocks i) (seen_at plan.decls ticks i).letters ones (any_block plan.blocks) is
 
 before_ordered : (plan : Plan) (ticks : List Tick) (i : ℕ) → IsOrdered (file_of plan) i (none_spawned (list_before plan ticks i))
 before_ordered plan ticks zero = record { order = order_first (file_of plan); before = before_first (file_of plan) }
@@ -223,11 +223,11 @@ stay_at [] place one there all = absurd (let e : None ≡ Some one = there in cc
 stay_at (first ∷ ones) zero one there all = let e : Some first ≡ Some one = there in let is : first ≡ one = cc in subst (λ (it : BhvSoFar). IsTrue (stays it)) is all.0
 stay_at (first ∷ ones) (suc place) one there all = stay_at ones place one there all.1
 
-letters_stay : (blocks : List Block) (at : ℕ) → LastsLetters blocks at (λ block. Unit {0}) (λ so_far. AllStay so_far.ones)
-letters_stay blocks at = record {
+letters_stay : (axes : List Axis) (blocks : List Block) (at : ℕ) → LastsLetters axes blocks at (λ block. Unit {0}) (λ so_far. AllStay so_far.ones)
+letters_stay axes blocks at = record {
   refuses = λ template so_far q all. all;
-  makes = λ template so_far said q named room all. each_append (λ (one : BhvSoFar). IsTrue (stays one)) so_far.ones (made_from template (next_birth at so_far) said ∷ []) all (stays_new template.common.perpetual, tt);
-  changes = λ template so_far said place one q there all. each_set (λ (one : BhvSoFar). IsTrue (stays one)) so_far.ones place (changed_by said one) all (stay_at so_far.ones place one there all);
+  makes = λ template so_far said q named room free all. each_append (λ (one : BhvSoFar). IsTrue (stays one)) so_far.ones (made_from axes template (next_birth at so_far) said ∷ []) all (stays_new template.common.perpetual, tt);
+  changes = λ template so_far said place one q there all. each_set (λ (one : BhvSoFar). IsTrue (stays one)) so_far.ones place (changed_by axes said one) all (stay_at so_far.ones place one there all);
 }
 
 filtered_stay : (ones : List BhvSoFar) → AllStay (filter stays ones)
@@ -247,7 +247,7 @@ before_stay plan ticks zero = first_stay (file_of plan)
 before_stay plan ticks (suc i) = filtered_stay (all_after (seen_at plan.decls ticks i) (all_begun plan.axes (seen_at plan.decls ticks i) (list_at plan ticks i)))
 
 list_stays : (plan : Plan) (ticks : List Tick) (i : ℕ) → AllStay (list_at plan ticks i)
-list_stays plan ticks i = spawned_last plan.blocks i (λ block. Unit {0}) (λ so_far. AllStay so_far.ones) (letters_stay plan.blocks i) (seen_at plan.decls ticks i).letters (list_before plan ticks i) (any_block plan.blocks) (before_stay plan ticks i)
+list_stays plan ticks i = spawned_last plan.axes plan.blocks i (λ block. Unit {0}) (λ so_far. AllStay so_far.ones) (letters_stay plan.axes plan.blocks i) (seen_at plan.decls ticks i).letters (list_before plan ticks i) (any_block plan.blocks) (before_stay plan ticks i)
 
 -- the list in two parts
 record AreParts (file : List Block) (ones : List BhvSoFar) : Type 0 where

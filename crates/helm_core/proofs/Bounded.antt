@@ -18,7 +18,7 @@ use Rattle.ivp_problem.proofs.KeyOrder.{best_point}
 use Rattle.helm_core.specs.declared.showing.Showing.{Showing}
 use Rattle.ivp_cert.specs.Certificates.{best_decision}
 use Rattle.helm_core.specs.Decisions.{active_problem, decision_made, number_at, number_on, some_active}
-use Rattle.helm_core.proofs.Deciding.{place_there}
+use Rattle.bhv_file.proofs.Named.{place_there}
 
 end_milli : (number : ℤ) → is_end number ≡ true → IsMilli number
 end_milli number is = (grind (arith, nat_tests, ints), grind (arith, nat_tests, ints))

@@ -1,6 +1,6 @@
 -- The problem of an iteration is one: the active behaviours are few, and each has a function over the domain with a good
 -- weight.
-use Rattle.std.proofs.Common.{◌≡◌, ℕ, ℤ, zero, suc, get_or, ◌+◌, ◌≤◌, ◌<◌, Bool, true, false, not, ◌||◌, cond, if◌then◌else◌, List, [], ◌∷◌, ◌++◌, append_assoc, length, Option, Some, None, Ok, Err, refl, ap, sym, subst, ◌∙◌, arith}
+use Rattle.std.proofs.Common.{◌≡◌, ℕ, ℤ, suc, get_or, ◌+◌, ◌≤◌, ◌<◌, Bool, true, false, not, ◌||◌, cond, if◌then◌else◌, List, [], ◌∷◌, ◌++◌, append_assoc, length, Option, Some, None, Ok, Err, refl, ap, sym, subst, ◌∙◌, arith}
 use Rattle.std.specs.Prelude.{IfSome, IsTrue, is_some, nat_lt, option_map, position, slice_get, slice_index, ◌==◌}
 use Rattle.std.specs.Option.{option_to_list}
 use Rattle.std.specs.List.{All, cons_option, filter_map, position_from}
@@ -12,9 +12,8 @@ use Rattle.std.proofs.lemmas.Option.{slice_get-get_or}
 use Rattle.std.proofs.lemmas.Slice.Eq.{bytes_eq-Decides}
 use Rattle.ivp_domain.specs.declared.axis.Axis.{Axis}
 use Rattle.ivp_domain.specs.Axes.{no_axis, value_on}
-use Rattle.ivp_domain.specs.Domains.{is_domain, is_point, size_on}
+use Rattle.ivp_domain.specs.Domains.{is_domain}
 use Rattle.ivp_domain.specs.declared.boxes.Point.{Point}
-use Rattle.ivp_domain.proofs.Sizes.{places_below}
 use Rattle.ivp_func.specs.Functions.{Function}
 use Rattle.ivp_problem.specs.declared.term.Term.{Term}
 use Rattle.ivp_problem.specs.declared.term.ProblemFault.{ProblemFault}
@@ -111,14 +110,6 @@ is_made axes terms problem made is = let e : Ok problem ≡ Ok (sum_of_terms axe
 
 pub never_refused : (axes : List Axis) (terms : List Term) (fault : ProblemFault) → problem_from axes terms ≡ Ok (record { axes = axes; terms = terms }) → Err fault ≡ problem_from axes terms → ⊥
 never_refused axes terms fault made is = let e : Err fault ≡ Ok (sum_of_terms axes terms) = is ∙ made in cc
-
--- a point's place on an axis
-pub place_there : (axes : List Axis) (point : Point) (k : ℕ) → is_domain axes ≡ true → is_point axes point ≡ true → length axes ≤ 4 → k < length axes → slice_index point.at k < size_on k axes
-place_there axes point zero lawful inside few within = (places_below axes point lawful inside).0
-place_there axes point (suc zero) lawful inside few within = (places_below axes point lawful inside).1
-place_there axes point (suc (suc zero)) lawful inside few within = (places_below axes point lawful inside).2
-place_there axes point (suc (suc (suc zero))) lawful inside few within = (places_below axes point lawful inside).3
-place_there axes point (suc (suc (suc (suc k)))) lawful inside few within = absurd (omega arith)
 
 -- the number there
 pub number_there : (axes : List Axis) (point : Point) (k : ℕ) (number : ℤ) → k < length axes → IfSome (slice_get axes k) (λ axis. number ≡ value_on axis (slice_index point.at k)) → number ≡ number_at axes point (Some k)

@@ -24,20 +24,20 @@ use Rattle.helm_core.specs.Ticks.{Seen, Tick}
 use Rattle.helm_core.proofs.Listing.{Lasts, any_block, each_first, list_keeps}
 
 -- updates are no steps
-judged_first : (spec : Spec) (so_far : Judged) (value : Value) → first_step (judged_with spec so_far value).turns ≡ first_step so_far.turns
-judged_first spec so_far (Num number) = refl
-judged_first spec so_far (Text text) = refl
+judged_first : (axes : List Axis) (spec : Spec) (so_far : Judged) (value : Value) → first_step (judged_with axes spec so_far value).turns ≡ first_step so_far.turns
+judged_first axes spec so_far (Num number) = refl
+judged_first axes spec so_far (Text text) = refl
 
-heard_first : (updates : Option (List ℕ)) (spec : Spec) (so_far : Judged) (letter : Pair) → first_step (heard_with updates spec so_far letter).turns ≡ first_step so_far.turns
-heard_first updates spec so_far letter = by (option_eq bytes_eq updates (Some letter.var))
+heard_first : (axes : List Axis) (updates : Option (List ℕ)) (spec : Spec) (so_far : Judged) (letter : Pair) → first_step (heard_with axes updates spec so_far letter).turns ≡ first_step so_far.turns
+heard_first axes updates spec so_far letter = by (option_eq bytes_eq updates (Some letter.var))
   where
-    by : (b : Bool) → first_step (if b then judged_with spec so_far letter.value else so_far).turns ≡ first_step so_far.turns
-    by true = judged_first spec so_far letter.value
+    by : (b : Bool) → first_step (if b then judged_with axes spec so_far letter.value else so_far).turns ≡ first_step so_far.turns
+    by true = judged_first axes spec so_far letter.value
     by false = refl
 
-all_heard_first : (updates : Option (List ℕ)) (spec : Spec) (so_far : Judged) (letters : List Pair) → first_step (fold (heard_with updates spec) so_far letters).turns ≡ first_step so_far.turns
-all_heard_first updates spec so_far [] = refl
-all_heard_first updates spec so_far (letter ∷ letters) = all_heard_first updates spec (heard_with updates spec so_far letter) letters ∙ heard_first updates spec so_far letter
+all_heard_first : (axes : List Axis) (updates : Option (List ℕ)) (spec : Spec) (so_far : Judged) (letters : List Pair) → first_step (fold (heard_with axes updates spec) so_far letters).turns ≡ first_step so_far.turns
+all_heard_first axes updates spec so_far [] = refl
+all_heard_first axes updates spec so_far (letter ∷ letters) = all_heard_first axes updates spec (heard_with axes updates spec so_far letter) letters ∙ heard_first axes updates spec so_far letter
 
 -- the first step is the first turn with one
 abbrev KeepsFirst : BhvSoFar → Type 0
@@ -76,19 +76,19 @@ turn_first axes seen fault one judged false is same keeps =
 one_first : (axes : List Axis) (seen : Seen) (fault : Bool) (one : BhvSoFar) → KeepsFirst one → KeepsFirst (bhv_after seen fault (begun_at axes seen one))
 one_first axes seen fault one keeps =
     let letters = if can_run one.block.common (past_so_far one) then seen.letters else [] in
-    turn_first axes seen fault one (judged_at seen one) (is_stepped one.block.common (past_so_far one) (beginning_at seen one.block.common)) refl
-    (all_heard_first (own_updates one) one.block.spec (none_judged one.turns) letters) keeps
+    turn_first axes seen fault one (judged_at axes seen one) (is_stepped one.block.common (past_so_far one) (beginning_at seen one.block.common)) refl
+    (all_heard_first axes (own_updates one) one.block.spec (none_judged one.turns) letters) keeps
 
 -- pairs are no steps
-pairs_first : (turns : List KindTurn) (pairs : Option (List ℕ)) → first_step (with_said turns pairs) ≡ first_step turns
-pairs_first turns None = refl
-pairs_first turns (Some pairs) = refl
+pairs_first : (axes : List Axis) (turns : List KindTurn) (pairs : Option (List ℕ)) → first_step (with_said axes turns pairs) ≡ first_step turns
+pairs_first axes turns None = refl
+pairs_first axes turns (Some pairs) = refl
 
 first_lasts : Lasts (λ block. Unit {0}) KeepsFirst
 first_lasts = record {
   turns = one_first;
-  made = λ template birth said q named. pairs_first [] said.pairs;
-  changed = λ said one keeps. pairs_first one.turns said.pairs ∙ keeps;
+  made = λ axes template birth said q named. pairs_first axes [] said.pairs;
+  changed = λ axes said one keeps. pairs_first axes one.turns said.pairs ∙ keeps;
 }
 
 -- all behaviours keep it

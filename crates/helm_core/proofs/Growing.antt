@@ -34,7 +34,7 @@ seen_same decls ticks later i l = rw (learnt_same ticks later i l, stamp_same ti
 
 -- what an iteration makes of the list before its letters, by what it sees
 abbrev after_seen : Plan → ℕ → Seen → List BhvSoFar → List BhvSoFar
-after_seen plan at seen ones = filter stays (all_after seen (all_begun plan.axes seen (spawned plan.blocks at seen.letters ones).ones))
+after_seen plan at seen ones = filter stays (all_after seen (all_begun plan.axes seen (spawned plan.axes plan.blocks at seen.letters ones).ones))
 
 pub list_same : (plan : Plan) (ticks later : List Tick) (n : ℕ) → n ≤ length ticks → list_before plan (ticks ++ later) n ≡ list_before plan ticks n
 list_same plan ticks later zero l = refl
@@ -44,8 +44,8 @@ list_same plan ticks later (suc n) l =
 
 spawning_same : (plan : Plan) (ticks later : List Tick) (i : ℕ) → i < length ticks → spawned_at plan (ticks ++ later) i ≡ spawned_at plan ticks i
 spawning_same plan ticks later i l =
-    ap (λ seen. spawned plan.blocks i seen.letters (list_before plan (ticks ++ later) i)) (seen_same plan.decls ticks later i l)
-    ∙ ap (spawned plan.blocks i (seen_at plan.decls ticks i).letters) (list_same plan ticks later i (omega arith))
+    ap (λ seen. spawned plan.axes plan.blocks i seen.letters (list_before plan (ticks ++ later) i)) (seen_same plan.decls ticks later i l)
+    ∙ ap (spawned plan.axes plan.blocks i (seen_at plan.decls ticks i).letters) (list_same plan ticks later i (omega arith))
 
 at_same : (plan : Plan) (ticks later : List Tick) (i : ℕ) → i < length ticks → moment_at plan (ticks ++ later) i ≡ moment_at plan ticks i
 at_same plan ticks later i l =

@@ -12,6 +12,8 @@ pub mod Letters
 pub mod Listing
 pub mod Births
 pub mod Turning
+pub mod Serving
+pub mod Doing
 pub mod Readying
 pub mod Deciding
 pub mod Hearing
@@ -23,3 +25,4 @@ pub mod NamesTold
 pub mod WellFormedPlans
 pub mod Worths
 pub mod FirstSteps
+pub mod Names

@@ -55,8 +55,8 @@ each_after P lasts axes seen fault (one ∷ ones) all = (lasts axes seen fault o
 -- what holds of a behaviour: letters and turns leave it, and it holds of one that a letter makes of a template of which this holds
 pub record Lasts (Q : Block → Type 0) (P : BhvSoFar → Type 0) : Type 0 where
   pub turns : LastsTurns P
-  pub made : (template : Block) (birth : Birth) (said : NamedPairs) → Q template → IsTrue (is_name said.name) → P (made_from template birth said)
-  pub changed : (said : NamedPairs) (one : BhvSoFar) → P one → P (changed_by said one)
+  pub made : (axes : List Axis) (template : Block) (birth : Birth) (said : NamedPairs) → Q template → IsTrue (is_name said.name) → P (made_from axes template birth said)
+  pub changed : (axes : List Axis) (said : NamedPairs) (one : BhvSoFar) → P one → P (changed_by axes said one)
 
 pub each_set : {X : Type 0} (P : X → Type 0) (xs : List X) (k : ℕ) (x : X) → Each P xs → P x → Each P (slice_set xs k x)
 each_set P [] k x all is = tt
@@ -67,15 +67,15 @@ module _ (Q : Block → Type 0) (P : BhvSoFar → Type 0) (lasts : Lasts Q P) (p
   abbrev Holds : Spawning → Type 0
   Holds so_far = Each P so_far.ones
 
-  letters_leave : (at : ℕ) → LastsLetters plan.blocks at Q Holds
+  letters_leave : (at : ℕ) → LastsLetters plan.axes plan.blocks at Q Holds
   letters_leave at = record {
     refuses = λ template so_far q all. all;
-    makes = λ template so_far said q named room all. each_append P so_far.ones (made_from template (next_birth at so_far) said ∷ []) all (lasts.made template (next_birth at so_far) said q named, tt);
-    changes = λ template so_far said place one q there all. each_set P so_far.ones place (changed_by said one) all (lasts.changed said one (each_at P so_far.ones place one all there));
+    makes = λ template so_far said q named room free all. each_append P so_far.ones (made_from plan.axes template (next_birth at so_far) said ∷ []) all (lasts.made plan.axes template (next_birth at so_far) said q named, tt);
+    changes = λ template so_far said place one q there all. each_set P so_far.ones place (changed_by plan.axes said one) all (lasts.changed plan.axes said one (each_at P so_far.ones place one all there));
   }
 
   spawned_keeps : (i : ℕ) (ones : List BhvSoFar) → Each P ones → Each P (spawned_in plan ticks i ones).ones
-  spawned_keeps i ones all = spawned_last plan.blocks i Q Holds (letters_leave i) (seen_at plan.decls ticks i).letters ones blocks_are all
+  spawned_keeps i ones all = spawned_last plan.axes plan.blocks i Q Holds (letters_leave i) (seen_at plan.decls ticks i).letters ones blocks_are all
 
   -- What holds of the file's behaviours before the first iteration, and what letters and turns leave, holds of the list.
   pub before_keeps : (i : ℕ) → Each P (list_before plan ticks i)
@@ -102,8 +102,8 @@ each_first P blocks all = mapped (filter (λ (block : Block). not (is_template b
 block_lasts : (P : Block → Type 0) → Lasts P (λ one. P one.block)
 block_lasts P = record {
   turns = λ axes seen fault one holds. subst P (sym (begun_same axes seen one).1) holds;
-  made = λ template birth said q named. q;
-  changed = λ said one holds. holds;
+  made = λ axes template birth said q named. q;
+  changed = λ axes said one holds. holds;
 }
 
 pub blocks_hold : (P : Block → Type 0) (plan : Plan) (ticks : List Tick) (i : ℕ) → Each P plan.blocks → Each (λ one. P one.block) (list_at plan ticks i)
@@ -120,8 +120,8 @@ any_block (block ∷ blocks) = (tt, any_block blocks)
 name_lasts : Lasts (λ block. Unit {0}) (λ one. IsNamed one.name)
 name_lasts = record {
   turns = λ axes seen fault one holds. subst IsNamed (sym (begun_same axes seen one).0) holds;
-  made = λ template birth said q named. named;
-  changed = λ said one holds. holds;
+  made = λ axes template birth said q named. named;
+  changed = λ axes said one holds. holds;
 }
 
 pub names_hold : (plan : Plan) (ticks : List Tick) (i : ℕ) → Each (λ block. IsNamed block.common.name) plan.blocks → Each (λ one. IsNamed one.name) (list_at plan ticks i)
@@ -154,17 +154,17 @@ pub room_left : (named : Bool) (templates long : ℕ) → (not named && nat_lt (
 room_left true templates long is = absurd (let e : false ≡ true = is in cc)
 room_left false templates long is = grind (arith, nat_tests)
 
-room_lasts : (blocks : List Block) (at : ℕ) → LastsLetters blocks at (λ block. Unit {0}) (HasRoom blocks)
-room_lasts blocks at = record {
+room_lasts : (axes : List Axis) (blocks : List Block) (at : ℕ) → LastsLetters axes blocks at (λ block. Unit {0}) (HasRoom blocks)
+room_lasts axes blocks at = record {
   refuses = λ template so_far q few. few;
-  makes = λ template so_far said q named room few.
-      let long : length (so_far.ones ++ made_from template (next_birth at so_far) said ∷ []) ≡ length so_far.ones + 1 = length-append so_far.ones (made_from template (next_birth at so_far) said ∷ []) in
+  makes = λ template so_far said q named room free few.
+      let long : length (so_far.ones ++ made_from axes template (next_birth at so_far) said ∷ []) ≡ length so_far.ones + 1 = length-append so_far.ones (made_from axes template (next_birth at so_far) said ∷ []) in
       omega (arith, long, room_left _ (count_by is_template blocks) (length so_far.ones) room);
-  changes = λ template so_far said place one q there few. let long = length-set so_far.ones place (changed_by said one) in omega (arith, long, few);
+  changes = λ template so_far said place one q there few. let long = length-set so_far.ones place (changed_by axes said one) in omega (arith, long, few);
 }
 
 spawned_few : (plan : Plan) (ticks : List Tick) (i : ℕ) (ones : List BhvSoFar) → count_by is_template plan.blocks + length ones ≤ 64 → count_by is_template plan.blocks + length (spawned_in plan ticks i ones).ones ≤ 64
-spawned_few plan ticks i ones few = spawned_last plan.blocks i (λ block. Unit {0}) (HasRoom plan.blocks) (room_lasts plan.blocks i) (seen_at plan.decls ticks i).letters ones (any_block plan.blocks) few
+spawned_few plan ticks i ones few = spawned_last plan.axes plan.blocks i (λ block. Unit {0}) (HasRoom plan.blocks) (room_lasts plan.axes plan.blocks i) (seen_at plan.decls ticks i).letters ones (any_block plan.blocks) few
 
 before_few : (plan : Plan) (ticks : List Tick) (i : ℕ) → length plan.blocks ≤ 64 → count_by is_template plan.blocks + length (list_before plan ticks i) ≤ 64
 before_few plan ticks zero few = omega (arith, long_first plan.blocks, few)

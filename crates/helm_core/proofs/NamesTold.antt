@@ -58,16 +58,16 @@ abbrev answer : Block → How → Update
 answer template how = record { name = template.common.name; how = how }
 
 -- the answers to letters to templates with names
-answers_last : (blocks : List Block) (at : ℕ) → LastsLetters blocks at (λ block. IsNamed block.common.name) (λ so_far. Each IsNamedUpdate so_far.answers)
-answers_last blocks at = record {
+answers_last : (axes : List Axis) (blocks : List Block) (at : ℕ) → LastsLetters axes blocks at (λ block. IsNamed block.common.name) (λ so_far. Each IsNamedUpdate so_far.answers)
+answers_last axes blocks at = record {
   refuses = λ template so_far q all. each_append IsNamedUpdate so_far.answers (answer template Refused ∷ []) all ((q, tt), tt);
-  makes = λ template so_far said q named room all. each_append IsNamedUpdate so_far.answers (answer template (Spawned said.name) ∷ []) all ((q, (named, tt)), tt);
+  makes = λ template so_far said q named room free all. each_append IsNamedUpdate so_far.answers (answer template (Spawned said.name) ∷ []) all ((q, (named, tt)), tt);
   changes = λ template so_far said place one q there all. each_append IsNamedUpdate so_far.answers (answer template Changed ∷ []) all ((q, tt), tt);
 }
 
 pub answers_named : (plan : Plan) (ticks : List Tick) (i : ℕ) → Each (λ block. IsNamed block.common.name) plan.blocks → Each IsNamedUpdate (spawned_at plan ticks i).answers
 answers_named plan ticks i all =
-    spawned_last plan.blocks i (λ block. IsNamed block.common.name) (λ so_far. Each IsNamedUpdate so_far.answers) (answers_last plan.blocks i) (seen_at plan.decls ticks i).letters (list_before plan ticks i) all tt
+    spawned_last plan.axes plan.blocks i (λ block. IsNamed block.common.name) (λ so_far. Each IsNamedUpdate so_far.answers) (answers_last plan.axes plan.blocks i) (seen_at plan.decls ticks i).letters (list_before plan ticks i) all tt
 
 states_named : (showings : List Showing) → Each HasName showings → Each IsNamed (map (λ one. one.name) (all_states showings))
 states_named [] all = tt

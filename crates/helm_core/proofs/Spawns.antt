@@ -1,7 +1,7 @@
 -- A letter to a template, by what is kept of the list.
 use Rattle.std.proofs.Common.{◌≡◌, ℕ, ◌+◌, ◌<◌, Bool, true, false, ◌&&◌, ◌||◌, if◌then◌else◌, List, [], ◌∷◌, ◌++◌, length, map, take, fold, get_or, Option, Some, None, refl, ap, sym, subst, ◌∙◌, arith, add-one}
-use Rattle.std.specs.Prelude.{bytes_eq, IsTrue, position, slice_get, slice_set}
-use Rattle.std.specs.List.{All, AllZip, count_by, list_all, list_any}
+use Rattle.std.specs.Prelude.{bytes_eq, position, slice_get, slice_set}
+use Rattle.std.specs.List.{All, AllZip, count_by, list_any}
 use Rattle.std.specs.Option.{option_eq}
 use Rattle.std.proofs.lemmas.List.{length-append, length-set, map-append, take_more}
 use Rattle.std.proofs.lemmas.List.Elements.{All-push, All-set, All-weaker}
@@ -15,10 +15,9 @@ use Rattle.ivp_domain.specs.declared.axis.Axis.{Axis}
 use Rattle.bhv_file.specs.declared.common.Common.{Common}
 use Rattle.bhv_file.specs.declared.file.Block.{Block}
 use Rattle.bhv_file.specs.declared.spec.Spec.{Spec}
-use Rattle.bhv_file.specs.Params.{has_axis}
 use Rattle.bhv_file.specs.Validity.{IsValidSpec}
-use Rattle.bhv_kinds.specs.Kinds.{KindNow}
-use Rattle.bhv_kinds.specs.Standing.{IsKindOf}
+use Rattle.helm_core.specs.declared.doer.Doer.{Doer}
+use Rattle.helm_core.specs.Doers.{IsDoerOf}
 use Rattle.bhv_kinds.specs.Turns.{KindTurn, params_at}
 use Rattle.bhv_life.specs.Standing.{IsLifeOf}
 use Rattle.helm_core.specs.declared.behavior.Behavior.{Behavior}
@@ -35,7 +34,8 @@ use Rattle.helm_core.specs.Standings.{AreFew, HasSpawned, HelmCrew, HasAnswered,
 use Rattle.helm_core.specs.Templates.{Spawning, answered, are_good, changed_by, heard_at_place, heard_by, heard_known, heard_new, heard_said, heard_to, bears_name, is_made_of, made_from, may_make, none_spawned, said_by, spawned, with_said}
 use Rattle.helm_core.specs.Ticks.{pairs_mailed}
 use Rattle.helm_core.proofs.Listing.{room_left}
-use Rattle.helm_core.proofs.Readying.{ready_on}
+use Rattle.helm_core.proofs.Readying.{GoesOn, ready_on}
+use Rattle.helm_core.proofs.Serving.{doer_served, serves_said}
 use Rattle.helm_core.proofs.Zips.{related_at, same_place, set_in_both, take_next, holds_at, item_there}
 
 -- one of two, by a test
@@ -60,56 +60,56 @@ neither false b is = (refl, is)
 pub refused : (blocks : List Block) (clock : ℕ) (template : Block) (before : Spawning) (kept : List Behavior) → AllZip (IsKept blocks clock) before.ones kept → HasAnswered blocks clock template before (answered template before before.ones Refused) kept Refused
 refused blocks clock template before kept all = record { ones = all; answer = refl }
 
--- what is told of the kind that a behaviour has with the pairs of a letter: whether they are good
-abbrev pub TellsGood : KindNow → Option (List ℕ) → Bool → Type 0
-TellsGood kind pairs test = (spec : Spec) (turns : List KindTurn) → IsKindOf spec turns kind → test ≡ are_good (params_at spec turns) pairs
+-- what is told of the doer that a behaviour has with the pairs of a letter: whether they are good
+abbrev pub TellsGood : List Axis → Doer → Option (List ℕ) → Bool → Type 0
+TellsGood axes doer pairs test = (spec : Spec) (turns : List KindTurn) → IsDoerOf spec turns doer → test ≡ are_good axes (params_at spec turns) pairs
 
 -- a letter with a name that none of the list has
-module _ (blocks : List Block) (clock at : ℕ) (template : Block) (before : Spawning) (said : NamedPairs) (kept : List Behavior) (all : AllZip (IsKept blocks clock) before.ones kept) where
+module _ (axes : List Axis) (blocks : List Block) (clock at : ℕ) (template : Block) (before : Spawning) (said : NamedPairs) (kept : List Behavior) (all : AllZip (IsKept blocks clock) before.ones kept) where
   abbrev birth : Birth
   birth = record { iteration = at; letter = length before.answers }
 
   abbrev made' : Spawning
-  made' = answered template before (before.ones ++ made_from template birth said ∷ []) (Spawned said.name)
+  made' = answered template before (before.ones ++ made_from axes template birth said ∷ []) (Spawned said.name)
 
   as_long : length kept ≡ length before.ones
   as_long = AllZip-long (IsKept blocks clock) before.ones kept all
 
-  pub no_room : may_make blocks said.name (length kept) ≡ false → HasAnswered blocks clock template before (heard_new blocks at template before said) kept Refused
+  pub no_room : may_make blocks said.name (length kept) ≡ false → HasAnswered blocks clock template before (heard_new axes blocks at template before said) kept Refused
   no_room is =
-      by_test (λ after. HasAnswered blocks clock template before after kept Refused) false (may_make blocks said.name (length before.ones) && are_good template.spec said.pairs) made' (answered template before before.ones Refused)
-      (not_first (may_make blocks said.name (length before.ones)) (are_good template.spec said.pairs) (ap (may_make blocks said.name) (sym as_long) ∙ is)) (refused blocks clock template before kept all)
+      by_test (λ after. HasAnswered blocks clock template before after kept Refused) false (may_make blocks said.name (length before.ones) && are_good axes template.spec said.pairs) made' (answered template before before.ones Refused)
+      (not_first (may_make blocks said.name (length before.ones)) (are_good axes template.spec said.pairs) (ap (may_make blocks said.name) (sym as_long) ∙ is)) (refused blocks clock template before kept all)
 
-  pub bad_pairs : are_good template.spec said.pairs ≡ false → HasAnswered blocks clock template before (heard_new blocks at template before said) kept Refused
+  pub bad_pairs : are_good axes template.spec said.pairs ≡ false → HasAnswered blocks clock template before (heard_new axes blocks at template before said) kept Refused
   bad_pairs is =
-      by_test (λ after. HasAnswered blocks clock template before after kept Refused) false (may_make blocks said.name (length before.ones) && are_good template.spec said.pairs) made' (answered template before before.ones Refused)
-      (not_second (may_make blocks said.name (length before.ones)) (are_good template.spec said.pairs) is) (refused blocks clock template before kept all)
+      by_test (λ after. HasAnswered blocks clock template before after kept Refused) false (may_make blocks said.name (length before.ones) && are_good axes template.spec said.pairs) made' (answered template before before.ones Refused)
+      (not_second (may_make blocks said.name (length before.ones)) (are_good axes template.spec said.pairs) is) (refused blocks clock template before kept all)
 
   -- what is kept of the one that it makes
-  pub kept_of_made : (one : Behavior) → one.name ≡ said.name → slice_get blocks one.block ≡ Some template → one.made ≡ true → IsKindOf template.spec (with_said [] said.pairs) one.kind
-      → ((common : Common) → IsLifeOf common [] one.life) → IsKept blocks clock (made_from template birth said) one
-  kept_of_made one named of by_letter kind blank = record {
+  pub kept_of_made : (one : Behavior) → one.name ≡ said.name → slice_get blocks one.block ≡ Some template → one.made ≡ true → IsDoerOf template.spec (with_said axes [] said.pairs) one.doer
+      → ((common : Common) → IsLifeOf common [] one.life) → IsKept blocks clock (made_from axes template birth said) one
+  kept_of_made one named of by_letter doer blank = record {
     name = named;
     block = of;
     made = by_letter;
-    kind = kind;
+    doer = doer;
     life = blank template.common;
     late = omega arith;
   }
 
-  pub is_made : (one : Behavior) → may_make blocks said.name (length kept) ≡ true → are_good template.spec said.pairs ≡ true → IsKept blocks clock (made_from template birth said) one
-      → HasAnswered blocks clock template before (heard_new blocks at template before said) (kept ++ one ∷ []) (Spawned said.name)
+  pub is_made : (one : Behavior) → may_make blocks said.name (length kept) ≡ true → are_good axes template.spec said.pairs ≡ true → IsKept blocks clock (made_from axes template birth said) one
+      → HasAnswered blocks clock template before (heard_new axes blocks at template before said) (kept ++ one ∷ []) (Spawned said.name)
   is_made one room good is =
-      by_test (λ after. HasAnswered blocks clock template before after (kept ++ one ∷ []) (Spawned said.name)) true (may_make blocks said.name (length before.ones) && are_good template.spec said.pairs) made' (answered template before before.ones Refused)
-      (both (may_make blocks said.name (length before.ones)) (are_good template.spec said.pairs) (ap (may_make blocks said.name) (sym as_long) ∙ room) good)
-      (record { ones = all_zipped_more (IsKept blocks clock) before.ones kept (made_from template birth said) one all is; answer = refl })
+      by_test (λ after. HasAnswered blocks clock template before after (kept ++ one ∷ []) (Spawned said.name)) true (may_make blocks said.name (length before.ones) && are_good axes template.spec said.pairs) made' (answered template before before.ones Refused)
+      (both (may_make blocks said.name (length before.ones)) (are_good axes template.spec said.pairs) (ap (may_make blocks said.name) (sym as_long) ∙ room) good)
+      (record { ones = all_zipped_more (IsKept blocks clock) before.ones kept (made_from axes template birth said) one all is; answer = refl })
 
 -- what is told of one that is kept: whether it was made of a template
 abbrev pub TellsMaker : List Block → Block → Behavior → Bool → Type 0
 TellsMaker blocks template one test = (block : Block) → slice_get blocks one.block ≡ Some block → test ≡ (one.made && bytes_eq block.common.name template.common.name)
 
 -- a letter for one of the list
-module _ (blocks : List Block) (clock : ℕ) (template : Block) (before : Spawning) (said : NamedPairs) (kept : List Behavior) (place : ℕ) (one : Behavior) (all : AllZip (IsKept blocks clock) before.ones kept) (at : slice_get kept place ≡ Some one) where
+module _ (axes : List Axis) (blocks : List Block) (clock : ℕ) (template : Block) (before : Spawning) (said : NamedPairs) (kept : List Behavior) (place : ℕ) (one : Behavior) (all : AllZip (IsKept blocks clock) before.ones kept) (at : slice_get kept place ≡ Some one) where
   abbrev found : (it : BhvSoFar) × (slice_get before.ones place ≡ Some it) × IsKept blocks clock it one
   found = related_at (IsKept blocks clock) before.ones kept place one all at
 
@@ -120,34 +120,34 @@ module _ (blocks : List Block) (clock : ℕ) (template : Block) (before : Spawni
   own test tells = tells it.block found.2.block ∙ ap (λ made. made && bytes_eq it.block.common.name template.common.name) found.2.made
 
   abbrev changed' : Spawning
-  changed' = answered template before (slice_set before.ones place (changed_by said it)) Changed
+  changed' = answered template before (slice_set before.ones place (changed_by axes said it)) Changed
 
   abbrev test : Bool
-  test = is_made_of template it && are_good (params_at it.block.spec it.turns) said.pairs
+  test = is_made_of template it && are_good axes (params_at it.block.spec it.turns) said.pairs
 
   there : (after : List Behavior) (how : How) (asked : Bool) → test ≡ asked → HasAnswered blocks clock template before (if asked then changed' else answered template before before.ones Refused) after how
-      → HasAnswered blocks clock template before (heard_known template before said place (slice_get before.ones place)) after how
+      → HasAnswered blocks clock template before (heard_known axes template before said place (slice_get before.ones place)) after how
   there after how asked is p =
-      subst (λ (get : Option BhvSoFar). HasAnswered blocks clock template before (heard_known template before said place get) after how) (sym found.1)
+      subst (λ (get : Option BhvSoFar). HasAnswered blocks clock template before (heard_known axes template before said place get) after how) (sym found.1)
       (by_test (λ now. HasAnswered blocks clock template before now after how) asked test changed' (answered template before before.ones Refused) is p)
 
-  pub of_another : (made : Bool) → TellsMaker blocks template one made → made ≡ false → HasAnswered blocks clock template before (heard_known template before said place (slice_get before.ones place)) kept Refused
+  pub of_another : (made : Bool) → TellsMaker blocks template one made → made ≡ false → HasAnswered blocks clock template before (heard_known axes template before said place (slice_get before.ones place)) kept Refused
   of_another made tells is =
-      there kept Refused false (not_first (is_made_of template it) (are_good (params_at it.block.spec it.turns) said.pairs) (sym (own made tells) ∙ is)) (refused blocks clock template before kept all)
+      there kept Refused false (not_first (is_made_of template it) (are_good axes (params_at it.block.spec it.turns) said.pairs) (sym (own made tells) ∙ is)) (refused blocks clock template before kept all)
 
-  pub bad_change : (good : Bool) → TellsGood one.kind said.pairs good → good ≡ false → HasAnswered blocks clock template before (heard_known template before said place (slice_get before.ones place)) kept Refused
+  pub bad_change : (good : Bool) → TellsGood axes one.doer said.pairs good → good ≡ false → HasAnswered blocks clock template before (heard_known axes template before said place (slice_get before.ones place)) kept Refused
   bad_change good tells is =
-      there kept Refused false (not_second (is_made_of template it) (are_good (params_at it.block.spec it.turns) said.pairs) (sym (tells it.block.spec it.turns found.2.kind) ∙ is)) (refused blocks clock template before kept all)
+      there kept Refused false (not_second (is_made_of template it) (are_good axes (params_at it.block.spec it.turns) said.pairs) (sym (tells it.block.spec it.turns found.2.doer) ∙ is)) (refused blocks clock template before kept all)
 
-  pub is_changed : (made good : Bool) (kind : KindNow) → TellsMaker blocks template one made → made ≡ true → TellsGood one.kind said.pairs good → good ≡ true
-      → ((spec : Spec) (turns : List KindTurn) → IsKindOf spec turns one.kind → IsKindOf spec (with_said turns said.pairs) kind)
-      → HasAnswered blocks clock template before (heard_known template before said place (slice_get before.ones place)) (slice_set kept place (record one { kind = kind })) Changed
-  is_changed made good kind tells owns tells' fine after =
-      there (slice_set kept place (record one { kind = kind })) Changed true
-      (both (is_made_of template it) (are_good (params_at it.block.spec it.turns) said.pairs) (sym (own made tells) ∙ owns) (sym (tells' it.block.spec it.turns found.2.kind) ∙ fine))
+  pub is_changed : (made good : Bool) (doer : Doer) → TellsMaker blocks template one made → made ≡ true → TellsGood axes one.doer said.pairs good → good ≡ true
+      → ((spec : Spec) (turns : List KindTurn) → IsDoerOf spec turns one.doer → IsDoerOf spec (with_said axes turns said.pairs) doer)
+      → HasAnswered blocks clock template before (heard_known axes template before said place (slice_get before.ones place)) (slice_set kept place (record one { doer = doer })) Changed
+  is_changed made good doer tells owns tells' fine after =
+      there (slice_set kept place (record one { doer = doer })) Changed true
+      (both (is_made_of template it) (are_good axes (params_at it.block.spec it.turns) said.pairs) (sym (own made tells) ∙ owns) (sym (tells' it.block.spec it.turns found.2.doer) ∙ fine))
       (record {
-        ones = set_in_both (IsKept blocks clock) before.ones kept place (changed_by said it) (record one { kind = kind }) all
-            (record { name = found.2.name; block = found.2.block; made = found.2.made; kind = after it.block.spec it.turns found.2.kind; life = found.2.life; late = found.2.late });
+        ones = set_in_both (IsKept blocks clock) before.ones kept place (changed_by axes said it) (record one { doer = doer }) all
+            (record { name = found.2.name; block = found.2.block; made = found.2.made; doer = after it.block.spec it.turns found.2.doer; life = found.2.life; late = found.2.late });
         answer = refl;
       })
 
@@ -156,30 +156,30 @@ place_kept : (blocks : List Block) (clock : ℕ) (name : List ℕ) (ones : List 
 place_kept blocks clock name ones kept all = same_place (IsKept blocks clock) (bears_name name) (is_kept_called name) (λ one is-kept is. ap (λ n. bytes_eq n name) is.name) ones kept all
 
 -- a letter for a name that stands at a place, and for one that doesn't
-pub known_said : (blocks : List Block) (clock at : ℕ) (template : Block) (before : Spawning) (said : NamedPairs) (kept after : List Behavior) (place : ℕ) (how : How) → AllZip (IsKept blocks clock) before.ones kept
-    → position (is_kept_called said.name) kept ≡ Some place → HasAnswered blocks clock template before (heard_known template before said place (slice_get before.ones place)) after how
-    → HasAnswered blocks clock template before (heard_said blocks at template before (Some said)) after how
-known_said blocks clock at template before said kept after place how all is answers =
-    subst (λ (found : Option ℕ). HasAnswered blocks clock template before (heard_at_place blocks at template before said found) after how)
+pub known_said : (axes : List Axis) (blocks : List Block) (clock at : ℕ) (template : Block) (before : Spawning) (said : NamedPairs) (kept after : List Behavior) (place : ℕ) (how : How) → AllZip (IsKept blocks clock) before.ones kept
+    → position (is_kept_called said.name) kept ≡ Some place → HasAnswered blocks clock template before (heard_known axes template before said place (slice_get before.ones place)) after how
+    → HasAnswered blocks clock template before (heard_said axes blocks at template before (Some said)) after how
+known_said axes blocks clock at template before said kept after place how all is answers =
+    subst (λ (found : Option ℕ). HasAnswered blocks clock template before (heard_at_place axes blocks at template before said found) after how)
     (sym is ∙ place_kept blocks clock said.name before.ones kept all) answers
 
-pub new_said : (blocks : List Block) (clock at : ℕ) (template : Block) (before : Spawning) (said : NamedPairs) (kept after : List Behavior) (how : How) → AllZip (IsKept blocks clock) before.ones kept
-    → position (is_kept_called said.name) kept ≡ None → HasAnswered blocks clock template before (heard_new blocks at template before said) after how
-    → HasAnswered blocks clock template before (heard_said blocks at template before (Some said)) after how
-new_said blocks clock at template before said kept after how all is answers =
-    subst (λ (found : Option ℕ). HasAnswered blocks clock template before (heard_at_place blocks at template before said found) after how)
+pub new_said : (axes : List Axis) (blocks : List Block) (clock at : ℕ) (template : Block) (before : Spawning) (said : NamedPairs) (kept after : List Behavior) (how : How) → AllZip (IsKept blocks clock) before.ones kept
+    → position (is_kept_called said.name) kept ≡ None → HasAnswered blocks clock template before (heard_new axes blocks at template before said) after how
+    → HasAnswered blocks clock template before (heard_said axes blocks at template before (Some said)) after how
+new_said axes blocks clock at template before said kept after how all is answers =
+    subst (λ (found : Option ℕ). HasAnswered blocks clock template before (heard_at_place axes blocks at template before said found) after how)
     (sym is ∙ place_kept blocks clock said.name before.ones kept all) answers
 
 abbrev update_told : List ℕ → How → Update
 update_told name how = record { name = name; how = how }
 
 -- a letter of the template's variable, and one of another
-pub told_more : (blocks : List Block) (clock at : ℕ) (template : Block) (before : Spawning) (letter : Pair) (said : Option NamedPairs) (after : Spawning) (kept : List Behavior) (told told' : List Update) (name : List ℕ) (how : How)
-    → option_eq bytes_eq template.common.updates (Some letter.var) ≡ true → heard_said blocks at template before said ≡ after → HasAnswered blocks clock template before after kept how
+pub told_more : (axes : List Axis) (blocks : List Block) (clock at : ℕ) (template : Block) (before : Spawning) (letter : Pair) (said : Option NamedPairs) (after : Spawning) (kept : List Behavior) (told told' : List Update) (name : List ℕ) (how : How)
+    → option_eq bytes_eq template.common.updates (Some letter.var) ≡ true → heard_said axes blocks at template before said ≡ after → HasAnswered blocks clock template before after kept how
     → told ≡ before.answers → name ≡ template.common.name → told' ≡ told ++ record { name = name; how = how } ∷ []
-    → IsSpawning blocks clock (if option_eq bytes_eq template.common.updates (Some letter.var) then heard_said blocks at template before said else before) kept told'
-told_more blocks clock at template before letter said after kept told told' name how is same answers were named more =
-    by_test (λ now. IsSpawning blocks clock now kept told') true (option_eq bytes_eq template.common.updates (Some letter.var)) (heard_said blocks at template before said) before is
+    → IsSpawning blocks clock (if option_eq bytes_eq template.common.updates (Some letter.var) then heard_said axes blocks at template before said else before) kept told'
+told_more axes blocks clock at template before letter said after kept told told' name how is same answers were named more =
+    by_test (λ now. IsSpawning blocks clock now kept told') true (option_eq bytes_eq template.common.updates (Some letter.var)) (heard_said axes blocks at template before said) before is
     (subst (λ now. IsSpawning blocks clock now kept told') (sym same)
     (record {
       ones = answers.ones;
@@ -191,41 +191,41 @@ pub told_none : (blocks : List Block) (clock : ℕ) (asked : Bool) (before after
 told_none blocks clock asked before after kept told is so_far = by_test (λ now. IsSpawning blocks clock now kept told) false asked after before is so_far
 
 -- the letters to the block at a place, by whether it is a template
-pub heard_template : (blocks : List Block) (clock at : ℕ) (letters : List Pair) (before : Spawning) (place : ℕ) (block other : Block) (kept : List Behavior) (told : List Update)
-    → slice_get blocks place ≡ Some block → slice_get blocks place ≡ Some other → is_template block ≡ true → IsSpawning blocks clock (fold (heard_to blocks at block) before letters) kept told
-    → IsSpawning blocks clock (heard_by blocks at letters before other) kept told
-heard_template blocks clock at letters before place block other kept told there there' is spawning =
+pub heard_template : (axes : List Axis) (blocks : List Block) (clock at : ℕ) (letters : List Pair) (before : Spawning) (place : ℕ) (block other : Block) (kept : List Behavior) (told : List Update)
+    → slice_get blocks place ≡ Some block → slice_get blocks place ≡ Some other → is_template block ≡ true → IsSpawning blocks clock (fold (heard_to axes blocks at block) before letters) kept told
+    → IsSpawning blocks clock (heard_by axes blocks at letters before other) kept told
+heard_template axes blocks clock at letters before place block other kept told there there' is spawning =
     let both : Some block ≡ Some other = sym there ∙ there' in
     let same : block ≡ other = cc in
-    subst (λ it. IsSpawning blocks clock (heard_by blocks at letters before it) kept told) same
-    (by_test (λ now. IsSpawning blocks clock now kept told) true (is_template block) (fold (heard_to blocks at block) before letters) before is spawning)
+    subst (λ it. IsSpawning blocks clock (heard_by axes blocks at letters before it) kept told) same
+    (by_test (λ now. IsSpawning blocks clock now kept told) true (is_template block) (fold (heard_to axes blocks at block) before letters) before is spawning)
 
-pub heard_other : (blocks : List Block) (clock at : ℕ) (letters : List Pair) (before : Spawning) (place : ℕ) (block other : Block) (kept : List Behavior) (told : List Update)
+pub heard_other : (axes : List Axis) (blocks : List Block) (clock at : ℕ) (letters : List Pair) (before : Spawning) (place : ℕ) (block other : Block) (kept : List Behavior) (told : List Update)
     → slice_get blocks place ≡ Some block → slice_get blocks place ≡ Some other → is_template block ≡ false → IsSpawning blocks clock before kept told
-    → IsSpawning blocks clock (heard_by blocks at letters before other) kept told
-heard_other blocks clock at letters before place block other kept told there there' is spawning =
+    → IsSpawning blocks clock (heard_by axes blocks at letters before other) kept told
+heard_other axes blocks clock at letters before place block other kept told there there' is spawning =
     let both : Some block ≡ Some other = sym there ∙ there' in
     let same : block ≡ other = cc in
-    subst (λ it. IsSpawning blocks clock (heard_by blocks at letters before it) kept told) same
-    (by_test (λ now. IsSpawning blocks clock now kept told) false (is_template block) (fold (heard_to blocks at block) before letters) before is spawning)
+    subst (λ it. IsSpawning blocks clock (heard_by axes blocks at letters before it) kept told) same
+    (by_test (λ now. IsSpawning blocks clock now kept told) false (is_template block) (fold (heard_to axes blocks at block) before letters) before is spawning)
 
 -- one letter more to a template
-pub letter_more : (blocks : List Block) (at : ℕ) (template : Block) (before : Spawning) (letters : List Letter) (i : ℕ) (letter : Letter) → i < length letters → letter ≡ get_or letters i letter
-    → fold (heard_to blocks at template) before (pairs_mailed (take (i + 1) letters)) ≡ heard_to blocks at template (fold (heard_to blocks at template) before (pairs_mailed (take i letters))) (pair_posted letter.post)
-letter_more blocks at template before letters i letter within is =
-    ap (λ list. fold (heard_to blocks at template) before (pairs_mailed list)) (take_more letters i letter within ∙ ap (λ (one : Letter). take i letters ++ one ∷ []) (sym is))
-    ∙ ap (fold (heard_to blocks at template) before) (map-append (λ (one : Letter). pair_posted one.post) (take i letters) (letter ∷ []))
-    ∙ fold_push (heard_to blocks at template) before (pairs_mailed (take i letters)) (pair_posted letter.post)
+pub letter_more : (axes : List Axis) (blocks : List Block) (at : ℕ) (template : Block) (before : Spawning) (letters : List Letter) (i : ℕ) (letter : Letter) → i < length letters → letter ≡ get_or letters i letter
+    → fold (heard_to axes blocks at template) before (pairs_mailed (take (i + 1) letters)) ≡ heard_to axes blocks at template (fold (heard_to axes blocks at template) before (pairs_mailed (take i letters))) (pair_posted letter.post)
+letter_more axes blocks at template before letters i letter within is =
+    ap (λ list. fold (heard_to axes blocks at template) before (pairs_mailed list)) (take_more letters i letter within ∙ ap (λ (one : Letter). take i letters ++ one ∷ []) (sym is))
+    ∙ ap (fold (heard_to axes blocks at template) before) (map-append (λ (one : Letter). pair_posted one.post) (take i letters) (letter ∷ []))
+    ∙ fold_push (heard_to axes blocks at template) before (pairs_mailed (take i letters)) (pair_posted letter.post)
 
 -- the letters to one block more
-pub block_next : (blocks : List Block) (at : ℕ) (letters : List Pair) (before : Spawning) (i : ℕ) (P : Spawning → Type 0) → i < length blocks
-    → ((block : Block) → slice_get blocks i ≡ Some block → P (heard_by blocks at letters (fold (heard_by blocks at letters) before (take i blocks)) block))
-    → P (fold (heard_by blocks at letters) before (take (i + 1) blocks))
-block_next blocks at letters before i P within hears =
+pub block_next : (axes : List Axis) (blocks : List Block) (at : ℕ) (letters : List Pair) (before : Spawning) (i : ℕ) (P : Spawning → Type 0) → i < length blocks
+    → ((block : Block) → slice_get blocks i ≡ Some block → P (heard_by axes blocks at letters (fold (heard_by axes blocks at letters) before (take i blocks)) block))
+    → P (fold (heard_by axes blocks at letters) before (take (i + 1) blocks))
+block_next axes blocks at letters before i P within hears =
     let found : (block : Block) × (slice_get blocks i ≡ Some block) = item_there blocks i within in
     subst P
-    (sym (ap (λ n. fold (heard_by blocks at letters) before (take n blocks)) (add-one i) ∙ ap (fold (heard_by blocks at letters) before) (take_next blocks i found.0 found.1)
-    ∙ fold_push (heard_by blocks at letters) before (take i blocks) found.0))
+    (sym (ap (λ n. fold (heard_by axes blocks at letters) before (take n blocks)) (add-one i) ∙ ap (fold (heard_by axes blocks at letters) before) (take_next blocks i found.0 found.1)
+    ∙ fold_push (heard_by axes blocks at letters) before (take i blocks) found.0))
     (hears found.0 found.1)
 
 -- some of what a list is mapped to, and some of the list
@@ -241,46 +241,46 @@ called letters block template mailed same holds any =
     any ∙ sym (any_mapped of_variable (λ (letter : Letter). pair_posted letter.post) letters) ∙ sym (ap (λ it. it && list_any of_variable (pairs_mailed letters)) (sym same ∙ holds))
 
 -- letters that are to no template
-letters_pass : (blocks : List Block) (at : ℕ) (template : Block) (letters : List Pair) (before : Spawning) → list_any (λ (letter : Pair). option_eq bytes_eq template.common.updates (Some letter.var)) letters ≡ false
-    → fold (heard_to blocks at template) before letters ≡ before
-letters_pass blocks at template [] before none = refl
-letters_pass blocks at template (letter ∷ letters) before none =
+letters_pass : (axes : List Axis) (blocks : List Block) (at : ℕ) (template : Block) (letters : List Pair) (before : Spawning) → list_any (λ (letter : Pair). option_eq bytes_eq template.common.updates (Some letter.var)) letters ≡ false
+    → fold (heard_to axes blocks at template) before letters ≡ before
+letters_pass axes blocks at template [] before none = refl
+letters_pass axes blocks at template (letter ∷ letters) before none =
     let parts = neither (option_eq bytes_eq template.common.updates (Some letter.var)) (list_any (λ (letter : Pair). option_eq bytes_eq template.common.updates (Some letter.var)) letters) none in
-    ap (λ it. fold (heard_to blocks at template) (if it then heard_said blocks at template before (said_by letter.value) else before) letters) parts.0
-    ∙ letters_pass blocks at template letters before parts.1
+    ap (λ it. fold (heard_to axes blocks at template) (if it then heard_said axes blocks at template before (said_by letter.value) else before) letters) parts.0
+    ∙ letters_pass axes blocks at template letters before parts.1
 
-block_passes : (blocks : List Block) (at : ℕ) (letters : List Pair) (before : Spawning) (block : Block) → is_called_in letters block ≡ false → heard_by blocks at letters before block ≡ before
-block_passes blocks at letters before block none = by (is_template block) none
+block_passes : (axes : List Axis) (blocks : List Block) (at : ℕ) (letters : List Pair) (before : Spawning) (block : Block) → is_called_in letters block ≡ false → heard_by axes blocks at letters before block ≡ before
+block_passes axes blocks at letters before block none = by (is_template block) none
   where
-    by : (template : Bool) → (template && list_any (λ (letter : Pair). option_eq bytes_eq block.common.updates (Some letter.var)) letters) ≡ false → (if template then fold (heard_to blocks at block) before letters else before) ≡ before
-    by true is = letters_pass blocks at block letters before is
+    by : (template : Bool) → (template && list_any (λ (letter : Pair). option_eq bytes_eq block.common.updates (Some letter.var)) letters) ≡ false → (if template then fold (heard_to axes blocks at block) before letters else before) ≡ before
+    by true is = letters_pass axes blocks at block letters before is
     by false is = refl
 
-blocks_pass : (blocks : List Block) (at : ℕ) (letters : List Pair) (before : Spawning) (some : List Block) → list_any (is_called_in letters) some ≡ false → fold (heard_by blocks at letters) before some ≡ before
-blocks_pass blocks at letters before [] none = refl
-blocks_pass blocks at letters before (block ∷ some) none =
+blocks_pass : (axes : List Axis) (blocks : List Block) (at : ℕ) (letters : List Pair) (before : Spawning) (some : List Block) → list_any (is_called_in letters) some ≡ false → fold (heard_by axes blocks at letters) before some ≡ before
+blocks_pass axes blocks at letters before [] none = refl
+blocks_pass axes blocks at letters before (block ∷ some) none =
     let parts = neither (is_called_in letters block) (list_any (is_called_in letters) some) none in
-    ap (λ now. fold (heard_by blocks at letters) now some) (block_passes blocks at letters before block parts.0) ∙ blocks_pass blocks at letters before some parts.1
+    ap (λ now. fold (heard_by axes blocks at letters) now some) (block_passes axes blocks at letters before block parts.0) ∙ blocks_pass axes blocks at letters before some parts.1
 
-pub none_called : (blocks : List Block) (at : ℕ) (letters : List Pair) (ones : List BhvSoFar) → list_any (is_called_in letters) blocks ≡ false → spawned blocks at letters ones ≡ none_spawned ones
-none_called blocks at letters ones none = blocks_pass blocks at letters (none_spawned ones) blocks none
+pub none_called : (axes : List Axis) (blocks : List Block) (at : ℕ) (letters : List Pair) (ones : List BhvSoFar) → list_any (is_called_in letters) blocks ≡ false → spawned axes blocks at letters ones ≡ none_spawned ones
+none_called axes blocks at letters ones none = blocks_pass axes blocks at letters (none_spawned ones) blocks none
 
 -- What letters leave: nothing is made, one is made, one is changed; and one after the other.
-pub spawned_same : (blocks : List Block) (kept : List Behavior) → MaySpawn blocks kept → HasSpawned blocks kept kept
-spawned_same blocks kept may = record { may = may; fit = λ axes steps fit. fit }
+pub spawned_same : (axes : List Axis) (blocks : List Block) (kept : List Behavior) → MaySpawn blocks kept → HasSpawned axes blocks kept kept
+spawned_same axes blocks kept may = record { may = may; fit = λ steps fit. fit }
 
-pub spawned_on : (blocks : List Block) (first second third : List Behavior) → HasSpawned blocks first second → HasSpawned blocks second third → HasSpawned blocks first third
-spawned_on blocks first second third one other = record { may = other.may; fit = λ axes steps fit. other.fit axes steps (one.fit axes steps fit) }
+pub spawned_on : (axes : List Axis) (blocks : List Block) (first second third : List Behavior) → HasSpawned axes blocks first second → HasSpawned axes blocks second third → HasSpawned axes blocks first third
+spawned_on axes blocks first second third one other = record { may = other.may; fit = λ steps fit. other.fit steps (one.fit steps fit) }
 
-served_by : (axes : List Axis) (template : Block) (turns : List KindTurn) (kind : KindNow) → MayStep axes template → IsKindOf template.spec turns kind → IsReady axes kind
-served_by axes template turns kind may is = record {
-  some = (template.spec, turns, is);
-  served = subst (λ names. IsTrue (list_all (has_axis axes) names)) (sym is.axes) may.served;
+served_by : (axes : List Axis) (template : Block) (pairs : Option (List ℕ)) (doer : Doer) → MayStep axes template → IsDoerOf template.spec (with_said axes [] pairs) doer → IsReady axes doer
+served_by axes template pairs doer may is = record {
+  some = (template.spec, with_said axes [] pairs, is);
+  served = doer_served axes template.spec (with_said axes [] pairs) doer is (serves_said axes template.spec [] pairs may.served);
 }
 
-pub spawned_made : (blocks : List Block) (template : Block) (name : List ℕ) (turns : List KindTurn) (kept : List Behavior) (one : Behavior) → slice_get blocks one.block ≡ Some template
-    → may_make blocks name (length kept) ≡ true → IsKindOf template.spec turns one.kind → MaySpawn blocks kept → HasSpawned blocks kept (kept ++ one ∷ [])
-spawned_made blocks template name turns kept one of room kind may =
+pub spawned_made : (axes : List Axis) (blocks : List Block) (template : Block) (name : List ℕ) (pairs : Option (List ℕ)) (kept : List Behavior) (one : Behavior) → slice_get blocks one.block ≡ Some template
+    → may_make blocks name (length kept) ≡ true → IsDoerOf template.spec (with_said axes [] pairs) one.doer → MaySpawn blocks kept → HasSpawned axes blocks kept (kept ++ one ∷ [])
+spawned_made axes blocks template name pairs kept one of room doer may =
     let within : one.block < length blocks = slice_get_within blocks one.block template of in
     record {
       may = record {
@@ -288,24 +288,24 @@ spawned_made blocks template name turns kept one of room kind may =
         within = All-push (λ (it : Behavior). it.block < length blocks) kept one may.within within;
         valid = may.valid;
       };
-      fit = λ axes steps fit.
-          All-push (IsFitKept axes blocks) kept one fit (record { within = within; ready = served_by axes template turns one.kind (holds_at (MayStep axes) blocks one.block template of steps) kind });
+      fit = λ steps fit.
+          All-push (IsFitKept axes blocks) kept one fit (record { within = within; ready = served_by axes template pairs one.doer (holds_at (MayStep axes) blocks one.block template of steps) doer });
     }
 
-pub spawned_changed : (blocks : List Block) (kept : List Behavior) (place : ℕ) (one : Behavior) (kind : KindNow) → slice_get kept place ≡ Some one
-    → ((spec : Spec) (turns : List KindTurn) → IsKindOf spec turns one.kind → (later : List KindTurn) × IsKindOf spec later kind) → MaySpawn blocks kept
-    → HasSpawned blocks kept (slice_set kept place (record one { kind = kind }))
-spawned_changed blocks kept place one kind at on may =
-    let other : Behavior = record one { kind = kind } in
+pub spawned_changed : (axes : List Axis) (blocks : List Block) (kept : List Behavior) (place : ℕ) (one : Behavior) (doer : Doer) → slice_get kept place ≡ Some one
+    → ((spec : Spec) (turns : List KindTurn) → IsDoerOf spec turns one.doer → GoesOn axes spec turns doer) → MaySpawn blocks kept
+    → HasSpawned axes blocks kept (slice_set kept place (record one { doer = doer }))
+spawned_changed axes blocks kept place one doer at on may =
+    let other : Behavior = record one { doer = doer } in
     record {
       may = record {
         few = subst (λ long. AreFew blocks long) (sym (length-set kept place other)) may.few;
         within = All-set (λ (it : Behavior). it.block < length blocks) kept place other (holds_at (λ (it : Behavior). it.block < length blocks) kept place one at may.within) may.within;
         valid = may.valid;
       };
-      fit = λ axes steps fit.
+      fit = λ steps fit.
           let was : IsFitKept axes blocks one = holds_at (IsFitKept axes blocks) kept place one at fit in
-          All-set (IsFitKept axes blocks) kept place other (record { within = was.within; ready = ready_on axes one.kind kind on was.ready }) fit;
+          All-set (IsFitKept axes blocks) kept place other (record { within = was.within; ready = ready_on axes one.doer doer on was.ready }) fit;
     }
 
 -- what a crew gives: letters to templates may come
@@ -322,16 +322,16 @@ crew_may_spawn crew is = record { few = is.few; within = within_of crew.axes cre
 pub uncalled_turned : (crew : HelmCrew) (stamp : ℕ) (letters : List Pair) (now : Outlook) (answers : List Update) (turned : Turned) → list_any (is_called_in letters) crew.blocks ≡ false → answers ≡ []
     → HasTurned crew stamp letters now turned → HasHeardAndTurned crew stamp letters now answers turned
 uncalled_turned crew stamp letters now answers turned none empty turns clock at seen ones later sees stands =
-    subst (λ spawning. IsHeardAndTurned crew.axes crew.blocks seen spawning answers turned) (sym (none_called crew.blocks at letters ones none))
+    subst (λ spawning. IsHeardAndTurned crew.axes crew.blocks seen spawning answers turned) (sym (none_called crew.axes crew.blocks at letters ones none))
     (record { told = empty; turns = turns clock seen ones later sees stands })
 
 -- and where some are
 pub called_turned : (crew : HelmCrew) (stamp : ℕ) (letters : List Pair) (now : Outlook) (answers : List Update) (kept : List Behavior) (turned : Turned)
-    → ((clock at : ℕ) (ones : List BhvSoFar) → IsSpawning crew.blocks clock (none_spawned ones) crew.kept [] → IsSpawning crew.blocks clock (spawned crew.blocks at letters ones) kept answers)
+    → ((clock at : ℕ) (ones : List BhvSoFar) → IsSpawning crew.blocks clock (none_spawned ones) crew.kept [] → IsSpawning crew.blocks clock (spawned crew.axes crew.blocks at letters ones) kept answers)
     → HasTurned (crew_of crew.axes crew.blocks kept) stamp letters now turned → HasHeardAndTurned crew stamp letters now answers turned
 called_turned crew stamp letters now answers kept turned spawns turns clock at seen ones later sees stands =
     let spawning = spawns clock at ones (record { ones = stands; answers = refl }) in
-    record { told = spawning.answers; turns = turns clock seen (spawned crew.blocks at letters ones).ones later sees spawning.ones }
+    record { told = spawning.answers; turns = turns clock seen (spawned crew.axes crew.blocks at letters ones).ones later sees spawning.ones }
 
 pub crew_few_fit : (crew : HelmCrew) (kept : List Behavior) (turned : Turned) → AreFew crew.blocks (length kept) → AreFit crew.axes crew.blocks (length kept) turned → AreFewFit crew.axes crew.blocks turned
 crew_few_fit crew kept turned few fit = record { count = length kept; few = few; fit = fit }

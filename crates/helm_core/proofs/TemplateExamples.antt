@@ -148,5 +148,5 @@ stays_on = refl
 abbrev others : ℕ → List BhvSoFar
 others n = replicate n (unstarted (block (codes "o") None false))
 
-room_for_one : (spawned plan.blocks 0 (up (codes "name=x") ∷ up (codes "name=y") ∷ []) (others 62)).answers ≡ said (codes "tmpl") (Spawned (codes "x")) ∷ said (codes "tmpl") Refused ∷ []
+room_for_one : (spawned plan.axes plan.blocks 0 (up (codes "name=x") ∷ up (codes "name=y") ∷ []) (others 62)).answers ≡ said (codes "tmpl") (Spawned (codes "x")) ∷ said (codes "tmpl") Refused ∷ []
 room_for_one = refl

@@ -167,7 +167,7 @@ module _ (helm : Helm) (stamp : ℕ) (mail : List Letter) (now : Outlook) (answe
 
   after : IsHeardAndTurned helm.crew.axes helm.crew.blocks seen' spawning' answers turned
   after =
-      subst (λ letters. IsHeardAndTurned helm.crew.axes helm.crew.blocks seen' (spawned helm.crew.blocks (length ticks) letters ones) answers turned) (sym (mail_last ticks stamp mail))
+      subst (λ letters. IsHeardAndTurned helm.crew.axes helm.crew.blocks seen' (spawned helm.crew.axes helm.crew.blocks (length ticks) letters ones) answers turned) (sym (mail_last ticks stamp mail))
       (turns (clock_of helm) (length ticks) seen' ones later sees crew')
 
   kept_after : AllZip (IsKept helm.crew.blocks stamp) (list_before (plan_of helm) ticks' (length ticks')) turned.kept.items

@@ -2,6 +2,7 @@
 use Rattle.std.proofs.Common.{◌≡◌, ℕ, ◌+◌, ◌*◌, ◌<◌, ◌≤◌, ℤ, pos, nat_abs, Bool, true, false, not, ◌&&◌, ◌||◌, ◌⊎◌, cond, List, [], ◌∷◌, map, Option, Some, None, refl, sym, ap, ◌∙◌, subst, arith}
 use Rattle.std.specs.Prelude.{IfSome, is_some, nat_lt, option_map, sum_by}
 use Rattle.std.specs.List.{All, AllByRecursion as Each, cons_option, filter_map, list_any}
+use Rattle.std.proofs.lemmas.Bool.{and_parts}
 use Rattle.std.proofs.lemmas.Bool.Decides.{nat_tests}
 use Rattle.std.proofs.lemmas.List.Elements.{recursion_from_All}
 use Rattle.std.proofs.lemmas.List.Sums.{sum_by-cons}
@@ -14,6 +15,8 @@ use Rattle.ivp_problem.specs.declared.term.Term.{Term}
 use Rattle.ivp_problem.specs.Problems.{WeightedSum}
 use Rattle.ivp_problem.specs.Sums.{best_of, sum_at, weighted_at}
 use Rattle.ivp_problem.proofs.KeyOrder.{best_most, best_point}
+use Rattle.bhv_file.specs.Params.{has_axes}
+use Rattle.bhv_file.specs.Serving.{suits}
 use Rattle.bhv_kinds.specs.Utilities.{Utility, worth_at}
 use Rattle.bhv_kinds.specs.Turns.{params_at, step_of}
 use Rattle.bhv_kinds.specs.Worths.{IsWorth, StepsAreWorth}
@@ -32,7 +35,7 @@ use Rattle.helm_core.proofs.Turning.{all_may_step}
 -- what a turn's function is worth at each point, and its weight
 stepped_worth : StepsAreWorth → (axes : List Axis) (seen : Seen) (one : BhvSoFar) (judged : Judged) (stepped : Bool) → is_domain axes ≡ true → MayStep axes one.block
     → IsWorth axes (wanted_by_step axes seen one judged stepped) (begun_by_step axes seen one judged stepped).out.func
-stepped_worth law axes seen one judged true lawful may = law one.block.spec judged.turns (step_of axes seen.known seen.stamp (is_fresh (past_so_far one))) may.valid lawful may.served
+stepped_worth law axes seen one judged true lawful may = law one.block.spec judged.turns (step_of axes seen.known seen.stamp (is_fresh (past_so_far one))) may.valid lawful (and_parts (has_axes axes one.block.spec.shape) (suits axes one.block.spec.shape) may.served).0
 stepped_worth law axes seen one judged false lawful may = tt
 
 weight_kept : (axes : List Axis) (seen : Seen) (one : BhvSoFar) (judged : Judged) (stepped : Bool) → weight_now (begun_by_step axes seen one judged stepped) ≡ (params_at one.block.spec judged.turns).weight
@@ -73,7 +76,7 @@ all_worth : StepsAreWorth → (axes : List Axis) (seen : Seen) (point : Point) (
     → sum_by (weighted_at point) (filter_map active_term (map (showing_of seen false) (map (begun_at axes seen) ones))) ≡ sum_by (worth_to axes seen point) ones
 all_worth law axes seen point [] lawful inside may = refl
 all_worth law axes seen point (one ∷ ones) lawful inside may =
-    let judged = judged_at seen one in
+    let judged = judged_at axes seen one in
     let stepped = is_stepped one.block.common (past_so_far one) (beginning_at seen one.block.common) in
     let begun = begun_by_step axes seen one judged stepped in
     let worth = stepped_worth law axes seen one judged stepped lawful may.0 in

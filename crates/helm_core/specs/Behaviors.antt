@@ -12,7 +12,7 @@ use Rattle.bhv_file.specs.declared.spec.Spec.{Spec}
 use Rattle.bhv_file.specs.declared.out.Out.{Out}
 use Rattle.bhv_kinds.specs.Giving.{out_at}
 use Rattle.bhv_kinds.specs.Turns.{KindTurn, Updated, Stepped, params_at, step_of}
-use Rattle.bhv_kinds.specs.Updates.{updated}
+use Rattle.bhv_file.specs.Updates.{updated}
 use Rattle.bhv_life.specs.declared.outcome.Outcome.{Outcome}
 use Rattle.bhv_life.specs.Lives.{Beginning, BhvPast, BhvTurn, beginning_of, can_run, is_fresh, is_stepped, past_of, turn_after}
 use Rattle.bhv_life.specs.Outcomes.{flags_at}
@@ -54,29 +54,29 @@ pub record Judged : Type 0 where
 abbrev pub none_judged : List KindTurn → Judged
 none_judged turns = record { turns = turns; taken = [] }
 
--- one update more of a behaviour with these parameters in its file: a text may be good, a number never is
-abbrev pub judged_with : Spec → Judged → Value → Judged
-judged_with spec so_far (Num number) = record { turns = so_far.turns; taken = so_far.taken ++ false ∷ [] }
-judged_with spec so_far (Text text) = record {
-  turns = Updated text ∷ so_far.turns;
-  taken = so_far.taken ++ is_some (updated (params_at spec so_far.turns) text) ∷ [];
+-- one update more, over these axes, of a behaviour with these parameters in its file: a text may be good, a number never is
+abbrev pub judged_with : List Axis → Spec → Judged → Value → Judged
+judged_with axes spec so_far (Num number) = record { turns = so_far.turns; taken = so_far.taken ++ false ∷ [] }
+judged_with axes spec so_far (Text text) = record {
+  turns = Updated axes text ∷ so_far.turns;
+  taken = so_far.taken ++ is_some (updated axes (params_at spec so_far.turns) text) ∷ [];
 }
 
 -- a letter more, which is an update where it is of the behaviour's variable for updates
-abbrev pub heard_with : Option (List ℕ) → Spec → Judged → Pair → Judged
-heard_with updates spec so_far letter = if option_eq bytes_eq updates (Some letter.var) then judged_with spec so_far letter.value else so_far
+abbrev pub heard_with : List Axis → Option (List ℕ) → Spec → Judged → Pair → Judged
+heard_with axes updates spec so_far letter = if option_eq bytes_eq updates (Some letter.var) then judged_with axes spec so_far letter.value else so_far
 
 -- the updates among these letters, in order
-abbrev pub judged_in : Option (List ℕ) → Spec → List KindTurn → List Pair → Judged
-judged_in updates spec turns letters = fold (heard_with updates spec) (none_judged turns) letters
+abbrev pub judged_in : List Axis → Option (List ℕ) → Spec → List KindTurn → List Pair → Judged
+judged_in axes updates spec turns letters = fold (heard_with axes updates spec) (none_judged turns) letters
 
 -- the variable of its own updates: one that a letter made has none
 abbrev pub own_updates : BhvSoFar → Option (List ℕ)
 own_updates one = if is_some one.born then None else one.block.common.updates
 
 -- the updates that an iteration's letters bring, unless the behaviour completed for good in an earlier one
-abbrev pub judged_at : Seen → BhvSoFar → Judged
-judged_at seen one = judged_in (own_updates one) one.block.spec one.turns (if can_run one.block.common (past_so_far one) then seen.letters else [])
+abbrev pub judged_at : List Axis → Seen → BhvSoFar → Judged
+judged_at axes seen one = judged_in axes (own_updates one) one.block.spec one.turns (if can_run one.block.common (past_so_far one) then seen.letters else [])
 
 -- what stands where there was no step
 abbrev pub no_out : Out
@@ -98,7 +98,7 @@ begun_by_step axes seen one judged false = record { standing = record one { turn
 -- a behaviour in an iteration, before its turn ends
 abbrev pub begun_at : List Axis → Seen → BhvSoFar → BegunTurn
 begun_at axes seen one =
-    begun_by_step axes seen one (judged_at seen one) (is_stepped one.block.common (past_so_far one) (beginning_at seen one.block.common))
+    begun_by_step axes seen one (judged_at axes seen one) (is_stepped one.block.common (past_so_far one) (beginning_at seen one.block.common))
 
 -- its step raised a fault
 abbrev pub has_fault : BegunTurn → Bool

@@ -80,7 +80,7 @@ HasTurned crew stamp letters now turned =
 abbrev pub HasHeardAndTurned : HelmCrew → ℕ → List Pair → Outlook → List Update → Turned → Type 0
 HasHeardAndTurned crew stamp letters now answers turned =
     (clock at : ℕ) (seen : Seen) (ones : List BhvSoFar) → clock ≤ stamp → Sees seen stamp letters now → IsCrewOf clock ones crew
-    → IsHeardAndTurned crew.axes crew.blocks seen (spawned crew.blocks at letters ones) answers turned
+    → IsHeardAndTurned crew.axes crew.blocks seen (spawned crew.axes crew.blocks at letters ones) answers turned
 
 -- what holds of so many turns over these axes
 pub record AreFit (axes : List Axis) (blocks : List Block) (count : ℕ) (turned : Turned) : Type 0 where

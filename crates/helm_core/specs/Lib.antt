@@ -1,6 +1,7 @@
 pub mod Plans
 pub mod Ticks
 pub mod Behaviors
+pub mod Doers
 pub mod Templates
 pub mod Lists
 pub mod Moments
@@ -13,3 +14,4 @@ pub mod Kept
 pub mod WellFormed
 pub mod Worths
 pub mod FirstSteps
+pub mod Names

@@ -19,7 +19,7 @@ first_list blocks = map unstarted (filter (λ block. not (is_template block)) bl
 
 -- what the letters of iteration i to templates make of a list
 abbrev pub spawned_in : Plan → List Tick → ℕ → List BhvSoFar → Spawning
-spawned_in plan ticks i ones = spawned plan.blocks i (seen_at plan.decls ticks i).letters ones
+spawned_in plan ticks i ones = spawned plan.axes plan.blocks i (seen_at plan.decls ticks i).letters ones
 
 -- those of the list of iteration i that stay in it behind its turns
 abbrev pub staying_after : Plan → List Tick → ℕ → List BhvSoFar → List BhvSoFar

@@ -8,10 +8,11 @@ use Rattle.moos_post.specs.declared.value.Value.{Value}
 use Rattle.moos_post.specs.declared.value.Value.TheVariants.{Num, Text}
 use Rattle.moos_post.specs.Words.{is_name}
 use Rattle.moos_text.specs.Pairs.{Sides, sides_of}
+use Rattle.ivp_domain.specs.declared.axis.Axis.{Axis}
 use Rattle.bhv_file.specs.declared.file.Block.{Block}
 use Rattle.bhv_file.specs.declared.spec.Spec.{Spec}
 use Rattle.bhv_kinds.specs.Turns.{KindTurn, Updated, params_at}
-use Rattle.bhv_kinds.specs.Updates.{updated}
+use Rattle.bhv_file.specs.Updates.{updated}
 use Rattle.helm_core.specs.declared.iteration.How.{How}
 use Rattle.helm_core.specs.declared.iteration.How.TheVariants.{Refused, Changed, Spawned}
 use Rattle.helm_core.specs.declared.iteration.Update.{Update}
@@ -44,23 +45,23 @@ abbrev pub said_by : Value → Option NamedPairs
 said_by (Num number) = None
 said_by (Text text) = named_pairs text
 
--- there are no pairs, or they are good as a whole for a behaviour with these parameters
-abbrev pub are_good : Spec → Option (List ℕ) → Bool
-are_good params None = true
-are_good params (Some pairs) = is_some (updated params pairs)
+-- there are no pairs, or they are good as a whole, over these axes, for a behaviour with these parameters
+abbrev pub are_good : List Axis → Spec → Option (List ℕ) → Bool
+are_good axes params None = true
+are_good axes params (Some pairs) = is_some (updated axes params pairs)
 
 -- one update more, where there are pairs
-abbrev pub with_said : List KindTurn → Option (List ℕ) → List KindTurn
-with_said turns None = turns
-with_said turns (Some pairs) = Updated pairs ∷ turns
+abbrev pub with_said : List Axis → List KindTurn → Option (List ℕ) → List KindTurn
+with_said axes turns None = turns
+with_said axes turns (Some pairs) = Updated axes pairs ∷ turns
 
 -- the behaviour that a letter makes of a template: it has the name that was said, and the template's parameters with the pairs
-abbrev pub made_from : Block → Birth → NamedPairs → BhvSoFar
-made_from template birth said = record { name = said.name; block = template; born = Some birth; lived = []; turns = with_said [] said.pairs }
+abbrev pub made_from : List Axis → Block → Birth → NamedPairs → BhvSoFar
+made_from axes template birth said = record { name = said.name; block = template; born = Some birth; lived = []; turns = with_said axes [] said.pairs }
 
 -- the behaviour with these pairs too
-abbrev pub changed_by : NamedPairs → BhvSoFar → BhvSoFar
-changed_by said one = record one { turns = with_said one.turns said.pairs }
+abbrev pub changed_by : List Axis → NamedPairs → BhvSoFar → BhvSoFar
+changed_by axes said one = record one { turns = with_said axes one.turns said.pairs }
 
 -- the behaviour has this name
 abbrev pub bears_name : List ℕ → BhvSoFar → Bool
@@ -88,43 +89,43 @@ abbrev pub answered : Block → Spawning → List BhvSoFar → How → Spawning
 answered template so_far ones how = record { ones = ones; answers = so_far.answers ++ record { name = template.common.name; how = how } ∷ [] }
 
 -- a letter with a name that none in the list has, in iteration `at`
-abbrev pub heard_new : List Block → ℕ → Block → Spawning → NamedPairs → Spawning
-heard_new blocks at template so_far said =
-    if may_make blocks said.name (length so_far.ones) && are_good template.spec said.pairs
-    then answered template so_far (so_far.ones ++ made_from template (record { iteration = at; letter = length so_far.answers }) said ∷ []) (Spawned said.name)
+abbrev pub heard_new : List Axis → List Block → ℕ → Block → Spawning → NamedPairs → Spawning
+heard_new axes blocks at template so_far said =
+    if may_make blocks said.name (length so_far.ones) && are_good axes template.spec said.pairs
+    then answered template so_far (so_far.ones ++ made_from axes template (record { iteration = at; letter = length so_far.answers }) said ∷ []) (Spawned said.name)
     else answered template so_far so_far.ones Refused
 
 -- a letter with the name of this one, which stands at this place of the list
-abbrev pub heard_known : Block → Spawning → NamedPairs → ℕ → Option BhvSoFar → Spawning
-heard_known template so_far said place None = answered template so_far so_far.ones Refused
-heard_known template so_far said place (Some one) =
-    if is_made_of template one && are_good (params_at one.block.spec one.turns) said.pairs
-    then answered template so_far (slice_set so_far.ones place (changed_by said one)) Changed
+abbrev pub heard_known : List Axis → Block → Spawning → NamedPairs → ℕ → Option BhvSoFar → Spawning
+heard_known axes template so_far said place None = answered template so_far so_far.ones Refused
+heard_known axes template so_far said place (Some one) =
+    if is_made_of template one && are_good axes (params_at one.block.spec one.turns) said.pairs
+    then answered template so_far (slice_set so_far.ones place (changed_by axes said one)) Changed
     else answered template so_far so_far.ones Refused
 
 -- by the place in the list where the name stands, if it does
-abbrev pub heard_at_place : List Block → ℕ → Block → Spawning → NamedPairs → Option ℕ → Spawning
-heard_at_place blocks at template so_far said None = heard_new blocks at template so_far said
-heard_at_place blocks at template so_far said (Some place) = heard_known template so_far said place (slice_get so_far.ones place)
+abbrev pub heard_at_place : List Axis → List Block → ℕ → Block → Spawning → NamedPairs → Option ℕ → Spawning
+heard_at_place axes blocks at template so_far said None = heard_new axes blocks at template so_far said
+heard_at_place axes blocks at template so_far said (Some place) = heard_known axes template so_far said place (slice_get so_far.ones place)
 
 -- a letter to the template that says this, or nothing
-abbrev pub heard_said : List Block → ℕ → Block → Spawning → Option NamedPairs → Spawning
-heard_said blocks at template so_far None = answered template so_far so_far.ones Refused
-heard_said blocks at template so_far (Some said) = heard_at_place blocks at template so_far said (position (bears_name said.name) so_far.ones)
+abbrev pub heard_said : List Axis → List Block → ℕ → Block → Spawning → Option NamedPairs → Spawning
+heard_said axes blocks at template so_far None = answered template so_far so_far.ones Refused
+heard_said axes blocks at template so_far (Some said) = heard_at_place axes blocks at template so_far said (position (bears_name said.name) so_far.ones)
 
 -- a letter, which is one to the template where it is of its variable
-abbrev pub heard_to : List Block → ℕ → Block → Spawning → Pair → Spawning
-heard_to blocks at template so_far letter =
-    if option_eq bytes_eq template.common.updates (Some letter.var) then heard_said blocks at template so_far (said_by letter.value) else so_far
+abbrev pub heard_to : List Axis → List Block → ℕ → Block → Spawning → Pair → Spawning
+heard_to axes blocks at template so_far letter =
+    if option_eq bytes_eq template.common.updates (Some letter.var) then heard_said axes blocks at template so_far (said_by letter.value) else so_far
 
 -- all letters to a block of the file, where it is a template
-abbrev pub heard_by : List Block → ℕ → List Pair → Spawning → Block → Spawning
-heard_by blocks at letters so_far block = if is_template block then fold (heard_to blocks at block) so_far letters else so_far
+abbrev pub heard_by : List Axis → List Block → ℕ → List Pair → Spawning → Block → Spawning
+heard_by axes blocks at letters so_far block = if is_template block then fold (heard_to axes blocks at block) so_far letters else so_far
 
 -- before the letters of an iteration
 abbrev pub none_spawned : List BhvSoFar → Spawning
 none_spawned ones = record { ones = ones; answers = [] }
 
 -- The letters of iteration `at` to all templates, in file order, where this was the list before.
-abbrev pub spawned : List Block → ℕ → List Pair → List BhvSoFar → Spawning
-spawned blocks at letters ones = fold (heard_by blocks at letters) (none_spawned ones) blocks
+abbrev pub spawned : List Axis → List Block → ℕ → List Pair → List BhvSoFar → Spawning
+spawned axes blocks at letters ones = fold (heard_by axes blocks at letters) (none_spawned ones) blocks

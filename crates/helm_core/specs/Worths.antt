@@ -27,7 +27,7 @@ wanted_by_step axes seen one judged false = None
 
 -- what a behaviour wants in an iteration, or nothing
 abbrev pub wanted_at : List Axis → Seen → BhvSoFar → Option Utility
-wanted_at axes seen one = wanted_by_step axes seen one (judged_at seen one) (is_stepped one.block.common (past_so_far one) (beginning_at seen one.block.common))
+wanted_at axes seen one = wanted_by_step axes seen one (judged_at axes seen one) (is_stepped one.block.common (past_so_far one) (beginning_at seen one.block.common))
 
 -- a weight times what is wanted at a point; nothing where nothing is wanted
 abbrev pub times_worth : List Axis → Point → ℕ → Option Utility → ℕ
@@ -36,7 +36,7 @@ times_worth axes point weight (Some utility) = weight * worth_at axes utility po
 
 -- the priority-weighted worth of a point to one behaviour
 abbrev pub worth_to : List Axis → Seen → Point → BhvSoFar → ℕ
-worth_to axes seen point one = times_worth axes point (params_at one.block.spec (judged_at seen one).turns).weight (wanted_at axes seen one)
+worth_to axes seen point one = times_worth axes point (params_at one.block.spec (judged_at axes seen one).turns).weight (wanted_at axes seen one)
 
 -- and to all of them
 abbrev pub worth_to_all : List Axis → Seen → List BhvSoFar → Point → ℕ

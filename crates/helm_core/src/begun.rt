@@ -7,7 +7,7 @@ ghost use Rattle.helm_core.specs.Behaviors.{BegunTurn, BhvSoFar};
 ghost use Rattle.helm_core.specs.Standings.{BeginsTurn, IsBegun, IsEnded, IsFitBegun, IsFitEnded, IsKept, IsReady, Sees};
 ghost use Rattle.helm_core.specs.Ticks.{Seen, pairs_mailed};
 
-use crate::behavior::{Behavior, BoxedKind};
+use crate::behavior::{Behavior, BoxedDoer};
 use crate::judging::judge_own;
 use crate::outlook::Outlook;
 use crate::posts::add_pairs;
@@ -28,7 +28,7 @@ pub(crate) struct Begun<'a> {
     pub block: usize,
     pub made: bool,
     pub common: &'a Common,
-    pub kind: BoxedKind,
+    pub doer: BoxedDoer,
     pub started: Started,
     pub taken: List<bool>,
     pub out: Out,
@@ -52,31 +52,32 @@ pub(crate) fn begin<'a>(
     letters: &[Letter],
     now: &Outlook,
 ) -> Result<Begun<'a>, NoMemory>
-    requires ready { IsReady domain.now kept.now.kind }
+    requires ready { IsReady domain.now kept.now.doer }
     ensures begins { IfOk result (λ begun. (blocks : List Block) (clock : ℕ) (seen : Seen) (one : BhvSoFar) → clock ≤ stamp → Sees seen stamp (pairs_mailed letters.now) now.now → one.block.common ≡ common.now → IsKept blocks clock one kept.now → BeginsTurn domain.now blocks seen one begun) }
     ensures fit { IfOk result (λ begun. (blocks : List Block) → kept.now.block < length blocks → IsFitBegun domain.now blocks begun) }
 {
     let started = kept
         .life
         .start(common, &now.info, now.mode.bytes(), now.parked, stamp);
-    let mut kind = kept.kind.lent().copy(alloc)?;
+    let mut doer = kept.doer.lent().copy(alloc)?;
     let taken = judge_own(
         alloc,
+        domain,
         kept.made,
         started.phase,
         &common.updates,
         letters,
-        &mut kind,
+        &mut doer,
     )?;
-    let out = step_in(alloc, started.phase, domain, &now.info, stamp, &mut kind)?;
-    let kind = BoxedKind::of(alloc, kind)?;
+    let out = step_in(alloc, started.phase, domain, &now.info, stamp, &mut doer)?;
+    let doer = BoxedDoer::of(alloc, doer)?;
     let name = kept.name.copy(alloc)?;
     Ok(Begun {
         name,
         block: kept.block,
         made: kept.made,
         common,
-        kind,
+        doer,
         started,
         taken,
         out,
@@ -96,7 +97,7 @@ impl<'a> Begun<'a> {
         ensures ends { IfOk result (λ ended. (blocks : List Block) (seen : Seen) (one : BegunTurn) → IsBegun blocks seen one self.entry → IsEnded blocks seen fault one ended) }
         ensures fit { IfOk result (λ ended. (axes : List Axis) (blocks : List Block) → IsFitBegun axes blocks self.entry → IsFitEnded axes blocks ended) }
     {
-        let weight = self.kind.lent().weight();
+        let weight = self.doer.lent().weight();
         let active = is_active(&self.out, weight, fault);
         let (life, outcome) = self.started.finish(active, self.out.done);
         let flags = flags_at(alloc, self.common, outcome)?;
@@ -107,7 +108,7 @@ impl<'a> Begun<'a> {
                 name: self.name,
                 block: self.block,
                 made: self.made,
-                kind: self.kind,
+                doer: self.doer,
                 life,
             },
             showing: Showing {

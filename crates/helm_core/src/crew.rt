@@ -10,14 +10,14 @@ ghost use Rattle.helm_core.specs.Standings.{AreFew, HasAllBegun, crew_of, IsCrew
 ghost use Rattle.helm_core.specs.Ticks.{pairs_mailed};
 
 use crate::begun::{Begun, begin};
-use crate::behavior::{Behavior, BoxedKind};
+use crate::behavior::{Behavior, BoxedDoer};
+use crate::doer::Doer;
 use crate::iteration::Updates;
 use crate::making::is_template;
 use crate::outlook::Outlook;
 use crate::spawning::{calls_some, spawn_all};
 use crate::turned::{Turned, finish_all};
 use bhv_file::{Block, Blocks};
-use bhv_kinds::Kind;
 use bhv_life::Life;
 use ivp_domain::Domain;
 use moos_db::Letter;
@@ -111,7 +111,14 @@ impl Crew {
         let blocks = self.blocks.all();
         let mut kept = copy_all(alloc, self.kept.as_slice())?;
         let mut answers = Updates::new(alloc);
-        spawn_all(alloc, blocks, letters, &mut kept, &mut answers)?;
+        spawn_all(
+            alloc,
+            &self.domain,
+            blocks,
+            letters,
+            &mut kept,
+            &mut answers,
+        )?;
         let turned = turn_all(
             alloc,
             &self.domain,
@@ -232,13 +239,13 @@ fn kept_first(
     ensures fit { IfOk result (λ kept. (blocks : List Block) → place < length blocks → IsFitKept domain.now blocks kept) }
 {
     let spec = block.spec.copy(alloc)?;
-    let kind = BoxedKind::of(alloc, Kind::make(spec))?;
+    let doer = BoxedDoer::of(alloc, Doer::make(spec))?;
     let name = block.common.name.copy(alloc)?;
     Ok(Behavior {
         name,
         block: place,
         made: false,
-        kind,
+        doer,
         life: Life::make(),
     })
 }

@@ -5,6 +5,7 @@ ghost use Rattle.helm_core.specs.Plans.{Plan};
 ghost use Rattle.helm_core.specs.Ticks.{Tick};
 ghost use Rattle.helm_core.specs.Iterations.{iteration_at};
 ghost use Rattle.helm_core.specs.Lists.{AlwaysListed};
+ghost use Rattle.helm_core.specs.Names.{OneOfEachContact, ResolvedLeave, ValidFilesNameOnce};
 ghost use Rattle.helm_core.specs.WellFormed.{ValidFilesPlanWell};
 ghost use Rattle.helm_core.specs.Worths.{ValidFilesDecideByWorth};
 
@@ -18,6 +19,15 @@ pub fn iterations_law()
 /// letter made two of them; and none of these has completed for good. It does nothing.
 pub fn list_law()
     ensures { AlwaysListed }
+{}
+
+/// What holds of the names in the list of a helm of a valid behaviour file, whatever it hears: in each iteration at most one
+/// behaviour has a given name, so at most one that of a contact, `avd_` and the contact's name. One that a letter made and
+/// that isn't perpetual is done where it is stepped once its contact is clear for good, and leaves the list. It does nothing.
+pub fn names_law()
+    ensures once { ValidFilesNameOnce }
+    ensures contacts { OneOfEachContact }
+    ensures resolved { ResolvedLeave }
 {}
 
 /// What holds of what a helm of a valid mission and a valid behaviour file says, whatever it hears: its calls are as a call's

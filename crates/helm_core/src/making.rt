@@ -4,25 +4,27 @@ ghost use Rattle.std.specs.List.{AllZip, count_by, list_any};
 ghost use Rattle.bhv_file.specs.declared.file.Block.{Block};
 ghost use Rattle.bhv_file.specs.declared.spec.Spec.{Spec};
 ghost use Rattle.bhv_file.specs.declared.common.Common.{Common};
-ghost use Rattle.bhv_kinds.specs.Standing.{IsKindOf};
+ghost use Rattle.helm_core.specs.Doers.{IsDoerOf};
 ghost use Rattle.bhv_kinds.specs.Turns.{KindTurn, params_at};
 ghost use Rattle.bhv_life.specs.Standing.{IsLifeOf};
 ghost use Rattle.helm_core.specs.Plans.{is_template};
 ghost use Rattle.helm_core.specs.Standings.{AreFew, HasSpawned, HasAnswered, IsKept, MaySpawn, is_kept_called};
 ghost use Rattle.helm_core.specs.Templates.{Spawning, are_good, heard_known, heard_new, heard_said, is_template_named, may_make, with_said};
 
-use crate::behavior::{Behavior, BoxedKind};
+use crate::behavior::{Behavior, BoxedDoer};
+use crate::doer::Doer;
 use crate::iteration::How;
 use crate::named::NamedPairs;
 use bhv_file::Block;
-use bhv_kinds::Kind;
 use bhv_life::Life;
+use ivp_domain::Domain;
 use moos_post::{Copied, Name, NoMemory, Txt};
 use std::alloc::Global;
 
 // A letter to the template at this place, which says this or nothing: what becomes of it.
 pub(crate) fn hear_said(
     alloc: Global,
+    domain: &Domain,
     blocks: &[Block],
     place: usize,
     template: &Block,
@@ -32,11 +34,11 @@ pub(crate) fn hear_said(
     requires at { slice_get blocks.now place ≡ Some template.now }
     requires may { MaySpawn blocks.now kept.old.items }
     ensures heard { IfOk result (λ how. (clock at : ℕ) (before : Spawning) → AllZip (IsKept blocks.now clock) before.ones kept.old.items
-        → HasAnswered blocks.now clock template.now before (heard_said blocks.now at template.now before said) kept.new.items how) }
-    ensures more { IfOk result (λ _. HasSpawned blocks.now kept.old.items kept.new.items) }
+        → HasAnswered blocks.now clock template.now before (heard_said domain.now blocks.now at template.now before said) kept.new.items how) }
+    ensures more { IfOk result (λ _. HasSpawned domain.now blocks.now kept.old.items kept.new.items) }
 {
     match said {
-        Some(said) => hear_named(alloc, blocks, place, template, said, kept),
+        Some(said) => hear_named(alloc, domain, blocks, place, template, said, kept),
         None => Ok(How::Refused),
     }
 }
@@ -44,6 +46,7 @@ pub(crate) fn hear_said(
 // A letter with a name.
 fn hear_named(
     alloc: Global,
+    domain: &Domain,
     blocks: &[Block],
     place: usize,
     template: &Block,
@@ -53,16 +56,16 @@ fn hear_named(
     requires at { slice_get blocks.now place ≡ Some template.now }
     requires may { MaySpawn blocks.now kept.old.items }
     ensures heard { IfOk result (λ how. (clock at : ℕ) (before : Spawning) → AllZip (IsKept blocks.now clock) before.ones kept.old.items
-        → HasAnswered blocks.now clock template.now before (heard_said blocks.now at template.now before (Some said)) kept.new.items how) }
-    ensures more { IfOk result (λ _. HasSpawned blocks.now kept.old.items kept.new.items) }
+        → HasAnswered blocks.now clock template.now before (heard_said domain.now blocks.now at template.now before (Some said)) kept.new.items how) }
+    ensures more { IfOk result (λ _. HasSpawned domain.now blocks.now kept.old.items kept.new.items) }
 {
     match place_of(kept.as_slice(), said.name.bytes()) {
         Some(known) => {
-            let how = hear_known(alloc, blocks, template, said, known, kept)?;
+            let how = hear_known(alloc, domain, blocks, template, said, known, kept)?;
             Ok(how)
         },
         None => {
-            let how = hear_new(alloc, blocks, place, template, said, kept)?;
+            let how = hear_new(alloc, domain, blocks, place, template, said, kept)?;
             Ok(how)
         },
     }
@@ -78,6 +81,7 @@ fn place_of(kept: &[Behavior], name: &[u8]) -> Option<usize>
 // A letter with a name that none in the list has.
 fn hear_new(
     alloc: Global,
+    domain: &Domain,
     blocks: &[Block],
     place: usize,
     template: &Block,
@@ -87,21 +91,21 @@ fn hear_new(
     requires at { slice_get blocks.now place ≡ Some template.now }
     requires may { MaySpawn blocks.now kept.old.items }
     ensures heard { IfOk result (λ how. (clock at : ℕ) (before : Spawning) → AllZip (IsKept blocks.now clock) before.ones kept.old.items
-        → HasAnswered blocks.now clock template.now before (heard_new blocks.now at template.now before said) kept.new.items how) }
-    ensures more { IfOk result (λ _. HasSpawned blocks.now kept.old.items kept.new.items) }
+        → HasAnswered blocks.now clock template.now before (heard_new domain.now blocks.now at template.now before said) kept.new.items how) }
+    ensures more { IfOk result (λ _. HasSpawned domain.now blocks.now kept.old.items kept.new.items) }
 {
     if !may_make(blocks, said.name.bytes(), kept.as_slice()) {
         return Ok(How::Refused);
     }
     let spec = template.spec.copy(alloc)?;
-    let mut kind = Kind::make(spec);
-    let good = take_pairs(alloc, &mut kind, &said.pairs)?;
+    let mut doer = Doer::make(spec);
+    let good = take_pairs(alloc, domain, &mut doer, &said.pairs)?;
     if !good {
         return Ok(How::Refused);
     }
-    let kind = BoxedKind::of(alloc, kind)?;
+    let doer = BoxedDoer::of(alloc, doer)?;
     let name = said.name.copy(alloc)?;
-    kept.push(made(name, place, kind))?;
+    kept.push(made(name, place, doer))?;
     Ok(How::Spawned(said.name))
 }
 
@@ -135,30 +139,35 @@ fn templates(blocks: &[Block]) -> usize
 }
 
 // What is kept of a behaviour that a letter makes of the block at this place.
-fn made(name: Name, block: usize, kind: BoxedKind) -> Behavior
+fn made(name: Name, block: usize, doer: BoxedDoer) -> Behavior
     ensures named { result.name ≡ name }
     ensures of { result.block ≡ block }
     ensures by_letter { result.made ≡ true }
-    ensures kind { result.kind ≡ kind }
+    ensures doer { result.doer ≡ doer }
     ensures fresh { (common : Common) → IsLifeOf common [] result.life }
 {
     Behavior {
         name,
         block,
         made: true,
-        kind,
+        doer,
         life: Life::make(),
     }
 }
 
 // Takes pairs, where there are some. False exactly where they aren't good as a whole.
-fn take_pairs(alloc: Global, kind: &mut Kind, pairs: &Option<Txt>) -> Result<bool, NoMemory>
-    ensures good { IfOk result (λ good. (spec : Spec) (turns : List KindTurn) → IsKindOf spec turns kind.old → good ≡ are_good (params_at spec turns) pairs.now) }
-    ensures stands { IfOk result (λ _. (spec : Spec) (turns : List KindTurn) → IsKindOf spec turns kind.old → IsKindOf spec (with_said turns pairs.now) kind.new) }
+fn take_pairs(
+    alloc: Global,
+    domain: &Domain,
+    doer: &mut Doer,
+    pairs: &Option<Txt>,
+) -> Result<bool, NoMemory>
+    ensures good { IfOk result (λ good. (spec : Spec) (turns : List KindTurn) → IsDoerOf spec turns doer.old → good ≡ are_good domain.now (params_at spec turns) pairs.now) }
+    ensures stands { IfOk result (λ _. (spec : Spec) (turns : List KindTurn) → IsDoerOf spec turns doer.old → IsDoerOf spec (with_said domain.now turns pairs.now) doer.new) }
 {
     match pairs {
         Some(pairs) => {
-            let good = kind.update(alloc, pairs)?;
+            let good = doer.update(alloc, domain, pairs)?;
             Ok(good)
         },
         None => Ok(true),
@@ -168,6 +177,7 @@ fn take_pairs(alloc: Global, kind: &mut Kind, pairs: &Option<Txt>) -> Result<boo
 // A letter with the name of the behaviour at this place of the list.
 fn hear_known(
     alloc: Global,
+    domain: &Domain,
     blocks: &[Block],
     template: &Block,
     said: NamedPairs,
@@ -177,19 +187,19 @@ fn hear_known(
     requires place { place < length kept.old.items }
     requires may { MaySpawn blocks.now kept.old.items }
     ensures heard { IfOk result (λ how. (clock : ℕ) (before : Spawning) → AllZip (IsKept blocks.now clock) before.ones kept.old.items
-        → HasAnswered blocks.now clock template.now before (heard_known template.now before said place (slice_get before.ones place)) kept.new.items how) }
-    ensures more { IfOk result (λ _. HasSpawned blocks.now kept.old.items kept.new.items) }
+        → HasAnswered blocks.now clock template.now before (heard_known domain.now template.now before said place (slice_get before.ones place)) kept.new.items how) }
+    ensures more { IfOk result (λ _. HasSpawned domain.now blocks.now kept.old.items kept.new.items) }
 {
     let one = &kept[place];
     if !is_made_of(blocks, template, one) {
         return Ok(How::Refused);
     }
-    let mut kind = one.kind.lent().copy(alloc)?;
-    let good = take_pairs(alloc, &mut kind, &said.pairs)?;
+    let mut doer = one.doer.lent().copy(alloc)?;
+    let good = take_pairs(alloc, domain, &mut doer, &said.pairs)?;
     if !good {
         return Ok(How::Refused);
     }
-    kept[place].kind = BoxedKind::of(alloc, kind)?;
+    kept[place].doer = BoxedDoer::of(alloc, doer)?;
     Ok(How::Changed)
 }
 

@@ -16,6 +16,7 @@ use crate::judging::is_for;
 use crate::making::{hear_said, is_template};
 use crate::named::said_by;
 use bhv_file::Block;
+use ivp_domain::Domain;
 use moos_db::Letter;
 use moos_post::{Copied, Name, NoMemory};
 use std::alloc::Global;
@@ -46,6 +47,7 @@ fn is_mailed(updates: &Option<Name>, letters: &[Letter]) -> bool
 // The letters to all templates of the file, in its order: what they make of what is kept, and the answers.
 pub(crate) fn spawn_all(
     alloc: Global,
+    domain: &Domain,
     blocks: &[Block],
     letters: &[Letter],
     kept: &mut Vec<Behavior>,
@@ -53,11 +55,11 @@ pub(crate) fn spawn_all(
 ) -> Result<(), NoMemory>
     requires may { MaySpawn blocks.now kept.old.items }
     ensures spawned { OnOk result ((clock at : ℕ) (ones : List BhvSoFar) → IsSpawning blocks.now clock (none_spawned ones) kept.old.items answers.old
-        → IsSpawning blocks.now clock (spawned blocks.now at (pairs_mailed letters.now) ones) kept.new.items answers.new) }
-    ensures more { OnOk result (HasSpawned blocks.now kept.old.items kept.new.items) }
+        → IsSpawning blocks.now clock (spawned domain.now blocks.now at (pairs_mailed letters.now) ones) kept.new.items answers.new) }
+    ensures more { OnOk result (HasSpawned domain.now blocks.now kept.old.items kept.new.items) }
 {
     for place in 0..blocks.len() {
-        hear_by(alloc, blocks, place, letters, kept, answers)?;
+        hear_by(alloc, domain, blocks, place, letters, kept, answers)?;
     }
     Ok(())
 }
@@ -65,6 +67,7 @@ pub(crate) fn spawn_all(
 // The letters to the block at this place, where it is a template.
 fn hear_by(
     alloc: Global,
+    domain: &Domain,
     blocks: &[Block],
     place: usize,
     letters: &[Letter],
@@ -74,20 +77,21 @@ fn hear_by(
     requires place { place < length blocks.now }
     requires may { MaySpawn blocks.now kept.old.items }
     ensures heard { OnOk result ((clock at : ℕ) (before : Spawning) (block : Block) → slice_get blocks.now place ≡ Some block → IsSpawning blocks.now clock before kept.old.items answers.old
-        → IsSpawning blocks.now clock (heard_by blocks.now at (pairs_mailed letters.now) before block) kept.new.items answers.new) }
-    ensures more { OnOk result (HasSpawned blocks.now kept.old.items kept.new.items) }
+        → IsSpawning blocks.now clock (heard_by domain.now blocks.now at (pairs_mailed letters.now) before block) kept.new.items answers.new) }
+    ensures more { OnOk result (HasSpawned domain.now blocks.now kept.old.items kept.new.items) }
 {
     let block = &blocks[place];
     if !is_template(block) {
         return Ok(());
     }
-    hear_all(alloc, blocks, place, block, letters, kept, answers)?;
+    hear_all(alloc, domain, blocks, place, block, letters, kept, answers)?;
     Ok(())
 }
 
 // The letters to the template at this place.
 fn hear_all(
     alloc: Global,
+    domain: &Domain,
     blocks: &[Block],
     place: usize,
     template: &Block,
@@ -98,11 +102,13 @@ fn hear_all(
     requires at { slice_get blocks.now place ≡ Some template.now }
     requires may { MaySpawn blocks.now kept.old.items }
     ensures heard { OnOk result ((clock at : ℕ) (before : Spawning) → IsSpawning blocks.now clock before kept.old.items answers.old
-        → IsSpawning blocks.now clock (fold (heard_to blocks.now at template.now) before (pairs_mailed letters.now)) kept.new.items answers.new) }
-    ensures more { OnOk result (HasSpawned blocks.now kept.old.items kept.new.items) }
+        → IsSpawning blocks.now clock (fold (heard_to domain.now blocks.now at template.now) before (pairs_mailed letters.now)) kept.new.items answers.new) }
+    ensures more { OnOk result (HasSpawned domain.now blocks.now kept.old.items kept.new.items) }
 {
     for letter in letters {
-        hear(alloc, blocks, place, template, letter, kept, answers)?;
+        hear(
+            alloc, domain, blocks, place, template, letter, kept, answers,
+        )?;
     }
     Ok(())
 }
@@ -110,6 +116,7 @@ fn hear_all(
 // A letter, which is one to the template where it is of its variable.
 fn hear(
     alloc: Global,
+    domain: &Domain,
     blocks: &[Block],
     place: usize,
     template: &Block,
@@ -120,14 +127,14 @@ fn hear(
     requires at { slice_get blocks.now place ≡ Some template.now }
     requires may { MaySpawn blocks.now kept.old.items }
     ensures heard { OnOk result ((clock at : ℕ) (before : Spawning) → IsSpawning blocks.now clock before kept.old.items answers.old
-        → IsSpawning blocks.now clock (heard_to blocks.now at template.now before (pair_posted letter.now.post)) kept.new.items answers.new) }
-    ensures more { OnOk result (HasSpawned blocks.now kept.old.items kept.new.items) }
+        → IsSpawning blocks.now clock (heard_to domain.now blocks.now at template.now before (pair_posted letter.now.post)) kept.new.items answers.new) }
+    ensures more { OnOk result (HasSpawned domain.now blocks.now kept.old.items kept.new.items) }
 {
     if !is_for(&template.common.updates, &letter.post.var) {
         return Ok(());
     }
     let said = said_by(alloc, &letter.post.value)?;
-    let how = hear_said(alloc, blocks, place, template, said, kept)?;
+    let how = hear_said(alloc, domain, blocks, place, template, said, kept)?;
     let name = template.common.name.copy(alloc)?;
     answers.add(Update { name, how })?;
     Ok(())

@@ -33,6 +33,6 @@ pub use law::{near_law, room_law, worth_law};
 pub use level::flat;
 pub use limits::{at_least, at_most};
 pub use peaks::peak;
-pub use sampled::uniform;
+pub use sampled::{box_count, uniform};
 pub use shape::Peak;
 pub use sums::couple;

@@ -164,6 +164,15 @@ fn sampled_pieces<F: Fn(&Point) -> i64>(
     Ok(pieces)
 }
 
+/// How many boxes of `size` places on each axis a domain has, the last ones shorter.
+pub fn box_count(domain: &Domain, size: u32) -> u64
+    requires { 0 < size }
+    ensures boxes { result ≡ length (boxes_of domain.now size) }
+    ensures lawful { IsTrue (is_domain domain.now) }
+{
+    volume(&all_runs(domain, size))
+}
+
 /// A utility of any form, sampled in boxes of `size` places on each axis, the last ones shorter: on
 /// each the piece fits the utility at the low corner and has on each axis the change to the high
 /// end, by place, toward zero. A piece that would leave 0 to 100,000 is constant. The utility is
@@ -182,7 +191,7 @@ pub fn uniform<F: Fn(&Point) -> i64>(
     ensures few { OnOk result (length (boxes_of domain.now size) ≤ 4096) }
     ensures many { IfErr result (IsTooMany (length (boxes_of domain.now size))) }
 {
-    if volume(&all_runs(domain, size)) > MOST_PIECES as u64 {
+    if box_count(domain, size) > MOST_PIECES as u64 {
         return Err(BuildFault::TooMany);
     }
     let Ok(pieces) = sampled_pieces(alloc, domain, size, utility) else {

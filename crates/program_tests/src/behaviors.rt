@@ -163,6 +163,34 @@ const PLAYED: &[([&str; 3], &[&str])] = &[
             "%% end 15 12\n",
         ],
     ),
+    // A contact's letters make one behaviour and change it. Refused ones change nothing, and when the contact is clear it is gone.
+    (
+        [
+            "0 nav post MOOS_MANUAL_OVERRIDE=false # NAV_X=0 # NAV_Y=0\n\
+            0 nav post CONTACT_INFO=\"name=avd_b # contact=b # contact_x=20 # contact_y=0 # contact_speed=0\"\n\
+            0.25 nav post CONTACT_INFO=\"name=avd_b # contact_heading=0\"\n\
+            0.5 nav post CONTACT_INFO=\"name=avd_b # contact_x=30 # max_util_cpa_dist=10\"\n\
+            0.75 nav post CONTACT_INFO=\"name=avd_b # contact_x=30 # piece_size=1\"\n\
+            1 nav post CONTACT_INFO=\"name=avd_c # piece_size=1\"\n\
+            1.25 nav post NAV_X=lost\n\
+            1.5 nav post CONTACT_INFO=\"name=avd_b # resolved=true\"\n1.75 until\n",
+            COURSE_AND_SPEED,
+            "Behavior = BHV_AvoidCollision {\nname = tmpl\ntemplating = spawn\nupdates = CONTACT_INFO\n}\n",
+        ],
+        &[
+            "%% iteration 0 0 DRIVE\n%% update tmpl spawned avd_b\n%% behavior avd_b running\n%% none\n",
+            "%% iteration 1 0.25 DRIVE\n%% update tmpl taken\n%% behavior avd_b active\n%% ivp 1\n",
+            "%% decision 0 0 542900\n",
+            "%% iteration 2 0.5 DRIVE\n%% update tmpl refused\n%% behavior avd_b active\n%% ivp 1\n",
+            "%% decision 0 0 542900\n",
+            "%% iteration 3 0.75 DRIVE\n%% update tmpl refused\n%% behavior avd_b active\n%% ivp 1\n",
+            "%% decision 0 0 542900\n",
+            "%% iteration 4 1 DRIVE\n%% update tmpl refused\n%% behavior avd_b active\n%% ivp 1\n",
+            "%% iteration 5 1.25 DRIVE\n%% behavior avd_b running\n%% error avd_b NoPosition\n%% none\n",
+            "%% iteration 6 1.5 DRIVE\n%% update tmpl taken\n%% behavior avd_b completed\n%% none\n",
+            "%% iteration 7 1.75 DRIVE\n%% none\n%% end 25 27\n",
+        ],
+    ),
     // A heading and a speed are decided on, or neither counts.
     (
         [

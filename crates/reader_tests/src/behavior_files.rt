@@ -122,6 +122,33 @@ fn bad_blocks(rt: HostRuntime) {
     are_refused(&rt, rt.alloc(), Kind::Behaviors, TIMER, BAD_BLOCKS);
 }
 
+const AVOID: &[u8] = b"Behavior = BHV_AvoidCollision {\nname = a\n";
+
+// Distances that are equal, pieces of which the domain of 41 by 41 by 41 places has 9,261, and values that are out of range.
+const BAD_AVOIDS: &[(&[u8], u32, Cause)] = &[
+    (b"max_util_cpa_dist = 10\n}", 4, Cause::B6),
+    (b"min_util_cpa_dist = 75\n}", 4, Cause::B6),
+    (b"piece_size = 2\n}", 4, Cause::B6),
+    (b"piece_size = 0", 3, Cause::B6),
+    (b"contact = abcdefghijklmnopqrstuvwxyz0123456", 3, Cause::B6),
+    (b"contact_x = -1000000.001", 3, Cause::B6),
+    (b"contact_speed = 100.001", 3, Cause::B6),
+    (b"contact_heading = 360.001", 3, Cause::B6),
+    (b"max_util_cpa_dist = 10000.001", 3, Cause::B6),
+    (b"resolved = yes", 3, Cause::B6),
+];
+
+// Each parameter at an end of its range, and 2,744 pieces.
+const AVOIDS: &[u8] =
+    b"Behavior = BHV_AvoidCollision {\nname = a\ncontact = abcdefghijklmnopqrstuvwxyz012345\ncontact_x = -1000000\ncontact_y = 1000000\ncontact_speed = 100\ncontact_heading = 360\nmin_util_cpa_dist = 0\nmax_util_cpa_dist = 10000\nresolved = true\npiece_size = 3\n}";
+
+#[test]
+fn contacts_to_keep_clear_of(rt: HostRuntime) {
+    are_refused(&rt, rt.alloc(), Kind::Behaviors, AVOID, BAD_AVOIDS);
+    let found = refusal(&rt, rt.alloc(), Kind::Behaviors, AVOIDS);
+    assert_eq!(rt; found, None);
+}
+
 const TEMPLATES: &[u8] =
     b"Behavior = BHV_Timer {\nname = t\ntemplating = spawn\nupdates = UP\n}\nBehavior = BHV_Timer {\nname = u\ntemplating = spawn\ntemplating = disallowed\n}";
 

@@ -7,7 +7,7 @@ use Rattle.std.proofs.lemmas.List.{take-append-le, take_all}
 use Rattle.std.proofs.lemmas.List.Sums.{fold-append}
 use Rattle.moos_post.specs.declared.value.Pair.{Pair}
 use Rattle.helm_cond.specs.Learnt.{Knowledge, known_with, latest_of}
-use Rattle.bhv_kinds.specs.Turns.{as_number, latest_number}
+use Rattle.bhv_file.specs.Known.{as_number, latest_number}
 use Rattle.sim_vehicle.specs.declared.settings.CraftSettings.{CraftSettings}
 use Rattle.sim_vehicle.specs.Motion.{hull_after}
 use Rattle.sim_vehicle.specs.Steering.{drive_of, rig_after}

@@ -6,7 +6,7 @@ use Rattle.moos_post.specs.declared.registration.Reg.{Reg}
 use Rattle.moos_post.specs.declared.value.Pair.{Pair}
 use Rattle.moos_post.specs.declared.value.Value.TheVariants.{Num}
 use Rattle.helm_cond.specs.Learnt.{latest_of}
-use Rattle.bhv_kinds.specs.Turns.{latest_number}
+use Rattle.bhv_file.specs.Known.{latest_number}
 use Rattle.contact_avoid.specs.Contacts.{batches_of}
 use Rattle.contact_avoid.specs.declared.ranges.Ranges.{Ranges}
 use Rattle.sim_vehicle.specs.declared.hull.Hull.{Hull}

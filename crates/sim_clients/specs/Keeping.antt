@@ -3,7 +3,7 @@ use Rattle.std.specs.Prelude.{◌≡◌, ℕ, ℤ, if◌then◌else◌, List, co
 use Rattle.moos_db.specs.declared.mail.Letter.{Letter}
 use Rattle.moos_db.specs.Database.{pair_posted}
 use Rattle.moos_post.specs.declared.value.Pair.{Pair}
-use Rattle.bhv_kinds.specs.Turns.{as_number}
+use Rattle.bhv_file.specs.Known.{as_number}
 use Rattle.contact_avoid.specs.declared.ranges.Ranges.{Ranges}
 use Rattle.contact_avoid.specs.Standing.{Knows}
 use Rattle.sim_clients.specs.declared.basic_contact_mgr.BasicContactMgr.{BasicContactMgr}

@@ -1,7 +1,7 @@
 // The latest number of a variable.
 ghost use Rattle.std.specs.Prelude.{◌≡◌, IfSome};
 ghost use Rattle.moos_post.specs.Words.{IsMilli};
-ghost use Rattle.bhv_kinds.specs.Turns.{as_number};
+ghost use Rattle.bhv_file.specs.Known.{as_number};
 ghost use Rattle.sim_clients.specs.Keeping.{number_after, number_with, pairs_in_mail};
 
 use moos_db::Letter;

@@ -11,6 +11,7 @@ use Rattle.bhv_reader.specs.Behaviors.{behavior_form, behaviors_of, nothing_said
 use Rattle.bhv_reader.specs.Places.{standing_at}
 use Rattle.bhv_file.specs.Validity.{IsValidFile}
 use Rattle.bhv_reader.proofs.Following.{behaviors_read, behaviors_whole}
+use Rattle.bhv_reader.proofs.Ranging.{next_sound, place_ranged}
 use Rattle.bhv_reader.proofs.Valid.{behaviors_served, behaviors_valid, IsServed}
 use Rattle.bhv_reader.proofs.Within.{said_within}
 use Rattle.bhv_reader.proofs.read.read_behaviors.Goals as goal
@@ -20,6 +21,9 @@ after_line-requires-clause-text c =
     let long = ap length c.in-Some.ensures.said in
     omega (arith, long, said_within c.loop-said.left.now, c.loop-said.invariant.read.within, c.requires)
 
+pub after_line-requires-clause-ranged : goal.after_line-requires-clause-ranged
+after_line-requires-clause-ranged c = place_ranged c.args.domain.now c.loop-said.file c.loop-said.place c.loop-said.invariant.sound
+
 pub loop-said-preserved : goal.loop-said-preserved
 loop-said-preserved c =
     let left = c.loop-said.left.now in
@@ -28,6 +32,7 @@ loop-said-preserved c =
     record {
       read = one_read (after_raw (behavior_form c.args.domain.now)) (Outside nothing_said) c.args.bytes.now c.loop-said.lines place (standing_at c.after_line.new.file c.after_line.new.place) left (first_line left) c.in-Some.said.rest.now
           c.loop-said.invariant.read next (ap (after_text (behavior_form c.args.domain.now) (c.loop-said.lines + 1) place) (sym c.in-Some.ensures.said) ∙ c.in_ok-after_line.ensures.read);
+      sound = next_sound c.args.domain.now (c.loop-said.lines + 1) place (standing_at c.after_line.new.file c.after_line.new.place) c.in-Some.said.text.now c.loop-said.invariant.sound c.in_ok-after_line.ensures.read;
       few = c.in_ok-after_line.ensures.few;
     }
 

@@ -5,7 +5,8 @@ use Rattle.ivp_domain.specs.Domains.{is_domain}
 use Rattle.helm_core.specs.Decisions.{number_at, number_on}
 use Rattle.moos_post.specs.Words.{IsMilli}
 use Rattle.helm_core.proofs.Bounded.{number_milli, zero_milli}
-use Rattle.helm_core.proofs.Deciding.{few_axes, number_there, place_there}
+use Rattle.helm_core.proofs.Deciding.{few_axes, number_there}
+use Rattle.bhv_file.proofs.Named.{place_there}
 use Rattle.helm_core.proofs.decision.number_on.Goals as goal
 
 pub value-requires-clause-place : goal.value-requires-clause-place

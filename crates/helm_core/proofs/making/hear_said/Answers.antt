@@ -11,4 +11,4 @@ returns-in-Some-clause-heard c =
     let blocks = c.args.blocks.now in
     let template = c.args.template.now in
     subst (λ (said : Option NamedPairs). IfOk c.hear_named.result (λ how. (clock at : ℕ) (before : Spawning) → AllZip (IsKept blocks clock) before.ones c.args.kept.now.items
-    → HasAnswered blocks clock template before (heard_said blocks at template before said) c.hear_named.new.kept.items how)) (sym c.in-Some.is) c.hear_named.ensures.heard
+    → HasAnswered blocks clock template before (heard_said c.args.domain.now blocks at template before said) c.hear_named.new.kept.items how)) (sym c.in-Some.is) c.hear_named.ensures.heard

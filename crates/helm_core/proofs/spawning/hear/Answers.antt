@@ -9,12 +9,12 @@ returns-then-not-is_for-clause-heard c clock at before is =
     told_none c.args.blocks.now clock _ before _ c.args.kept.now.items c.args.answers.now (sym c.is_for.ensures ∙ c.if-not-is_for.true) is
 
 pub returns-then-not-is_for-clause-more : goal.returns-then-not-is_for-clause-more
-returns-then-not-is_for-clause-more c = spawned_same c.args.blocks.now c.args.kept.now.items c.requires.may
+returns-then-not-is_for-clause-more c = spawned_same c.args.domain.now c.args.blocks.now c.args.kept.now.items c.requires.may
 
 pub returns-clause-heard : goal.returns-clause-heard
 returns-clause-heard c clock at before is =
-    told_more c.args.blocks.now clock at c.args.template.now before (pair_posted c.args.letter.now.post) (said_by c.args.letter.now.post.value) (heard_said c.args.blocks.now at c.args.template.now before c.in_ok-said.said) c.hear_said.new.kept.items c.args.answers.now c.add.new.self c.in_ok-name.name c.in_ok-how.how
-    (sym c.is_for.ensures ∙ c.if-not-is_for.false) (ap (heard_said c.args.blocks.now at c.args.template.now before) (sym c.in_ok-said.ensures)) (c.in_ok-how.ensures.heard clock at before is.ones) is.answers c.in_ok-name.ensures c.in_ok-add.ensures.ok
+    told_more c.args.domain.now c.args.blocks.now clock at c.args.template.now before (pair_posted c.args.letter.now.post) (said_by c.args.letter.now.post.value) (heard_said c.args.domain.now c.args.blocks.now at c.args.template.now before c.in_ok-said.said) c.hear_said.new.kept.items c.args.answers.now c.add.new.self c.in_ok-name.name c.in_ok-how.how
+    (sym c.is_for.ensures ∙ c.if-not-is_for.false) (ap (heard_said c.args.domain.now c.args.blocks.now at c.args.template.now before) (sym c.in_ok-said.ensures)) (c.in_ok-how.ensures.heard clock at before is.ones) is.answers c.in_ok-name.ensures c.in_ok-add.ensures.ok
 
 pub returns-clause-more : goal.returns-clause-more
 returns-clause-more c = c.in_ok-how.ensures.more

@@ -8,6 +8,6 @@ use Rattle.helm_core.proofs.spawning.hear_all.Given as goal
 abbrev pub invariant-loop-letter : goal.invariant-loop-letter
 invariant-loop-letter l = record {
   heard : (clock at : ℕ) (before : Spawning) → IsSpawning l.blocks clock before l.fn.kept.items l.fn.answers
-      → IsSpawning l.blocks clock (fold (heard_to l.blocks at l.template) before (pairs_mailed (take l.letter-index l.letters))) l.kept.items l.answers;
-  more : HasSpawned l.blocks l.fn.kept.items l.kept.items;
+      → IsSpawning l.blocks clock (fold (heard_to l.domain l.blocks at l.template) before (pairs_mailed (take l.letter-index l.letters))) l.kept.items l.answers;
+  more : HasSpawned l.domain l.blocks l.fn.kept.items l.kept.items;
 }

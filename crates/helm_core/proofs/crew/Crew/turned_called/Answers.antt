@@ -19,10 +19,10 @@ turn_all-requires c =
     let own = crew_of c.self.inside.domain c.self.inside.blocks c.self.inside.kept.items in
     let axes = c.self.inside.domain in
     let copied : c.in_ok-kept.kept.items ≡ c.self.inside.kept.items = c.in_ok-kept.ensures ∙ c.as_slice.ensures.value in
-    let more : HasSpawned c.self.inside.blocks c.self.inside.kept.items c.spawn_all.new.kept.items
-    = subst₂ (λ blocks kept. HasSpawned blocks kept c.spawn_all.new.kept.items) c.all-blocks.ensures copied c.in_ok-spawn_all.ensures.more in
+    let more : HasSpawned axes c.self.inside.blocks c.self.inside.kept.items c.spawn_all.new.kept.items
+    = subst₂ (λ blocks kept. HasSpawned axes blocks kept c.spawn_all.new.kept.items) c.all-blocks.ensures copied c.in_ok-spawn_all.ensures.more in
     record {
-      fit = subst₂ (λ blocks kept. All (IsFitKept axes blocks) kept) (sym c.all-blocks.ensures) (sym c.as_slice-2.ensures.value) (more.fit axes c.self.invariant.may_step c.self.invariant.fit);
+      fit = subst₂ (λ blocks kept. All (IsFitKept axes blocks) kept) (sym c.all-blocks.ensures) (sym c.as_slice-2.ensures.value) (more.fit c.self.invariant.may_step c.self.invariant.fit);
     }
 
 pub returns-clause-turned : goal.returns-clause-turned
@@ -37,7 +37,7 @@ returns-clause-turned c =
     subst (λ (crew : HelmCrew). HasHeardAndTurned crew c.args.stamp letters c.args.now.now answers c.in_ok-turned.turned) c.self.view_is
     (called_turned (crew_of axes blocks before) c.args.stamp letters c.args.now.now answers kept c.in_ok-turned.turned
     (λ clock at ones is.
-    subst (λ all. IsSpawning all clock (spawned all at letters ones) kept answers) c.all-blocks.ensures
+    subst (λ all. IsSpawning all clock (spawned axes all at letters ones) kept answers) c.all-blocks.ensures
     (c.in_ok-spawn_all.ensures.spawned clock at ones
     (subst₂ (λ all list. IsSpawning all clock (none_spawned ones) list c.new-answers.result) (sym c.all-blocks.ensures) (sym copied)
     (subst (λ told. IsSpawning blocks clock (none_spawned ones) before told) (sym c.new-answers.ensures) is))))
@@ -48,8 +48,8 @@ returns-clause-fit c =
     let axes = c.self.inside.domain in
     let kept = c.spawn_all.new.kept.items in
     let copied : c.in_ok-kept.kept.items ≡ c.self.inside.kept.items = c.in_ok-kept.ensures ∙ c.as_slice.ensures.value in
-    let more : HasSpawned c.self.inside.blocks c.self.inside.kept.items kept
-    = subst₂ (λ blocks list. HasSpawned blocks list kept) c.all-blocks.ensures copied c.in_ok-spawn_all.ensures.more in
+    let more : HasSpawned axes c.self.inside.blocks c.self.inside.kept.items kept
+    = subst₂ (λ blocks list. HasSpawned axes blocks list kept) c.all-blocks.ensures copied c.in_ok-spawn_all.ensures.more in
     subst (λ (crew : HelmCrew). AreFewFit crew.axes crew.blocks c.in_ok-turned.turned) c.self.view_is
     (crew_few_fit (crew_of axes c.self.inside.blocks c.self.inside.kept.items) kept c.in_ok-turned.turned more.may.few
     (subst₂ (λ blocks list. AreFit axes blocks (length list) c.in_ok-turned.turned) c.all-blocks.ensures c.as_slice-2.ensures.value c.in_ok-turned.ensures.fit))
