@@ -3,6 +3,7 @@ pub mod Communities
 pub mod Cuts
 pub mod Escapes
 pub mod Examples
+pub mod KeptLines
 pub mod NextEntries
 pub mod OnLines
 pub mod PassedDecisions

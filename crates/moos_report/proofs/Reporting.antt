@@ -27,7 +27,7 @@ use Rattle.moos_report.specs.IterationLines.{current_text, fetches_first, helm_f
 use Rattle.moos_report.specs.Report.{client_text, clients_text, entry_text, entries_text, said_text, post_text, letter_text, letters_text, call_text}
 
 -- the first elements stand in the front where they stand in the list
-slice_get_take : {X : Type 0} (xs : List X) (n i : ℕ) → i < n → slice_get (take n xs) i ≡ slice_get xs i
+pub slice_get_take : {X : Type 0} (xs : List X) (n i : ℕ) → i < n → slice_get (take n xs) i ≡ slice_get xs i
 slice_get_take xs zero i below = absurd (omega (arith, below))
 slice_get_take [] (suc n) i below = refl
 slice_get_take (x ∷ xs) (suc n) zero below = refl

@@ -140,6 +140,21 @@ pub(super) fn put_end<K: Sink>(
     put(&[b"%% end ", entries, b" ", posts, b"\n"], buffer, out)
 }
 
+// The line of a letter: the post's number, and its line.
+pub(super) fn put_kept<K: Sink>(
+    number: u64,
+    line: &[u8],
+    buffer: &mut Buffer,
+    out: &mut K,
+) -> Result<(), Failed>
+    ensures { Wrote (way (K.taken out.old) buffer.old (K.faults out.old)) (way (K.taken out.new) buffer.new (K.faults out.new))
+        result (concat (codes "%% mail " ∷ decimal number ∷ codes " " ∷ []) ++ line.now) }
+{
+    let mut digits = itoa::Buffer::new();
+    let number = digits.format(number).as_bytes();
+    put(&[b"%% mail ", number, b" ", line], buffer, out)
+}
+
 // The value, which ends a line.
 fn put_value<K: Sink>(value: &Value, buffer: &mut Buffer, out: &mut K) -> Result<(), Failed>
     ensures { Wrote (way (K.taken out.old) buffer.old (K.faults out.old)) (way (K.taken out.new) buffer.new (K.faults out.new))
@@ -194,7 +209,7 @@ fn split_plain(text: &[u8]) -> (&[u8], &[u8])
 }
 
 // How many bytes stand before the first `"` or `\`.
-fn plain_run(text: &[u8]) -> usize
+pub(super) fn plain_run(text: &[u8]) -> usize
     ensures within { result ≤ length text.now }
     ensures plain { flat_map escaped (take result text.now) ≡ take result text.now }
     ensures sign { result < length text.now → IsTrue (is_sign (slice_index text.now result)) }

@@ -3,18 +3,21 @@ ghost use Rattle.std.specs.Prelude.{◌≡◌, [], OnOk, OnErr, drop, length, ta
 ghost use Rattle.moos_io.specs.Faults.{FaresOn, Fell};
 ghost use Rattle.moos_io.specs.Pieces.{Took, TookFront};
 ghost use Rattle.moos_io.specs.Writing.{Wrote, way};
+ghost use Rattle.moos_report.specs.Lines.{KeepsLines};
 ghost use Rattle.moos_report.specs.Parts.{BeginsWith};
 ghost use Rattle.moos_report.specs.Report.{end_text, entries_text, head_text, report_text};
 
 use super::lines::{put, put_end};
 use super::{put_clients, put_entries, put_unused_list};
+use crate::kept::PostLines;
 use crate::setup::Setup;
 use helm_core::Iteration;
 use moos_db::Db;
 use moos_io::{Buffer, Failed, Sink};
+use std::alloc::Global;
 
 /// Writes the report of the database's history, and behind what the helm posts its iterations, each by its number. Where the
-/// sink fails, it took a front of the report, not the whole.
+/// sink fails, it took a front of the report, not the whole. It takes no memory.
 pub fn report<K: Sink>(
     setup: &Setup,
     db: &Db,
@@ -26,10 +29,53 @@ pub fn report<K: Sink>(
     ensures later { FaresOn (K.faults out.old) (K.faults out.new) }
     ensures rose { OnErr result (Fell (K.faults out.old) (K.faults out.new) (K.taken out.new)) }
 {
+    report_with(setup, db, iterations, PostLines::none(), out)
+}
+
+/// Writes the same, and keeps the lines of posts on the way where there is memory, so that one that many hear is formatted once.
+pub fn report_keeping<K: Sink>(
+    alloc: Global,
+    setup: &Setup,
+    db: &Db,
+    iterations: &[Iteration],
+    out: &mut K,
+) -> Result<(), Failed>
+    ensures ok { OnOk result (Took (K.taken out.old) (K.taken out.new) (report_text setup.now db.now.names db.now.history iterations.now)) }
+    ensures front { OnErr result (TookFront (K.taken out.old) (K.taken out.new) (report_text setup.now db.now.names db.now.history iterations.now)) }
+    ensures later { FaresOn (K.faults out.old) (K.faults out.new) }
+    ensures rose { OnErr result (Fell (K.faults out.old) (K.faults out.new) (K.taken out.new)) }
+{
+    report_with(setup, db, iterations, PostLines::new(alloc), out)
+}
+
+// Writes the report, where no line was kept so far.
+fn report_with<K: Sink>(
+    setup: &Setup,
+    db: &Db,
+    iterations: &[Iteration],
+    lines: PostLines,
+    out: &mut K,
+) -> Result<(), Failed>
+    requires { lines ≡ [] }
+    ensures ok { OnOk result (Took (K.taken out.old) (K.taken out.new) (report_text setup.now db.now.names db.now.history iterations.now)) }
+    ensures front { OnErr result (TookFront (K.taken out.old) (K.taken out.new) (report_text setup.now db.now.names db.now.history iterations.now)) }
+    ensures later { FaresOn (K.faults out.old) (K.faults out.new) }
+    ensures rose { OnErr result (Fell (K.faults out.old) (K.faults out.new) (K.taken out.new)) }
+{
     if let Err(failed) = report_head(setup, db, out) {
         return Err(failed);
     }
-    if let Err(failed) = report_part(setup, db, 0, 0, iterations, out) {
+    let (mut lines, mut buffer) = (lines, Buffer::new());
+    if let Err(failed) = report_part_with(
+        setup,
+        db,
+        0,
+        0,
+        iterations,
+        &mut lines,
+        &mut buffer,
+        out,
+    ) {
         return Err(failed);
     }
     if let Err(failed) = report_end(db, out) {
@@ -111,7 +157,34 @@ pub fn report_part_through<K: Sink>(
     ensures rose { OnErr result (Fell (K.faults out.old) (K.faults out.new) (K.taken out.new)) }
     ensures empty { OnOk result (buffer.new ≡ []) }
 {
-    if let Err(failed) = put_entries(setup, db, from, first, iterations, buffer, out) {
+    let mut lines = PostLines::none();
+    report_part_with(setup, db, from, first, iterations, &mut lines, buffer, out)
+}
+
+// The same, where the lines of some posts are kept.
+fn report_part_with<K: Sink>(
+    setup: &Setup,
+    db: &Db,
+    from: u64,
+    first: u64,
+    iterations: &[Iteration],
+    lines: &mut PostLines,
+    buffer: &mut Buffer,
+    out: &mut K,
+) -> Result<(), Failed>
+    requires first { BeginsWith db.now.names (take from db.now.history) first (length iterations.now) (drop from db.now.history) }
+    requires empty { buffer.old ≡ [] }
+    requires kept { KeepsLines db.now.names db.now.history lines.old }
+    ensures ok { OnOk result (Took (K.taken out.old) (K.taken out.new)
+        (entries_text setup.now first iterations.now db.now.names (take from db.now.history) (drop from db.now.history))) }
+    ensures front { OnErr result (TookFront (K.taken out.old) (K.taken out.new)
+        (entries_text setup.now first iterations.now db.now.names (take from db.now.history) (drop from db.now.history))) }
+    ensures later { FaresOn (K.faults out.old) (K.faults out.new) }
+    ensures rose { OnErr result (Fell (K.faults out.old) (K.faults out.new) (K.taken out.new)) }
+    ensures empty { OnOk result (buffer.new ≡ []) }
+    ensures kept { KeepsLines db.now.names db.now.history lines.new }
+{
+    if let Err(failed) = put_entries(setup, db, from, first, iterations, lines, buffer, out) {
         return Err(failed);
     }
     if let Err(failed) = buffer.flush(out) {

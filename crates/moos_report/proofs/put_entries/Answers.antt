@@ -13,15 +13,16 @@ loop-k-init g c =
       c.posts_before-posts.ensures,
       c.fetches_before-fetches.ensures.few,
       c.fetches_before-fetches.ensures.counted,
+      c.requires.kept,
     )
 
-pub returns-in-Err : goal.returns-in-Err
-returns-in-Err g c =
+pub returns-in-Err-clause-wrote : goal.returns-in-Err-clause-wrote
+returns-in-Err-clause-wrote g c =
     let due = entries_due c.args.setup.now c.args.first c.args.iterations.now c.args.db.now.names c.args.db.now.history c.loop-k.k c.entry-entry.ensures in
     record { ok = tt; front = leads_failed _ c.loop-k.invariant.0 due c.in-Err.ensures.front }
 
-pub returns-in-Err-put_outcome : goal.returns-in-Err-put_outcome
-returns-in-Err-put_outcome g c =
+pub returns-in-Err-put_outcome-clause-wrote : goal.returns-in-Err-put_outcome-clause-wrote
+returns-in-Err-put_outcome-clause-wrote g c =
     let history = c.args.db.now.history in
     let due = entries_due c.args.setup.now c.args.first c.args.iterations.now c.args.db.now.names history c.loop-k.k c.entry-entry.ensures in
     let counted = outcome_counted c.args.setup.now c.args.first c.args.iterations.now c.args.db.now.names (take c.loop-k.k history) c.entry-entry.result.now c.loop-k.fetches c.loop-k.invariant.3 in
@@ -52,4 +53,5 @@ loop-k-preserved g c =
       omega (arith, posts, c.loop-k.invariant.1, c.posts_in-posts.ensures),
       omega (arith, c.loop-k.invariant.2, once_at_most (is_helm_fetch names entry), c.fetches_after-fetches.ensures),
       (λ some. omega (arith, fetches, c.loop-k.invariant.3 some, c.fetches_after-fetches.ensures)),
+      c.keep_lines.ensures,
     )

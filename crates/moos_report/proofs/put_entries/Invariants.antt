@@ -1,6 +1,7 @@
 use Rattle.std.proofs.Common.{◌≡◌, ◌<◌, ◌≤◌, length, take, drop}
 use Rattle.moos_post.specs.History.{posts_of}
 use Rattle.moos_report.specs.IterationLines.{helm_fetches}
+use Rattle.moos_report.specs.Lines.{KeepsLines}
 use Rattle.moos_report.specs.Report.{entries_text}
 use Rattle.moos_io.specs.Writing.{way}
 use Rattle.moos_io.proofs.Passages.{Leads}
@@ -15,3 +16,4 @@ invariant-loop-k g l =
     × (l.posts ≡ length (posts_of (take l.k l.db.history)))
     × (l.fetches ≤ l.k)
     × (0 < length l.iterations → l.fetches ≡ helm_fetches l.db.names (take l.k l.db.history))
+    × KeepsLines l.db.names l.db.history l.lines

@@ -1,8 +1,5 @@
-use Rattle.moos_io.proofs.Passages.{took_whole, took_front}
+use Rattle.moos_report.proofs.KeptLines.{no_lines}
 use Rattle.moos_report.proofs.parts.report_part_through.Goals as goal
 
-pub returns-in-Err-flush-clause-front : goal.returns-in-Err-flush-clause-front
-returns-in-Err-flush-clause-front g c = took_front c.requires.empty c.in_default.ensures.ok c.in-Err-flush.ensures.front
-
-pub returns-clause-ok : goal.returns-clause-ok
-returns-clause-ok g c = took_whole c.requires.empty c.flush.ensures.empty c.in_default.ensures.ok c.in_default-flush.ensures.ok
+pub report_part_with-requires-clause-kept : goal.report_part_with-requires-clause-kept
+report_part_with-requires-clause-kept g c = no_lines c.args.db.now.names c.args.db.now.history _ c.none-lines.ensures

@@ -3,7 +3,7 @@ use Rattle.moos_post.specs.History.{posts_of}
 use Rattle.moos_report.specs.Report.{letters_text}
 use Rattle.moos_io.specs.Writing.{way}
 use Rattle.moos_io.proofs.Passages.{Leads}
-use Rattle.moos_report.proofs.put_letters.Given as goal
+use Rattle.moos_report.proofs.posts.put_letters.Given as goal
 
 abbrev pub invariant-loop-number : goal.invariant-loop-number
 invariant-loop-number g l =

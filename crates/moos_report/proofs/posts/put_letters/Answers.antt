@@ -3,7 +3,7 @@ use Rattle.std.specs.Prelude.{slice_get}
 use Rattle.moos_post.specs.History.{posts_of}
 use Rattle.moos_report.specs.Report.{letter_text}
 use Rattle.moos_io.proofs.Passages.{read_on, read_failed}
-use Rattle.moos_report.proofs.put_letters.Goals as goal
+use Rattle.moos_report.proofs.posts.put_letters.Goals as goal
 
 pub loop-number-preserved : goal.loop-number-preserved
 loop-number-preserved g c =

@@ -1,0 +1,189 @@
+// Posts by their lines, which are kept or not: those of a batch, and the letters of a fetch.
+ghost use Rattle.std.specs.Prelude.{◌≡◌, ◌≤◌, ◌<◌, ◌+◌, ◌^◌, ◌++◌, [], ◌∷◌, Some, length, map, take, flat_map, codes, decimal, slice_get};
+ghost use Rattle.std.specs.List.{concat};
+ghost use Rattle.moos_io.specs.Writing.{Wrote, way};
+ghost use Rattle.moos_post.specs.History.{posts_of};
+ghost use Rattle.moos_report.specs.Lines.{AreLinesFrom, IsLineOrNone, KeepsLines};
+ghost use Rattle.moos_report.specs.Report.{said_text, letter_text, letters_text};
+
+use super::kept::PostLines;
+use super::lines::{put, put_kept, put_mail, put_post};
+use super::name_of;
+use moos_db::Db;
+use moos_io::{Buffer, Failed, Sink};
+use moos_post::{Call, Entry, Pair};
+
+// Keeps the lines of the posts of entry `k`, where `first` posts stand before it.
+pub(super) fn keep_lines(db: &Db, k: u64, entry: &Entry, first: u64, lines: &mut PostLines)
+    requires at { slice_get db.now.history k ≡ Some entry.now }
+    requires behind { first ≡ length (posts_of (take k db.now.history)) }
+    requires kept { KeepsLines db.now.names db.now.history lines.old }
+    ensures { KeepsLines db.now.names db.now.history lines.new }
+{
+    let _ = db.posts();
+    if let Call::Post(batch) = &entry.call {
+        lines.keep_batch(first, entry.stamp, name_of(db, entry.client), batch.all());
+    }
+}
+
+// A batch by the client with this name, whose first post has the number `first`.
+pub(super) fn put_batch<K: Sink>(
+    first: u64,
+    stamp: u64,
+    source: &[u8],
+    pairs: &[Pair],
+    lines: &PostLines,
+    buffer: &mut Buffer,
+    out: &mut K,
+) -> Result<(), Failed>
+    requires few { first + length pairs.now < 2 ^ 64 }
+    requires kept { AreLinesFrom first (map (λ pair. said_text stamp source.now pair.var pair.value) pairs.now) lines.now }
+    ensures { Wrote (way (K.taken out.old) buffer.old (K.faults out.old)) (way (K.taken out.new) buffer.new (K.faults out.new))
+        result (concat (codes " post " ∷ decimal first ∷ codes " " ∷ decimal (length pairs.now) ∷ codes "\n" ∷ [])
+        ++ flat_map (λ pair. said_text stamp source.now pair.var pair.value) pairs.now) }
+{
+    if let Err(failed) = put_posting(first, pairs.len() as u64, buffer, out) {
+        return Err(failed);
+    }
+    put_pairs(first, stamp, source, pairs, lines, buffer, out)
+}
+
+fn put_posting<K: Sink>(
+    first: u64,
+    count: u64,
+    buffer: &mut Buffer,
+    out: &mut K,
+) -> Result<(), Failed>
+    ensures { Wrote (way (K.taken out.old) buffer.old (K.faults out.old)) (way (K.taken out.new) buffer.new (K.faults out.new))
+        result (concat (codes " post " ∷ decimal first ∷ codes " " ∷ decimal count ∷ codes "\n" ∷ [])) }
+{
+    let (mut firsts, mut counts) = (itoa::Buffer::new(), itoa::Buffer::new());
+    put(
+        &[
+            b" post ",
+            firsts.format(first).as_bytes(),
+            b" ",
+            counts.format(count).as_bytes(),
+            b"\n",
+        ],
+        buffer,
+        out,
+    )
+}
+
+// The posts of a batch, whose lines are kept or not.
+fn put_pairs<K: Sink>(
+    first: u64,
+    stamp: u64,
+    source: &[u8],
+    pairs: &[Pair],
+    lines: &PostLines,
+    buffer: &mut Buffer,
+    out: &mut K,
+) -> Result<(), Failed>
+    requires few { first + length pairs.now < 2 ^ 64 }
+    requires kept { AreLinesFrom first (map (λ pair. said_text stamp source.now pair.var pair.value) pairs.now) lines.now }
+    ensures { Wrote (way (K.taken out.old) buffer.old (K.faults out.old)) (way (K.taken out.new) buffer.new (K.faults out.new))
+        result (flat_map (λ pair. said_text stamp source.now pair.var pair.value) pairs.now) }
+{
+    let mut number = first;
+    for pair in pairs {
+        if let Err(failed) = put_pair(lines.line(number), stamp, source, pair, buffer, out) {
+            return Err(failed);
+        }
+        number += 1;
+    }
+    Ok(())
+}
+
+// A post by the client with this name, by its line where that is kept.
+fn put_pair<K: Sink>(
+    line: &[u8],
+    stamp: u64,
+    source: &[u8],
+    pair: &Pair,
+    buffer: &mut Buffer,
+    out: &mut K,
+) -> Result<(), Failed>
+    requires { IsLineOrNone line.now (said_text stamp source.now pair.now.var pair.now.value) }
+    ensures { Wrote (way (K.taken out.old) buffer.old (K.faults out.old)) (way (K.taken out.new) buffer.new (K.faults out.new))
+        result (said_text stamp source.now pair.now.var pair.now.value) }
+{
+    if line.len() > 0 {
+        return put(&[line], buffer, out);
+    }
+    put_post(stamp, source, pair, buffer, out)
+}
+
+// The letters of these numbers, where `first` posts stand before the fetch.
+pub(super) fn put_fetch<K: Sink>(
+    db: &Db,
+    first: u64,
+    letters: &[u64],
+    lines: &PostLines,
+    buffer: &mut Buffer,
+    out: &mut K,
+) -> Result<(), Failed>
+    requires within { first ≤ length (posts_of db.now.history) }
+    requires kept { KeepsLines db.now.names db.now.history lines.now }
+    ensures { Wrote (way (K.taken out.old) buffer.old (K.faults out.old)) (way (K.taken out.new) buffer.new (K.faults out.new))
+        result (codes " fetch\n" ++ letters_text db.now.names (take first (posts_of db.now.history)) letters.now) }
+{
+    if let Err(failed) = put(&[b" fetch\n"], buffer, out) {
+        return Err(failed);
+    }
+    put_letters(db, first, letters, lines, buffer, out)
+}
+
+fn put_letters<K: Sink>(
+    db: &Db,
+    first: u64,
+    letters: &[u64],
+    lines: &PostLines,
+    buffer: &mut Buffer,
+    out: &mut K,
+) -> Result<(), Failed>
+    requires within { first ≤ length (posts_of db.now.history) }
+    requires kept { KeepsLines db.now.names db.now.history lines.now }
+    ensures { Wrote (way (K.taken out.old) buffer.old (K.faults out.old)) (way (K.taken out.new) buffer.new (K.faults out.new))
+        result (letters_text db.now.names (take first (posts_of db.now.history)) letters.now) }
+{
+    for &number in letters {
+        if let Err(failed) = put_letter(db, first, number, lines, buffer, out) {
+            return Err(failed);
+        }
+    }
+    Ok(())
+}
+
+// The letter of this number, if one of the first posts has it.
+fn put_letter<K: Sink>(
+    db: &Db,
+    first: u64,
+    number: u64,
+    lines: &PostLines,
+    buffer: &mut Buffer,
+    out: &mut K,
+) -> Result<(), Failed>
+    requires within { first ≤ length (posts_of db.now.history) }
+    requires kept { KeepsLines db.now.names db.now.history lines.now }
+    ensures { Wrote (way (K.taken out.old) buffer.old (K.faults out.old)) (way (K.taken out.new) buffer.new (K.faults out.new))
+        result (letter_text db.now.names number (slice_get (take first (posts_of db.now.history)) number)) }
+{
+    if number >= first {
+        return Ok(());
+    }
+    let line = lines.line(number);
+    if line.len() > 0 {
+        return put_kept(number, line, buffer, out);
+    }
+    let (origin, pair) = (db.origin(number), db.pair(number));
+    put_mail(
+        number,
+        origin.stamp,
+        name_of(db, origin.client),
+        pair,
+        buffer,
+        out,
+    )
+}
