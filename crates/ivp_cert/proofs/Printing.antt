@@ -1,6 +1,7 @@
--- The functions of a problem are written in turn.
-use Rattle.std.proofs.Common.{◌≡◌, ℕ, ◌+◌, ◌<◌, Option, Some, None, List, flat_map, length, drop, get_or, ap, sym, ◌∙◌}
-use Rattle.std.specs.Prelude.{IfSome, slice_get}
+-- The functions of a problem are written in turn, and what a decision states before its certificate.
+use Rattle.std.proofs.Common.{◌≡◌, ℕ, ◌+◌, ◌<◌, Option, Some, None, List, [], ◌∷◌, ◌++◌, flat_map, length, drop, get_or, ap, sym, ◌∙◌, append_assoc}
+use Rattle.std.specs.List.{concat}
+use Rattle.std.specs.Prelude.{IfSome, codes, slice_get}
 use Rattle.std.proofs.lemmas.Option.{get_or_from_slice_get, slice_get-get_or}
 use Rattle.moos_io.specs.Writing.{Way, Went, Stopped}
 use Rattle.moos_io.proofs.Passages.{each_failed, each_on, Leads, stopped_as, went_as}
@@ -8,7 +9,8 @@ use Rattle.ivp_func.specs.Functions.{Function}
 use Rattle.ivp_problem.specs.declared.term.Term.{Term}
 use Rattle.ivp_problem.specs.Problems.{WeightedSum}
 use Rattle.ivp_problem.proofs.Nodes.{blank_term}
-use Rattle.ivp_cert.specs.Texts.{term_text}
+use Rattle.ivp_cert.specs.declared.claim.Decision.{Decision}
+use Rattle.ivp_cert.specs.Texts.{claim_text, decision_lines, line_text, problem_text, term_text}
 
 abbrev pub term_with : ℕ → Function → Term
 term_with weight func = record { weight = weight; func = func }
@@ -32,3 +34,7 @@ terms_failed prefix problem axes i weight func so within many w f stopped =
     let at = term_at problem.terms i weight func within w f in
     each_failed (term_text prefix (length problem.axes)) problem.terms i (term_with weight func) so within (sym (get_or_from_slice_get problem.terms i (term_with weight func) (term_with weight func) at))
     (stopped_as (ap (λ n. term_text prefix n (term_with weight func)) many) stopped)
+
+-- the text of a decision: what it states, and then its certificate
+pub stated : (prefix : List ℕ) (decision : Decision) → (problem_text prefix decision.problem ++ claim_text prefix (length decision.problem.axes) decision.claim) ++ (flat_map (line_text prefix) decision.cert ++ concat (prefix ∷ codes "done\n" ∷ [])) ≡ decision_lines prefix decision
+stated prefix decision = append_assoc (problem_text prefix decision.problem) (claim_text prefix (length decision.problem.axes) decision.claim) (flat_map (line_text prefix) decision.cert ++ concat (prefix ∷ codes "done\n" ∷ []))

@@ -3,10 +3,10 @@
 //! The contract for the layer above: `decide` gives the decision on a problem. `cut` gives the certificate of a problem, and
 //! `cut_by_workers` the same by several workers; `accepts` tells whether a certificate is accepted for what is claimed, and then the
 //! claimed point is the best. `read_problem` and `read_decision` give what stands in the bytes, or the first refusal with its line and
-//! its cause; `print_decision` writes a decision, and what it writes stands for the decision.
+//! its cause; `print_decision` writes a decision, `print_decision_by_workers` the same with several workers, and what they write stands for the decision.
 //!
 //! Reading order: `path`, `cert`, `claim`; `trail`, `cutting`, `subtree`, `share`, `by_workers`, `best`, `accept`, `law`; `words`,
-//! `piece`, `terms`, `unfinished`, `stage`, `read`; `line`, `phase`, `decision`; `put`, `put_problem`, `path_text`, `print`, `printed`. Of
+//! `piece`, `terms`, `unfinished`, `stage`, `read`; `line`, `phase`, `decision`; `put`, `put_problem`, `path_text`, `print`, `print_by_workers`, `printed`. Of
 //! specs/ read `Certificates`, `SaidLines`, `Problems`, `Decisions`, `Texts` and `Printed`; `Walks` serves the checker alone,
 //! `Subtrees` and `Dealing` the cut by several workers, `PathTexts` the printer, and `Stages` the reader.
 #![tactic(auto)]
@@ -25,6 +25,7 @@ mod path_text;
 mod phase;
 mod piece;
 mod print;
+mod print_by_workers;
 mod printed;
 mod put;
 mod put_problem;
@@ -47,4 +48,5 @@ pub use decision::read_decision;
 pub use law::{accepted_law, certificate_law, printed_law};
 pub use path::Path;
 pub use print::{print_decision, put_decision};
+pub use print_by_workers::print_decision_by_workers;
 pub use read::read_problem;

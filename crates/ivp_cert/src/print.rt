@@ -1,13 +1,13 @@
 // The text of a decision.
-ghost use Rattle.std.specs.Prelude.{◌≤◌, [], ◌∷◌, flat_map, codes, decimal, OnOk, OnErr};
+ghost use Rattle.std.specs.Prelude.{◌≤◌, [], ◌∷◌, ◌++◌, flat_map, codes, decimal, length, OnOk, OnErr};
 ghost use Rattle.std.specs.List.{concat};
 ghost use Rattle.moos_io.specs.Faults.{FaresOn, Fell};
 ghost use Rattle.moos_io.specs.Pieces.{Took, TookFront};
 ghost use Rattle.moos_io.specs.Writing.{way, Wrote};
 ghost use Rattle.moos_text.specs.Numbers.{unsigned_text};
-ghost use Rattle.ivp_cert.specs.Texts.{claim_text, decision_lines, line_text};
+ghost use Rattle.ivp_cert.specs.Texts.{claim_text, decision_lines, line_text, problem_text};
 
-use crate::cert::{Cert, Line};
+use crate::cert::Line;
 use crate::claim::{Claim, Decision};
 use crate::path_text::PathText;
 use crate::put::{put, put_numbers};
@@ -46,17 +46,30 @@ pub fn put_decision<K: Sink>(
     ensures { Wrote (way (K.taken out.old) buffer.old (K.faults out.old)) (way (K.taken out.new) buffer.new (K.faults out.new))
         result (decision_lines prefix.now decision.now) }
 {
+    if let Err(failed) = put_stated(prefix, decision, buffer, out) {
+        return Err(failed);
+    }
+    if let Err(failed) = put_lines(prefix, decision.cert.all(), buffer, out) {
+        return Err(failed);
+    }
+    put(&[prefix, b"done\n"], buffer, out)
+}
+
+/// Writes what a decision's certificate is for through a buffer: the problem and the claim.
+pub(crate) fn put_stated<K: Sink>(
+    prefix: &[u8],
+    decision: &Decision,
+    buffer: &mut Buffer,
+    out: &mut K,
+) -> Result<(), Failed>
+    ensures { Wrote (way (K.taken out.old) buffer.old (K.faults out.old)) (way (K.taken out.new) buffer.new (K.faults out.new))
+        result (problem_text prefix.now decision.now.problem ++ claim_text prefix.now (length decision.now.problem.axes) decision.now.claim) }
+{
     let axes = decision.problem.domain().axes();
     if let Err(failed) = put_problem(prefix, &decision.problem, buffer, out) {
         return Err(failed);
     }
-    if let Err(failed) = put_claim(prefix, axes, &decision.claim, buffer, out) {
-        return Err(failed);
-    }
-    if let Err(failed) = put_cert(prefix, &decision.cert, buffer, out) {
-        return Err(failed);
-    }
-    put(&[prefix, b"done\n"], buffer, out)
+    put_claim(prefix, axes, &decision.claim, buffer, out)
 }
 
 fn put_sum<K: Sink>(sum: u64, buffer: &mut Buffer, out: &mut K) -> Result<(), Failed>
@@ -96,18 +109,19 @@ fn put_claim<K: Sink>(
     put_sum(claim.sum, buffer, out)
 }
 
-fn put_cert<K: Sink>(
+/// Writes lines of a certificate through a buffer, each behind the prefix.
+pub(crate) fn put_lines<K: Sink>(
     prefix: &[u8],
-    cert: &Cert,
+    lines: &[Line],
     buffer: &mut Buffer,
     out: &mut K,
 ) -> Result<(), Failed>
     ensures { Wrote (way (K.taken out.old) buffer.old (K.faults out.old)) (way (K.taken out.new) buffer.new (K.faults out.new))
-        result (flat_map (line_text prefix.now) cert.now) }
+        result (flat_map (line_text prefix.now) lines.now) }
 {
     let mut texts = PathText::new();
-    for number in 0..cert.len() {
-        if let Err(failed) = put_line(prefix, cert.get(number), &mut texts, buffer, out) {
+    for line in lines {
+        if let Err(failed) = put_line(prefix, line, &mut texts, buffer, out) {
             return Err(failed);
         }
     }

@@ -9,7 +9,7 @@ ghost use Rattle.command_line.specs.declared.job.Job.TheVariants.{Check, Solve};
 use crate::generate_job::generate;
 use crate::play_job::play_files;
 use command_line::{FileKind, Job, Status, Words, job_named, load, refused, unloaded, written};
-use ivp_cert::{accepts, decide, print_decision, read_decision, read_problem};
+use ivp_cert::{accepts, decide, print_decision_by_workers, read_decision, read_problem};
 use moos_io::{Folder, Gate, Sink, put_all};
 use moos_post::Txt;
 use share_job::share_files;
@@ -123,7 +123,10 @@ fn solve_problem<R: Threads + Wait + Sync, F: Folder, K: Sink, G: Gate>(
         Err(fault) => return refused(FileKind::Problem, fault),
     };
     match decide(rt, alloc, problem, workers, gate) {
-        Ok(decision) => written(Status::Done, print_decision(&decision, b"", out)),
+        Ok(decision) => written(
+            Status::Done,
+            print_decision_by_workers(rt, alloc, &decision, b"", workers, out),
+        ),
         Err(_) => Status::NoMemory,
     }
 }

@@ -4,7 +4,7 @@ ghost use Rattle.ivp_problem.specs.Sums.{best_of, key_at};
 
 use ivp_cert::{
     Cert, Claim, Decision, Line, Path, accepted_law, accepts, certificate_law, cut, cut_by_workers,
-    print_decision, printed_law, read_decision, read_problem,
+    print_decision, print_decision_by_workers, printed_law, read_decision, read_problem,
 };
 use ivp_domain::{Point, Steps};
 use ivp_problem::{Key, Problem, sum_of};
@@ -150,6 +150,71 @@ fn certificates_by_several_workers(rt: HostRuntime) {
             let cert = cut_by_workers(&rt, alloc, &problem, key, workers).expect(&rt, "memory");
             assert!(rt; are_same(&alone, &cert), "{workers}");
         }
+    }
+}
+
+// Lines of a certificate: the paths of all are empty, and their indices differ.
+const LINES: [&[u8]; 4] = [
+    b"cut : 0.007 0\n",
+    b"cut : 0.007 1\n",
+    b"cut : 0.007 2\n",
+    b"cut : 0.007 3\n",
+];
+
+/// How often each of the lines stands in a long certificate: together they are some chunks of several workers, and no whole number
+/// of chunks.
+const TIMES: usize = 30_000;
+
+/// A decision with a long certificate. It isn't the certificate of its problem.
+fn long_decision(rt: &impl Abort, alloc: Global) -> Decision {
+    assert!(rt; LEVEL.len() < 4_000_000_000);
+    let problem = read_problem(alloc, LEVEL).expect(rt, "a problem");
+    let mut cert = Cert::new(alloc);
+    for index in 0..4 {
+        for _ in 0..TIMES {
+            let path = Path::new(alloc);
+            let line = Line {
+                path,
+                sum: 7,
+                index,
+            };
+            assert!(rt; cert.push(line).is_ok());
+        }
+    }
+    let claim = Claim {
+        point: Point { at: [0; 4] },
+        sum: 700_000,
+    };
+    Decision {
+        problem,
+        claim,
+        cert,
+    }
+}
+
+/// The text of that decision.
+fn long_text(rt: &impl Abort, alloc: Global) -> Vec<u8> {
+    let mut text = joined(rt, alloc, LEVEL, b"decision 0 700\n");
+    for line in LINES {
+        for _ in 0..TIMES {
+            text.extend_from_slice(line).expect(rt, "memory");
+        }
+    }
+    text.extend_from_slice(b"done\n").expect(rt, "memory");
+    text
+}
+
+#[test]
+fn long_certificates_printed_by_several_workers(rt: HostRuntime) {
+    let alloc = rt.alloc();
+    let decision = long_decision(&rt, alloc);
+    let expected = long_text(&rt, alloc);
+    for workers in 1..=4 {
+        let mut sink = MemSink::make(alloc, 2_000_000, 2_000_000).expect(&rt, "memory");
+        print_decision_by_workers(&rt, alloc, &decision, b"", workers, &mut sink).expect(
+            &rt, "room",
+        );
+        assert!(rt; sink.bytes() == expected.as_slice(), "{workers}");
     }
 }
 

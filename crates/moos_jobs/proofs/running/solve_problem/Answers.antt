@@ -34,8 +34,8 @@ returns-in-Ok-decide-clause-ends g c =
     let read : problem_of bytes ≡ Ok c.in-Ok-read_problem.problem = ap problem_of (sym c.deref.ensures.value) ∙ c.in-Ok-read_problem.ensures.read in
     last_ends outcomes _ _ _ _ _ (turn_of (Solve c.args.name.now c.args.workers)) [] ProblemFile c.args.name.now _ bytes _ c.written.result refl c.bytes.ensures.value c.in-Ok.ensures.content c.in-Ok.ensures.later
     (ap (turn_behind ProblemFile next) read)
-    (put_ends outcomes _ (Solving c.in-Ok-read_problem.problem) _ Done c.written.result _ c.print_decision.result (λ all. all) refl
-    (ap (decision_lines []) c.in-Ok-decide.ensures.best) c.print_decision.ensures.ok c.print_decision.ensures.front c.print_decision.ensures.rose c.written.ensures.all c.written.ensures.fault)
+    (put_ends outcomes _ (Solving c.in-Ok-read_problem.problem) _ Done c.written.result _ c.print_decision_by_workers.result (λ all. all) refl
+    (ap (decision_lines []) c.in-Ok-decide.ensures.best) c.print_decision_by_workers.ensures.ok c.print_decision_by_workers.ensures.front c.print_decision_by_workers.ensures.rose c.written.ensures.all c.written.ensures.fault)
 
 pub returns-clause-ends : goal.returns-clause-ends
 returns-clause-ends g c = record { files = []; loaded = tt; ended = nothing_put outcomes _ _ _ }
