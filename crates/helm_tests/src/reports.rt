@@ -7,7 +7,7 @@ use helm_core::{Faults, Iteration, States, Updates};
 use moos_db::Db;
 use moos_io::MemSink;
 use moos_post::Batch;
-use moos_report::{Setup, parts_law, report, report_law, reports_law};
+use moos_report::{Setup, parts_law, report, report_law, report_part, reports_law};
 use std::alloc::Global;
 use std::process::Abort;
 
@@ -100,6 +100,21 @@ fn parts_leave_in_one_put_each(rt: HostRuntime) {
     for (mark, taken) in [(0, 0), (1, 38), (2, 269), (3, 280)] {
         is_reported(&rt, rt.alloc(), &db, &iterations, mark, taken);
     }
+}
+
+// Its entries from the third on, without the iteration.
+const PART: &str = "%% entry 2 0.25 pHelmIvP fetch
+%% mail 0 0 X pHelmIvP 5
+%% entry 3 0.25 pHelmIvP post 1 1
+0.25 X pHelmIvP 5
+";
+
+#[test]
+fn part_from_an_entry_on(rt: HostRuntime) {
+    let db = community(&rt, rt.alloc());
+    let mut sink = MemSink::make(rt.alloc(), 2000, 4096).expect(&rt, "memory");
+    report_part(&setup(rt.alloc()), &db, 2, 0, &[], &mut sink).expect(&rt, "room");
+    assert_eq!(rt; sink.bytes(), PART.as_bytes());
 }
 
 // A law does nothing, and says what it says to whoever calls it.

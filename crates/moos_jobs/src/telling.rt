@@ -3,6 +3,7 @@ ghost use Rattle.std.specs.Prelude.{◌≡◌, ◌+◌, ◌^◌, ◌<◌, ◌≤
 ghost use Rattle.moos_io.specs.Faults.{Faring, FaresOn};
 ghost use Rattle.moos_play.specs.Lawful.{MayStart, names_with, opening, steering_with};
 ghost use Rattle.moos_play.specs.Plays.{clients_in, GoesOnWith, HasCompletion, helm_in, history_in, IsBetween, IsPlayedOut, iterations_made, left_in, order_played, script_played};
+ghost use Rattle.moos_report.specs.Lines.{KeepsLines};
 ghost use Rattle.command_line.specs.Endings.{sinking};
 ghost use Rattle.moos_jobs.specs.Telling.{IsOfLawful};
 ghost use Rattle.moos_telling.specs.Telling.{IsToldSoFar, Tells};
@@ -12,7 +13,7 @@ use command_line::{Status, written};
 use moos_io::{Buffer, Gate, Sink};
 use moos_play::{HelmRun, Order, Play};
 use moos_post::List;
-use moos_report::{Setup, parts_law};
+use moos_report::{PostLines, Setup, parts_law};
 use moos_telling::{tell_end, tell_opening, tell_part};
 use script_reader::Script;
 use std::alloc::Global;
@@ -63,7 +64,8 @@ fn tell<R: Threads + Wait + Sync, K: Sink, G: Gate>(
 {
     play.front_law();
     parts_law();
-    if let Err(_) = tell_opening(rt, play, setup, out) {
+    let mut lines = PostLines::new(alloc);
+    if let Err(_) = tell_opening(rt, play, setup, &mut lines, out) {
         return Status::WriteFault;
     }
     let mut buffer = Buffer::new();
@@ -76,6 +78,7 @@ fn tell<R: Threads + Wait + Sync, K: Sink, G: Gate>(
             setup,
             made,
             workers,
+            &mut lines,
             &mut buffer,
             out,
             gate,
@@ -88,7 +91,7 @@ fn tell<R: Threads + Wait + Sync, K: Sink, G: Gate>(
 }
 
 // Plays the next round and tells it, where the helm has made so many iterations before, and answers how many it made in it.
-// None where no round is left. The buffer is empty before and after.
+// None where no round is left. The buffer is empty before and after, and the lines that are kept are of the play's posts.
 fn tell_round<R: Threads + Wait + Sync, K: Sink, G: Gate>(
     rt: &R,
     alloc: Global,
@@ -96,16 +99,19 @@ fn tell_round<R: Threads + Wait + Sync, K: Sink, G: Gate>(
     setup: &Setup,
     made: u64,
     workers: u32,
+    lines: &mut PostLines,
     buffer: &mut Buffer,
     out: &mut K,
     gate: &G,
 ) -> Result<Option<u64>, Status>
     requires empty { buffer.old ≡ [] }
+    requires kept { KeepsLines (clients_in play.old) (history_in play.old) lines.old }
     requires between { IsBetween play.old }
     requires named { clients_in play.old ≡ names_with (script_played play.old) (helm_in play.old) }
     requires made { made ≡ length (iterations_made play.old) }
     requires few { (1 ≤ workers) × (workers ≤ 16) }
     ensures empty { OnOk result (buffer.new ≡ []) }
+    ensures kept { OnOk result (KeepsLines (clients_in play.new) (history_in play.new) lines.new) }
     ensures between { OnOk result (IsBetween play.new) }
     ensures same { OnOk result (GoesOnWith play.old play.new) }
     ensures later { FaresOn (K.faults out.old) (K.faults out.new) }
@@ -130,7 +136,7 @@ fn tell_round<R: Threads + Wait + Sync, K: Sink, G: Gate>(
         return Ok(None);
     };
     play.front_law();
-    if let Err(_) = tell_part(rt, play, setup, &round, made, buffer, out) {
+    if let Err(_) = tell_part(rt, play, setup, &round, made, lines, buffer, out) {
         return Err(Status::WriteFault);
     }
     Ok(Some(round.iterations.len() as u64))

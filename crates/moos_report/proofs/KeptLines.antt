@@ -2,7 +2,8 @@
 use Rattle.std.proofs.Common.{◌≡◌, ℕ, zero, suc, ◌+◌, ◌<◌, ◌≤◌, ◌⊎◌, inl, inr, List, [], ◌∷◌, ◌++◌, length, map, take, Option, Some, None, refl, ap, sym, subst, ◌∙◌, arith, codes, decimal, length-append}
 use Rattle.std.specs.Prelude.{option_map, slice_get, unwrap_or}
 use Rattle.std.specs.List.{concat}
-use Rattle.std.proofs.lemmas.List.{length-map}
+use Rattle.std.proofs.lemmas.Grind.{flat_map-append}
+use Rattle.std.proofs.lemmas.List.{length-map, map-append}
 use Rattle.std.proofs.lemmas.Option.{slice_get-map, slice_get_within}
 use Rattle.moos_post.specs.declared.entry.Call.TheVariants.{Post as Posts}
 use Rattle.moos_post.specs.declared.entry.Entry.{Entry}
@@ -10,7 +11,7 @@ use Rattle.moos_post.specs.declared.value.Pair.{Pair}
 use Rattle.moos_post.specs.declared.value.Post.{Post}
 use Rattle.moos_post.specs.History.{History, name_of, post_of, posts_of, posts_of_call, posts_of_entry}
 use Rattle.moos_db.proofs.Growth.{posts-more, posts-take}
-use Rattle.moos_mail.proofs.Lists.{found-below}
+use Rattle.moos_mail.proofs.Lists.{found-below, slice_get-front}
 use Rattle.moos_mail.proofs.Living.{stand-entry}
 use Rattle.moos_report.specs.Lines.{AreLines, AreLinesFrom, IsLineOrNone, KeepsLines, post_lines, StandAt}
 use Rattle.moos_report.specs.Report.{letter_text, post_text, said_text}
@@ -106,3 +107,19 @@ module _ (names : List (List ℕ)) (history : History) (k : ℕ) (entry : Entry)
       → pairs ≡ batch → KeepsLines names history lines → AreLinesFrom first (map (λ pair. said_text entry.stamp source pair.var pair.value) pairs) lines
   batch_lines first source batch pairs lines is behind named all so i line text there kept =
       so.each (first + i) line text kept (batch_stands first source batch pairs is behind named all i text there)
+
+-- more posts leave the lines of those before
+longer : (texts more lines : List (List ℕ)) → AreLines texts lines → AreLines (texts ++ more) lines
+longer texts more lines so = record {
+  within = omega (arith, so.within, length-append texts more);
+  each = λ number line text there at.
+      let old : (one : List ℕ) × (slice_get texts number ≡ Some one) = found-below texts number (omega (arith, so.within, slice_get_within lines number line there)) in
+      let same : old.0 ≡ text = (let e : Some old.0 ≡ Some text = sym (slice_get-front texts more number old.0 old.1) ∙ at in cc) in
+      subst (IsLineOrNone line) same (so.each number line old.0 there old.1);
+}
+
+-- a history that goes on leaves the lines of its posts
+pub lines_on : (names : List (List ℕ)) (history more : History) (lines : List (List ℕ)) → KeepsLines names history lines → KeepsLines names (history ++ more) lines
+lines_on names history more lines so =
+    subst (λ texts. AreLines texts lines) (sym (ap (map (post_text names)) (flat_map-append posts_of_entry history more) ∙ map-append (post_text names) (posts_of history) (posts_of more)))
+    (longer (post_lines names history) (post_lines names more) lines so)

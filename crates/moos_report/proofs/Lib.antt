@@ -5,6 +5,7 @@ pub mod Escapes
 pub mod Examples
 pub mod KeptLines
 pub mod NextEntries
+pub mod Numerals
 pub mod OnLines
 pub mod PassedDecisions
 pub mod PassedLines

@@ -21,9 +21,7 @@ pub(super) fn put_updates<K: Sink>(
         result (flat_map update_text updates.now) }
 {
     for update in updates {
-        if let Err(failed) = put_update(update, buffer, out) {
-            return Err(failed);
-        }
+        put_update(update, buffer, out)?;
     }
     Ok(())
 }
@@ -67,9 +65,7 @@ pub(super) fn put_states<K: Sink>(
         result (flat_map behavior_text states.now) }
 {
     for state in states {
-        if let Err(failed) = put_behavior(state, buffer, out) {
-            return Err(failed);
-        }
+        put_behavior(state, buffer, out)?;
     }
     Ok(())
 }
@@ -108,9 +104,7 @@ pub(super) fn put_errors<K: Sink>(
         result (flat_map error_text faults.now) }
 {
     for error in faults {
-        if let Err(failed) = put_error(error, buffer, out) {
-            return Err(failed);
-        }
+        put_error(error, buffer, out)?;
     }
     Ok(())
 }

@@ -141,21 +141,11 @@ fn put_iteration<K: Sink>(
     ensures { Wrote (way (K.taken out.old) buffer.old (K.faults out.old)) (way (K.taken out.new) buffer.new (K.faults out.new))
         result (iteration_text setup.now number iteration.now) }
 {
-    if let Err(failed) = put_state(number, iteration, buffer, out) {
-        return Err(failed);
-    }
-    if let Err(failed) = put_mode(setup, iteration.mode.bytes(), buffer, out) {
-        return Err(failed);
-    }
-    if let Err(failed) = put_updates(iteration.updates.all(), buffer, out) {
-        return Err(failed);
-    }
-    if let Err(failed) = put_states(iteration.states.all(), buffer, out) {
-        return Err(failed);
-    }
-    if let Err(failed) = put_errors(iteration.faults.all(), buffer, out) {
-        return Err(failed);
-    }
+    put_state(number, iteration, buffer, out)?;
+    put_mode(setup, iteration.mode.bytes(), buffer, out)?;
+    put_updates(iteration.updates.all(), buffer, out)?;
+    put_states(iteration.states.all(), buffer, out)?;
+    put_errors(iteration.faults.all(), buffer, out)?;
     put_decided(&iteration.decision, buffer, out)
 }
 

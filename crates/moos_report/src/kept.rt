@@ -113,10 +113,10 @@ fn put_at(bytes: &mut [u8], place: usize, piece: &[u8])
     bytes[place..place + piece.len()].copy_from_slice(piece);
 }
 
-// The lines of the first posts of a database, as they were printed. Memory is taken for them where there is some, and what isn't
-// kept is formatted anew. Contracts see the lines; one that isn't kept is empty.
+/// The lines of the first posts of a database, as they were printed, 48 bytes for each. Memory is taken for them where there is some,
+/// and what isn't kept is formatted anew. Contracts see the lines; one that isn't kept is empty.
 #[derive(Drop)]
-pub(crate) struct PostLines {
+pub struct PostLines {
     lines: Option<Vec<PostLine>>,
 }
 
@@ -130,13 +130,13 @@ impl Model for PostLines {
 
 impl PostLines {
     // No lines, and none is ever kept.
-    pub fn none() -> PostLines
+    pub(crate) fn none() -> PostLines
         ensures { result ≡ [] }
     {
         PostLines { lines: None }
     }
 
-    // No lines yet.
+    /// No lines yet.
     pub fn new(alloc: Global) -> PostLines
         ensures { result ≡ [] }
     {
@@ -146,7 +146,7 @@ impl PostLines {
     }
 
     // The line of the post with this number, or nothing where it isn't kept.
-    pub fn line(&self, number: u64) -> &[u8]
+    pub(crate) fn line(&self, number: u64) -> &[u8]
         ensures { result.now ≡ unwrap_or (slice_get self.now number) [] }
     {
         let Some(lines) = &self.lines else {
@@ -171,7 +171,7 @@ impl PostLines {
 
     // Keeps the lines of a batch by the client with this name, whose first post has the number `first`. Where none is ever kept,
     // none is made.
-    pub fn keep_batch(&mut self, first: u64, stamp: u64, source: &[u8], pairs: &[Pair])
+    pub(crate) fn keep_batch(&mut self, first: u64, stamp: u64, source: &[u8], pairs: &[Pair])
         requires { first + length pairs.now < 2 ^ 64 }
         // Of whatever lines they are.
         ensures { (texts : List (List ℕ)) → StandAt first (map (λ pair. said_text stamp source.now pair.var pair.value) pairs.now) texts

@@ -7,9 +7,9 @@
 //!
 //! Reading order: `specs/Report` and `specs/IterationLines` say what each line is; here are the entries and their parts, in
 //! `posts` the posts and letters of these, in `kept` the lines of posts that are kept, in `iterations` what follows an entry of
-//! the helm, in `behaviors` what an iteration tells of its behaviours, in `lines` the lines; `parts` has the report at once, and
-//! piece by piece while its history grows. `law` says that a report tells its history, also with a text behind it, and that what
-//! is written so far is how the report of each longer history begins.
+//! the helm, in `behaviors` what an iteration tells of its behaviours, in `lines` the lines, in `numeral` a number's digits, which
+//! are counted up; `parts` has the report at once, and piece by piece while its history grows. `law` says that a report tells its
+//! history, also with a text behind it, and that what is written so far is how the report of each longer history begins.
 #![tactic(auto)]
 
 ghost use Rattle.std.specs.Prelude.{◌≡◌, ◌++◌, [], ◌∷◌, Some, length, take, drop, flat_map, codes, decimal, slice_get};
@@ -26,12 +26,13 @@ mod iterations;
 mod kept;
 mod law;
 mod lines;
+mod numeral;
 mod parts;
 mod posts;
 mod setup;
 
 use self::iterations::{fetches_after, fetches_before, put_outcome};
-use self::kept::PostLines;
+pub use self::kept::PostLines;
 pub use self::law::{parts_law, report_law, reports_law};
 use self::lines::{put, put_client, put_reg, put_unused};
 pub use self::parts::{
@@ -51,9 +52,7 @@ fn put_clients<K: Sink>(db: &Db, buffer: &mut Buffer, out: &mut K) -> Result<(),
         result (clients_text 0 db.now.names) }
 {
     for number in 0..db.clients() {
-        if let Err(failed) = put_client(number, db.name(number), buffer, out) {
-            return Err(failed);
-        }
+        put_client(number, db.name(number), buffer, out)?;
     }
     Ok(())
 }
@@ -67,9 +66,7 @@ fn put_unused_list<K: Sink>(
         result (flat_map unused_text unused.now) }
 {
     for parameter in unused {
-        if let Err(failed) = put_unused(parameter, buffer, out) {
-            return Err(failed);
-        }
+        put_unused(parameter, buffer, out)?;
     }
     Ok(())
 }
@@ -97,14 +94,8 @@ fn put_entries<K: Sink>(
     for k in from..db.entries() {
         let entry = db.entry(k);
         keep_lines(db, k, entry, posts, lines);
-        if let Err(failed) = put_entry(db, k, entry, posts, lines, buffer, out) {
-            return Err(failed);
-        }
-        if let Err(failed) = put_outcome(
-            setup, db, first, iterations, entry, fetches, buffer, out,
-        ) {
-            return Err(failed);
-        }
+        put_entry(db, k, entry, posts, lines, buffer, out)?;
+        put_outcome(setup, db, first, iterations, entry, fetches, buffer, out)?;
         posts += posts_in(entry);
         fetches = fetches_after(db, entry, fetches);
     }
@@ -148,9 +139,7 @@ fn put_entry<K: Sink>(
     ensures { Wrote (way (K.taken out.old) buffer.old (K.faults out.old)) (way (K.taken out.new) buffer.new (K.faults out.new))
         result (entry_text db.now.names (take k db.now.history) entry.now) }
 {
-    if let Err(failed) = put_asking(k, entry.stamp, name_of(db, entry.client), buffer, out) {
-        return Err(failed);
-    }
+    put_asking(k, entry.stamp, name_of(db, entry.client), buffer, out)?;
     put_call(db, k, entry, first, lines, buffer, out)
 }
 
@@ -228,9 +217,7 @@ fn put_register<K: Sink>(regs: &[Reg], buffer: &mut Buffer, out: &mut K) -> Resu
     ensures { Wrote (way (K.taken out.old) buffer.old (K.faults out.old)) (way (K.taken out.new) buffer.new (K.faults out.new))
         result (codes " register\n" ++ flat_map reg_text regs.now) }
 {
-    if let Err(failed) = put(&[b" register\n"], buffer, out) {
-        return Err(failed);
-    }
+    put(&[b" register\n"], buffer, out)?;
     put_regs(regs, buffer, out)
 }
 
@@ -239,9 +226,7 @@ fn put_regs<K: Sink>(regs: &[Reg], buffer: &mut Buffer, out: &mut K) -> Result<(
         result (flat_map reg_text regs.now) }
 {
     for reg in regs {
-        if let Err(failed) = put_reg(reg, buffer, out) {
-            return Err(failed);
-        }
+        put_reg(reg, buffer, out)?;
     }
     Ok(())
 }

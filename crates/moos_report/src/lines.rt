@@ -80,32 +80,28 @@ pub(super) fn put_post<K: Sink>(
 {
     let stamp = print_unsigned(stamp);
     let var = pair.var.bytes();
-    if let Err(failed) = put(&[stamp.bytes(), b" ", var, b" ", source, b" "], buffer, out) {
-        return Err(failed);
-    }
+    put(&[stamp.bytes(), b" ", var, b" ", source, b" "], buffer, out)?;
     put_value(&pair.value, buffer, out)
 }
 
-// The line of a letter: the post's number, and the post by the client with this name.
-pub(super) fn put_mail<K: Sink>(
-    number: u64,
+// The line of a letter: the digits of the post's number, and the post by the client with this name.
+pub(super) fn put_mail<'a, K: Sink>(
+    digits: &'a [u8],
     stamp: u64,
-    source: &[u8],
+    source: &'a [u8],
     pair: &Pair,
     buffer: &mut Buffer,
     out: &mut K,
 ) -> Result<(), Failed>
     ensures { Wrote (way (K.taken out.old) buffer.old (K.faults out.old)) (way (K.taken out.new) buffer.new (K.faults out.new))
-        result (concat (codes "%% mail " ∷ decimal number ∷ codes " " ∷ []) ++ said_text stamp source.now pair.now.var pair.now.value) }
+        result (concat (codes "%% mail " ∷ digits.now ∷ codes " " ∷ []) ++ said_text stamp source.now pair.now.var pair.now.value) }
 {
-    let mut digits = itoa::Buffer::new();
-    let number = digits.format(number).as_bytes();
     let stamp = print_unsigned(stamp);
     let (seconds, var) = (stamp.bytes(), pair.var.bytes());
-    if let Err(failed) = put(
+    put(
         &[
             b"%% mail ",
-            number,
+            digits,
             b" ",
             seconds,
             b" ",
@@ -116,9 +112,7 @@ pub(super) fn put_mail<K: Sink>(
         ],
         buffer,
         out,
-    ) {
-        return Err(failed);
-    }
+    )?;
     put_value(&pair.value, buffer, out)
 }
 
@@ -140,19 +134,17 @@ pub(super) fn put_end<K: Sink>(
     put(&[b"%% end ", entries, b" ", posts, b"\n"], buffer, out)
 }
 
-// The line of a letter: the post's number, and its line.
-pub(super) fn put_kept<K: Sink>(
-    number: u64,
-    line: &[u8],
+// The line of a letter: the digits of the post's number, and its line.
+pub(super) fn put_kept<'a, K: Sink>(
+    digits: &'a [u8],
+    line: &'a [u8],
     buffer: &mut Buffer,
     out: &mut K,
 ) -> Result<(), Failed>
     ensures { Wrote (way (K.taken out.old) buffer.old (K.faults out.old)) (way (K.taken out.new) buffer.new (K.faults out.new))
-        result (concat (codes "%% mail " ∷ decimal number ∷ codes " " ∷ []) ++ line.now) }
+        result (concat (codes "%% mail " ∷ digits.now ∷ codes " " ∷ []) ++ line.now) }
 {
-    let mut digits = itoa::Buffer::new();
-    let number = digits.format(number).as_bytes();
-    put(&[b"%% mail ", number, b" ", line], buffer, out)
+    put(&[b"%% mail ", digits, b" ", line], buffer, out)
 }
 
 // The value, which ends a line.
@@ -171,12 +163,8 @@ fn put_quoted<K: Sink>(text: &[u8], buffer: &mut Buffer, out: &mut K) -> Result<
     ensures { Wrote (way (K.taken out.old) buffer.old (K.faults out.old)) (way (K.taken out.new) buffer.new (K.faults out.new))
         result (concat (codes "\"" ∷ flat_map escaped text.now ∷ codes "\"\n" ∷ [])) }
 {
-    if let Err(failed) = put(&[b"\""], buffer, out) {
-        return Err(failed);
-    }
-    if let Err(failed) = put_escaped(text, buffer, out) {
-        return Err(failed);
-    }
+    put(&[b"\""], buffer, out)?;
+    put_escaped(text, buffer, out)?;
     put(&[b"\"\n"], buffer, out)
 }
 
@@ -191,9 +179,7 @@ fn put_escaped<K: Sink>(text: &[u8], buffer: &mut Buffer, out: &mut K) -> Result
         let [sign, later @ ..] = signs else {
             return put(&[plain], buffer, out);
         };
-        if let Err(failed) = put(&[plain, b"\\", &[*sign]], buffer, out) {
-            return Err(failed);
-        }
+        put(&[plain, b"\\", &[*sign]], buffer, out)?;
         rest = later;
     }
     Ok(())

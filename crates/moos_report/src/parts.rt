@@ -62,25 +62,10 @@ fn report_with<K: Sink>(
     ensures later { FaresOn (K.faults out.old) (K.faults out.new) }
     ensures rose { OnErr result (Fell (K.faults out.old) (K.faults out.new) (K.taken out.new)) }
 {
-    if let Err(failed) = report_head(setup, db, out) {
-        return Err(failed);
-    }
+    report_head(setup, db, out)?;
     let (mut lines, mut buffer) = (lines, Buffer::new());
-    if let Err(failed) = report_part_with(
-        setup,
-        db,
-        0,
-        0,
-        iterations,
-        &mut lines,
-        &mut buffer,
-        out,
-    ) {
-        return Err(failed);
-    }
-    if let Err(failed) = report_end(db, out) {
-        return Err(failed);
-    }
+    report_part_through(setup, db, 0, 0, iterations, &mut lines, &mut buffer, out)?;
+    report_end(db, out)?;
     Ok(())
 }
 
@@ -92,12 +77,8 @@ pub fn report_head<K: Sink>(setup: &Setup, db: &Db, out: &mut K) -> Result<(), F
     ensures rose { OnErr result (Fell (K.faults out.old) (K.faults out.new) (K.taken out.new)) }
 {
     let mut buffer = Buffer::new();
-    if let Err(failed) = put_head(setup, db, &mut buffer, out) {
-        return Err(failed);
-    }
-    if let Err(failed) = buffer.flush(out) {
-        return Err(failed);
-    }
+    put_head(setup, db, &mut buffer, out)?;
+    buffer.flush(out)?;
     Ok(())
 }
 
@@ -105,12 +86,8 @@ fn put_head<K: Sink>(setup: &Setup, db: &Db, buffer: &mut Buffer, out: &mut K) -
     ensures { Wrote (way (K.taken out.old) buffer.old (K.faults out.old)) (way (K.taken out.new) buffer.new (K.faults out.new))
         result (head_text setup.now db.now.names) }
 {
-    if let Err(failed) = put(&[b"%% moosdb play 1\n"], buffer, out) {
-        return Err(failed);
-    }
-    if let Err(failed) = put_clients(db, buffer, out) {
-        return Err(failed);
-    }
+    put(&[b"%% moosdb play 1\n"], buffer, out)?;
+    put_clients(db, buffer, out)?;
     put_unused_list(setup.unused.all(), buffer, out)
 }
 
@@ -133,36 +110,23 @@ pub fn report_part<K: Sink>(
     ensures later { FaresOn (K.faults out.old) (K.faults out.new) }
     ensures rose { OnErr result (Fell (K.faults out.old) (K.faults out.new) (K.taken out.new)) }
 {
-    let mut buffer = Buffer::new();
-    report_part_through(setup, db, from, first, iterations, &mut buffer, out)
-}
-
-/// Writes the same through an empty buffer, which is empty again after Ok: who writes part after part makes one for all.
-pub fn report_part_through<K: Sink>(
-    setup: &Setup,
-    db: &Db,
-    from: u64,
-    first: u64,
-    iterations: &[Iteration],
-    buffer: &mut Buffer,
-    out: &mut K,
-) -> Result<(), Failed>
-    requires first { BeginsWith db.now.names (take from db.now.history) first (length iterations.now) (drop from db.now.history) }
-    requires empty { buffer.old ≡ [] }
-    ensures ok { OnOk result (Took (K.taken out.old) (K.taken out.new)
-        (entries_text setup.now first iterations.now db.now.names (take from db.now.history) (drop from db.now.history))) }
-    ensures front { OnErr result (TookFront (K.taken out.old) (K.taken out.new)
-        (entries_text setup.now first iterations.now db.now.names (take from db.now.history) (drop from db.now.history))) }
-    ensures later { FaresOn (K.faults out.old) (K.faults out.new) }
-    ensures rose { OnErr result (Fell (K.faults out.old) (K.faults out.new) (K.taken out.new)) }
-    ensures empty { OnOk result (buffer.new ≡ []) }
-{
     let mut lines = PostLines::none();
-    report_part_with(setup, db, from, first, iterations, &mut lines, buffer, out)
+    let mut buffer = Buffer::new();
+    report_part_through(
+        setup,
+        db,
+        from,
+        first,
+        iterations,
+        &mut lines,
+        &mut buffer,
+        out,
+    )
 }
 
-// The same, where the lines of some posts are kept.
-fn report_part_with<K: Sink>(
+/// Writes the same through an empty buffer, which is empty again after Ok, and the lines of posts are kept where there is memory: who
+/// writes part after part makes one buffer and one list of lines for all.
+pub fn report_part_through<K: Sink>(
     setup: &Setup,
     db: &Db,
     from: u64,
@@ -184,12 +148,8 @@ fn report_part_with<K: Sink>(
     ensures empty { OnOk result (buffer.new ≡ []) }
     ensures kept { KeepsLines db.now.names db.now.history lines.new }
 {
-    if let Err(failed) = put_entries(setup, db, from, first, iterations, lines, buffer, out) {
-        return Err(failed);
-    }
-    if let Err(failed) = buffer.flush(out) {
-        return Err(failed);
-    }
+    put_entries(setup, db, from, first, iterations, lines, buffer, out)?;
+    buffer.flush(out)?;
     Ok(())
 }
 
@@ -201,11 +161,7 @@ pub fn report_end<K: Sink>(db: &Db, out: &mut K) -> Result<(), Failed>
     ensures rose { OnErr result (Fell (K.faults out.old) (K.faults out.new) (K.taken out.new)) }
 {
     let mut buffer = Buffer::new();
-    if let Err(failed) = put_end(db.entries(), db.posts(), &mut buffer, out) {
-        return Err(failed);
-    }
-    if let Err(failed) = buffer.flush(out) {
-        return Err(failed);
-    }
+    put_end(db.entries(), db.posts(), &mut buffer, out)?;
+    buffer.flush(out)?;
     Ok(())
 }

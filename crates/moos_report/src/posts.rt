@@ -9,6 +9,7 @@ ghost use Rattle.moos_report.specs.Report.{said_text, letter_text, letters_text}
 use super::kept::PostLines;
 use super::lines::{put, put_kept, put_mail, put_post};
 use super::name_of;
+use super::numeral::Numeral;
 use moos_db::Db;
 use moos_io::{Buffer, Failed, Sink};
 use moos_post::{Call, Entry, Pair};
@@ -42,9 +43,7 @@ pub(super) fn put_batch<K: Sink>(
         result (concat (codes " post " ∷ decimal first ∷ codes " " ∷ decimal (length pairs.now) ∷ codes "\n" ∷ [])
         ++ flat_map (λ pair. said_text stamp source.now pair.var pair.value) pairs.now) }
 {
-    if let Err(failed) = put_posting(first, pairs.len() as u64, buffer, out) {
-        return Err(failed);
-    }
+    put_posting(first, pairs.len() as u64, buffer, out)?;
     put_pairs(first, stamp, source, pairs, lines, buffer, out)
 }
 
@@ -88,9 +87,7 @@ fn put_pairs<K: Sink>(
 {
     let mut number = first;
     for pair in pairs {
-        if let Err(failed) = put_pair(lines.line(number), stamp, source, pair, buffer, out) {
-            return Err(failed);
-        }
+        put_pair(lines.line(number), stamp, source, pair, buffer, out)?;
         number += 1;
     }
     Ok(())
@@ -129,9 +126,7 @@ pub(super) fn put_fetch<K: Sink>(
     ensures { Wrote (way (K.taken out.old) buffer.old (K.faults out.old)) (way (K.taken out.new) buffer.new (K.faults out.new))
         result (codes " fetch\n" ++ letters_text db.now.names (take first (posts_of db.now.history)) letters.now) }
 {
-    if let Err(failed) = put(&[b" fetch\n"], buffer, out) {
-        return Err(failed);
-    }
+    put(&[b" fetch\n"], buffer, out)?;
     put_letters(db, first, letters, lines, buffer, out)
 }
 
@@ -148,23 +143,25 @@ fn put_letters<K: Sink>(
     ensures { Wrote (way (K.taken out.old) buffer.old (K.faults out.old)) (way (K.taken out.new) buffer.new (K.faults out.new))
         result (letters_text db.now.names (take first (posts_of db.now.history)) letters.now) }
 {
+    let mut numeral = Numeral::of(0);
     for &number in letters {
-        if let Err(failed) = put_letter(db, first, number, lines, buffer, out) {
-            return Err(failed);
-        }
+        numeral.go_to(number);
+        put_letter(db, first, number, numeral.digits(), lines, buffer, out)?;
     }
     Ok(())
 }
 
-// The letter of this number, if one of the first posts has it.
+// The letter of this number, which has these digits, if one of the first posts has it.
 fn put_letter<K: Sink>(
     db: &Db,
     first: u64,
     number: u64,
+    digits: &[u8],
     lines: &PostLines,
     buffer: &mut Buffer,
     out: &mut K,
 ) -> Result<(), Failed>
+    requires digits { digits.now ≡ decimal number }
     requires within { first ≤ length (posts_of db.now.history) }
     requires kept { KeepsLines db.now.names db.now.history lines.now }
     ensures { Wrote (way (K.taken out.old) buffer.old (K.faults out.old)) (way (K.taken out.new) buffer.new (K.faults out.new))
@@ -175,11 +172,11 @@ fn put_letter<K: Sink>(
     }
     let line = lines.line(number);
     if line.len() > 0 {
-        return put_kept(number, line, buffer, out);
+        return put_kept(digits, line, buffer, out);
     }
     let (origin, pair) = (db.origin(number), db.pair(number));
     put_mail(
-        number,
+        digits,
         origin.stamp,
         name_of(db, origin.client),
         pair,

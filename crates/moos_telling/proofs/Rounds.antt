@@ -12,8 +12,10 @@ use Rattle.moos_post.specs.History.{History}
 use Rattle.moos_play.specs.declared.round_made.Round.{Round}
 use Rattle.moos_play.specs.Lawful.{Steering}
 use Rattle.moos_play.specs.Plays.{clients_in, GoesOnWith, HasTicked, helm_in, history_in, IsRunFor, iterations_made, Playing, script_played, StaysSeated}
+use Rattle.moos_report.proofs.KeptLines.{lines_on}
 use Rattle.moos_report.specs.declared.setup.Setup.{Setup}
 use Rattle.moos_report.specs.IterationLines.{helm_fetches}
+use Rattle.moos_report.specs.Lines.{KeepsLines}
 use Rattle.moos_report.specs.Parts.{EndsWithin, front_text, FrontsStay, PartsAddUp}
 use Rattle.moos_report.specs.Report.{end_text, entries_text, head_text, report_text}
 use Rattle.command_line.specs.Endings.{sinking}
@@ -57,6 +59,15 @@ goes_on_twice before middle after one other = record {
   names = other.names ∙ one.names;
   helm = other.helm ∙ one.helm;
 }
+
+-- the lines of the posts of a history, under other names for the same
+pub lines_as : {names others : List (List ℕ)} {history other : History} (lines : List (List ℕ)) → names ≡ others → history ≡ other → KeepsLines names history lines → KeepsLines others other lines
+lines_as {names = names} {other = other} lines named same so =
+    subst (λ names. KeepsLines names other lines) named (subst (λ history. KeepsLines names history lines) same so)
+
+-- the lines of posts that are kept stay those when a play goes on
+pub lines_stay : (old new : Playing) (lines : List (List ℕ)) → StaysSeated old new → KeepsLines (clients_in old) (history_in old) lines → KeepsLines (clients_in new) (history_in new) lines
+lines_stay old new lines stays so = lines_as lines (sym stays.names) (sym stays.later.1) (lines_on (clients_in old) (history_in old) stays.later.0 lines so)
 
 -- what a round brought stands behind what was printed before
 module _ (setup : Setup) (old new : Playing) (round : Round) (adds : PartsAddUp) (before : IsRunWell old) (after : IsRunWell new) (named : IsNamed old) (on : GoesOnWith old new) (stays : StaysSeated old new)

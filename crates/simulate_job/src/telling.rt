@@ -1,10 +1,11 @@
 // A play beside a vehicle whose report is written as it comes: how it begins before the first round, and what each round brings before
 // the next.
 ghost use Rattle.std.specs.Prelude.{◌≡◌, ◌+◌, ◌++◌, ◌^◌, ◌<◌, ◌≤◌, [], length, IfErr, IfNone, IfOk, IfSome, OnOk, Option, List, Some, ℕ};
+ghost use Rattle.moos_report.specs.Lines.{KeepsLines};
 ghost use Rattle.command_line.specs.Endings.{sinking};
 ghost use Rattle.moos_io.specs.Faults.{Faring, FaresOn};
 ghost use Rattle.moos_play.specs.Lawful.{MayStart, names_with, steering_with};
-ghost use Rattle.moos_play.specs.Plays.{clients_in, GoesOnWith, helm_in, iterations_made, left_in, script_played};
+ghost use Rattle.moos_play.specs.Plays.{clients_in, GoesOnWith, helm_in, history_in, iterations_made, left_in, script_played};
 ghost use Rattle.moos_simulate.specs.Sailing.{IsSailedOut, IsSimulating};
 ghost use Rattle.moos_simulate.specs.Simulated.{gear_names};
 ghost use Rattle.moos_telling.specs.Telling.{IsToldSoFar, Tells};
@@ -14,7 +15,7 @@ ghost use Rattle.simulate_job.specs.Simulating.{IsOfSimulation, IsVoyage, Simula
 use command_line::{Status, written};
 use moos_io::{Buffer, Gate, Sink};
 use moos_play::{HelmRun, Order, Play};
-use moos_report::{Setup, parts_law};
+use moos_report::{PostLines, Setup, parts_law};
 use moos_simulate::{Gear, Vehicle, vehicle_names};
 use moos_telling::{tell_end, tell_opening, tell_part};
 use script_reader::Script;
@@ -87,7 +88,8 @@ fn tell<R: Threads + Wait + Sync, K: Sink, G: Gate>(
     parts_law();
     vehicle.front_law(play);
     play.front_law();
-    if let Err(_) = tell_opening(rt, play, setup, out) {
+    let mut lines = PostLines::new(alloc);
+    if let Err(_) = tell_opening(rt, play, setup, &mut lines, out) {
         return Status::WriteFault;
     }
     let mut buffer = Buffer::new();
@@ -101,6 +103,7 @@ fn tell<R: Threads + Wait + Sync, K: Sink, G: Gate>(
             setup,
             made,
             workers,
+            &mut lines,
             &mut buffer,
             out,
             gate,
@@ -113,7 +116,7 @@ fn tell<R: Threads + Wait + Sync, K: Sink, G: Gate>(
 }
 
 // Plays the next round and tells it, where the helm has made so many iterations before, and answers how many it made in it.
-// None where no round is left. The buffer is empty before and after.
+// None where no round is left. The buffer is empty before and after, and the lines that are kept are of the play's posts.
 fn tell_round<R: Threads + Wait + Sync, K: Sink, G: Gate>(
     rt: &R,
     alloc: Global,
@@ -122,15 +125,18 @@ fn tell_round<R: Threads + Wait + Sync, K: Sink, G: Gate>(
     setup: &Setup,
     made: u64,
     workers: u32,
+    lines: &mut PostLines,
     buffer: &mut Buffer,
     out: &mut K,
     gate: &G,
 ) -> Result<Option<u64>, Status>
     requires empty { buffer.old ≡ [] }
+    requires kept { KeepsLines (clients_in play.old) (history_in play.old) lines.old }
     requires simulating { IsSimulating vehicle.old play.old }
     requires made { made ≡ length (iterations_made play.old) }
     requires few { (1 ≤ workers) × (workers ≤ 16) }
     ensures empty { OnOk result (buffer.new ≡ []) }
+    ensures kept { OnOk result (KeepsLines (clients_in play.new) (history_in play.new) lines.new) }
     ensures simulating { OnOk result (IsSimulating vehicle.new play.new) }
     ensures gear { OnOk result (vehicle.new.gear ≡ vehicle.old.gear) }
     ensures same { OnOk result (GoesOnWith play.old play.new) }
@@ -158,7 +164,7 @@ fn tell_round<R: Threads + Wait + Sync, K: Sink, G: Gate>(
     };
     vehicle.front_law(play);
     play.front_law();
-    if let Err(_) = tell_part(rt, play, setup, &round, made, buffer, out) {
+    if let Err(_) = tell_part(rt, play, setup, &round, made, lines, buffer, out) {
         return Err(Status::WriteFault);
     }
     Ok(Some(round.iterations.len() as u64))

@@ -2,7 +2,7 @@ use Rattle.std.proofs.Common.{◌+◌, refl, arith, take, drop}
 use Rattle.moos_db.proofs.Growth.{posts-more, posts-take}
 use Rattle.moos_report.specs.IterationLines.{is_helm_fetch}
 use Rattle.moos_report.specs.Report.{entries_text}
-use Rattle.moos_report.proofs.Reporting.{entries_due, fetches_more, once_at_most, outcome_counted}
+use Rattle.moos_report.proofs.Reporting.{entries_due, fetches_more, once_at_most, outcome_counted, wrote_err}
 use Rattle.moos_io.proofs.Passages.{leads_start, leads_on, leads_failed}
 use Rattle.moos_report.proofs.put_entries.Goals as goal
 
@@ -16,18 +16,18 @@ loop-k-init g c =
       c.requires.kept,
     )
 
-pub returns-in-Err-clause-wrote : goal.returns-in-Err-clause-wrote
-returns-in-Err-clause-wrote g c =
+pub returns-in_err-put_entry-clause-wrote : goal.returns-in_err-put_entry-clause-wrote
+returns-in_err-put_entry-clause-wrote g c =
     let due = entries_due c.args.setup.now c.args.first c.args.iterations.now c.args.db.now.names c.args.db.now.history c.loop-k.k c.entry-entry.ensures in
-    record { ok = tt; front = leads_failed _ c.loop-k.invariant.0 due c.in-Err.ensures.front }
+    wrote_err _ c.from_residual.result c.from_residual.ensures.1 (leads_failed _ c.loop-k.invariant.0 due c.in_err-put_entry.ensures.front)
 
-pub returns-in-Err-put_outcome-clause-wrote : goal.returns-in-Err-put_outcome-clause-wrote
-returns-in-Err-put_outcome-clause-wrote g c =
+pub returns-in_err-put_outcome-clause-wrote : goal.returns-in_err-put_outcome-clause-wrote
+returns-in_err-put_outcome-clause-wrote g c =
     let history = c.args.db.now.history in
     let due = entries_due c.args.setup.now c.args.first c.args.iterations.now c.args.db.now.names history c.loop-k.k c.entry-entry.ensures in
     let counted = outcome_counted c.args.setup.now c.args.first c.args.iterations.now c.args.db.now.names (take c.loop-k.k history) c.entry-entry.result.now c.loop-k.fetches c.loop-k.invariant.3 in
-    let outcome = rw counted at c.in-Err-put_outcome.ensures.front in
-    record { ok = tt; front = leads_failed _ (leads_on c.loop-k.invariant.0 due c.in_default.ensures.ok) refl outcome }
+    let outcome = rw counted at c.in_err-put_outcome.ensures.front in
+    wrote_err _ c.from_residual-in_err-put_outcome.result c.from_residual-in_err-put_outcome.ensures.1 (leads_failed _ (leads_on c.loop-k.invariant.0 due c.in_ok-put_entry.ensures.ok) refl outcome)
 
 pub overflow_add-posts : goal.overflow_add-posts
 overflow_add-posts g c =
@@ -46,10 +46,10 @@ loop-k-preserved g c =
     let entry = c.entry-entry.result.now in
     let due = entries_due c.args.setup.now c.args.first c.args.iterations.now names history c.loop-k.k c.entry-entry.ensures in
     let counted = outcome_counted c.args.setup.now c.args.first c.args.iterations.now names (take c.loop-k.k history) entry c.loop-k.fetches c.loop-k.invariant.3 in
-    let outcome = rw counted at c.in_default-put_outcome.ensures.ok in
+    let outcome = rw counted at c.in_ok-put_outcome.ensures.ok in
     let posts = posts-more history c.loop-k.k c.entry-entry.ensures in
     let fetches = fetches_more names history c.loop-k.k c.entry-entry.ensures in (
-      leads_on (leads_on c.loop-k.invariant.0 due c.in_default.ensures.ok) refl outcome,
+      leads_on (leads_on c.loop-k.invariant.0 due c.in_ok-put_entry.ensures.ok) refl outcome,
       omega (arith, posts, c.loop-k.invariant.1, c.posts_in-posts.ensures),
       omega (arith, c.loop-k.invariant.2, once_at_most (is_helm_fetch names entry), c.fetches_after-fetches.ensures),
       (λ some. omega (arith, fetches, c.loop-k.invariant.3 some, c.fetches_after-fetches.ensures)),

@@ -5,6 +5,8 @@ use Rattle.moos_io.specs.Pieces.{Took, TookFront}
 use Rattle.moos_io.proofs.Writing.{fares_further}
 use Rattle.moos_play.specs.declared.playing.Play.{Play}
 use Rattle.moos_play.specs.Plays.{clients_in, GoesOnWith, HasCompletion, helm_in, history_in, IsBetween, IsPlayedOut, iterations_made, order_played, script_played}
+use Rattle.moos_report.proofs.KeptLines.{no_lines}
+use Rattle.moos_report.specs.Lines.{KeepsLines}
 use Rattle.moos_report.specs.Parts.{front_text}
 use Rattle.command_line.specs.Endings.{sinking}
 use Rattle.moos_jobs.specs.Telling.{IsOfLawful}
@@ -13,6 +15,9 @@ use Rattle.moos_telling.proofs.Fetching.{IsRunWell}
 use Rattle.moos_telling.proofs.Rounds.{end_told, goes_on_twice, told_front}
 use Rattle.moos_telling.specs.Telling.{IsToldSoFar, Tells}
 use Rattle.moos_jobs.proofs.telling.tell.Goals as goal
+
+pub tell_opening-requires-clause-kept : goal.tell_opening-requires-clause-kept
+tell_opening-requires-clause-kept g c = no_lines (clients_in c.args.play.now) (history_in c.args.play.now) _ c.new-lines.ensures
 
 pub returns-in-Err : goal.returns-in-Err
 returns-in-Err g c =
@@ -39,6 +44,7 @@ loop-more-init g c =
     let none = none_made play well c.requires.named c.requires.begun in
     record {
       empty = c.new-buffer.ensures;
+      kept = subst (λ (play : Play). KeepsLines (clients_in play) (history_in play) c.tell_opening.new.lines) same c.tell_opening.ensures.kept;
       between = subst IsBetween same c.requires.between;
       named = subst IsAlone same c.requires.named;
       on = subst HasCompletion same c.front_law.ensures.front;
@@ -63,6 +69,7 @@ loop-more-preserved g c =
     let on = c.in-Ok-Some.ensures.same in
     record {
       empty = c.in-Ok-Some.ensures.empty;
+      kept = c.in-Ok-Some.ensures.kept;
       between = c.in-Ok-Some.ensures.between;
       named = alone_on old new on kept.named;
       on = subst (λ more. IfSome more (λ _. HasCompletion new)) is c.in-Ok-Some.ensures.on;

@@ -1,7 +1,8 @@
 -- What is printed of the run so far was written, and the run goes on from where it began.
 use Rattle.std.proofs.Common.{◌≡◌, [], length}
 use Rattle.moos_io.specs.Faults.{FaresOn}
-use Rattle.moos_play.specs.Plays.{GoesOnWith, HasCompletion, IsBetween, iterations_made, left_in}
+use Rattle.moos_play.specs.Plays.{clients_in, GoesOnWith, HasCompletion, history_in, IsBetween, iterations_made, left_in}
+use Rattle.moos_report.specs.Lines.{KeepsLines}
 use Rattle.moos_telling.specs.Telling.{IsToldSoFar}
 use Rattle.moos_jobs.proofs.Rounds.{IsAlone}
 use Rattle.moos_jobs.proofs.telling.tell.Given as goal
@@ -9,6 +10,7 @@ use Rattle.moos_jobs.proofs.telling.tell.Given as goal
 abbrev pub invariant-loop-more : goal.invariant-loop-more
 invariant-loop-more g l = record {
   empty : l.buffer ≡ [];
+  kept : KeepsLines (clients_in l.play) (history_in l.play) l.lines;
   between : IsBetween l.play;
   named : IsAlone l.play;
   on : HasCompletion l.play;

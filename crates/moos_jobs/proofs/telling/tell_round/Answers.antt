@@ -6,7 +6,7 @@ use Rattle.moos_play.specs.Plays.{clients_in, helm_in, history_in, IsRound, iter
 use Rattle.command_line.specs.Endings.{sinking}
 use Rattle.moos_jobs.specs.Telling.{IsOfLawful}
 use Rattle.moos_jobs.proofs.Rounds.{alone_on, named_alone, of_lawful, run_as}
-use Rattle.moos_telling.proofs.Rounds.{few_made, fetched_before, part_front, part_told, told_front, told_so_far}
+use Rattle.moos_telling.proofs.Rounds.{few_made, fetched_before, lines_stay, part_front, part_told, told_front, told_so_far}
 use Rattle.moos_telling.specs.Telling.{IsToldSoFar, ToldFront}
 use Rattle.moos_jobs.proofs.telling.tell_round.Goals as goal
 
@@ -18,6 +18,12 @@ returns-in_default-clause-stopped g c = λ before faults later on told.
     (IsOfLawful (order_played play) (script_played play) (helm_in play) setup)
     (of_lawful (order_played play) (script_played play) (helm_in play) setup (clients_in play) (history_in play ++ on.rest) (iterations_made play ++ on.more) c.requires.named (on.alone c.requires.named) (sym on.iterations))
     before _ faults _ told)
+
+pub tell_part-requires-clause-kept : goal.tell_part-requires-clause-kept
+tell_part-requires-clause-kept g c = lines_stay c.args.play.now c.round.new.self c.args.lines.now c.round.ensures.seated c.requires.kept
+
+pub returns-in_default-next-clause-kept : goal.returns-in_default-next-clause-kept
+returns-in_default-next-clause-kept g c = lines_stay c.args.play.now c.round.new.self c.args.lines.now c.round.ensures.seated c.requires.kept
 
 pub tell_part-requires-clause-fetched : goal.tell_part-requires-clause-fetched
 tell_part-requires-clause-fetched g c =

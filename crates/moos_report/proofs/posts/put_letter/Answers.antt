@@ -12,9 +12,9 @@ returns-then-number-first g c =
 pub returns-then-line-gt0 : goal.returns-then-line-gt0
 returns-then-line-gt0 g c =
     rw (letter_kept c.args.db.now.names c.args.db.now.history c.args.lines.now c.args.first c.args.number c.line-line.result.now c.requires.kept c.requires.within (omega (arith, c.if-number-first.false)) c.line-line.ensures (omega (arith, c.if-line-gt0.true)))
-    c.put_kept.ensures
+    (rw c.requires.digits at c.put_kept.ensures)
 
 pub returns : goal.returns
 returns g c =
     let is = letter_is c.args.db.now.names (posts_of c.args.db.now.history) c.args.first c.args.number c.if-number-first.false c.origin-origin.ensures c.pair-pair.ensures in
-    rw is (rw c.name_of.ensures at c.put_mail.ensures)
+    rw is (rw (c.name_of.ensures, c.requires.digits) at c.put_mail.ensures)

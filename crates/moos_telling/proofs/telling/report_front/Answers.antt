@@ -12,4 +12,4 @@ returns-in-Err-clause-front g c =
 pub returns-clause-front : goal.returns-clause-front
 returns-clause-front g c =
     let db = c.args.db.now in
-    put_behind c.report_part.result _ _ _ (head_text c.args.setup.now db.names) (entries_text c.args.setup.now 0 [] db.names [] db.history) c.in_default.ensures.ok c.report_part.ensures.front
+    put_behind c.report_part_through.result _ _ _ (head_text c.args.setup.now db.names) (entries_text c.args.setup.now 0 [] db.names [] db.history) c.in_default.ensures.ok c.report_part_through.ensures.front

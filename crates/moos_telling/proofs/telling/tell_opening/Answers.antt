@@ -1,10 +1,23 @@
 -- The database that is lent has the names and the entries of the run.
-use Rattle.std.proofs.Common.{[], ◌∙◌, ap, subst, List, ℕ}
+use Rattle.std.proofs.Common.{[], ◌∙◌, ap, subst, sym, List, ℕ}
 use Rattle.std.specs.Prelude.{OnErr, OnOk}
 use Rattle.moos_db.specs.declared.db.Db.{Db}
 use Rattle.moos_io.specs.Pieces.{Took, TookFront}
 use Rattle.moos_report.specs.Parts.{front_text}
+use Rattle.moos_telling.proofs.Rounds.{lines_as}
 use Rattle.moos_telling.proofs.telling.tell_opening.Goals as goal
+
+pub report_front-told-requires : goal.report_front-told-requires
+report_front-told-requires g c =
+    let names = ap (λ (db : Db). db.names) c.value.ensures ∙ c.hold-held.ensures.names in
+    let history = ap (λ (db : Db). db.history) c.value.ensures ∙ c.hold-held.ensures.history in
+    lines_as c.args.lines.now (sym names) (sym history) c.requires.kept
+
+pub returns-clause-kept : goal.returns-clause-kept
+returns-clause-kept g c =
+    let names = ap (λ (db : Db). db.names) c.value.ensures ∙ c.hold-held.ensures.names in
+    let history = ap (λ (db : Db). db.history) c.value.ensures ∙ c.hold-held.ensures.history in
+    lines_as c.report_front-told.new.lines names history c.report_front-told.ensures.kept
 
 pub returns-clause-ok : goal.returns-clause-ok
 returns-clause-ok g c =

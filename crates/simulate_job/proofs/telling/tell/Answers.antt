@@ -4,6 +4,8 @@ use Rattle.std.specs.Prelude.{IfNone, IfSome}
 use Rattle.moos_io.proofs.Writing.{fares_further}
 use Rattle.moos_io.specs.Pieces.{Took, TookFront}
 use Rattle.moos_play.specs.Plays.{clients_in, GoesOnWith, helm_in, history_in, iterations_made, Playing, script_played}
+use Rattle.moos_report.proofs.KeptLines.{no_lines}
+use Rattle.moos_report.specs.Lines.{KeepsLines}
 use Rattle.moos_report.specs.Parts.{front_text}
 use Rattle.moos_simulate.specs.Sailing.{IsSailedOut, IsSimulating}
 use Rattle.moos_telling.proofs.Fetching.{IsRunWell}
@@ -12,6 +14,9 @@ use Rattle.moos_telling.specs.Telling.{IsToldSoFar}
 use Rattle.simulate_job.proofs.Reporting.{may_report, named_sailing, of_on}
 use Rattle.simulate_job.specs.Simulating.{IsVoyage}
 use Rattle.simulate_job.proofs.telling.tell.Goals as goal
+
+pub tell_opening-requires-clause-kept : goal.tell_opening-requires-clause-kept
+tell_opening-requires-clause-kept g c = no_lines (clients_in c.args.play.now) (history_in c.args.play.now) _ c.new-lines.ensures
 
 pub returns-in-Err : goal.returns-in-Err
 returns-in-Err g c = λ task of.
@@ -39,6 +44,7 @@ loop-more-init g c =
     let same = sym c.tell_opening.ensures.same in
     record {
       empty = c.new-buffer.ensures;
+      kept = subst (λ (play : Playing). KeepsLines (clients_in play) (history_in play) c.tell_opening.new.lines) same c.tell_opening.ensures.kept;
       simulating = subst (IsSimulating c.args.vehicle.now) same c.requires.simulating;
       gear = refl;
       same = subst (GoesOnWith play) same (record { script = refl; order = refl; names = refl; helm = refl });
@@ -61,6 +67,7 @@ loop-more-preserved g c =
     let is = c.in-Ok-Some.field-0-is in
     record {
       empty = c.in-Ok-Some.ensures.empty;
+      kept = c.in-Ok-Some.ensures.kept;
       simulating = c.in-Ok-Some.ensures.simulating;
       gear = c.in-Ok-Some.ensures.gear ∙ kept.gear;
       same = goes_on_twice c.args.play.now old new kept.same c.in-Ok-Some.ensures.same;

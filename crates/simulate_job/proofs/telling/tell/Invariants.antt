@@ -1,14 +1,16 @@
 -- What is printed of the play so far was written, and it goes on from where it began, beside the same vehicle.
 use Rattle.std.proofs.Common.{◌≡◌, [], length}
 use Rattle.moos_io.specs.Faults.{FaresOn}
-use Rattle.moos_play.specs.Plays.{GoesOnWith, iterations_made, left_in}
+use Rattle.moos_play.specs.Plays.{clients_in, GoesOnWith, history_in, iterations_made, left_in}
 use Rattle.moos_simulate.specs.Sailing.{IsSimulating}
+use Rattle.moos_report.specs.Lines.{KeepsLines}
 use Rattle.moos_telling.specs.Telling.{IsToldSoFar}
 use Rattle.simulate_job.proofs.telling.tell.Given as goal
 
 abbrev pub invariant-loop-more : goal.invariant-loop-more
 invariant-loop-more g l = record {
   empty : l.buffer ≡ [];
+  kept : KeepsLines (clients_in l.play) (history_in l.play) l.lines;
   simulating : IsSimulating l.vehicle l.play;
   gear : l.vehicle.gear ≡ l.fn.vehicle.gear;
   same : GoesOnWith l.fn.play l.play;

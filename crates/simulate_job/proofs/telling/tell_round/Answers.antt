@@ -5,7 +5,7 @@ use Rattle.moos_io.proofs.Writing.{fell_later}
 use Rattle.moos_play.specs.Plays.{clients_in, helm_in, history_in, iterations_made, left_in, script_played}
 use Rattle.moos_simulate.specs.Sailing.{IsRoundBeside, IsSailedOut}
 use Rattle.moos_telling.proofs.Fetching.{IsRunWell}
-use Rattle.moos_telling.proofs.Rounds.{few_made, fetched_before, part_front, part_told, told_front, told_so_far}
+use Rattle.moos_telling.proofs.Rounds.{few_made, fetched_before, lines_stay, part_front, part_told, told_front, told_so_far}
 use Rattle.moos_telling.specs.Telling.{IsToldSoFar}
 use Rattle.simulate_job.proofs.Reporting.{may_report, named_sailing, of_on}
 use Rattle.simulate_job.specs.Simulating.{IsVoyage}
@@ -22,6 +22,12 @@ returns-in_default-clause-stopped g c = λ task before faults of later told.
     inr (told_so_far setup play c.parts_law.ensures.fronts well (named_sailing vehicle play c.requires.simulating law.valid) voyage.rest voyage.more (IsVoyage task)
     (may_report task setup vehicle.gear (script_played play) (helm_in play) (clients_in play) (history_in play ++ voyage.rest) (iterations_made play ++ voyage.more) of voyage.simulated voyage.iterations)
     before _ faults _ told)
+
+pub tell_part-requires-clause-kept : goal.tell_part-requires-clause-kept
+tell_part-requires-clause-kept g c = lines_stay c.args.play.now c.round.new.play c.args.lines.now c.round.ensures.seated c.requires.kept
+
+pub returns-in_default-next-clause-kept : goal.returns-in_default-next-clause-kept
+returns-in_default-next-clause-kept g c = lines_stay c.args.play.now c.round.new.play c.args.lines.now c.round.ensures.seated c.requires.kept
 
 pub tell_part-requires-clause-fetched : goal.tell_part-requires-clause-fetched
 tell_part-requires-clause-fetched g c =
