@@ -16,6 +16,10 @@ prefix_bytes (Some prefix) = prefix
 abbrev pub carried_name : Rule → List ℕ → List ℕ
 carried_name rule var = prefix_bytes rule.prefix ++ var
 
+-- these bytes, where they are few enough for a name
+abbrev pub short_name : List ℕ → Option (List ℕ)
+short_name bytes = if nat_le (length bytes) 64 then Some bytes else None
+
 -- the first rule whose two patterns select the post, where the clients have these names
 abbrev pub rule_for : List (List ℕ) → List Rule → Post → Option Rule
 rule_for names rules post = find (λ rule. selects names rule.reg post) rules

@@ -5,19 +5,23 @@ ghost use Rattle.moos_post.specs.declared.entry.Call.TheVariants.{Post};
 ghost use Rattle.moos_share.specs.Carrying.{HasCarried, HasGoneOn, HasNotCarried, MayCarry, seated};
 ghost use Rattle.moos_share.specs.Renaming.{renamed};
 
+use crate::carried_names::CarriedNames;
 use crate::fetching::{Fetched, fetch_named};
 use crate::renaming::renamed;
 use crate::rule::Rules;
 use moos_client::{Lock, Seat, post};
-use moos_post::NoMemory;
+use moos_post::{Names, NoMemory};
 use std::alloc::Global;
 use std::marker::Model;
 use std::sync::Wait;
 
-/// A bridge. Contracts see its rules, and what it has fetched and not posted yet.
+/// A bridge. Contracts see its rules, and what it has fetched and not posted yet. So that a carrying takes little memory it keeps the
+/// names of the first community's clients, as the fetch before gave them, and the carried names that it made.
 #[derive(Drop)]
 pub struct Bridge {
     rules: Rules,
+    names: Option<Names>,
+    carried: CarriedNames,
     unposted: Option<Fetched>,
 }
 
@@ -38,6 +42,8 @@ impl Bridge {
     {
         Bridge {
             rules,
+            names: None,
+            carried: CarriedNames::new(),
             unposted: None,
         }
     }
@@ -64,11 +70,14 @@ impl Bridge {
     {
         let fetched = match self.unposted.take() {
             Some(fetched) => fetched,
-            None => fetch_named(rt, alloc, first, from, stamp)?,
+            None => fetch_named(rt, alloc, first, from, self.names.take(), stamp)?,
         };
-        let answer = post_renamed(rt, alloc, &self.rules, &fetched, second, to, stamp);
+        let carried = &mut self.carried;
+        let answer = post_renamed(rt, alloc, &self.rules, carried, &fetched, second, to, stamp);
         if answer.is_err() {
             self.unposted = Some(fetched);
+        } else {
+            self.names = Some(fetched.into_names());
         }
         answer
     }
@@ -79,6 +88,7 @@ fn post_renamed<R: Wait>(
     rt: &R,
     alloc: Global,
     rules: &Rules,
+    carried: &mut CarriedNames,
     fetched: &Fetched,
     lock: &Lock,
     seat: &mut Seat,
@@ -88,6 +98,6 @@ fn post_renamed<R: Wait>(
     ensures called { OnOk result (IsCalled seat.old seat.new stamp (Post (renamed fetched.now.names rules.now fetched.now.mail))) }
     ensures uncalled { OnErr result (IsUncalled seat.old seat.new) }
 {
-    let batch = renamed(alloc, rules, &fetched.names, fetched.mail.all())?;
+    let batch = renamed(alloc, rules, carried, &fetched.names, fetched.mail.all())?;
     post(rt, alloc, lock, seat, stamp, batch)
 }

@@ -1,5 +1,5 @@
-// A fetch that gives the names of the clients too. They are copied before it is made, so that no letter is without its names.
-ghost use Rattle.std.specs.Prelude.{◌≡◌, ◌<◌, length, IfOk, OnOk, OnErr};
+// A fetch that gives the names of the clients too. They are at hand before it is made, so that no letter is without its names.
+ghost use Rattle.std.specs.Prelude.{◌≡◌, ◌↔◌, ◌<◌, length, IfOk, IsTrue, OnOk, OnErr};
 ghost use Rattle.moos_client.specs.Calls.{entries_of, entry_of, IsFetched, IsUncalled, MayCall};
 ghost use Rattle.moos_db.specs.Database.{after_entry, AreLetters};
 ghost use Rattle.moos_post.specs.declared.entry.Call.TheVariants.{Fetch};
@@ -22,13 +22,22 @@ pub struct Fetched {
     pub mail: Mail,
 }
 
-/// The client fetches its mail at this stamp, in milliseconds, and is given the names of all clients too. It waits for the
-/// client's turn.
+impl Fetched {
+    /// The names, once the letters are posted.
+    pub(crate) fn into_names(self) -> Names {
+        let Fetched { names, mail: _ } = self;
+        names
+    }
+}
+
+/// The client fetches its mail at this stamp, in milliseconds, and is given the names of all clients too: those that a fetch
+/// before gave, where they still are the clients', and else a copy. It waits for the client's turn.
 pub(crate) fn fetch_named<R: Wait>(
     rt: &R,
     alloc: Global,
     lock: &Lock,
     seat: &mut Seat,
+    before: Option<Names>,
     stamp: u64,
 ) -> Result<Fetched, NoMemory>
     requires { MayCall lock.now seat.old }
@@ -39,7 +48,7 @@ pub(crate) fn fetch_named<R: Wait>(
 {
     let client = seat.number();
     let mut held = lock.take(rt, seat);
-    let answer = names_and_mail(alloc, held.value_mut(), client, stamp);
+    let answer = names_and_mail(alloc, held.value_mut(), before, client, stamp);
     match &answer {
         Ok(_) => lock.give(seat, held),
         Err(_) => lock.give_back(seat, held),
@@ -48,7 +57,13 @@ pub(crate) fn fetch_named<R: Wait>(
 }
 
 // The names of the clients, and then the client's mail.
-fn names_and_mail(alloc: Global, db: &mut Db, client: u32, stamp: u64) -> Result<Fetched, NoMemory>
+fn names_and_mail(
+    alloc: Global,
+    db: &mut Db,
+    before: Option<Names>,
+    client: u32,
+    stamp: u64,
+) -> Result<Fetched, NoMemory>
     requires { client < length db.old.names }
     ensures names { IfOk result (λ fetched. fetched.names ≡ db.old.names) }
     ensures mail { let numbers = mail_after db.old.names client db.old.history
@@ -56,9 +71,36 @@ fn names_and_mail(alloc: Global, db: &mut Db, client: u32, stamp: u64) -> Result
     ensures ok { OnOk result (db.new ≡ after_entry db.old (entry_of client stamp Fetch)) }
     ensures same { OnErr result (db.new ≡ db.old) }
 {
-    let names = names_of(alloc, db)?;
+    let names = names_now(alloc, db, before)?;
     let mail = db.fetch(alloc, client, stamp)?;
     Ok(Fetched { names, mail })
+}
+
+// The names of the clients: those of before, where these are the same.
+fn names_now(alloc: Global, db: &Db, before: Option<Names>) -> Result<Names, NoMemory>
+    ensures { IfOk result (λ names. names ≡ db.now.names) }
+{
+    if let Some(names) = before {
+        if are_names(db, &names) {
+            return Ok(names);
+        }
+    }
+    names_of(alloc, db)
+}
+
+// Whether these are the names of the clients.
+fn are_names(db: &Db, names: &Names) -> bool
+    ensures { IsTrue result ↔ (names.now ≡ db.now.names) }
+{
+    if names.len() != db.clients() as usize {
+        return false;
+    }
+    for client in 0..db.clients() {
+        if names.get(client as usize).bytes() != db.name(client).bytes() {
+            return false;
+        }
+    }
+    true
 }
 
 // The names of the clients.

@@ -5,10 +5,11 @@
 //! and cause. Over any list of calls of `carry`, each with memory or without, what was posted in the second community,
 //! followed by the renaming of what was fetched and not posted yet, is the renaming of all that was fetched in the first.
 //!
-//! Reading order: `rule`, `reading`, `long_names`; `renaming`, `fetching`, `bridge`; `law`.
+//! Reading order: `rule`, `reading`, `long_names`; `carried_names`, `renaming`, `fetching`, `bridge`; `law`.
 #![tactic(auto)]
 
 mod bridge;
+mod carried_names;
 mod fetching;
 mod law;
 mod long_names;

@@ -1,37 +1,40 @@
 // What a bridge posts of the letters that it fetched.
-ghost use Rattle.std.specs.Prelude.{◌≡◌, IfOk, nat_le, length, if◌then◌else◌, Some, None, option_copied, option_to_list};
+ghost use Rattle.std.specs.Prelude.{◌≡◌, IfOk, option_copied, option_to_list};
 ghost use Rattle.moos_post.specs.Delivery.{selects};
 ghost use Rattle.moos_post.specs.History.{name_of};
-ghost use Rattle.moos_share.specs.Renaming.{carried_by, carried_name, renamed, rule_for};
+ghost use Rattle.moos_share.specs.Renaming.{carried_by, carried_name, renamed, rule_for, short_name};
 
+use crate::carried_names::CarriedNames;
 use crate::rule::{Rule, Rules};
 use moos_db::Letter;
-use moos_post::{Batch, Copied, List, Name, NameFault, Names, NoMemory, Pair, Post};
+use moos_post::{Batch, Copied, List, Name, Names, NoMemory, Pair, Post};
 use moos_reg::matches;
-use std::alloc::{AllocError, Global};
+use std::alloc::Global;
 
-/// The renaming of these letters, which were fetched where the clients have these names.
+/// The renaming of these letters, which were fetched where the clients have these names. Room is made once, for all of them.
 pub(crate) fn renamed(
     alloc: Global,
     rules: &Rules,
+    carried: &mut CarriedNames,
     names: &Names,
     mail: &[Letter],
 ) -> Result<Batch, NoMemory>
     ensures { IfOk result (λ batch. batch ≡ renamed names.now rules.now mail.now) }
 {
-    let mut batch = List::new(alloc);
+    let mut pairs = Vec::with_capacity(alloc, mail.len())?;
     for letter in mail {
-        if let Some(pair) = carried_by(alloc, rules, names, &letter.post)? {
-            batch.add(pair)?;
+        if let Some(pair) = carried_by(alloc, rules, carried, names, &letter.post)? {
+            pairs.push(pair)?;
         }
     }
-    Ok(batch)
+    Ok(List::of(pairs))
 }
 
 // The post under the name that the first rule that selects it gives; none without such a rule, or where that name is too long.
 fn carried_by(
     alloc: Global,
     rules: &Rules,
+    carried: &mut CarriedNames,
     names: &Names,
     post: &Post,
 ) -> Result<Option<Pair>, NoMemory>
@@ -40,7 +43,7 @@ fn carried_by(
     let Some(rule) = rule_for(rules, names, post) else {
         return Ok(None);
     };
-    let Some(var) = carried_name(alloc, rule, &post.var)? else {
+    let Some(var) = carried_name(alloc, carried, rule, &post.var)? else {
         return Ok(None);
     };
     let value = post.value.copy(alloc)?;
@@ -76,18 +79,16 @@ fn name_of(names: &Names, client: u32) -> &[u8]
 }
 
 // The name with the rule's prefix before it, where that has at most 64 bytes.
-fn carried_name(alloc: Global, rule: &Rule, var: &Name) -> Result<Option<Name>, NoMemory>
-    ensures { IfOk result (λ name. name ≡ (if nat_le (length (carried_name rule.now var.now)) 64 then Some (carried_name rule.now var.now) else None)) }
+fn carried_name(
+    alloc: Global,
+    carried: &mut CarriedNames,
+    rule: &Rule,
+    var: &Name,
+) -> Result<Option<Name>, NoMemory>
+    ensures { IfOk result (λ name. name ≡ short_name (carried_name rule.now var.now)) }
 {
     let Some(prefix) = &rule.prefix else {
         return Ok(Some(var.copy(alloc)?));
     };
-    let mut bytes = Vec::new(alloc);
-    bytes.extend_from_slice(prefix.bytes())?;
-    bytes.extend_from_slice(var.bytes())?;
-    match Name::new(alloc, bytes.as_slice()) {
-        Ok(name) => Ok(Some(name)),
-        Err(NameFault::BadName) => Ok(None),
-        Err(NameFault::NoMemory) => Err(AllocError),
-    }
+    carried.with_prefix(alloc, prefix, var)
 }

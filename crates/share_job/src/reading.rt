@@ -1,8 +1,9 @@
 // The files of the job: scripts without a client of the bridge's name, and rules that make no name too long.
 ghost use Rattle.std.specs.Prelude.{◌≡◌, ◌∷◌, ◌<◌, ◌^◌, [], codes, length, IfErr, IfOk, Ok};
-ghost use Rattle.std.specs.List.{All};
+ghost use Rattle.std.specs.List.{All, list_any};
 ghost use Rattle.moos_share.specs.Validity.{IsRule};
 ghost use Rattle.moos_text.specs.Refusals.{IsFirst};
+ghost use Rattle.script_reader.specs.Named.{has_name};
 ghost use Rattle.share_job.specs.Sharing.{community_of, fitting_of, IsWithoutBridge};
 
 use moos_bridged::bridge_name;
@@ -12,7 +13,8 @@ use moos_text::{Cause, ReadFault};
 use script_reader::{Script, client_law, line_of_client, read_script};
 use std::alloc::Global;
 
-/// Reads a script of which no line is of a client with the bridge's name: the script, or its first refusal.
+/// Reads a script of which no line is of a client with the bridge's name: the script, or its first refusal. Its lines are looked
+/// through for such a one only where the script has that client.
 pub(crate) fn read_community(alloc: Global, bytes: &[u8]) -> Result<Script, ReadFault>
     requires { length bytes.now < 2 ^ 32 }
     ensures read { IfOk result (λ script. community_of bytes.now ≡ Ok script) }
@@ -21,6 +23,9 @@ pub(crate) fn read_community(alloc: Global, bytes: &[u8]) -> Result<Script, Read
 {
     client_law();
     let script = read_script(alloc, bytes)?;
+    if !has_bridge(&script) {
+        return Ok(script);
+    }
     let Ok(names) = bridge_alone(alloc) else {
         return Err(ReadFault::NoMemory);
     };
@@ -31,6 +36,14 @@ pub(crate) fn read_community(alloc: Global, bytes: &[u8]) -> Result<Script, Read
         }),
         None => Ok(script),
     }
+}
+
+// Whether a client of the script has the bridge's name.
+fn has_bridge(script: &Script) -> bool
+    ensures { result ≡ list_any (has_name (codes "pShare" ∷ [])) script.now.names }
+{
+    let bridge = b"pShare".as_slice();
+    script.names.all().iter().any(|name| bridge == name.bytes())
 }
 
 // The name of the bridge, as a list.
