@@ -1,89 +1,24 @@
 -- What a client fetches along a history is, in order, a front of all that the history mails to it.
-use Rattle.std.proofs.Common.{◌≡◌, ℕ, suc, ◌<◌, ◌≤◌, Bool, true, false, cond, ◌==◌, ◌&&◌, nat_le, List, [], ◌∷◌, ◌++◌, append_assoc, append-nil, length, map, filter, All, get_or, refl, ap, sym, ◌∙◌, arith, subst, if◌then◌else◌}
+use Rattle.std.proofs.Common.{◌≡◌, ℕ, ◌<◌, Bool, true, false, cond, ◌==◌, nat_le, List, [], ◌∷◌, ◌++◌, append_assoc, append-nil, length, filter, All, get_or, refl, ap, sym, ◌∙◌, arith, subst, if◌then◌else◌}
 use Rattle.std.specs.Prelude.{slice_get, option_map, option_to_list}
-use Rattle.std.specs.List.{list_any}
-use Rattle.std.proofs.lemmas.Bool.{le-leb}
 use Rattle.std.proofs.lemmas.Grind.{flat_map-append}
-use Rattle.std.proofs.lemmas.List.{map-append}
-use Rattle.std.proofs.lemmas.List.Elements.{All-filter, All-head, All-map, All-tail, All-weaker, filter-append}
+use Rattle.std.proofs.lemmas.List.Elements.{All-filter, All-head, All-map, All-tail}
 use Rattle.std.proofs.lemmas.List.Sums.{fold-append}
 use Rattle.moos_db.specs.Database.{letter_of, letters_after, letters_at}
-use Rattle.moos_mail.proofs.Inboxes.{fetch-call, fetched_now, Keeps, keeps-call, over, posts-inbox_of, with_entry-ended}
-use Rattle.moos_mail.proofs.Lists.{filter-none, found-below, slice_get-front}
-use Rattle.moos_mail.proofs.Orderly.{IsSettled, settled-inbox_of}
+use Rattle.moos_mail.proofs.Appending.{numbers}
+use Rattle.moos_mail.proofs.Inboxes.{posts-inbox_of}
+use Rattle.moos_mail.proofs.Joined.{fetched_entry, got_entry, HasGot, is_own_fetch, none_waits}
+use Rattle.moos_mail.proofs.Lists.{found-below, slice_get-front}
+use Rattle.moos_mail.proofs.Orderly.{settled-inbox_of}
 use Rattle.moos_post.specs.declared.entry.Entry.{Entry}
 use Rattle.moos_post.specs.declared.value.Post.{Post}
-use Rattle.moos_post.specs.Delivery.{empty_inbox, Inbox, inbox_of, is_due, is_fetch, mail_after, mailed_to, Mailing, mailing, waiting, with_entry, with_own}
+use Rattle.moos_post.specs.Delivery.{empty_inbox, Inbox, inbox_of, mail_after, mailed_to, Mailing, waiting, with_entry, with_own}
 use Rattle.moos_post.specs.History.{History, posts_of, posts_of_entry}
 use Rattle.moos_share.specs.Fetches.{fetches_in, fetches_of, letters_fetched, MailedFetch}
 use Rattle.moos_bridged.specs.Fronts.{letters_mailed}
 use Rattle.moos_share.specs.Bridged.{bridge_number, bridge_opening}
 use Rattle.moos_share.specs.declared.rule.Rule.{Rule}
 use Rattle.script_reader.specs.declared.script.Script.{Script}
-use Rattle.std.proofs.lemmas.Bool.Decides.{nat_tests}
-
-abbrev numbers : List Mailing → List ℕ
-numbers mailed = map (λ (one : Mailing). one.number) mailed
-
--- the client got these numbers by its fetches so far, and the rest of what was mailed waits
-record HasGot (got : List ℕ) (inbox : Inbox) : Type 0 where
-  fetched : inbox.fetched ≤ inbox.entries
-  all : numbers inbox.mailed ≡ got ++ waiting inbox
-
--- one more that was mailed waits
-got_mailed : (got : List ℕ) (inbox : Inbox) (number : ℕ) → HasGot got inbox → numbers (inbox.mailed ++ mailing number inbox.entries ∷ []) ≡ got ++ numbers (filter (λ one. nat_le inbox.fetched one.entry) (inbox.mailed ++ mailing number inbox.entries ∷ []))
-got_mailed got inbox number so =
-    map-append (λ (one : Mailing). one.number) inbox.mailed (mailing number inbox.entries ∷ []) ∙ ap (λ front. front ++ number ∷ []) so.all ∙ append_assoc got (waiting inbox) (number ∷ [])
-    ∙ ap (λ more. got ++ more) (sym (map-append (λ (one : Mailing). one.number) (filter waits inbox.mailed) (mailing number inbox.entries ∷ [])))
-    ∙ ap (λ b. got ++ numbers (filter waits inbox.mailed ++ cond b (mailing number inbox.entries ∷ []) [])) (sym (le-leb inbox.fetched inbox.entries so.fetched))
-    ∙ ap (λ mailed. got ++ numbers mailed) (sym (filter-append waits inbox.mailed (mailing number inbox.entries ∷ [])))
-  where
-    waits : Mailing → Bool
-    waits one = nat_le inbox.fetched one.entry
-
-got_keeps : (names : List (List ℕ)) (got : List ℕ) → Keeps names (HasGot got)
-got_keeps names got = record {
-  posted = λ inbox post so. record {
-    fetched = so.fetched;
-    all = elim (list_any (is_due names post) inbox.lives) as
-        (λ b. numbers (if b then inbox.mailed ++ mailing (length inbox.posts) inbox.entries ∷ [] else inbox.mailed)
-        ≡ got ++ numbers (filter (λ one. nat_le inbox.fetched one.entry) (if b then inbox.mailed ++ mailing (length inbox.posts) inbox.entries ∷ [] else inbox.mailed))) [
-          | true ↦ got_mailed got inbox (length inbox.posts) so
-          | false ↦ so.all
-        ];
-  };
-  caught = λ inbox number post below new so. record { fetched = so.fetched; all = got_mailed got inbox number so };
-  relived = λ inbox lives so. record { fetched = so.fetched; all = so.all };
-}
-
--- what it got after one entry more
-abbrev pub is_own_fetch : ℕ → Entry → Bool
-is_own_fetch client entry = entry.client == client && is_fetch entry.call
-
--- nothing waits behind a fetch
-none_waits : (inbox : Inbox) → IsSettled inbox → waiting (over (fetched_now inbox)) ≡ []
-none_waits inbox settled =
-    ap (map (λ (one : Mailing). one.number))
-    (filter-none (λ one. nat_le (suc inbox.entries) one.entry) inbox.mailed
-    (All-weaker (λ (one : Mailing). one.entry < inbox.entries) (λ one. nat_le (suc inbox.entries) one.entry ≡ false) (λ one early. not_after inbox.entries one.entry early) inbox.mailed settled.done))
-  where
-    not_after : (entries entry : ℕ) → entry < entries → nat_le (suc entries) entry ≡ false
-    not_after entries entry early = grind (arith, nat_tests)
-
-fetched_entry : (names : List (List ℕ)) (client : ℕ) (inbox : Inbox) (entry : Entry) → is_own_fetch client entry ≡ true → with_entry names client inbox entry ≡ over (fetched_now inbox)
-fetched_entry names client inbox entry is =
-    with_entry-ended names client inbox entry ∙ ap over (fetch-call names inbox (entry.client == client) entry.stamp entry.client entry.call is)
-
-got_entry : (names : List (List ℕ)) (client : ℕ) (got : List ℕ) (inbox : Inbox) (entry : Entry) (own : Bool) → is_own_fetch client entry ≡ own → IsSettled inbox → HasGot got inbox
-    → HasGot (cond own (got ++ waiting inbox) got) (with_entry names client inbox entry)
-got_entry names client got inbox entry true is settled so =
-    subst (HasGot (got ++ waiting inbox)) (sym (fetched_entry names client inbox entry is)) (record {
-      fetched = omega arith;
-      all = so.all ∙ sym (append-nil (got ++ waiting inbox)) ∙ ap (λ more. (got ++ waiting inbox) ++ more) (sym (none_waits inbox settled));
-    })
-got_entry names client got inbox entry false is settled so =
-    let kept = keeps-call names (HasGot got) (got_keeps names got) inbox (entry.client == client) entry.call (posts_of_entry entry) is so in
-    subst (HasGot got) (sym (with_entry-ended names client inbox entry)) (record { fetched = omega (arith, kept.fetched); all = kept.all })
 
 -- letters of posts that are there stay when more posts come
 letters_front : (posts more : List Post) (some : List ℕ) → All (λ n. n < length posts) some → letters_at posts some ≡ letters_at (posts ++ more) some

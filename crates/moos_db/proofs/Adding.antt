@@ -1,18 +1,20 @@
 -- A variable that is posted for the first time gets a number, and those who hear it.
-use Rattle.std.proofs.Common.{◌≡◌, ◌∙◌, ◌<◌, ◌≤◌, ℕ, zero, suc, Bool, true, false, List, [], ◌∷◌, ◌++◌, map, length, take, slice_get, Option, None, Some, option_map, unwrap_or, bytes_eq, refl, ap, sym, subst, inl, inr, ◌⊎◌, if◌then◌else◌, arith}
+use Rattle.std.proofs.Common.{◌≡◌, ◌∙◌, ◌<◌, ◌≤◌, ℕ, zero, suc, Bool, true, false, List, [], ◌∷◌, ◌++◌, map, length, take, slice_get, None, Some, option_map, unwrap_or, bytes_eq, refl, ap, sym, subst, inl, inr, ◌⊎◌, if◌then◌else◌, arith}
 use Rattle.std.specs.List.{All}
 use Rattle.std.proofs.lemmas.Bool.{false_from_ne_true}
 use Rattle.std.proofs.lemmas.List.{length-map, length-take, length_push, map-append, take-append-le}
 use Rattle.std.proofs.lemmas.List.Elements.{All-push, All-weaker}
-use Rattle.std.proofs.lemmas.Option.{none-some, same_Some}
+use Rattle.std.proofs.lemmas.Option.{none-some, same_Some, slice_get_within}
 use Rattle.std.proofs.lemmas.Slice.Eq.{bytes_eq-Decides}
+use Rattle.moos_mail.proofs.Lists.{found-below}
 use Rattle.moos_post.specs.declared.value.Post.{Post}
+use Rattle.moos_post.specs.Delivery.{Inbox}
 use Rattle.moos_db.specs.Clients.{ClientState}
-use Rattle.moos_db.specs.Hearers.{HearBelow, AreKeptAs, AreKnown, AreNoted, AreNumbers, AreReady, IsAdded, IsHeardBy, IsNumbering, MayAdd, VariableState, VariablesState, fresh_hearers, name_at}
-use Rattle.moos_db.specs.Subscribers.{SubscriberState}
-use Rattle.moos_db.specs.Tables.{Row, number_of, rows_from, rows_of, with_row}
+use Rattle.moos_db.specs.Hearers.{HearBelow, AreKeptAs, AreKnown, AreNoted, AreNumbers, AreReady, HasLatest, IsAdded, IsHeardBy, IsNumbering, MayAdd, VariableState, VariablesState, fresh_hearers, name_at}
+use Rattle.moos_db.specs.Tables.{Row, number_of, rows_from, with_row}
+use Rattle.moos_db.proofs.Changes.{named-at}
 use Rattle.moos_db.proofs.Hearing.{hearers-fresh}
-use Rattle.moos_db.proofs.Lasts.{number_of-with_row}
+use Rattle.moos_db.proofs.Latests.{number_of-with_row}
 use Rattle.moos_db.proofs.Standing.{slice_get-seam}
 
 -- what stands in a list with one element more
@@ -21,12 +23,6 @@ push-cases [] x zero v is = inr (refl, same_Some v x (sym is))
 push-cases [] x (suc k) v is = absurd (none-some v is)
 push-cases (y ∷ xs) x zero v is = inl is
 push-cases (y ∷ xs) x (suc k) v is = elim (push-cases xs x k v is) [ inl old ↦ inl old | inr new ↦ inr (ap suc new.0, new.1) ]
-
--- what stands at a place within a list
-pub stands-at : {X : Type 0} (xs : List X) (k : ℕ) → k < length xs → (x : X) × (slice_get xs k ≡ Some x)
-stands-at [] k within = absurd (omega (arith, within))
-stands-at (x ∷ xs) zero within = (x, refl)
-stands-at (x ∷ xs) (suc k) within = stands-at xs k (omega (arith, within))
 
 name-front : (variables more : List VariableState) (k : ℕ) (var : List ℕ) → name_at variables k ≡ Some var → name_at (variables ++ more) k ≡ Some var
 name-front [] more k var is = absurd (none-some var is)
@@ -46,11 +42,9 @@ names-front variables more (number ∷ numbers) (var ∷ vars) are =
 
 -- a variable with a name is found by it
 pub named : (variables : List VariableState) (numbers : List Row) (k : ℕ) (var : List ℕ) → IsNumbering variables numbers → name_at variables k ≡ Some var → number_of var numbers ≡ Some k
-named variables numbers k var numbering is = through (slice_get variables k) refl is
-  where
-    through : (found : Option VariableState) → slice_get variables k ≡ found → option_map (λ variable. variable.name) found ≡ Some var → number_of var numbers ≡ Some k
-    through None found is = absurd (none-some var is)
-    through (Some variable) found is = subst (λ name. number_of name numbers ≡ Some k) (same_Some variable.name var is) (numbering.each k variable found)
+named variables numbers k var numbering is =
+    let found = named-at variables k var is in
+    subst (λ name. number_of name numbers ≡ Some k) found.2 (numbering.each k found.0 found.1)
 
 -- another name than that of a variable with a number
 pub other-name : (numbers : List Row) (k : ℕ) (one other : List ℕ) → number_of one numbers ≡ Some k → number_of other numbers ≡ None → bytes_eq one other ≡ false
@@ -105,50 +99,50 @@ unposted variables numbers var first rows (number ∷ noted) (post ∷ posts) nu
     ∙ none)
 
 -- of none without a number, where one more has one, a post came through a registration
-known-more : (clients : ℕ) (kept : ℕ → SubscriberState) (var : List ℕ) (number : ℕ) (numbers : List Row) → AreKnown clients kept numbers → AreKnown clients kept (with_row var number numbers)
-known-more clients kept var number numbers known client below k d within other none =
+known-more : (clients : ℕ) (inboxes : ℕ → Inbox) (var : List ℕ) (number : ℕ) (numbers : List Row) → AreKnown clients inboxes numbers → AreKnown clients inboxes (with_row var number numbers)
+known-more clients inboxes var number numbers known client below k d within other none =
     known client below k d within other (through (bytes_eq var other) (sym (number_of-with_row other var number numbers) ∙ none))
   where
     through : (own : Bool) → (if own then Some number else number_of other numbers) ≡ None → number_of other numbers ≡ None
     through true is = absurd (none-some number (sym is))
     through false is = is
 
--- the new variable is heard as what is kept says
-heard-new : (kept : ℕ → SubscriberState) (posts : List Post) (clients : List ClientState) (before after : VariablesState) (var : List ℕ) (added : IsAdded clients var before after) → AreKeptAs kept posts before clients →
-    number_of var before.numbers ≡ None → IsHeardBy (length clients) kept (record { name = var; latest = None; hearers = added.hearers; room = added.room })
-heard-new kept posts clients before after var added kept_as unknown = record {
+-- the new variable is heard as the inboxes say
+heard-new : (inboxes : ℕ → Inbox) (posts : List Post) (clients : List ClientState) (before after : VariablesState) (var : List ℕ) (added : IsAdded clients var before after) → AreKeptAs inboxes posts before clients →
+    number_of var before.numbers ≡ None → IsHeardBy (length clients) inboxes (record { name = var; latest = None; hearers = added.hearers; room = added.room })
+heard-new inboxes posts clients before after var added kept unknown = record {
   each = λ client below.
-      let here = stands-at clients client below in
+      let here = found-below clients client below in
       added.each client below
-      ∙ ap (fresh_hearers client var) (ap (λ one. unwrap_or (option_map (λ (state : ClientState). state.lives) one) []) here.1 ∙ (kept_as.clients client here.0 here.1).lives)
-      ∙ hearers-fresh client var (kept client).lives (λ k d within. kept_as.heard.known client below k d within var unknown);
+      ∙ ap (fresh_hearers client var) (ap (λ one. unwrap_or (option_map (λ (state : ClientState). state.lives) one) []) here.1 ∙ (kept.clients client here.0 here.1).lives)
+      ∙ hearers-fresh client var (inboxes client).lives (λ k d within. kept.heard.known client below k d within var unknown);
   within = added.within;
 }
 
--- all is as kept says with the new variable
-added-ready : (kept : ℕ → SubscriberState) (posts : List Post) (clients : List ClientState) (before after : VariablesState) (var : List ℕ) → IsAdded clients var before after → IsNumbering before.all before.numbers →
-    number_of var before.numbers ≡ None → AreReady kept posts before clients → AreReady kept posts after clients
-added-ready kept posts clients before after var added numbering unknown ready =
+-- all is as the inboxes say with the new variable
+added-ready : (inboxes : ℕ → Inbox) (posts : List Post) (clients : List ClientState) (before after : VariablesState) (var : List ℕ) → IsAdded clients var before after → IsNumbering before.all before.numbers →
+    number_of var before.numbers ≡ None → AreReady inboxes posts before clients → AreReady inboxes posts after clients
+added-ready inboxes posts clients before after var added numbering unknown ready =
     let new : VariableState = record { name = var; latest = None; hearers = added.hearers; room = added.room } in
     let with_new : VariablesState = record { all = before.all ++ new ∷ []; numbers = with_row var (length before.all) before.numbers; noted = before.noted } in
     let is : after ≡ with_new = λ i. record { all = added.all i; numbers = added.numbers i; noted = added.noted i } in
-    subst (λ variables. AreReady kept posts variables clients) (sym is) (record {
+    subst (λ variables. AreReady inboxes posts variables clients) (sym is) (record {
       stand = record {
         clients = ready.stand.clients;
         heard = record {
-          heard = All-push (IsHeardBy (length clients) kept) before.all new ready.stand.heard.heard (heard-new kept posts clients before after var added ready.stand unknown);
-          latest = All-push (λ (variable : VariableState). variable.latest ≡ number_of variable.name (rows_of posts)) before.all new ready.stand.heard.latest
+          heard = All-push (IsHeardBy (length clients) inboxes) before.all new ready.stand.heard.heard (heard-new inboxes posts clients before after var added ready.stand unknown);
+          latest = All-push (HasLatest posts) before.all new ready.stand.heard.latest
               (sym (unposted before.all before.numbers var 0 [] (take (length posts) before.noted) posts numbering unknown ready.noted refl));
-          known = known-more (length clients) kept var (length before.all) before.numbers ready.stand.heard.known;
+          known = known-more (length clients) inboxes var (length before.all) before.numbers ready.stand.heard.known;
         };
       };
       noted = names-front before.all (new ∷ []) (take (length posts) before.noted) (map (λ (post : Post). post.var) posts) ready.noted;
     })
 
-pub may-add-ready : (kept : ℕ → SubscriberState) (posts : List Post) (clients : List ClientState) (before after : VariablesState) (var : List ℕ) → MayAdd clients var before after → IsNumbering before.all before.numbers →
-    AreReady kept posts before clients → AreReady kept posts after clients
-may-add-ready kept posts clients before after var (inl same) numbering ready = subst (λ variables. AreReady kept posts variables clients) (sym same) ready
-may-add-ready kept posts clients before after var (inr (unknown, added)) numbering ready = added-ready kept posts clients before after var added numbering unknown ready
+pub may-add-ready : (inboxes : ℕ → Inbox) (posts : List Post) (clients : List ClientState) (before after : VariablesState) (var : List ℕ) → MayAdd clients var before after → IsNumbering before.all before.numbers →
+    AreReady inboxes posts before clients → AreReady inboxes posts after clients
+may-add-ready inboxes posts clients before after var (inl same) numbering ready = subst (λ variables. AreReady inboxes posts variables clients) (sym same) ready
+may-add-ready inboxes posts clients before after var (inr (unknown, added)) numbering ready = added-ready inboxes posts clients before after var added numbering unknown ready
 
 -- each hears as one of the clients after that too
 pub may-add-below : (clients : List ClientState) (before after : VariablesState) (var : List ℕ) → MayAdd clients var before after → HearBelow (length clients) before.all → HearBelow (length clients) after.all
@@ -177,9 +171,9 @@ noted-enough variables noted posts are =
     )
 
 -- one more may be noted behind them
-pub ready-noted : (kept : ℕ → SubscriberState) (posts : List Post) (clients : List ClientState) (variables : VariablesState) (number : ℕ) → AreReady kept posts variables clients →
-    AreReady kept posts (record variables { noted = variables.noted ++ number ∷ [] }) clients
-ready-noted kept posts clients variables number ready = record {
+pub ready-noted : (inboxes : ℕ → Inbox) (posts : List Post) (clients : List ClientState) (variables : VariablesState) (number : ℕ) → AreReady inboxes posts variables clients →
+    AreReady inboxes posts (record variables { noted = variables.noted ++ number ∷ [] }) clients
+ready-noted inboxes posts clients variables number ready = record {
   stand = record { clients = ready.stand.clients; heard = record { heard = ready.stand.heard.heard; latest = ready.stand.heard.latest; known = ready.stand.heard.known } };
   noted = ap (map (name_at variables.all)) (take-append-le (length posts) variables.noted (number ∷ []) (noted-enough variables.all variables.noted posts ready.noted)) ∙ ready.noted;
 }
@@ -190,14 +184,8 @@ noted-more variables vars number var noted is =
     ∙ (λ i. noted i ++ is i ∷ [])
     ∙ sym (map-append (λ var. Some var) vars (var ∷ []))
 
--- a number that is noted is a variable's
-name-within : (variables : List VariableState) (number : ℕ) (var : List ℕ) → name_at variables number ≡ Some var → number < length variables
-name-within [] number var is = absurd (none-some var is)
-name-within (one ∷ variables) zero var is = omega arith
-name-within (one ∷ variables) (suc number) var is = omega (arith, name-within variables number var is)
-
 pub numbers-noted : (variables : VariablesState) (number : ℕ) (var : List ℕ) → AreNumbers variables → name_at variables.all number ≡ Some var → AreNumbers (record variables { noted = variables.noted ++ number ∷ [] })
 numbers-noted variables number var are is = record {
   numbering = are.numbering;
-  noted = All-push (λ n. n < length variables.all) variables.noted number are.noted (name-within variables.all number var is);
+  noted = All-push (λ n. n < length variables.all) variables.noted number are.noted (let found = named-at variables.all number var is in slice_get_within variables.all number found.0 found.1);
 }

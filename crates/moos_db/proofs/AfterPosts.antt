@@ -1,155 +1,144 @@
--- What a post changes of what is kept of a client and of who hears a variable.
-use Rattle.std.proofs.Common.{◌≡◌, ◌≢◌, ◌∙◌, ◌<◌, ◌+◌, ℕ, Bool, true, false, ◌==◌, List, [], ◌∷◌, ◌++◌, map, None, Some, bytes_eq, get_or, length, set, slice_get, refl, ap, sym, subst, inl, inr, if◌then◌else◌, arith}
+-- What a post that comes through registrations changes of who hears the variables, and one that is mailed of what is kept of a client.
+use Rattle.std.proofs.Common.{◌≡◌, ◌≢◌, ◌∙◌, ◌<◌, ◌≤◌, ℕ, Bool, true, false, ◌==◌, List, [], ◌∷◌, ◌++◌, map, Option, None, Some, bytes_eq, length, set, slice_get, refl, ap, sym, subst, if◌then◌else◌, arith}
 use Rattle.std.specs.List.{All, list_any}
-use Rattle.std.proofs.lemmas.Bool.{cases_Bool, eqb-false, eqb-true, false_from_ne_true}
-use Rattle.std.proofs.lemmas.List.{get_or-set_other, get_or-set_same, length-set}
-use Rattle.std.proofs.lemmas.List.Elements.{All-cons, All-head, All-map, All-nil, All-tail, All-weaker}
-use Rattle.std.proofs.lemmas.Option.{get_or_from_slice_get, same_Some, slice_get-get_or, slice_get_within}
+use Rattle.std.proofs.lemmas.Bool.{false_from_ne_true, ne_eqb}
+use Rattle.std.proofs.lemmas.List.Elements.{All-map, All-weaker}
+use Rattle.std.proofs.lemmas.List.Folds.{list_any_none}
+use Rattle.std.proofs.lemmas.Option.{same_Some, slice_get_within}
 use Rattle.std.proofs.lemmas.Slice.Eq.{bytes_eq-Decides}
 use Rattle.moos_post.specs.declared.value.Post.{Post}
+use Rattle.moos_post.specs.Delivery.{Inbox, is_due, last_stamp, Live, mailing, was_mailed, with_came, with_post}
+use Rattle.moos_post.specs.History.{name_of}
 use Rattle.moos_mail.specs.Mailboxes.{is_one_of, with_number}
+use Rattle.moos_mail.proofs.Appending.{one_of-mailed, ordered-more, waits-more}
+use Rattle.moos_mail.proofs.Lists.{found-below}
+use Rattle.moos_mail.proofs.Orderly.{IsOrderly, IsPast}
 use Rattle.moos_db.specs.Clients.{ClientState, IsClient, mailed_once, registration_of}
-use Rattle.moos_db.specs.Hearers.{AreHeard, AreKeptAs, AreKnown, HearerState, IsHeardBy, IsPosted, VariableState, VariablesState, after_hearing, hears_due, mailed_if, of_client}
-use Rattle.moos_db.specs.Subscribers.{IsFresh, SubscriberState, SubscriptionState, is_due_held, kept_post, passed, with_mailed, with_stamp}
-use Rattle.moos_db.specs.Tables.{Row, number_of, rows_of, with_row}
-use Rattle.moos_db.proofs.Adding.{other-name, stands-at}
-use Rattle.moos_db.proofs.Hearing.{due-hearers, heard-client, hearers-passed, of_client-map, others-passed}
-use Rattle.moos_db.proofs.Lasts.{number_of-with_row}
-use Rattle.moos_db.proofs.Latests.{rows-push}
+use Rattle.moos_db.specs.Hearers.{AreHeard, AreKeptAs, AreKnown, HasLatest, HearerState, IsHeardBy, HasKnown, IsNumbering, IsPosted, VariableState, VariablesState, hearers_of, hears_due, mailed_if, of_client}
+use Rattle.moos_db.specs.Tables.{Row, number_of, rows_of}
+use Rattle.moos_db.proofs.Adding.{other-name}
+use Rattle.moos_db.proofs.Changes.{all-at, all-set}
+use Rattle.moos_db.proofs.Hearing.{any-hearers, AreAsOne, due-alike, hearers-passed, last-came, of_client-stamped, others-passed, passed, registrations-passed, stamped, stamped-client}
+use Rattle.moos_db.proofs.Latests.{latest-posted}
 
--- a post changes nothing of what was asked for, and when
-if-registration : (b : Bool) (stamp : ℕ) (var : List ℕ) (held : SubscriptionState) → registration_of (if b then with_stamp stamp var held else held) ≡ registration_of held
-if-registration true stamp var held = refl
-if-registration false stamp var held = refl
+-- who hears
 
-registrations-passed : (stamp : ℕ) (var source : List ℕ) (lives : List SubscriptionState) → map registration_of (map (passed stamp var source) lives) ≡ map registration_of lives
-registrations-passed stamp var source [] = refl
-registrations-passed stamp var source (held ∷ lives) = λ i. if-registration (is_due_held stamp var source held) stamp var held i ∷ registrations-passed stamp var source lives i
+-- no other variable has the name of that with this number
+apart-name : (variables : List VariableState) (numbers : List Row) (at k : ℕ) (var : List ℕ) (other : VariableState) → IsNumbering variables numbers → number_of var numbers ≡ Some at → slice_get variables k ≡ Some other → k ≢ at → bytes_eq var other.name ≡ false
+apart-name variables numbers at k var other numbering numbered is apart =
+    false_from_ne_true (bytes_eq var other.name)
+    (λ same. apart (same_Some k at (sym (numbering.each k other is) ∙ ap (λ name. number_of name numbers) (sym ((bytes_eq-Decides var other.name).0 same)) ∙ numbered)))
 
--- the client to which a post was mailed where it was due
-pub client-posted : (number stamp : ℕ) (source var : List ℕ) (kept : SubscriberState) (client other : ClientState) (due : Bool) → IsClient kept client → kept.posts ≡ number → is_one_of number kept.mailed ≡ false →
-    list_any (is_due_held stamp var source) kept.lives ≡ due → other ≡ record (mailed_if due number client) { spare = other.spare } → IsClient (kept_post stamp source kept var) other
-client-posted number stamp source var kept client other due stands counted fresh is after = through due is after
-  where
-    lives_are : map registration_of (map (passed stamp var source) kept.lives) ≡ client.lives
-    lives_are = registrations-passed stamp var source kept.lives ∙ sym stands.lives
+-- A post comes through the registrations of each client of which this says so, and through those who hear its variable of which the
+-- other does.
+module _ (clients : ℕ) (post : Post) (heard : HearerState → Bool) (comes : ℕ → Live → Bool) (inboxes now : ℕ → Inbox) (alike : (client : ℕ) → AreAsOne client post.var heard (comes client))
+    (come : (client : ℕ) → (now client).lives ≡ map (passed (comes client) post) (inboxes client).lives) where
+  -- the variable of the post is heard as the inboxes say, and so is each other
+  own-heard : (variable : VariableState) (latest : Option ℕ) (room : ℕ) → variable.name ≡ post.var → IsHeardBy clients inboxes variable →
+      IsHeardBy clients now (record variable { latest = latest; hearers = map (stamped heard post.stamp) variable.hearers; room = room })
+  own-heard variable latest room name are = record {
+    each = λ client below.
+        of_client-stamped client heard post.stamp variable.hearers ∙ ap (map (stamped heard post.stamp)) (are.each client below ∙ ap (λ var. hearers_of client var (inboxes client).lives) name)
+        ∙ hearers-passed client heard (comes client) post (inboxes client).lives (alike client)
+        ∙ (λ i. hearers_of client (sym name i) (sym (come client) i));
+    within = All-map (λ (hearer : HearerState). hearer.client < clients) (stamped heard post.stamp) variable.hearers
+        (All-weaker (λ (hearer : HearerState). hearer.client < clients) (λ hearer. (stamped heard post.stamp hearer).client < clients)
+        (λ hearer below. subst (λ n. n < clients) (sym (stamped-client heard post.stamp hearer)) below) variable.hearers are.within);
+  }
 
-    once : mailed_once number client ≡ record client { mailed = with_number number client.mailed; waits = client.waits ++ number ∷ [] }
-    once = ap (λ b. if b then client else record client { mailed = with_number number client.mailed; waits = client.waits ++ number ∷ [] }) (ap (is_one_of number) stands.mailed ∙ fresh)
+  other-heard : (variable : VariableState) → bytes_eq post.var variable.name ≡ false → IsHeardBy clients inboxes variable → IsHeardBy clients now variable
+  other-heard variable apart are = record {
+    each = λ client below. are.each client below ∙ sym (others-passed client (comes client) post variable.name (inboxes client).lives apart) ∙ ap (hearers_of client variable.name) (sym (come client));
+    within = are.within;
+  }
 
-    through : (b : Bool) → list_any (is_due_held stamp var source) kept.lives ≡ b → other ≡ record (mailed_if b number client) { spare = other.spare } →
-        IsClient (kept_post stamp source kept var) other
-    through true is after = record {
-      lives = ap (λ one. one.lives) after ∙ ap (λ one. one.lives) once ∙ sym lives_are;
-      mailed = ap (λ one. one.mailed) after ∙ ap (λ one. one.mailed) once ∙ ap (with_number number) stands.mailed ∙ ap (λ n. with_number n kept.mailed) (sym counted)
-          ∙ ap (λ b. (if b then with_mailed kept.posts kept else kept).mailed) (sym is);
-      waits = ap (λ one. one.waits) after ∙ ap (λ one. one.waits) once ∙ ap (λ waits. waits ++ number ∷ []) stands.waits ∙ ap (λ n. kept.waits ++ n ∷ []) (sym counted)
-          ∙ ap (λ b. (if b then with_mailed kept.posts kept else kept).waits) (sym is);
+  pub all-heard : (variables : List VariableState) (numbers : List Row) (at : ℕ) (variable : VariableState) (latest : Option ℕ) (room : ℕ) → IsNumbering variables numbers → slice_get variables at ≡ Some variable → variable.name ≡ post.var →
+      All (IsHeardBy clients inboxes) variables → All (IsHeardBy clients now) (set variables at (record variable { latest = latest; hearers = map (stamped heard post.stamp) variable.hearers; room = room }))
+  all-heard variables numbers at variable latest room numbering there name all =
+      all-set (IsHeardBy clients inboxes) (IsHeardBy clients now) variables at (record variable { latest = latest; hearers = map (stamped heard post.stamp) variable.hearers; room = room })
+      (own-heard variable latest room name (all-at (IsHeardBy clients inboxes) variables at variable all there))
+      (λ k other is apart are. other-heard other (apart-name variables numbers at k post.var other numbering (ap (λ var. number_of var numbers) (sym name) ∙ numbering.each at variable there) is apart) are) all
+
+  -- and of no other variable did anything come through
+  pub known-passed : (numbers : List Row) (at : ℕ) → number_of post.var numbers ≡ Some at → AreKnown clients inboxes numbers → AreKnown clients now numbers
+  known-passed numbers at numbered known client below =
+      subst (All (HasKnown numbers)) (sym (come client))
+      (All-map (HasKnown numbers) (passed (comes client) post) (inboxes client).lives
+      (All-weaker (HasKnown numbers) (λ live. HasKnown numbers (passed (comes client) post live))
+      (λ live so var none. by (comes client live) live var (other-name numbers at post.var var numbered none) (so var none)) (inboxes client).lives (known client below)))
+    where
+      by : (b : Bool) (live : Live) (var : List ℕ) → bytes_eq post.var var ≡ false → last_stamp var live.came ≡ None → last_stamp var (if b then with_came post live else live).came ≡ None
+      by true live var apart none = last-came var live post ∙ ap (λ b. if b then Some post.stamp else last_stamp var live.came) apart ∙ none
+      by false live var apart none = none
+
+-- what is kept of a client
+
+-- to which the post with this number, which was never mailed to it, is mailed where this says so
+pub client-mailed : (mails : Bool) (number : ℕ) (inbox : Inbox) (lives : List Live) (client other : ClientState) → IsClient inbox client → inbox.fetched ≤ inbox.entries → was_mailed number inbox.mailed ≡ false →
+    map registration_of lives ≡ map registration_of inbox.lives → other ≡ record (mailed_if mails number client) { spare = other.spare } →
+    IsClient (record inbox { lives = lives; mailed = if mails then inbox.mailed ++ mailing number inbox.entries ∷ [] else inbox.mailed }) other
+client-mailed true number inbox lives client other is before new same after =
+    let once : mailed_once number client ≡ record client { mailed = with_number number client.mailed; waits = client.waits ++ number ∷ [] }
+    = ap (λ b. if b then client else record client { mailed = with_number number client.mailed; waits = client.waits ++ number ∷ [] }) (ap (is_one_of number) is.mailed ∙ one_of-mailed number inbox.mailed ∙ new) in
+    let all : other ≡ record client { mailed = with_number number client.mailed; waits = client.waits ++ number ∷ []; spare = other.spare } = after ∙ ap (λ (one : ClientState). record one { spare = other.spare }) once in
+    record {
+      lives = ap (λ (one : ClientState). one.lives) all ∙ is.lives ∙ sym same;
+      mailed = ap (λ (one : ClientState). one.mailed) all ∙ ap (with_number number) is.mailed ∙ sym (ordered-more number inbox.entries inbox.mailed);
+      waits = ap (λ (one : ClientState). one.waits) all ∙ ap (λ waits. waits ++ number ∷ []) is.waits ∙ sym (waits-more inbox.fetched number inbox.entries inbox.mailed before);
     }
-    through false is after = record {
-      lives = ap (λ one. one.lives) after ∙ sym lives_are;
-      mailed = ap (λ one. one.mailed) after ∙ stands.mailed ∙ ap (λ b. (if b then with_mailed kept.posts kept else kept).mailed) (sym is);
-      waits = ap (λ one. one.waits) after ∙ stands.waits ∙ ap (λ b. (if b then with_mailed kept.posts kept else kept).waits) (sym is);
-    }
-
-heard-within : (clients stamp : ℕ) (source : List ℕ) (hearers : List HearerState) → All (λ (hearer : HearerState). hearer.client < clients) hearers → All (λ (hearer : HearerState). hearer.client < clients) (map (after_hearing stamp source) hearers)
-heard-within clients stamp source [] within = All-nil (λ (hearer : HearerState). hearer.client < clients)
-heard-within clients stamp source (hearer ∷ hearers) within =
-    All-cons (λ (one : HearerState). one.client < clients) (after_hearing stamp source hearer) (map (after_hearing stamp source) hearers)
-    (rw (heard-client stamp source hearer) (All-head (λ (one : HearerState). one.client < clients) hearer hearers within))
-    (heard-within clients stamp source hearers (All-tail (λ (one : HearerState). one.client < clients) hearer hearers within))
-
--- a variable is heard as what is kept says after a post of it
-pub variable-posted : (clients number stamp room : ℕ) (source : List ℕ) (kept : ℕ → SubscriberState) (variable : VariableState) → IsHeardBy clients kept variable →
-    IsHeardBy clients (λ client. kept_post stamp source (kept client) variable.name) (record variable { latest = Some number; hearers = map (after_hearing stamp source) variable.hearers; room = room })
-variable-posted clients number stamp room source kept variable heard = record {
-  each = λ client below. of_client-map client (after_hearing stamp source) variable.hearers (heard-client stamp source) ∙ ap (map (after_hearing stamp source)) (heard.each client below)
-      ∙ hearers-passed client stamp variable.name source (kept client).lives;
-  within = heard-within clients stamp source variable.hearers heard.within;
+client-mailed false number inbox lives client other is before new same after = record {
+  lives = ap (λ (one : ClientState). one.lives) after ∙ is.lives ∙ sym same;
+  mailed = ap (λ (one : ClientState). one.mailed) after ∙ is.mailed;
+  waits = ap (λ (one : ClientState). one.waits) after ∙ is.waits;
 }
 
--- and so is each other
-pub other-posted : (clients stamp : ℕ) (var source : List ℕ) (kept : ℕ → SubscriberState) (variable : VariableState) → bytes_eq var variable.name ≡ false → IsHeardBy clients kept variable →
-    IsHeardBy clients (λ client. kept_post stamp source (kept client) var) variable
-other-posted clients stamp var source kept variable apart heard = record {
-  each = λ client below. heard.each client below ∙ sym (others-passed client stamp var variable.name source (kept client).lives apart);
-  within = heard.within;
-}
+-- no number from the count of the posts on was mailed
+pub none-ahead : (inbox : Inbox) (number : ℕ) → IsOrderly inbox → length inbox.posts ≤ number → was_mailed number inbox.mailed ≡ false
+none-ahead inbox number orderly from =
+    list_any_none (λ one. one.number == number) inbox.mailed
+    (All-weaker (IsPast inbox.entries (length inbox.posts)) (λ one. (one.number == number) ≡ false) (λ one past. ne_eqb one.number number (λ same. omega (arith, past.number, same, from))) inbox.mailed orderly.past)
 
--- one element of a list is replaced
-all-at : {X : Type 0} (P : X → Type 0) (xs : List X) (i : ℕ) (x : X) → All P xs → slice_get xs i ≡ Some x → P x
-all-at P xs i x all is = subst P (get_or_from_slice_get xs i x x is) (all i x (slice_get_within xs i x is))
+client-posted : (names : List (List ℕ)) (number : ℕ) (post : Post) (mails : Bool) (inbox : Inbox) (client other : ClientState) → IsClient inbox client → IsOrderly inbox → length inbox.posts ≡ number → mails ≡ list_any (is_due names post) inbox.lives →
+    other ≡ record (mailed_if mails number client) { spare = other.spare } → IsClient (with_post names inbox post) other
+client-posted names number post mails inbox client other is orderly counted due after =
+    let now : IsClient (record inbox { lives = (with_post names inbox post).lives; mailed = (with_post names inbox post).mailed }) other =
+    client-mailed (list_any (is_due names post) inbox.lives) (length inbox.posts) inbox (with_post names inbox post).lives client other is orderly.fetched (none-ahead inbox (length inbox.posts) orderly (omega arith))
+    (registrations-passed (is_due names post) post inbox.lives) (after ∙ (λ i. record (mailed_if (due i) (sym counted i) client) { spare = other.spare })) in
+    record { lives = now.lives; mailed = now.mailed; waits = now.waits }
 
-all-set : {X : Type 0} (P Q : X → Type 0) (xs : List X) (i : ℕ) (new : X) → Q new → ((k : ℕ) (x : X) → slice_get xs k ≡ Some x → i ≢ k → P x → Q x) → All P xs → All Q (set xs i new)
-all-set P Q xs i new here others all k d within =
-    let inside : k < length xs = omega (arith, within, length-set xs i new) in
-    elim (cases_Bool (i == k)) [
-      | inl same ↦ subst Q (sym (ap (λ n. get_or (set xs i new) n d) (sym (eqb-true i k same)) ∙ get_or-set_same xs i new d (omega (arith, inside, eqb-true i k same)))) here
-      | inr apart ↦ subst Q (sym (get_or-set_other xs i k new d (λ same. eqb-false i k apart (sym same)))) (others k (get_or xs k d) (slice_get-get_or xs k d inside) (eqb-false i k apart) (all k d inside))
-    ]
-
--- of another variable nothing more came through
-passed-other : (stamp : ℕ) (var source other : List ℕ) (held : SubscriptionState) → bytes_eq var other ≡ false → number_of other held.lasts ≡ None → number_of other (passed stamp var source held).lasts ≡ None
-passed-other stamp var source other held apart none = through (is_due_held stamp var source held)
-  where
-    through : (due : Bool) → number_of other (if due then with_stamp stamp var held else held).lasts ≡ None
-    through true = number_of-with_row other var stamp held.lasts ∙ ap (λ b. if b then Some stamp else number_of other held.lasts) apart ∙ none
-    through false = none
-
-known-posted : (clients stamp : ℕ) (var source : List ℕ) (kept : ℕ → SubscriberState) (numbers : List Row) (at : ℕ) → number_of var numbers ≡ Some at → AreKnown clients kept numbers →
-    AreKnown clients (λ client. kept_post stamp source (kept client) var) numbers
-known-posted clients stamp var source kept numbers at is known client below =
-    All-map (λ (held : SubscriptionState). (other : List ℕ) → number_of other numbers ≡ None → number_of other held.lasts ≡ None) (passed stamp var source) (kept client).lives
-    (All-weaker (λ (held : SubscriptionState). (other : List ℕ) → number_of other numbers ≡ None → number_of other held.lasts ≡ None)
-    (λ (held : SubscriptionState). (other : List ℕ) → number_of other numbers ≡ None → number_of other (passed stamp var source held).lasts ≡ None)
-    (λ held here other none. passed-other stamp var source other held (other-name numbers at var other is none) (here other none)) (kept client).lives (known client below))
-
--- the latest post of each variable after one more
-latest-posted : (posts : List Post) (post : Post) (name : List ℕ) → number_of name (rows_of (posts ++ post ∷ [])) ≡ (if bytes_eq post.var name then Some (length posts) else number_of name (rows_of posts))
-latest-posted posts post name =
-    ap (number_of name) (rows-push 0 [] posts post ∙ ap (λ n. with_row post.var n (rows_of posts)) (let e : 0 + length posts ≡ length posts = omega arith in e))
-    ∙ number_of-with_row name post.var (length posts) (rows_of posts)
-
--- all is as kept says after a post
-pub posted-kept : (kept : ℕ → SubscriberState) (posts : List Post) (post : Post) (source : List ℕ) (before after : VariablesState) (clients others : List ClientState) (posted : IsPosted (length posts) post.stamp source before after clients others) →
-    posted.variable.name ≡ post.var → AreKeptAs kept posts before clients → ((client : ℕ) → (kept client).posts ≡ length posts) → ((client : ℕ) → IsFresh (kept client)) →
-    AreKeptAs (λ client. kept_post post.stamp source (kept client) post.var) (posts ++ post ∷ []) after others
-posted-kept kept posts post source before after clients others posted name stand counted fresh = record {
+-- All is as the inboxes say after a post.
+pub posted-kept : (names : List (List ℕ)) (inboxes : ℕ → Inbox) (posts : List Post) (post : Post) (before after : VariablesState) (clients others : List ClientState) (posted : IsPosted (length posts) post.stamp (name_of names post.source) before after clients others) →
+    posted.variable.name ≡ post.var → ((client : ℕ) → IsOrderly (inboxes client)) → ((client : ℕ) → (inboxes client).posts ≡ posts) → AreKeptAs inboxes posts before clients →
+    AreKeptAs (λ client. with_post names (inboxes client) post) (posts ++ post ∷ []) after others
+posted-kept names inboxes posts post before after clients others posted name orderly counted are = record {
   clients = λ number other there.
       let below : number < length clients = omega (arith, slice_get_within others number other there, posted.mailed.each) in
-      let here = stands-at clients number below in
-      client-posted (length posts) post.stamp source post.var (kept number) here.0 other (list_any (hears_due post.stamp source) (of_client number posted.variable.hearers))
-      (stand.clients number here.0 here.1) (counted number) (fresh number (length posts) (omega (arith, counted number)))
-      (sym (ap (list_any (hears_due post.stamp source)) (heard_here.each number below) ∙ due-hearers number post.stamp posted.variable.name source (kept number).lives
-      ∙ ap (λ var. list_any (is_due_held post.stamp var source) (kept number).lives) name))
+      let here = found-below clients number below in
+      client-posted names (length posts) post (list_any heard (of_client number posted.variable.hearers)) (inboxes number) here.0 other (are.clients number here.0 here.1) (orderly number) (ap length (counted number))
+      (ap (list_any heard) (heard_here.each number below ∙ ap (λ var. hearers_of number var (inboxes number).lives) name) ∙ any-hearers number post.var heard (is_due names post) (inboxes number).lives (due-alike names number post))
       (posted.mailed.mail number here.0 other here.1 there);
-  heard = subst (λ count. AreHeard count kept_now (posts ++ post ∷ []) after) (sym posted.mailed.each) (record {
-    heard = subst (All (IsHeardBy (length clients) kept_now)) (sym posted.all)
-        (all-set (IsHeardBy (length clients) kept) (IsHeardBy (length clients) kept_now) before.all posted.at new
-        (subst (λ var. IsHeardBy (length clients) (λ client. kept_post post.stamp source (kept client) var) new) name (variable-posted (length clients) (length posts) post.stamp posted.room source kept posted.variable heard_here))
-        (λ k other is apart heard. other-posted (length clients) post.stamp post.var source kept other (others-apart k other is apart) heard) stand.heard.heard);
-    latest = subst (All (λ (variable : VariableState). variable.latest ≡ number_of variable.name (rows_of (posts ++ post ∷ [])))) (sym posted.all)
-        (all-set (λ (variable : VariableState). variable.latest ≡ number_of variable.name (rows_of posts)) (λ variable. variable.latest ≡ number_of variable.name (rows_of (posts ++ post ∷ []))) before.all posted.at new
+  heard = subst (λ count. AreHeard count now (posts ++ post ∷ []) after) (sym posted.mailed.each) (record {
+    heard = subst (All (IsHeardBy (length clients) now)) (sym posted.all)
+        (all-heard (length clients) post heard (λ client. is_due names post) inboxes now (λ client. due-alike names client post) (λ client. refl) before.all before.numbers posted.at posted.variable (Some (length posts)) posted.room
+        posted.numbering posted.there name are.heard.heard);
+    latest = subst (All (HasLatest (posts ++ post ∷ []))) (sym posted.all)
+        (all-set (HasLatest posts) (HasLatest (posts ++ post ∷ [])) before.all posted.at (record posted.variable { latest = Some (length posts); hearers = map (stamped heard post.stamp) posted.variable.hearers; room = posted.room })
         (sym (latest-posted posts post posted.variable.name ∙ ap (λ b. if b then Some (length posts) else number_of posted.variable.name (rows_of posts)) ((bytes_eq-Decides post.var posted.variable.name).1 (sym name))))
-        (λ k other is apart latest. latest ∙ sym (latest-posted posts post other.name ∙ ap (λ b. if b then Some (length posts) else number_of other.name (rows_of posts)) (others-apart k other is apart))) stand.heard.latest);
-    known = subst (AreKnown (length clients) kept_now) (sym posted.numbers)
-        (known-posted (length clients) post.stamp post.var source kept before.numbers posted.at (ap (λ var. number_of var before.numbers) (sym name) ∙ numbered) stand.heard.known);
+        (λ k other is apart latest. latest
+        ∙ sym (latest-posted posts post other.name ∙ ap (λ b. if b then Some (length posts) else number_of other.name (rows_of posts)) (apart-name before.all before.numbers posted.at k post.var other posted.numbering numbered is apart))) are.heard.latest);
+    known = subst (AreKnown (length clients) now) (sym posted.numbers)
+        (known-passed (length clients) post heard (λ client. is_due names post) inboxes now (λ client. due-alike names client post) (λ client. refl) before.numbers posted.at numbered are.heard.known);
   });
 }
   where
-    kept_now : ℕ → SubscriberState
-    kept_now client = kept_post post.stamp source (kept client) post.var
+    now : ℕ → Inbox
+    now client = with_post names (inboxes client) post
 
-    new : VariableState
-    new = record posted.variable { latest = Some (length posts); hearers = map (after_hearing post.stamp source) posted.variable.hearers; room = posted.room }
+    heard : HearerState → Bool
+    heard = hears_due post.stamp (name_of names post.source)
 
-    heard_here : IsHeardBy (length clients) kept posted.variable
-    heard_here = all-at (IsHeardBy (length clients) kept) before.all posted.at posted.variable stand.heard.heard posted.there
+    heard_here : IsHeardBy (length clients) inboxes posted.variable
+    heard_here = all-at (IsHeardBy (length clients) inboxes) before.all posted.at posted.variable are.heard.heard posted.there
 
-    numbered : number_of posted.variable.name before.numbers ≡ Some posted.at
-    numbered = posted.numbering.each posted.at posted.variable posted.there
-
-    others-apart : (k : ℕ) (other : VariableState) → slice_get before.all k ≡ Some other → posted.at ≢ k → bytes_eq post.var other.name ≡ false
-    others-apart k other is apart =
-        false_from_ne_true (bytes_eq post.var other.name)
-        (λ same. apart (same_Some posted.at k (sym numbered ∙ ap (λ var. number_of var before.numbers) (name ∙ (bytes_eq-Decides post.var other.name).0 same) ∙ posted.numbering.each k other is)))
+    numbered : number_of post.var before.numbers ≡ Some posted.at
+    numbered = ap (λ var. number_of var before.numbers) (sym name) ∙ posted.numbering.each posted.at posted.variable posted.there

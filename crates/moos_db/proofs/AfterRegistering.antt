@@ -1,49 +1,23 @@
 -- What a registration changes of what is kept of a client and of who hears the variables.
-use Rattle.std.proofs.Common.{◌≡◌, ◌≢◌, ◌∙◌, ◌<◌, ◌≤◌, ◌+◌, ◌==◌, ℕ, zero, suc, Bool, true, false, cond, List, [], ◌∷◌, ◌++◌, length, map, filter, Option, Some, bytes_eq, option_map, get_or, slice_get, slice_set, take, refl, ap, sym, subst, append-nil, append_assoc, length-append, arith, inl, inr, if◌then◌else◌}
-use Rattle.std.specs.List.{All, list_any}
-use Rattle.std.proofs.lemmas.Bool.{cases_Bool, eq-eqb, eqb-false, eqb-true, ne_eqb}
-use Rattle.std.proofs.lemmas.List.{length-map, length-take-le, map-append}
+use Rattle.std.proofs.Common.{◌≡◌, ◌≢◌, ◌∙◌, ◌<◌, ◌≤◌, ◌+◌, ◌==◌, ℕ, suc, true, cond, List, [], ◌∷◌, ◌++◌, length, map, filter, Some, option_map, get_or, slice_get, slice_set, take, refl, ap, sym, subst, append-nil, append_assoc, length-append, arith, inl, inr}
+use Rattle.std.specs.List.{All}
+use Rattle.std.proofs.lemmas.Bool.{eq-eqb, ne_eqb}
+use Rattle.std.proofs.lemmas.List.{length-map, length-set, length-take-le, map-append}
 use Rattle.std.proofs.lemmas.List.Elements.{All-head, All-tail, filter-append}
-use Rattle.std.proofs.lemmas.Option.{slice_get-map, slice_get_within}
-use Rattle.std.proofs.lemmas.Slice.Eq.{bytes_eq-Decides}
+use Rattle.std.proofs.lemmas.Option.{same_Some, slice_get-map, slice_get_within}
 use Rattle.moos_mail.proofs.Lists.{found-below, take-next}
 use Rattle.moos_post.specs.Patterns.{matches}
 use Rattle.moos_db.specs.declared.registration.Registration.{Registration}
-use Rattle.moos_db.specs.Hearers.{AreNumbers, HearerState, VariableState, VariablesState, caught_at, fresh_hearer, is_new_at, name_at}
-use Rattle.moos_db.specs.Registering.{AreEach, AreEachAt, AreRoomier, HasRoomThrough, HaveRoomFor, Heard, IsAddedTo, IsCaught, IsRoomier, heard_at_number, heard_where, heard_through, variable_names}
-use Rattle.moos_db.specs.Tables.{number_of}
-
--- lists
-
-pub set-here : {X : Type 0} (xs : List X) (i : ℕ) (x : X) → i < length xs → slice_get (slice_set xs i x) i ≡ Some x
-set-here [] i x below = absurd (omega arith)
-set-here (y ∷ xs) zero x below = refl
-set-here (y ∷ xs) (suc i) x below = set-here xs i x (omega arith)
-
-set-unlike : {X : Type 0} (xs : List X) (i j : ℕ) (x : X) → j ≢ i → slice_get (slice_set xs i x) j ≡ slice_get xs j
-set-unlike [] i j x apart = refl
-set-unlike (y ∷ xs) zero zero x apart = absurd (omega arith)
-set-unlike (y ∷ xs) zero (suc j) x apart = refl
-set-unlike (y ∷ xs) (suc i) zero x apart = refl
-set-unlike (y ∷ xs) (suc i) (suc j) x apart = set-unlike xs i j x (omega arith)
-
-pub set-other : {X : Type 0} (xs : List X) (i j : ℕ) (x : X) → (j == i) ≡ false → slice_get (slice_set xs i x) j ≡ slice_get xs j
-set-other xs i j x apart = set-unlike xs i j x (eqb-false j i apart)
-
-pub set-length : {X : Type 0} (xs : List X) (i : ℕ) (x : X) → length (slice_set xs i x) ≡ length xs
-set-length [] i x = refl
-set-length (y ∷ xs) zero x = refl
-set-length (y ∷ xs) (suc i) x = ap suc (set-length xs i x)
-
-pub some-same : {X : Type 0} (x y : X) (found : Option X) → found ≡ Some x → found ≡ Some y → x ≡ y
-some-same x y found is so = let e : Some x ≡ Some y = sym is ∙ so in cc
+use Rattle.moos_db.specs.Hearers.{AreNumbers, HearerState, VariableState, VariablesState}
+use Rattle.moos_db.specs.Registering.{AreEach, AreEachAt, AreRoomier, HasRoomThrough, HaveRoomFor, Heard, IsAddedTo, IsRoomier, heard_at_number, heard_where, heard_through, variable_names}
+use Rattle.moos_db.proofs.Changes.{AreNumbers-names, each-shown, names-at, set-cases}
 
 -- relations place by place
 
 pub each-refl : {X : Type 0} (R : ℕ → X → X → Type 0) (xs : List X) → ((n : ℕ) (x : X) → R n x x) → AreEachAt R xs xs
 each-refl R xs same = record {
   each = refl;
-  same = λ n one other is so. subst (R n one) (some-same one other (slice_get xs n) is so) (same n one);
+  same = λ n one other is so. subst (R n one) (same_Some one other (sym is ∙ so)) (same n one);
 }
 
 pub each-then : {X : Type 0} (R S T : ℕ → X → X → Type 0) (xs ys zs : List X) → ((n : ℕ) (x y z : X) → R n x y → S n y z → T n x z) → AreEachAt R xs ys → AreEachAt S ys zs → AreEachAt T xs zs
@@ -54,44 +28,27 @@ each-then {X = X} R S T xs ys zs both first second = record {
       both n one found.0 other (first.same n one found.0 is found.1) (second.same n found.0 other found.1 so);
 }
 
-pub each-set : {X : Type 0} (R : ℕ → X → X → Type 0) (xs : List X) (i : ℕ) (one other : X) → ((n : ℕ) (x : X) → (n == i) ≡ false → R n x x) → slice_get xs i ≡ Some one → R i one other →
+pub each-set : {X : Type 0} (R : ℕ → X → X → Type 0) (xs : List X) (i : ℕ) (one other : X) → ((n : ℕ) (x : X) → n ≢ i → R n x x) → slice_get xs i ≡ Some one → R i one other →
     AreEachAt R xs (slice_set xs i other)
 each-set R xs i one other same there is = record {
-  each = set-length xs i other;
-  same = λ n before after was now. elim (cases_Bool (n == i)) [
+  each = length-set xs i other;
+  same = λ n before after was now. elim (set-cases xs i n other after now) [
     | inl here ↦
-        let at : n ≡ i = eqb-true n i here in
-        let old : one ≡ before = some-same one before (slice_get xs i) there (ap (slice_get xs) (sym at) ∙ was) in
-        let new : other ≡ after = some-same other after (slice_get (slice_set xs i other) i) (set-here xs i other (slice_get_within xs i one there)) (ap (slice_get (slice_set xs i other)) (sym at) ∙ now) in
-        subst (λ m. R m before after) (sym at) (subst (R i before) new (subst (λ x. R i x other) old is))
-    | inr apart ↦ subst (R n before) (some-same before after (slice_get xs n) was (sym (set-other xs i n other apart) ∙ now)) (same n before apart)
+        let old : one ≡ before = same_Some one before (sym there ∙ ap (slice_get xs) (sym here.0) ∙ was) in
+        subst (λ m. R m before after) (sym here.0) (subst (R i before) (sym here.1) (subst (λ x. R i x other) old is))
+    | inr apart ↦ subst (R n before) (same_Some before after (sym was ∙ apart.1)) (same n before apart.0)
   ];
 }
-
--- the same of what they show, place by place, is the same of all that they show
-pub each-shown : {X Y : Type 0} (show : X → Y) (xs ys : List X) → AreEach (λ one other. show other ≡ show one) xs ys → map show ys ≡ map show xs
-each-shown show [] [] each = refl
-each-shown show [] (y ∷ ys) each = absurd (let e : suc (length ys) ≡ 0 = each.each in omega arith)
-each-shown show (x ∷ xs) [] each = absurd (let e : 0 ≡ suc (length xs) = each.each in omega arith)
-each-shown show (x ∷ xs) (y ∷ ys) each =
-    ap (λ one. one ∷ map show ys) (each.same 0 x y refl refl)
-    ∙ ap (λ rest. show x ∷ rest) (each-shown show xs ys (record { each = (let e : suc (length ys) ≡ suc (length xs) = each.each in omega arith); same = λ n. each.same (suc n) }))
 
 -- who is to hear
 
 pub through-push : (client : ℕ) (live : Registration) (number : ℕ) (names : List (List ℕ)) (name : List ℕ) →
     heard_through client live number (names ++ name ∷ []) ≡ heard_through client live number names ++ heard_where client live (number + length names) name
-through-push client live number [] name = let e : number ≡ number + 0 = omega arith in ap (λ n. heard_where client live n name) e
+through-push client live number [] name = append-nil (heard_where client live number name) ∙ (let e : number ≡ number + 0 = omega arith in ap (λ n. heard_where client live n name) e)
 through-push client live number (one ∷ names) name =
-    ap (λ rest. if matches live.reg.var one then (number, fresh_hearer client live) ∷ rest else rest)
+    ap (λ rest. heard_where client live number one ++ rest)
     (through-push client live (suc number) names name ∙ ap (λ n. heard_through client live (suc number) names ++ heard_where client live n name) (let e : suc number + length names ≡ number + suc (length names) = omega arith in e))
-    ∙ through (matches live.reg.var one)
-  where
-    through : (b : Bool) → (if b then (number, fresh_hearer client live) ∷ (heard_through client live (suc number) names ++ heard_where client live (number + suc (length names)) name)
-        else heard_through client live (suc number) names ++ heard_where client live (number + suc (length names)) name)
-        ≡ (if b then (number, fresh_hearer client live) ∷ heard_through client live (suc number) names else heard_through client live (suc number) names) ++ heard_where client live (number + suc (length names)) name
-    through true = refl
-    through false = refl
+    ∙ sym (append_assoc (heard_where client live number one) (heard_through client live (suc number) names) (heard_where client live (number + suc (length names)) name))
 
 -- one variable more
 pub through-next : (client : ℕ) (live : Registration) (variables : List VariableState) (k : ℕ) (variable : VariableState) → slice_get variables k ≡ Some variable →
@@ -130,11 +87,9 @@ pub rooms-set : (pattern : List ℕ) (more k : ℕ) (variables : List VariableSt
     (matches pattern one.name ≡ true → more ≤ other.room) →
     ((n : ℕ) (variable : VariableState) → n < k → slice_get variables n ≡ Some variable → matches pattern variable.name ≡ true → more ≤ variable.room) →
     (n : ℕ) (variable : VariableState) → n < k + 1 → slice_get (slice_set variables k other) n ≡ Some variable → matches pattern variable.name ≡ true → more ≤ variable.room
-rooms-set pattern more k variables one other there is here before n variable below now matched = elim (cases_Bool (n == k)) [
-  | inl at ↦
-      let same : other ≡ variable = some-same other variable (slice_get (slice_set variables k other) k) (set-here variables k other (slice_get_within variables k one there)) (ap (slice_get (slice_set variables k other)) (sym (eqb-true n k at)) ∙ now) in
-      subst (λ (v : VariableState). more ≤ v.room) same (here (ap (λ (v : VariableState). matches pattern v.name) (sym is.same ∙ same) ∙ matched))
-  | inr apart ↦ before n variable (omega (arith, eqb-false n k apart)) (sym (set-other variables k n other apart) ∙ now) matched
+rooms-set pattern more k variables one other there is here before n variable below now matched = elim (set-cases variables k n other variable now) [
+  | inl at ↦ subst (λ (v : VariableState). more ≤ v.room) (sym at.1) (here (ap (λ (v : VariableState). matches pattern v.name) (sym is.same ∙ sym at.1) ∙ matched))
+  | inr apart ↦ before n variable (omega (arith, below, apart.0)) apart.1 matched
 ]
 
 -- those who hear from now on
@@ -143,7 +98,7 @@ pub all-middle : {X : Type 0} (P : X → Type 0) (xs : List X) (x : X) (ys : Lis
 all-middle P [] x ys all = All-head P x ys all
 all-middle P (y ∷ xs) x ys all = all-middle P xs x ys (All-tail P y (xs ++ x ∷ ys) all)
 
-at-append : (number : ℕ) (xs ys : List Heard) → heard_at_number number (xs ++ ys) ≡ heard_at_number number xs ++ heard_at_number number ys
+pub at-append : (number : ℕ) (xs ys : List Heard) → heard_at_number number (xs ++ ys) ≡ heard_at_number number xs ++ heard_at_number number ys
 at-append number xs ys =
     ap (map (λ (one : Heard). one.1)) (filter-append (λ (one : Heard). one.0 == number) xs ys)
     ∙ map-append (λ (one : Heard). one.1) (filter (λ (one : Heard). one.0 == number) xs) (filter (λ (one : Heard). one.0 == number) ys)
@@ -152,9 +107,9 @@ pub at-own : (number : ℕ) (hearer : HearerState) (ys : List Heard) → heard_a
 at-own number hearer ys =
     ap (λ b. map (λ (one : Heard). one.1) (cond b ((number, hearer) ∷ filter (λ (one : Heard). one.0 == number) ys) (filter (λ (one : Heard). one.0 == number) ys))) (eq-eqb number number refl)
 
-at-other : (number other : ℕ) (hearer : HearerState) → (other == number) ≡ false → heard_at_number other ((number, hearer) ∷ []) ≡ []
+pub at-other : (number other : ℕ) (hearer : HearerState) → other ≢ number → heard_at_number other ((number, hearer) ∷ []) ≡ []
 at-other number other hearer apart =
-    ap (λ b. map (λ (one : Heard). one.1) (cond b ((number, hearer) ∷ []) [])) (ne_eqb number other (λ same. omega (arith, eqb-false other number apart)))
+    ap (λ b. map (λ (one : Heard). one.1) (cond b ((number, hearer) ∷ []) [])) (ne_eqb number other (λ same. apart (sym same)))
 
 added-more : (first second : List Heard) (number : ℕ) (one other more : VariableState) → IsAddedTo first number one other → IsAddedTo second number other more → IsAddedTo (first ++ second) number one more
 added-more first second number one other more was now =
@@ -170,7 +125,7 @@ added-more first second number one other more was now =
 pub added-nobody : (number : ℕ) (variable : VariableState) → IsAddedTo [] number variable variable
 added-nobody number variable = record { same = ap (λ hearers. record variable { hearers = hearers }) (sym (append-nil variable.hearers)); room = omega arith }
 
-added-none : (number other : ℕ) (hearer : HearerState) (variable : VariableState) → (other == number) ≡ false → IsAddedTo ((number, hearer) ∷ []) other variable variable
+added-none : (number other : ℕ) (hearer : HearerState) (variable : VariableState) → other ≢ number → IsAddedTo ((number, hearer) ∷ []) other variable variable
 added-none number other hearer variable apart = record {
   same = ap (λ hearers. record variable { hearers = hearers }) (sym (ap (λ all. variable.hearers ++ all) (at-other number other hearer apart) ∙ append-nil variable.hearers));
   room = omega arith;
@@ -197,20 +152,9 @@ room-next before after all number hearer rest one room added there =
 
 -- the table of numbers is that of the names alone
 pub numbers-kept : (before after : VariablesState) → variable_names after.all ≡ variable_names before.all → after.numbers ≡ before.numbers → after.noted ≡ before.noted → AreNumbers before → AreNumbers after
-numbers-kept before after names numbers noted are =
-    let named : (n : ℕ) → name_at after.all n ≡ name_at before.all n
-    = λ n. sym (slice_get-map (λ (one : VariableState). one.name) after.all n) ∙ ap (λ list. slice_get list n) names ∙ slice_get-map (λ (one : VariableState). one.name) before.all n in
-    let long : length after.all ≡ length before.all = sym (length-map after.all (λ (one : VariableState). one.name)) ∙ ap length names ∙ length-map before.all (λ (one : VariableState). one.name) in
-    record {
-      numbering = record {
-        each = λ n variable there.
-            let found : (x : VariableState) × (slice_get before.all n ≡ Some x) = found-below before.all n (omega (arith, long, slice_get_within after.all n variable there)) in
-            let same : found.0.name ≡ variable.name = some-same found.0.name variable.name (name_at before.all n) (ap (option_map (λ (one : VariableState). one.name)) found.1) (sym (named n) ∙ ap (option_map (λ (one : VariableState). one.name)) there) in
-            ap (number_of variable.name) numbers ∙ ap (λ name. number_of name before.numbers) (sym same) ∙ are.numbering.each n found.0 found.1;
-        only = λ n var is. named n ∙ are.numbering.only n var (ap (number_of var) (sym numbers) ∙ is);
-      };
-      noted = subst (λ list. All (λ number. number < length after.all) list) (sym noted) (subst (λ n. All (λ number. number < n) before.noted) (sym long) are.noted);
-    }
+numbers-kept before after names =
+    AreNumbers-names before after
+    (sym (length-map after.all (λ (one : VariableState). one.name)) ∙ ap length names ∙ length-map before.all (λ (one : VariableState). one.name)) (names-at before.all after.all names)
 
 pub added-names : (all : List Heard) (before after : List VariableState) → AreEachAt (IsAddedTo all) before after → variable_names after ≡ variable_names before
 added-names all before after added =
@@ -221,35 +165,6 @@ pub set-names : (variables : List VariableState) (place : ℕ) (one other : Vari
 set-names variables place one other there same =
     each-shown (λ (variable : VariableState). variable.name) variables (slice_set variables place other)
     (each-set (λ n before after. after.name ≡ before.name) variables place one other (λ n x apart. refl) there same)
-
--- a post that catches up
-
-unlike-names : (variables : VariablesState) (place number : ℕ) (one other : VariableState) → AreNumbers variables → slice_get variables.all place ≡ Some one → slice_get variables.all number ≡ Some other →
-    (number == place) ≡ false → bytes_eq one.name other.name ≡ false
-unlike-names variables place number one other are there found apart = elim (cases_Bool (bytes_eq one.name other.name)) [
-  | inl same ↦
-      let at : Some place ≡ Some number = sym (are.numbering.each place one there) ∙ ap (λ name. number_of name variables.numbers) ((bytes_eq-Decides one.name other.name).0 same) ∙ are.numbering.each number other found in
-      let level : place ≡ number = cc in
-      absurd (omega (arith, eqb-false number place apart))
-  | inr unlike ↦ unlike
-]
-
-pub caught-set : (client made stamp : ℕ) (source : List ℕ) (place : ℕ) (answer : Bool) (before : VariablesState) (one other : VariableState) → slice_get before.all place ≡ Some one → AreNumbers before →
-    answer ≡ list_any (is_new_at client made source) one.hearers → other ≡ record one { hearers = map (caught_at client made stamp source) one.hearers; room = other.room } →
-    IsCaught client made stamp source place answer before (record before { all = slice_set before.all place other })
-caught-set client made stamp source place answer before one other there are is same = record {
-  variable = one;
-  room = other.room;
-  there = there;
-  numbered = are.numbering.each place one there;
-  apart = λ n other' found apart. unlike-names before place n one other' are there found apart;
-  catches = is;
-  each = set-length before.all place other;
-  here = set-here before.all place other (slice_get_within before.all place one there) ∙ ap (λ v. Some v) same;
-  others = λ n apart. set-other before.all place n other apart;
-  numbers = refl;
-  noted = refl;
-}
 
 -- the number of a variable that is noted
 pub noted-below : (variables : VariablesState) (number place : ℕ) → AreNumbers variables → number < length variables.noted → place ≡ get_or variables.noted number place → place < length variables.all

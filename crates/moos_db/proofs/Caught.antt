@@ -1,157 +1,131 @@
--- What is kept of a client after latest posts caught up, one after the other.
-use Rattle.std.proofs.Common.{◌≡◌, ◌∙◌, ◌<◌, ◌+◌, ◌==◌, ◌&&◌, ℕ, Bool, true, false, not, List, [], ◌∷◌, ◌++◌, length, map, Option, None, Some, option_map, fold, slice_get, suc, take, refl, ap, sym, subst, arith, inl, inr, if◌then◌else◌}
-use Rattle.std.specs.List.{list_any}
-use Rattle.std.proofs.lemmas.Bool.{cases_Bool, eq-eqb, eqb-true}
-use Rattle.std.proofs.lemmas.Option.{slice_get-map, slice_get_within}
-use Rattle.std.proofs.lemmas.List.{length-map}
+-- What is kept of a client and who hears the variables after latest posts caught up, one after the other.
+use Rattle.std.proofs.Common.{◌≡◌, ◌∙◌, ◌<◌, ◌≤◌, ◌+◌, ◌==◌, ◌&&◌, ◌||◌, ℕ, Bool, true, false, cond, not, List, [], ◌∷◌, ◌++◌, get_or, length, map, Option, None, Some, option_map, fold, set, slice_get, suc, take, refl, ap, sym, subst, arith, if◌then◌else◌}
+use Rattle.std.specs.List.{All, list_any}
+use Rattle.std.proofs.lemmas.Bool.{eq-eqb, ne_eqb}
+use Rattle.std.proofs.lemmas.Option.{same_Some, slice_get-map, slice_get_within}
+use Rattle.std.proofs.lemmas.List.{length-map, length-set}
+use Rattle.std.proofs.lemmas.List.Elements.{All-set}
+use Rattle.std.proofs.lemmas.List.Folds.{map_fixed}
 use Rattle.std.proofs.lemmas.List.Sums.{fold-append}
-use Rattle.moos_mail.proofs.Lists.{found-below, take-next}
-use Rattle.moos_mail.specs.Mailboxes.{is_one_of, with_number}
+use Rattle.moos_mail.proofs.Appending.{one_of-mailed}
+use Rattle.moos_mail.proofs.Lists.{found-below, none-at, take-next}
+use Rattle.moos_mail.specs.Mailboxes.{is_one_of}
 use Rattle.moos_post.specs.declared.value.Post.{Post}
+use Rattle.moos_post.specs.Delivery.{Inbox, is_new_for, Live, mailing, was_mailed, with_caught_up, with_came}
 use Rattle.moos_post.specs.History.{name_of}
+use Rattle.moos_post.specs.Patterns.{matches}
 use Rattle.moos_db.specs.declared.mail.Origin.{Origin}
 use Rattle.moos_db.specs.Database.{origin_of}
-use Rattle.moos_db.specs.Clients.{ClientState, IsClient, mailed_once, registration_of}
-use Rattle.moos_db.specs.Hearers.{AreHeard, AreKeptAs, AreNoted, IsHeardBy, VariableState, VariablesState, name_at}
-use Rattle.moos_db.specs.Registering.{IsCaught, with_kept}
-use Rattle.moos_db.specs.Subscribers.{SubscriberState, SubscriptionState, catch_found, catch_number, caught, is_new_held, with_caught, with_missed, with_stamp}
-use Rattle.moos_db.proofs.AfterRegistering.{some-same}
-use Rattle.moos_db.proofs.CatchingUp.{all-at, caught-heard, new-heard, none-caught}
-
--- clients
-
-pub at-client : (client : ℕ) (change : SubscriberState → SubscriberState) (kept : ℕ → SubscriberState) → with_kept client change kept client ≡ change (kept client)
-at-client client change kept = ap (λ b. if b then change (kept client) else kept client) (eq-eqb client client refl)
-
-pub at-others : (client : ℕ) (change : SubscriberState → SubscriberState) (kept : ℕ → SubscriberState) (number : ℕ) → (number == client) ≡ false → with_kept client change kept number ≡ kept number
-at-others client change kept number apart = ap (λ b. if b then change (kept number) else kept number) apart
-
-pub kept-same : (client : ℕ) (change : SubscriberState → SubscriberState) (kept : ℕ → SubscriberState) → change (kept client) ≡ kept client → with_kept client change kept ≡ kept
-kept-same client change kept same = λ i number. each number i
-  where
-    each : (number : ℕ) → with_kept client change kept number ≡ kept number
-    each number = elim (cases_Bool (number == client)) [
-      | inl own ↦ subst (λ n. with_kept client change kept n ≡ kept n) (sym (eqb-true number client own)) (at-client client change kept ∙ same)
-      | inr other ↦ at-others client change kept number other
-    ]
-
-if-registration : (b : Bool) (stamp : ℕ) (var : List ℕ) (held : SubscriptionState) → registration_of (if b then with_stamp stamp var held else held) ≡ registration_of held
-if-registration true stamp var held = refl
-if-registration false stamp var held = refl
-
-registrations-caught : (made stamp : ℕ) (var source : List ℕ) (lives : List SubscriptionState) → map registration_of (map (caught made stamp var source) lives) ≡ map registration_of lives
-registrations-caught made stamp var source [] = refl
-registrations-caught made stamp var source (held ∷ lives) = λ i. if-registration (is_new_held made var source held) stamp var held i ∷ registrations-caught made stamp var source lives i
-
-client-caught : (number stamp : ℕ) (source var : List ℕ) (kept : SubscriberState) (one other : ClientState) → IsClient kept one → is_one_of number one.mailed ≡ false →
-    other ≡ record (mailed_once number one) { spare = other.spare } → IsClient (with_missed number stamp source kept var) other
-client-caught number stamp source var kept one other stands fresh after =
-    let once : mailed_once number one ≡ record one { mailed = with_number number one.mailed; waits = one.waits ++ number ∷ [] }
-    = ap (λ b. if b then one else record one { mailed = with_number number one.mailed; waits = one.waits ++ number ∷ [] }) fresh in
-    record {
-      lives = ap (λ (c : ClientState). c.lives) after ∙ ap (λ (c : ClientState). c.lives) once ∙ stands.lives ∙ sym (registrations-caught kept.seen stamp var source kept.lives);
-      mailed = ap (λ (c : ClientState). c.mailed) after ∙ ap (λ (c : ClientState). c.mailed) once ∙ ap (with_number number) stands.mailed;
-      waits = ap (λ (c : ClientState). c.waits) after ∙ ap (λ (c : ClientState). c.waits) once ∙ ap (λ waits. waits ++ number ∷ []) stands.waits;
-    }
+use Rattle.moos_db.specs.Clients.{ClientState, IsClient}
+use Rattle.moos_db.specs.Hearers.{AreHeard, AreKeptAs, AreKnown, AreNoted, HasLatest, HearerState, IsHeardBy, VariableState, VariablesState, hearers_of, is_new_at, mailed_if, name_at, of_client, with_inbox}
+use Rattle.moos_db.specs.Registering.{IsCaught, StandsAt, catch_number, catch_post}
+use Rattle.moos_db.specs.Tables.{number_of}
+use Rattle.moos_db.proofs.AfterPosts.{all-heard, client-mailed, known-passed}
+use Rattle.moos_db.proofs.AfterRegistering.{set-names}
+use Rattle.moos_db.proofs.Changes.{all-at, all-same, AreClients-set, AreNoted-names, at-client, at-each, changed-twice, name-noted, names-at}
+use Rattle.moos_db.proofs.Hearing.{any-hearers, is_new_of, new-alike, passed, registrations-passed, stamped}
 
 -- one that was mailed before doesn't catch up
-pub mailed-stays : (names : List (List ℕ)) (posts : List Post) (kept : SubscriberState) (number : ℕ) → is_one_of number kept.mailed ≡ true → catch_number names posts kept number ≡ kept
-mailed-stays names posts kept number mailed = through (slice_get posts number)
+mailed-stays : (names : List (List ℕ)) (posts : List Post) (inbox : Inbox) (number : ℕ) → was_mailed number inbox.mailed ≡ true → catch_number names posts inbox number ≡ inbox
+mailed-stays names posts inbox number mailed = through (slice_get posts number)
   where
-    by : (new : Bool) (post : Post) → (if new && not (is_one_of number kept.mailed) then with_caught names kept number post else kept) ≡ kept
-    by true post = ap (λ b. if not b then with_caught names kept number post else kept) mailed
+    by : (new : Bool) (post : Post) → (if new && not (was_mailed number inbox.mailed) then with_caught_up names inbox number post else inbox) ≡ inbox
+    by true post = ap (λ b. if not b then with_caught_up names inbox number post else inbox) mailed
     by false post = refl
 
-    through : (found : Option Post) → catch_found names number kept found ≡ kept
+    through : (found : Option Post) → catch_post names number inbox found ≡ inbox
     through None = refl
-    through (Some post) = by (list_any (is_new_held kept.seen post.var (name_of names post.source)) kept.lives) post
+    through (Some post) = by (list_any (is_new_for names inbox.entries post) inbox.lives) post
 
--- what is kept after one that was not
-pub caught-by : (names : List (List ℕ)) (posts : List Post) (kept : SubscriberState) (number : ℕ) (post : Post) (answer : Bool) → slice_get posts number ≡ Some post → is_one_of number kept.mailed ≡ false →
-    answer ≡ list_any (is_new_held kept.seen post.var (name_of names post.source)) kept.lives → catch_number names posts kept number ≡ (if answer then with_caught names kept number post else kept)
-caught-by names posts kept number post answer there fresh is =
-    ap (catch_found names number kept) there
-    ∙ ap (λ b. if b && not (is_one_of number kept.mailed) then with_caught names kept number post else kept) (sym is)
-    ∙ by answer
+-- the inbox after the post with this number, which wasn't mailed before, caught up where this says so
+abbrev caught_if : Bool → List (List ℕ) → ℕ → Post → Inbox → Inbox
+caught_if answer names number post inbox = record inbox {
+  lives = map (passed (is_new_for names inbox.entries post) post) inbox.lives;
+  mailed = if answer then inbox.mailed ++ mailing number inbox.entries ∷ [] else inbox.mailed;
+}
+
+caught-by : (names : List (List ℕ)) (posts : List Post) (inbox : Inbox) (number : ℕ) (post : Post) (answer : Bool) → slice_get posts number ≡ Some post → was_mailed number inbox.mailed ≡ false →
+    answer ≡ list_any (is_new_for names inbox.entries post) inbox.lives → catch_number names posts inbox number ≡ caught_if answer names number post inbox
+caught-by names posts inbox number post answer there new is =
+    ap (catch_post names number inbox) there
+    ∙ (λ i. if sym is i && not (new i) then with_caught_up names inbox number post else inbox)
+    ∙ by answer is
   where
-    by : (b : Bool) → (if b && not (is_one_of number kept.mailed) then with_caught names kept number post else kept) ≡ (if b then with_caught names kept number post else kept)
-    by true = ap (λ b. if not b then with_caught names kept number post else kept) fresh
-    by false = refl
+    by : (b : Bool) → b ≡ list_any (is_new_for names inbox.entries post) inbox.lives → (if b && not false then with_caught_up names inbox number post else inbox) ≡ caught_if b names number post inbox
+    by true all = refl
+    by false none =
+        ap (λ lives. record inbox { lives = lives })
+        (sym (map_fixed (passed (is_new_for names inbox.entries post) post) inbox.lives
+        (λ k d within. ap (λ b. if b then with_came post (get_or inbox.lives k d) else get_or inbox.lives k d) (none-at (is_new_for names inbox.entries post) inbox.lives k d (sym none) within))))
 
--- its registrations then
-lives-caught : (names : List (List ℕ)) (kept : SubscriberState) (number : ℕ) (post : Post) (answer : Bool) → answer ≡ list_any (is_new_held kept.seen post.var (name_of names post.source)) kept.lives →
-    (if answer then with_caught names kept number post else kept).lives ≡ map (caught kept.seen post.stamp post.var (name_of names post.source)) kept.lives
-lives-caught names kept number post true is = refl
-lives-caught names kept number post false is = sym (none-caught kept.seen post.stamp post.var (name_of names post.source) kept.lives (sym is))
+-- who is new is the client's
+new-own : (client made : ℕ) (source : List ℕ) (hearers : List HearerState) → list_any (is_new_at client made source) hearers ≡ list_any (is_new_at client made source) (of_client client hearers)
+new-own client made source [] = refl
+new-own client made source (hearer ∷ hearers) = through (hearer.client == client) refl (new-own client made source hearers)
+  where
+    through : (b : Bool) → (hearer.client == client) ≡ b → list_any (is_new_at client made source) hearers ≡ list_any (is_new_at client made source) (of_client client hearers) →
+        ((b && hearer.made == made) && matches hearer.reg.source source || list_any (is_new_at client made source) hearers)
+        ≡ list_any (is_new_at client made source) (cond b (hearer ∷ of_client client hearers) (of_client client hearers))
+    through true is rest = λ i. (sym is i && hearer.made == made) && matches hearer.reg.source source || rest i
+    through false is rest = rest
 
-client-by : (names : List (List ℕ)) (kept : SubscriberState) (number : ℕ) (post : Post) (answer : Bool) (one other : ClientState) → IsClient kept one → is_one_of number one.mailed ≡ false →
-    other ≡ (if answer then record (mailed_once number one) { spare = other.spare } else one) → IsClient (if answer then with_caught names kept number post else kept) other
-client-by names kept number post true one other stands fresh after = client-caught number post.stamp (name_of names post.source) post.var kept one other stands fresh after
-client-by names kept number post false one other stands fresh after = subst (IsClient kept) (sym after) stands
-
--- All after a latest post that was never mailed caught up, where it may.
-pub kept-caught : (names : List (List ℕ)) (posts : List Post) (client number made place : ℕ) (post : Post) (answer : Bool) (kept : ℕ → SubscriberState) (before after : VariablesState) (states others : List ClientState) (one other : ClientState) →
-    slice_get posts number ≡ Some post → (kept client).seen ≡ made → (is : IsCaught client made post.stamp (name_of names post.source) place answer before after) → is.variable.name ≡ post.var →
-    slice_get states client ≡ Some one → is_one_of number one.mailed ≡ false → length others ≡ length states → slice_get others client ≡ Some other → ((n : ℕ) → (n == client) ≡ false → slice_get others n ≡ slice_get states n) →
-    other ≡ (if answer then record (mailed_once number one) { spare = other.spare } else one) → AreKeptAs kept posts before states →
-    AreKeptAs (with_kept client (λ k. catch_number names posts k number) kept) posts after others
-kept-caught names posts client number made place post answer kept before after states others one other there seen is named had fresh long has rest change are =
-    let source : List ℕ = name_of names post.source in
-    let own : SubscriberState = kept client in
-    let catch : SubscriberState → SubscriberState = λ k. catch_number names posts k number in
+-- All after a latest post that was never mailed to the client caught up, where it may.
+kept-caught : (names : List (List ℕ)) (posts : List Post) (client number made place : ℕ) (post : Post) (answer : Bool) (inboxes : ℕ → Inbox) (before after : VariablesState) (states : List ClientState) (one other : ClientState) →
+    slice_get posts number ≡ Some post → StandsAt made (inboxes client) → (is : IsCaught client made post.stamp (name_of names post.source) place answer before after) → is.variable.name ≡ post.var →
+    slice_get states client ≡ Some one → is_one_of number one.mailed ≡ false → other ≡ record (mailed_if answer number one) { spare = other.spare } → AreKeptAs inboxes posts before states →
+    AreKeptAs (with_inbox client (λ inbox. catch_number names posts inbox number) inboxes) posts after (set states client other)
+kept-caught names posts client number made place post answer inboxes before after states one other there at is named had fresh change are =
     let below : client < length states = slice_get_within states client one had in
+    let count : ℕ = length states in
     let stands : IsClient own one = are.clients client one had in
-    let fresh' : is_one_of number own.mailed ≡ false = ap (is_one_of number) (sym stands.mailed) ∙ fresh in
-    let answers : answer ≡ list_any (is_new_held own.seen post.var source) own.lives
-    = is.catches ∙ new-heard (length states) client made source kept is.variable below (all-at (IsHeardBy (length states) kept) before.all place is.variable are.heard.heard is.there)
-    ∙ ap (λ var. list_any (is_new_held made var source) own.lives) named ∙ ap (λ n. list_any (is_new_held n post.var source) own.lives) (sym seen) in
-    let now : catch own ≡ (if answer then with_caught names own number post else own) = caught-by names posts own number post answer there fresh' answers in
+    let new : was_mailed number own.mailed ≡ false = sym (one_of-mailed number own.mailed) ∙ ap (is_one_of number) (sym stands.mailed) ∙ fresh in
+    let made_at : own.entries ≡ made = at.0 in
+    let fetched : own.fetched ≤ made = at.1 in
+    let answers : answer ≡ list_any (is_new_for names own.entries post) own.lives
+    = is.catches ∙ new-own client made source is.variable.hearers
+    ∙ ap (list_any heard) ((all-at (IsHeardBy count inboxes) before.all place is.variable are.heard.heard is.there).each client below ∙ ap (λ var. hearers_of client var own.lives) named)
+    ∙ any-hearers client post.var heard (comes client) own.lives (new-alike names client made post client)
+    ∙ (λ i. list_any (λ live. eq-eqb client client refl i && is_new_for names (sym made_at i) post live) own.lives) in
+    let caught : catch own ≡ caught_if answer names number post own = caught-by names posts own number post answer there new answers in
+    let come : (n : ℕ) → (now n).lives ≡ map (passed (comes n) post) (inboxes n).lives
+    = at-each client catch inboxes (λ n inbox. inbox.lives ≡ map (passed (comes n) post) (inboxes n).lives)
+    (ap (λ (inbox : Inbox). inbox.lives) caught ∙ (λ i. map (passed (λ live. sym (eq-eqb client client refl) i && is_new_for names (made_at i) post live) post) own.lives))
+    (λ n apart. sym ((λ i. map (passed (λ live. ne_eqb n client apart i && is_new_for names made post live) post) (inboxes n).lives) ∙ map_fixed (λ live. live) (inboxes n).lives (λ k d within. refl))) in
+    let numbered : number_of post.var before.numbers ≡ Some place = ap (λ var. number_of var before.numbers) (sym named) ∙ is.numbering.each place is.variable is.there in
+    let alike = new-alike names client made post in
+    let later : VariableState = record is.variable { hearers = map (stamped heard post.stamp) is.variable.hearers; room = is.room } in
     record {
-      clients = λ n state found. elim (cases_Bool (n == client)) [
-        | inl same ↦
-            let at : n ≡ client = eqb-true n client same in
-            let so : other ≡ state = some-same other state (slice_get others client) has (ap (slice_get others) (sym at) ∙ found) in
-            subst (λ m. IsClient (with_kept client catch kept m) state) (sym at)
-            (subst (λ k. IsClient k state) (sym (at-client client catch kept ∙ now))
-            (subst (IsClient (if answer then with_caught names own number post else own)) so (client-by names own number post answer one other stands fresh change)))
-        | inr apart ↦ subst (λ k. IsClient k state) (sym (at-others client catch kept n apart)) (are.clients n state (sym (rest n apart) ∙ found))
-      ];
-      heard =
-          subst (λ count. AreHeard count (with_kept client catch kept) posts after) (sym long)
-          (caught-heard (length states) client made post.stamp place source answer kept (with_kept client catch kept) posts before after is
-          (record {
-            own =
-                ap (λ (k : SubscriberState). k.lives) (at-client client catch kept ∙ now) ∙ lives-caught names own number post answer answers
-                ∙ ap (λ n. map (caught n post.stamp post.var source) own.lives) seen ∙ ap (λ var. map (caught made post.stamp var source) own.lives) (sym named);
-            others = λ n apart. at-others client catch kept n apart;
-          })
-          are.heard);
+      clients = AreClients-set client catch inboxes states other
+          (subst (λ inbox. IsClient inbox other) (sym caught)
+          (client-mailed answer number own (caught_if answer names number post own).lives one other stands (omega (arith, fetched, made_at)) new (registrations-passed (is_new_for names own.entries post) post own.lives) change)) are.clients;
+      heard = subst (λ n. AreHeard n now posts after) (sym (length-set states client other)) (record {
+        heard = subst (All (IsHeardBy count now)) (sym is.all)
+            (all-heard count post heard comes inboxes now alike come before.all before.numbers place is.variable is.variable.latest is.room is.numbering is.there named are.heard.heard);
+        latest = subst (All (HasLatest posts)) (sym is.all)
+            (All-set (HasLatest posts) before.all place later (all-at (HasLatest posts) before.all place is.variable are.heard.latest is.there) are.heard.latest);
+        known = subst (AreKnown count now) (sym is.numbers) (known-passed count post heard comes inboxes now alike come before.numbers place numbered are.heard.known);
+      });
     }
-
--- which variable a post is of
-pub noted-name : (vars : List (List ℕ)) (variables : VariablesState) (number place : ℕ) (var : List ℕ) → AreNoted vars variables → slice_get variables.noted number ≡ Some place → slice_get vars number ≡ Some var →
-    name_at variables.all place ≡ Some var
-noted-name vars variables number place var are noted there =
-    some-same (name_at variables.all place) (Some var) (slice_get (map (name_at variables.all) variables.noted) number)
-    (slice_get-map (name_at variables.all) variables.noted number ∙ ap (option_map (name_at variables.all)) noted)
-    (ap (λ list. slice_get list number) are ∙ slice_get-map (λ (v : List ℕ). Some v) vars number ∙ ap (option_map (λ (v : List ℕ). Some v)) there)
-
-pub noted-length : (vars : List (List ℕ)) (variables : VariablesState) → AreNoted vars variables → length variables.noted ≡ length vars
-noted-length vars variables are = sym (length-map variables.noted (name_at variables.all)) ∙ ap length are ∙ length-map vars (λ (v : List ℕ). Some v)
-
--- the posts' variables are noted as before
-pub noted-after : (client made stamp place : ℕ) (source : List ℕ) (answer : Bool) (vars : List (List ℕ)) (before after : VariablesState) → IsCaught client made stamp source place answer before after → AreNoted vars before → AreNoted vars after
-noted-after client made stamp place source answer vars before after is are =
-    ap (map (name_at after.all)) is.noted ∙ ap (λ (name : ℕ → Option (List ℕ)). map name before.noted) (λ i n. same n i) ∙ are
   where
-    same : (n : ℕ) → name_at after.all n ≡ name_at before.all n
-    same n = elim (cases_Bool (n == place)) [
-      | inl here ↦
-          subst (λ m. name_at after.all m ≡ name_at before.all m) (sym (eqb-true n place here))
-          (ap (option_map (λ (v : VariableState). v.name)) is.here ∙ sym (ap (option_map (λ (v : VariableState). v.name)) is.there))
-      | inr apart ↦ ap (option_map (λ (v : VariableState). v.name)) (is.others n apart)
-    ]
+    source : List ℕ
+    source = name_of names post.source
 
+    own : Inbox
+    own = inboxes client
+
+    catch : Inbox → Inbox
+    catch inbox = catch_number names posts inbox number
+
+    now : ℕ → Inbox
+    now = with_inbox client catch inboxes
+
+    heard : HearerState → Bool
+    heard = is_new_at client made source
+
+    comes : ℕ → Live → Bool
+    comes = is_new_of names client made post
+
+-- the post with this number, whose variable is noted
 record IsFound (names : List (List ℕ)) (posts : List Post) (client made number : ℕ) (answer : Bool) (before after : VariablesState) : Type 0 where
   post : Post
   place : ℕ
@@ -159,89 +133,78 @@ record IsFound (names : List (List ℕ)) (posts : List Post) (client made number
   is : IsCaught client made post.stamp (name_of names post.source) place answer before after
   named : is.variable.name ≡ post.var
 
-found : (names : List (List ℕ)) (posts : List Post) (client made number : ℕ) (answer : Bool) (before after : VariablesState) (origin : Origin) (source : List ℕ) → number < length posts →
-    option_map origin_of (slice_get posts number) ≡ Some origin → source ≡ name_of names origin.client → AreNoted (map (λ (post : Post). post.var) posts) before →
-    ((place : ℕ) → slice_get before.noted number ≡ Some place → IsCaught client made origin.stamp source place answer before after) → IsFound names posts client made number answer before after
-found names posts client made number answer before after origin source below origin_is source_is are catches =
-    let vars : List (List ℕ) = map (λ (post : Post). post.var) posts in
-    let one : (post : Post) × (slice_get posts number ≡ Some post) = found-below posts number below in
-    let noted : (place : ℕ) × (slice_get before.noted number ≡ Some place) = found-below before.noted number (omega (arith, noted-length vars before are, length-map posts (λ (post : Post). post.var))) in
-    let from : origin_of one.0 ≡ origin = some-same (origin_of one.0) origin (option_map origin_of (slice_get posts number)) (ap (option_map origin_of) one.1) origin_is in
-    let is : IsCaught client made one.0.stamp (name_of names one.0.source) noted.0 answer before after
-    = subst (λ (o : Origin). IsCaught client made o.stamp (name_of names o.client) noted.0 answer before after) (sym from)
-    (subst (λ s. IsCaught client made origin.stamp s noted.0 answer before after) source_is (catches noted.0 noted.1)) in
-    let name : name_at before.all noted.0 ≡ Some one.0.var
-    = noted-name vars before number noted.0 one.0.var are noted.1 (slice_get-map (λ (post : Post). post.var) posts number ∙ ap (option_map (λ (post : Post). post.var)) one.1) in
-    record {
-      post = one.0;
-      place = noted.0;
-      there = one.1;
-      is = is;
-      named = some-same is.variable.name one.0.var (name_at before.all noted.0) (ap (option_map (λ (v : VariableState). v.name)) is.there) name;
-    }
+pub noted-length : (vars : List (List ℕ)) (variables : VariablesState) → AreNoted vars variables → length variables.noted ≡ length vars
+noted-length vars variables are = sym (length-map variables.noted (name_at variables.all)) ∙ ap length are ∙ length-map vars (λ (v : List ℕ). Some v)
 
--- All after the latest post with this number caught up, where it may.
-pub catch-one : (names : List (List ℕ)) (posts : List Post) (client made number : ℕ) (answer : Bool) (before after : VariablesState) (origin : Origin) (source : List ℕ) (states others : List ClientState) (one other : ClientState) → number < length posts →
-    option_map origin_of (slice_get posts number) ≡ Some origin → source ≡ name_of names origin.client → AreNoted (map (λ (post : Post). post.var) posts) before →
-    ((place : ℕ) → slice_get before.noted number ≡ Some place → IsCaught client made origin.stamp source place answer before after) →
-    slice_get states client ≡ Some one → is_one_of number one.mailed ≡ false → length others ≡ length states → slice_get others client ≡ Some other → ((n : ℕ) → (n == client) ≡ false → slice_get others n ≡ slice_get states n) →
-    other ≡ (if answer then record (mailed_once number one) { spare = other.spare } else one) →
-    (kept : ℕ → SubscriberState) → (kept client).seen ≡ made → AreKeptAs kept posts before states → AreKeptAs (with_kept client (λ k. catch_number names posts k number) kept) posts after others
-catch-one names posts client made number answer before after origin source states others one other below origin_is source_is are catches had fresh long has rest change kept seen stands =
-    let it : IsFound names posts client made number answer before after = found names posts client made number answer before after origin source below origin_is source_is are catches in
-    kept-caught names posts client number made it.place it.post answer kept before after states others one other it.there seen it.is it.named had fresh long has rest change stands
+module _ (names : List (List ℕ)) (posts : List Post) (client made number : ℕ) (answer : Bool) (before after : VariablesState) (origin : Origin) (source : List ℕ) (below : number < length posts)
+    (origin_is : option_map origin_of (slice_get posts number) ≡ Some origin) (source_is : source ≡ name_of names origin.client) (noted : AreNoted (map (λ (post : Post). post.var) posts) before)
+    (catches : (place : ℕ) → slice_get before.noted number ≡ Some place → IsCaught client made origin.stamp source place answer before after) where
+  found : IsFound names posts client made number answer before after
+  found =
+      let vars : List (List ℕ) = map (λ (post : Post). post.var) posts in
+      let one : (post : Post) × (slice_get posts number ≡ Some post) = found-below posts number below in
+      let at : (place : ℕ) × (slice_get before.noted number ≡ Some place) = found-below before.noted number (omega (arith, noted-length vars before noted, length-map posts (λ (post : Post). post.var), below)) in
+      let from : origin_of one.0 ≡ origin = same_Some (origin_of one.0) origin (sym (ap (option_map origin_of) one.1) ∙ origin_is) in
+      let is : IsCaught client made one.0.stamp (name_of names one.0.source) at.0 answer before after
+      = subst (λ (o : Origin). IsCaught client made o.stamp (name_of names o.client) at.0 answer before after) (sym from)
+      (subst (λ s. IsCaught client made origin.stamp s at.0 answer before after) source_is (catches at.0 at.1)) in
+      record {
+        post = one.0;
+        place = at.0;
+        there = one.1;
+        is = is;
+        named = same_Some is.variable.name one.0.var
+            (sym (name-noted vars before number at.0 is.variable at.1 is.there noted) ∙ slice_get-map (λ (post : Post). post.var) posts number ∙ ap (option_map (λ (post : Post). post.var)) one.1);
+      }
 
-pub catch-noted : (names : List (List ℕ)) (posts : List Post) (client made number : ℕ) (answer : Bool) (before after : VariablesState) (origin : Origin) (source : List ℕ) → number < length posts →
-    option_map origin_of (slice_get posts number) ≡ Some origin → source ≡ name_of names origin.client → AreNoted (map (λ (post : Post). post.var) posts) before →
-    ((place : ℕ) → slice_get before.noted number ≡ Some place → IsCaught client made origin.stamp source place answer before after) → AreNoted (map (λ (post : Post). post.var) posts) after
-catch-noted names posts client made number answer before after origin source below origin_is source_is are catches =
-    let it : IsFound names posts client made number answer before after = found names posts client made number answer before after origin source below origin_is source_is are catches in
-    noted-after client made it.post.stamp it.place (name_of names it.post.source) answer (map (λ (post : Post). post.var) posts) before after it.is are
+  -- All after the latest post with this number caught up, where it may.
+  pub catch-one : (states : List ClientState) (one other : ClientState) → slice_get states client ≡ Some one → is_one_of number one.mailed ≡ false → other ≡ record (mailed_if answer number one) { spare = other.spare } →
+      (inboxes : ℕ → Inbox) → StandsAt made (inboxes client) → AreKeptAs inboxes posts before states → AreKeptAs (with_inbox client (λ inbox. catch_number names posts inbox number) inboxes) posts after (set states client other)
+  catch-one states one other had fresh change inboxes at are =
+      kept-caught names posts client number made found.place found.post answer inboxes before after states one other found.there at found.is found.named had fresh change are
+
+  pub catch-noted : AreNoted (map (λ (post : Post). post.var) posts) after
+  catch-noted =
+      let is = found.is in
+      AreNoted-names (map (λ (post : Post). post.var) posts) before after
+      (λ n. ap (λ all. name_at all n) is.all ∙ names-at before.all _ (set-names before.all found.place is.variable _ is.there refl) n) is.noted noted
 
 -- All after one that was mailed before: as it was.
 pub catch-mailed : (names : List (List ℕ)) (posts : List Post) (client number : ℕ) (variables : VariablesState) (states : List ClientState) (one : ClientState) → slice_get states client ≡ Some one → is_one_of number one.mailed ≡ true →
-    (kept : ℕ → SubscriberState) → AreKeptAs kept posts variables states → AreKeptAs (with_kept client (λ k. catch_number names posts k number) kept) posts variables states
-catch-mailed names posts client number variables states one had mailed kept are =
-    subst (λ k. AreKeptAs k posts variables states)
-    (sym (kept-same client (λ k. catch_number names posts k number) kept (mailed-stays names posts (kept client) number (ap (is_one_of number) (sym (are.clients client one had).mailed) ∙ mailed)))) are
+    (inboxes : ℕ → Inbox) → AreKeptAs inboxes posts variables states → AreKeptAs (with_inbox client (λ inbox. catch_number names posts inbox number) inboxes) posts variables states
+catch-mailed names posts client number variables states one had mailed inboxes are =
+    let was : was_mailed number (inboxes client).mailed ≡ true = sym (one_of-mailed number (inboxes client).mailed) ∙ ap (is_one_of number) (sym (are.clients client one had).mailed) ∙ mailed in
+    subst (λ now. AreKeptAs now posts variables states)
+    (sym (all-same client (λ inbox. catch_number names posts inbox number) inboxes inboxes (mailed-stays names posts (inboxes client) number was) (λ n apart. refl))) are
 
 -- several, one after the other
 
-pub kept-twice : (client : ℕ) (first second both : SubscriberState → SubscriberState) (kept : ℕ → SubscriberState) → ((k : SubscriberState) → second (first k) ≡ both k) →
-    with_kept client second (with_kept client first kept) ≡ with_kept client both kept
-kept-twice client first second both kept same = λ i number. each number i
+at-caught : (names : List (List ℕ)) (posts : List Post) (made : ℕ) (inbox : Inbox) (number : ℕ) → StandsAt made inbox → StandsAt made (catch_number names posts inbox number)
+at-caught names posts made inbox number at = through (slice_get posts number)
   where
-    by : (b : Bool) (k : SubscriberState) → (if b then second (if b then first k else k) else (if b then first k else k)) ≡ (if b then both k else k)
-    by true k = same k
-    by false k = refl
+    by : (b : Bool) (post : Post) → StandsAt made (if b then with_caught_up names inbox number post else inbox)
+    by true post = at
+    by false post = at
 
-    each : (number : ℕ) → with_kept client second (with_kept client first kept) number ≡ with_kept client both kept number
-    each number = by (number == client) (kept number)
+    through : (found : Option Post) → StandsAt made (catch_post names number inbox found)
+    through None = at
+    through (Some post) = by (list_any (is_new_for names inbox.entries post) inbox.lives && not (was_mailed number inbox.mailed)) post
 
-seen-caught : (names : List (List ℕ)) (posts : List Post) (kept : SubscriberState) (number : ℕ) → (catch_number names posts kept number).seen ≡ kept.seen
-seen-caught names posts kept number = through (slice_get posts number)
-  where
-    by : (b : Bool) (post : Post) → (if b then with_caught names kept number post else kept).seen ≡ kept.seen
-    by true post = refl
-    by false post = refl
-
-    through : (found : Option Post) → (catch_found names number kept found).seen ≡ kept.seen
-    through None = refl
-    through (Some post) = by (list_any (is_new_held kept.seen post.var (name_of names post.source)) kept.lives && not (is_one_of number kept.mailed)) post
-
-pub seen-all : (names : List (List ℕ)) (posts : List Post) (kept : SubscriberState) (numbers : List ℕ) → (fold (catch_number names posts) kept numbers).seen ≡ kept.seen
-seen-all names posts kept [] = refl
-seen-all names posts kept (number ∷ numbers) = seen-all names posts (catch_number names posts kept number) numbers ∙ seen-caught names posts kept number
+at-all : (names : List (List ℕ)) (posts : List Post) (made : ℕ) (inbox : Inbox) (numbers : List ℕ) → StandsAt made inbox → StandsAt made (fold (catch_number names posts) inbox numbers)
+at-all names posts made inbox [] at = at
+at-all names posts made inbox (number ∷ numbers) at = at-all names posts made (catch_number names posts inbox number) numbers (at-caught names posts made inbox number at)
 
 -- one more
-pub catch-next : (names : List (List ℕ)) (posts : List Post) (client made number place : ℕ) (numbers : List ℕ) (before after : VariablesState) (states others : List ClientState) (kept : ℕ → SubscriberState) → slice_get numbers place ≡ Some number →
-    ((now : ℕ → SubscriberState) → (now client).seen ≡ made → AreKeptAs now posts before states → AreKeptAs (with_kept client (λ k. catch_number names posts k number) now) posts after others) →
-    (kept client).seen ≡ made → AreKeptAs (with_kept client (λ k. fold (catch_number names posts) k (take place numbers)) kept) posts before states →
-    AreKeptAs (with_kept client (λ k. fold (catch_number names posts) k (take (place + 1) numbers)) kept) posts after others
-catch-next names posts client made number place numbers before after states others kept there step seen are =
+pub catch-next : (names : List (List ℕ)) (posts : List Post) (client made number place : ℕ) (numbers : List ℕ) (before after : VariablesState) (states others : List ClientState) (inboxes : ℕ → Inbox) → slice_get numbers place ≡ Some number →
+    ((now : ℕ → Inbox) → StandsAt made (now client) → AreKeptAs now posts before states → AreKeptAs (with_inbox client (λ inbox. catch_number names posts inbox number) now) posts after others) →
+    StandsAt made (inboxes client) → AreKeptAs (with_inbox client (λ inbox. fold (catch_number names posts) inbox (take place numbers)) inboxes) posts before states →
+    AreKeptAs (with_inbox client (λ inbox. fold (catch_number names posts) inbox (take (place + 1) numbers)) inboxes) posts after others
+catch-next names posts client made number place numbers before after states others inboxes there step at are =
     let next : place + 1 ≡ suc place = omega arith in
-    let so : SubscriberState → SubscriberState = λ k. fold (catch_number names posts) k (take place numbers) in
-    subst (λ k. AreKeptAs k posts after others)
-    (kept-twice client so (λ k. catch_number names posts k number) (λ k. fold (catch_number names posts) k (take (place + 1) numbers)) kept
-    (λ k. sym (ap (λ n. fold (catch_number names posts) k (take n numbers)) next ∙ ap (fold (catch_number names posts) k) (take-next numbers place number there) ∙ fold-append (catch_number names posts) k (take place numbers) (number ∷ []))))
-    (step (with_kept client so kept) (ap (λ (k : SubscriberState). k.seen) (at-client client so kept) ∙ seen-all names posts (kept client) (take place numbers) ∙ seen) are)
+    let so : Inbox → Inbox = λ inbox. fold (catch_number names posts) inbox (take place numbers) in
+    let more : take (place + 1) numbers ≡ take place numbers ++ number ∷ [] = ap (λ n. take n numbers) next ∙ take-next numbers place number there in
+    subst (λ now. AreKeptAs now posts after others)
+    (changed-twice client so (λ inbox. catch_number names posts inbox number) inboxes
+    ∙ ap (λ (change : Inbox → Inbox). with_inbox client change inboxes)
+    (λ i inbox. sym (ap (fold (catch_number names posts) inbox) more ∙ fold-append (catch_number names posts) inbox (take place numbers) (number ∷ [])) i))
+    (step (with_inbox client so inboxes) (subst (StandsAt made) (sym (at-client client so inboxes)) (at-all names posts made (inboxes client) (take place numbers) at)) are)

@@ -1,23 +1,24 @@
--- Worked by hand: the tables tried on posts of the variables C, B, A and C again, the letters of these posts, and what is
--- kept of a client.
-use Rattle.std.specs.Prelude.{◌≡◌, ℕ, zero, suc, ◌<◌, Bool, bytes_eq, if◌then◌else◌, option_map, List, [], ◌∷◌, length, Option, None, Some, unwrap_or, codes, false, true, fold, pos, slice_get, take, slice_index_or}
-use Rattle.std.proofs.Common.{refl, ap, subst, arith}
+-- Worked by hand: the table of latest posts tried on posts of the variables C, B, A and C again, the letters of these posts, and what
+-- is kept of a client.
+use Rattle.std.specs.Prelude.{◌≡◌, ℕ, zero, suc, ◌<◌, Bool, bytes_eq, if◌then◌else◌, option_map, List, [], ◌∷◌, length, Option, None, Some, unwrap_or, codes, false, true, pos, slice_get, take, slice_index_or}
+use Rattle.std.proofs.Common.{refl, ap, subst, arith, ◌∙◌}
 use Rattle.std.proofs.lemmas.List.Elements.{All-cons, All-head, All-nil}
 use Rattle.moos_post.specs.declared.entry.Call.{Call}
-use Rattle.moos_post.specs.declared.entry.Call.TheVariants.{Register, Unregister, Post as Posts, Fetch}
+use Rattle.moos_post.specs.declared.entry.Call.TheVariants.{Register, Post as Posts, Fetch}
 use Rattle.moos_post.specs.declared.entry.Entry.{Entry}
 use Rattle.moos_post.specs.declared.registration.Reg.{Reg}
 use Rattle.moos_post.specs.declared.value.Post.{Post}
 use Rattle.moos_post.specs.declared.value.Value.TheVariants.{Num}
-use Rattle.moos_post.specs.Delivery.{inbox_of, mail_at}
+use Rattle.moos_post.specs.Delivery.{Inbox, last_stamp, mail_at, mailing}
 use Rattle.moos_post.specs.History.{History, posts_of}
+use Rattle.moos_post.proofs.Texts.{bytes_eq_comm}
 use Rattle.moos_db.specs.Database.{after_entry, AreLetters, AreMails, Database, letter_at, letter_of, origin_of, pair_posted}
 use Rattle.moos_db.specs.declared.mail.Letter.{Letter}
-use Rattle.moos_db.specs.Subscribers.{catch_found, catch_number, catch_post, held_of_reg, IsFresh, SubscriberState, SubscriptionState, kept_entry, kept_of}
 use Rattle.moos_db.specs.Clients.{ClientState, IsClient}
-use Rattle.moos_db.specs.Hearers.{AreKnown, HearerState, hearers_of, IsHeardBy, of_client, VariableState, VariablesState}
-use Rattle.moos_db.specs.Places.{IsDb, IsLog, Journal, kept_after, place_at, post_in}
-use Rattle.moos_db.specs.Tables.{Row, rows_of, number_of, lasts_of}
+use Rattle.moos_db.specs.Hearers.{AreKnown, HasLatest, HearerState, hearers_of, IsHeardBy, HasKnown, of_client, VariableState, VariablesState, with_inbox}
+use Rattle.moos_db.specs.Places.{inboxes_after, IsDb, IsLog, Journal, place_at, post_in}
+use Rattle.moos_db.specs.Registering.{catch_number, catch_post, StandsAt}
+use Rattle.moos_db.specs.Tables.{Row, rows_of, number_of}
 
 abbrev post : List ℕ → ℕ → Post
 post var stamp = record { stamp = stamp; source = 0; var = var; value = Num (pos 0) }
@@ -31,11 +32,11 @@ row var number = record { var = var; number = number }
 table_of_latest_posts : rows_of posts ≡ row (codes "C") 3 ∷ row (codes "B") 1 ∷ row (codes "A") 2 ∷ []
 table_of_latest_posts = refl
 
-last_stamp_of_c : number_of (codes "C") (lasts_of posts) ≡ Some 5
-last_stamp_of_c = refl
+latest_of_c : number_of (codes "C") (rows_of posts) ≡ Some 3
+latest_of_c = refl
 
-no_stamp_of_d : number_of (codes "D") (lasts_of posts) ≡ None
-no_stamp_of_d = refl
+none_of_d : number_of (codes "D") (rows_of posts) ≡ None
+none_of_d = refl
 
 -- The second post is of variable B at stamp 20; there is no fifth.
 letter : letter_at posts 1 ≡ Some (letter_of 1 (post (codes "B") 20))
@@ -67,24 +68,6 @@ history = says 10 ∷ at 10 0 (Register (all ∷ [])) ∷ says 50 ∷ says 110 �
 abbrev names : List (List ℕ)
 names = codes "a" ∷ codes "b" ∷ []
 
-abbrev kept : SubscriberState
-kept = record { seen = 4; posts = 3; lives = record { reg = all; made = 1; lasts = row (codes "A") 110 ∷ [] } ∷ []; mailed = 0 ∷ 2 ∷ []; waits = 0 ∷ 2 ∷ [] }
-
-kept_then : kept_of (inbox_of names 0 history) ≡ kept
-kept_then = refl
-
-abbrev nothing : SubscriberState
-nothing = record { seen = 0; posts = 0; lives = []; mailed = []; waits = [] }
-
-kept_by_entries : fold (kept_entry names 0 (posts_of history)) nothing (says 10 ∷ []) ≡ record nothing { seen = 1; posts = 1 }
-kept_by_entries = refl
-
-kept_after_a_fetch : kept_entry names 0 (posts_of history) kept (at 200 0 Fetch) ≡ record kept { seen = 5; waits = [] }
-kept_after_a_fetch = refl
-
-kept_after_a_withdrawal : kept_entry names 0 (posts_of history) kept (at 200 0 (Unregister (codes "*") (codes "*"))) ≡ record kept { seen = 5; lives = [] }
-kept_after_a_withdrawal = refl
-
 -- Post 2 is the first of entry 3.
 placed : post_in history (place_at 3 0) ≡ Some (record { stamp = 110; source = 1; var = codes "A"; value = Num (pos 0) })
 placed = refl
@@ -92,35 +75,38 @@ placed = refl
 misplaced : post_in history (place_at 3 1) ≡ None
 misplaced = refl
 
--- Numbers from 3 on, of posts to come, were not mailed; from 2 on one was.
-fresh : IsFresh kept
-fresh number above = grind arith
-
-not_fresh : IsFresh (record kept { posts = 2 }) → ⊥
-not_fresh fresh = let mailed : true ≡ false = fresh 2 (omega arith) in cc
-
 -- At entry 1, when the registration is made, post 0 catches up, and comes through it. There is no post 1, and a post that
 -- was mailed doesn't catch up again, nor one where no registration was made at this entry.
-abbrev registered : SubscriberState
-registered = record { seen = 1; posts = 1; lives = held_of_reg 1 all ∷ []; mailed = []; waits = [] }
-
-abbrev caught : SubscriberState
-caught = record { seen = 1; posts = 1; lives = record { reg = all; made = 1; lasts = row (codes "A") 10 ∷ [] } ∷ []; mailed = 0 ∷ []; waits = 0 ∷ [] }
-
 abbrev a_at : ℕ → Post
 a_at stamp = record { stamp = stamp; source = 1; var = codes "A"; value = Num (pos 0) }
+
+abbrev registered : Inbox
+registered = record { fetched = 0; entries = 1; posts = a_at 10 ∷ []; lives = record { reg = all; made = 1; came = [] } ∷ []; mailed = [] }
+
+abbrev caught : Inbox
+caught = record registered { lives = record { reg = all; made = 1; came = a_at 10 ∷ [] } ∷ []; mailed = mailing 0 1 ∷ [] }
 
 catches : catch_number names (a_at 10 ∷ []) registered 0 ≡ caught
 catches = refl
 
-catches_none : (catch_number names (a_at 10 ∷ []) registered 1 ≡ registered) × (catch_found names 1 registered None ≡ registered)
-catches_none = (refl, refl)
+catches_none : catch_number names (a_at 10 ∷ []) registered 1 ≡ registered
+catches_none = refl
 
-catches_once : catch_post names 0 caught (a_at 10) ≡ caught
+catches_once : catch_post names 0 caught (Some (a_at 10)) ≡ caught
 catches_once = refl
 
-catches_later : catch_post names 0 (record registered { seen = 2 }) (a_at 10) ≡ record registered { seen = 2 }
+catches_later : catch_post names 0 (record registered { entries = 2 }) (Some (a_at 10)) ≡ record registered { entries = 2 }
 catches_later = refl
+
+-- It is the inbox of client 0 that changes so, and no other.
+caught_alone : (with_inbox 0 (λ inbox. caught) (λ client. registered) 0 ≡ caught) × (with_inbox 0 (λ inbox. caught) (λ client. registered) 1 ≡ registered)
+caught_alone = (refl, refl)
+
+stands_at : StandsAt 1 caught
+stands_at = (refl, (omega arith))
+
+stood_at : StandsAt 0 caught → ⊥
+stood_at at = omega (arith, at.0)
 
 -- What holds of each item of a list, by its place.
 each_of : {X : Type 0} (P : ℕ → X → Type 0) (x : X) (xs : List X) → P 0 x → ((k : ℕ) (y : X) → slice_get xs k ≡ Some y → P (suc k) y) → (k : ℕ) (y : X) → slice_get (x ∷ xs) k ≡ Some y → P k y
@@ -215,38 +201,31 @@ first = record { lives = record { reg = all; made = 1 } ∷ []; mailed = 0 ∷ 2
 abbrev second : ClientState
 second = record { lives = []; mailed = []; waits = []; spare = 0; room = 0 }
 
-are_clients : (number : ℕ) (one : ClientState) → slice_get (first ∷ second ∷ []) number ≡ Some one → IsClient (kept_after names fetched number) one
-are_clients = each_of (λ number one. IsClient (kept_after names fetched number) one) first (second ∷ []) (record { lives = refl; mailed = refl; waits = refl })
-    (each_of (λ number one. IsClient (kept_after names fetched (suc number)) one) second [] (record { lives = refl; mailed = refl; waits = refl })
-    (each_of_none (λ number one. IsClient (kept_after names fetched (suc (suc number))) one)))
+are_clients : (number : ℕ) (one : ClientState) → slice_get (first ∷ second ∷ []) number ≡ Some one → IsClient (inboxes_after names fetched number) one
+are_clients = each_of (λ number one. IsClient (inboxes_after names fetched number) one) first (second ∷ []) (record { lives = refl; mailed = refl; waits = refl })
+    (each_of (λ number one. IsClient (inboxes_after names fetched (suc number)) one) second [] (record { lives = refl; mailed = refl; waits = refl })
+    (each_of_none (λ number one. IsClient (inboxes_after names fetched (suc (suc number))) one)))
 
-is_heard : IsHeardBy 2 (kept_after names fetched) (variable (hearer 110 ∷ []))
+is_heard : IsHeardBy 2 (inboxes_after names fetched) (variable (hearer 110 ∷ []))
 is_heard = record { each = by_each; within = All-cons (λ (one : HearerState). one.client < 2) (hearer 110) [] (omega arith) (All-nil (λ (one : HearerState). one.client < 2)) }
   where
-    by_each : (client : ℕ) → client < 2 → of_client client (hearer 110 ∷ []) ≡ hearers_of client (codes "A") (kept_after names fetched client).lives
+    by_each : (client : ℕ) → client < 2 → of_client client (hearer 110 ∷ []) ≡ hearers_of client (codes "A") (inboxes_after names fetched client).lives
     by_each zero below = refl
     by_each (suc zero) below = refl
     by_each (suc (suc client)) below = absurd (omega (arith, below))
 
 -- nothing came through but posts of A
-known_a : (var : List ℕ) → number_of var (row (codes "A") 0 ∷ []) ≡ None → number_of var (row (codes "A") 110 ∷ []) ≡ None
-known_a var none = through (bytes_eq var (codes "A")) none
+known_a : HasKnown (row (codes "A") 0 ∷ []) (record { reg = all; made = 1; came = a_at 10 ∷ a_at 110 ∷ [] })
+known_a var none = through (bytes_eq var (codes "A")) refl none
   where
-    through : (same : Bool) → option_map (λ (one : Row). one.number) (if same then Some (row (codes "A") 0) else None) ≡ None →
-        option_map (λ (one : Row). one.number) (if same then Some (row (codes "A") 110) else None) ≡ None
-    through true none = absurd (let some : Some 0 ≡ None = none in cc)
-    through false none = refl
+    through : (same : Bool) → bytes_eq var (codes "A") ≡ same → option_map (λ (one : Row). one.number) (if same then Some (row (codes "A") 0) else None) ≡ None → last_stamp var (a_at 10 ∷ a_at 110 ∷ []) ≡ None
+    through true is none = absurd (let some : Some 0 ≡ None = none in cc)
+    through false is none = ap (λ same. if same then Some 110 else (if same then Some 10 else None)) (bytes_eq_comm (codes "A") var ∙ is)
 
-abbrev IsKnown : SubscriptionState → Type 0
-IsKnown held = (var : List ℕ) → number_of var (row (codes "A") 0 ∷ []) ≡ None → number_of var held.lasts ≡ None
-
-are_known : AreKnown 2 (kept_after names fetched) (row (codes "A") 0 ∷ [])
-are_known zero below = All-cons IsKnown (record { reg = all; made = 1; lasts = row (codes "A") 110 ∷ [] }) [] known_a (All-nil IsKnown)
-are_known (suc zero) below = All-nil IsKnown
+are_known : AreKnown 2 (inboxes_after names fetched) (row (codes "A") 0 ∷ [])
+are_known zero below = All-cons (HasKnown (row (codes "A") 0 ∷ [])) (record { reg = all; made = 1; came = a_at 10 ∷ a_at 110 ∷ [] }) [] known_a (All-nil (HasKnown (row (codes "A") 0 ∷ [])))
+are_known (suc zero) below = All-nil (HasKnown (row (codes "A") 0 ∷ []))
 are_known (suc (suc client)) below = absurd (omega (arith, below))
-
-abbrev IsLatestOf : VariableState → Type 0
-IsLatestOf one = one.latest ≡ number_of one.name (rows_of (posts_of fetched))
 
 is_db : IsDb names journal (variables (hearer 110 ∷ [])) (first ∷ second ∷ [])
 is_db = record {
@@ -256,8 +235,8 @@ is_db = record {
     kept = record {
       clients = are_clients;
       heard = record {
-        heard = All-cons (IsHeardBy 2 (kept_after names fetched)) (variable (hearer 110 ∷ [])) [] is_heard (All-nil (IsHeardBy 2 (kept_after names fetched)));
-        latest = All-cons IsLatestOf (variable (hearer 110 ∷ [])) [] refl (All-nil IsLatestOf);
+        heard = All-cons (IsHeardBy 2 (inboxes_after names fetched)) (variable (hearer 110 ∷ [])) [] is_heard (All-nil (IsHeardBy 2 (inboxes_after names fetched)));
+        latest = All-cons (HasLatest (posts_of fetched)) (variable (hearer 110 ∷ [])) [] refl (All-nil (HasLatest (posts_of fetched)));
         known = are_known;
       };
     };
@@ -276,7 +255,7 @@ client_lost : IsDb names journal (variables (hearer 110 ∷ [])) (first ∷ []) 
 client_lost db = omega (arith, db.kept.each)
 
 hearer_lost : IsDb names journal (variables []) (first ∷ second ∷ []) → ⊥
-hearer_lost db = omega (arith, ap length ((All-head (IsHeardBy 2 (kept_after names fetched)) (variable []) [] db.kept.kept.heard.heard).each 0 (omega arith)))
+hearer_lost db = omega (arith, ap length ((All-head (IsHeardBy 2 (inboxes_after names fetched)) (variable []) [] db.kept.kept.heard.heard).each 0 (omega arith)))
 
 abbrev first_stamp_through : List HearerState → ℕ
 first_stamp_through [] = 0
@@ -284,7 +263,7 @@ first_stamp_through (one ∷ later) = unwrap_or one.last 0
 
 earlier_stamp : IsDb names journal (variables (hearer 10 ∷ [])) (first ∷ second ∷ []) → ⊥
 earlier_stamp db =
-    let same : 10 ≡ 110 = ap first_stamp_through ((All-head (IsHeardBy 2 (kept_after names fetched)) (variable (hearer 10 ∷ [])) [] db.kept.kept.heard.heard).each 0 (omega arith)) in
+    let same : 10 ≡ 110 = ap first_stamp_through ((All-head (IsHeardBy 2 (inboxes_after names fetched)) (variable (hearer 10 ∷ [])) [] db.kept.kept.heard.heard).each 0 (omega arith)) in
     omega (arith, same)
 
 post_unnoted : IsDb names journal (record (variables (hearer 110 ∷ [])) { noted = 0 ∷ 0 ∷ [] }) (first ∷ second ∷ []) → ⊥

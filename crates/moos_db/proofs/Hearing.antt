@@ -1,128 +1,142 @@
--- Who hears a variable, after a post of one and after a registration was made or withdrawn.
+-- Who hears a variable, after a post came through some registrations and after one was made or withdrawn.
 use Rattle.std.proofs.Common.{◌≡◌, ◌<◌, append-nil, ℕ, Bool, true, false, cond, ◌&&◌, ◌||◌, ◌==◌, not, List, [], ◌∷◌, ◌++◌, map, filter, None, Some, bytes_eq, refl, ap, sym, ◌∙◌, if◌then◌else◌}
 use Rattle.std.specs.List.{All, list_any}
-use Rattle.std.proofs.lemmas.Bool.{eq-eqb, eqb-true}
-use Rattle.std.proofs.lemmas.List.Elements.{All-cons, All-head, All-nil, All-tail, filter-append}
+use Rattle.std.proofs.lemmas.Bool.{and_parts, both_ways, eq-eqb, eqb-true, false_from_ne_true, not_from_false}
+use Rattle.std.proofs.lemmas.List.{map-append}
+use Rattle.std.proofs.lemmas.List.Elements.{All-head, All-map, All-tail, All-weaker, filter-append, filter_passes}
+use Rattle.std.proofs.lemmas.List.Folds.{map_fixed}
+use Rattle.std.proofs.lemmas.List.Sums.{fold-append}
 use Rattle.std.proofs.lemmas.Slice.Eq.{bytes_eq-Decides}
 use Rattle.moos_post.specs.declared.registration.Reg.{Reg}
-use Rattle.moos_post.specs.Delivery.{is_past}
+use Rattle.moos_post.specs.declared.value.Post.{Post}
+use Rattle.moos_post.specs.Delivery.{is_due, is_new_for, is_past, last_stamp, Live, newer_stamp, with_came, without_patterns}
+use Rattle.moos_post.specs.History.{name_of}
 use Rattle.moos_post.specs.Patterns.{matches}
-use Rattle.moos_mail.proofs.Lists.{filter-map}
+use Rattle.moos_mail.proofs.Lists.{filter-all, filter-alike, filter-map, filter-none}
 use Rattle.moos_db.specs.declared.registration.Registration.{Registration}
-use Rattle.moos_db.specs.Clients.{registration_of}
-use Rattle.moos_db.specs.Hearers.{HearerState, caught_at, fresh_hearer, fresh_hearers, after_hearing, hearer_of, hearers_of, hears_due, is_new_at, is_registration, of_client}
-use Rattle.moos_db.specs.Subscribers.{SubscriptionState, caught, has_patterns, held_of_reg, is_due_held, is_new_held, passed, with_stamp, without_held}
-use Rattle.moos_db.specs.Tables.{number_of}
-use Rattle.moos_db.proofs.Lasts.{number_of-with_row}
+use Rattle.moos_db.specs.Clients.{is_with_patterns, registration_of}
+use Rattle.moos_db.specs.Hearers.{HearerState, fresh_hearer, fresh_hearers, hearer_of, hearers_of, hears_due, is_new_at, is_registration, of_client}
 
--- what a change of each keeps of a test, it keeps of those that pass it
-pub filter-kept : {X : Type 0} (test : X → Bool) (change : X → X) (xs : List X) → ((x : X) → test (change x) ≡ test x) → filter test (map change xs) ≡ map change (filter test xs)
-filter-kept test change xs kept = filter-map test change xs ∙ ap (λ (other : _ → Bool). map change (filter other xs)) (λ i x. kept x i)
+-- a post comes through
 
--- those of a client after a change of each that leaves it the client's
-pub of_client-map : (client : ℕ) (change : HearerState → HearerState) (hearers : List HearerState) → ((hearer : HearerState) → (change hearer).client ≡ hearer.client) →
-    of_client client (map change hearers) ≡ map change (of_client client hearers)
-of_client-map client change hearers kept = filter-kept (λ hearer. hearer.client == client) change hearers (λ hearer. ap (λ n. n == client) (kept hearer))
+-- who hears a variable after a post of this stamp, and a registration after a post, which comes through where this test says so
+abbrev pub stamped : (HearerState → Bool) → ℕ → HearerState → HearerState
+stamped comes stamp hearer = if comes hearer then record hearer { last = Some stamp } else hearer
 
-if-client : (b : Bool) (stamp : ℕ) (hearer : HearerState) → (if b then record hearer { last = Some stamp } else hearer).client ≡ hearer.client
-if-client true stamp hearer = refl
-if-client false stamp hearer = refl
+abbrev pub passed : (Live → Bool) → Post → Live → Live
+passed comes post live = if comes live then with_came post live else live
 
-pub heard-client : (stamp : ℕ) (source : List ℕ) (hearer : HearerState) → (after_hearing stamp source hearer).client ≡ hearer.client
-heard-client stamp source hearer = if-client (hears_due stamp source hearer) stamp hearer
+pub stamped-client : (comes : HearerState → Bool) (stamp : ℕ) (hearer : HearerState) → (stamped comes stamp hearer).client ≡ hearer.client
+stamped-client comes stamp hearer = by (comes hearer)
+  where
+    by : (b : Bool) → (if b then record hearer { last = Some stamp } else hearer).client ≡ hearer.client
+    by true = refl
+    by false = refl
 
-pub caught-client : (client made stamp : ℕ) (source : List ℕ) (hearer : HearerState) → (caught_at client made stamp source hearer).client ≡ hearer.client
-caught-client client made stamp source hearer = if-client (is_new_at client made source hearer) stamp hearer
+pub of_client-stamped : (client : ℕ) (comes : HearerState → Bool) (stamp : ℕ) (hearers : List HearerState) → of_client client (map (stamped comes stamp) hearers) ≡ map (stamped comes stamp) (of_client client hearers)
+of_client-stamped client comes stamp hearers =
+    filter-map (λ hearer. hearer.client == client) (stamped comes stamp) hearers
+    ∙ ap (λ (test : HearerState → Bool). map (stamped comes stamp) (filter test hearers)) (λ i hearer. stamped-client comes stamp hearer i == client)
 
--- the registration after a post is for the same
-if-reg : (b : Bool) (stamp : ℕ) (var : List ℕ) (held : SubscriptionState) → (if b then with_stamp stamp var held else held).reg ≡ held.reg
-if-reg true stamp var held = refl
-if-reg false stamp var held = refl
+-- what was asked for, and when, stays
+passed-registration : (comes : Live → Bool) (post : Post) (live : Live) → registration_of (passed comes post live) ≡ registration_of live
+passed-registration comes post live = by (comes live)
+  where
+    by : (b : Bool) → registration_of (if b then with_came post live else live) ≡ registration_of live
+    by true = refl
+    by false = refl
 
--- what was asked for is still known of the last stamps after one more of this variable
-own-stamp : (client stamp : ℕ) (var : List ℕ) (held : SubscriptionState) → record (hearer_of client var held) { last = Some stamp } ≡ hearer_of client var (with_stamp stamp var held)
-own-stamp client stamp var held =
-    ap (λ last. record (hearer_of client var held) { last = last })
-    (sym (number_of-with_row var var stamp held.lasts ∙ ap (λ b. if b then Some stamp else number_of var held.lasts) ((bytes_eq-Decides var var).1 refl)))
+pub registrations-passed : (comes : Live → Bool) (post : Post) (lives : List Live) → map registration_of (map (passed comes post) lives) ≡ map registration_of lives
+registrations-passed comes post [] = refl
+registrations-passed comes post (live ∷ lives) = λ i. passed-registration comes post live i ∷ registrations-passed comes post lives i
 
-if-own : (b : Bool) (client stamp : ℕ) (var : List ℕ) (held : SubscriptionState) →
-    (if b then record (hearer_of client var held) { last = Some stamp } else hearer_of client var held) ≡ hearer_of client var (if b then with_stamp stamp var held else held)
-if-own true client stamp var held = own-stamp client stamp var held
-if-own false client stamp var held = refl
+-- the last stamp of a variable
+pub last-came : (var : List ℕ) (live : Live) (post : Post) → last_stamp var (with_came post live).came ≡ newer_stamp var (last_stamp var live.came) post
+last-came var live post = fold-append (newer_stamp var) None live.came (post ∷ [])
 
--- where a change of what is kept and one of who hears are the same for each that matches, they are the same for all
-alike-changed : (client : ℕ) (var : List ℕ) (change : HearerState → HearerState) (keep : SubscriptionState → SubscriptionState) (lives : List SubscriptionState) →
-    ((held : SubscriptionState) → (keep held).reg ≡ held.reg) → ((held : SubscriptionState) → matches held.reg.var var ≡ true → change (hearer_of client var held) ≡ hearer_of client var (keep held)) →
+own-passed : (b : Bool) (client : ℕ) (post : Post) (live : Live) →
+    (if b then record (hearer_of client post.var live) { last = Some post.stamp } else hearer_of client post.var live) ≡ hearer_of client post.var (if b then with_came post live else live)
+own-passed true client post live =
+    ap (λ last. record (hearer_of client post.var live) { last = last })
+    (sym (last-came post.var live post ∙ ap (λ b. if b then Some post.stamp else last_stamp post.var live.came) ((bytes_eq-Decides post.var post.var).1 refl)))
+own-passed false client post live = refl
+
+other-passed : (b : Bool) (client : ℕ) (var : List ℕ) (post : Post) (live : Live) → bytes_eq post.var var ≡ false → hearer_of client var live ≡ hearer_of client var (if b then with_came post live else live)
+other-passed true client var post live apart =
+    ap (λ last. record (hearer_of client var live) { last = last }) (sym (last-came var live post ∙ ap (λ b. if b then Some post.stamp else last_stamp var live.came) apart))
+other-passed false client var post live apart = refl
+
+-- where a change of the registrations and one of who hears are the same for each that matches, they are the same for all
+alike-changed : (client : ℕ) (var : List ℕ) (change : HearerState → HearerState) (keep : Live → Live) (lives : List Live) →
+    ((live : Live) → (keep live).reg ≡ live.reg) → ((live : Live) → matches live.reg.var var ≡ true → change (hearer_of client var live) ≡ hearer_of client var (keep live)) →
     map change (hearers_of client var lives) ≡ hearers_of client var (map keep lives)
 alike-changed client var change keep [] same alike = refl
-alike-changed client var change keep (held ∷ lives) same alike =
-    through (matches held.reg.var var) refl (alike-changed client var change keep lives same alike)
-    ∙ ap (λ b. map (hearer_of client var) (cond b (keep held ∷ filter (λ one. matches one.reg.var var) (map keep lives)) (filter (λ one. matches one.reg.var var) (map keep lives))))
-    (ap (λ (reg : Reg). matches reg.var var) (sym (same held)))
+alike-changed client var change keep (live ∷ lives) same alike =
+    through (matches live.reg.var var) refl (alike-changed client var change keep lives same alike)
+    ∙ ap (λ b. map (hearer_of client var) (cond b (keep live ∷ filter (λ one. matches one.reg.var var) (map keep lives)) (filter (λ one. matches one.reg.var var) (map keep lives))))
+    (ap (λ (reg : Reg). matches reg.var var) (sym (same live)))
   where
-    through : (b : Bool) → matches held.reg.var var ≡ b → map change (hearers_of client var lives) ≡ hearers_of client var (map keep lives) →
-        map change (map (hearer_of client var) (cond b (held ∷ filter (λ one. matches one.reg.var var) lives) (filter (λ one. matches one.reg.var var) lives)))
-        ≡ map (hearer_of client var) (cond b (keep held ∷ filter (λ one. matches one.reg.var var) (map keep lives)) (filter (λ one. matches one.reg.var var) (map keep lives)))
-    through true is rest = λ i. alike held is i ∷ rest i
+    through : (b : Bool) → matches live.reg.var var ≡ b → map change (hearers_of client var lives) ≡ hearers_of client var (map keep lives) →
+        map change (map (hearer_of client var) (cond b (live ∷ filter (λ one. matches one.reg.var var) lives) (filter (λ one. matches one.reg.var var) lives)))
+        ≡ map (hearer_of client var) (cond b (keep live ∷ filter (λ one. matches one.reg.var var) (map keep lives)) (filter (λ one. matches one.reg.var var) (map keep lives)))
+    through true is rest = λ i. alike live is i ∷ rest i
     through false is rest = rest
 
--- a post of the variable comes through who hears it just as through the registrations that are kept
-pub hearers-passed : (client stamp : ℕ) (var source : List ℕ) (lives : List SubscriptionState) → map (after_hearing stamp source) (hearers_of client var lives) ≡ hearers_of client var (map (passed stamp var source) lives)
-hearers-passed client stamp var source lives =
-    alike-changed client var (after_hearing stamp source) (passed stamp var source) lives (λ held. if-reg (is_due_held stamp var source held) stamp var held)
-    (λ held matched. if-own (hears_due stamp source (hearer_of client var held)) client stamp var held
-    ∙ ap (λ b. hearer_of client var (if (b && matches held.reg.source source) && is_past (number_of var held.lasts) stamp held.reg.interval then with_stamp stamp var held else held)) (sym matched))
+-- one test says of who hears the variable what the other says of the registrations that match it, and the other says so of no other
+pub record AreAsOne (client : ℕ) (var : List ℕ) (heard : HearerState → Bool) (comes : Live → Bool) : Type 0 where
+  pub matched : (live : Live) → matches live.reg.var var ≡ true → heard (hearer_of client var live) ≡ comes live
+  pub unmatched : (live : Live) → matches live.reg.var var ≡ false → comes live ≡ false
 
--- so does one that catches up
-pub hearers-caught : (client made stamp : ℕ) (var source : List ℕ) (lives : List SubscriptionState) → map (caught_at client made stamp source) (hearers_of client var lives) ≡ hearers_of client var (map (caught made stamp var source) lives)
-hearers-caught client made stamp var source lives =
-    alike-changed client var (caught_at client made stamp source) (caught made stamp var source) lives (λ held. if-reg (is_new_held made var source held) stamp var held)
-    (λ held matched. if-own (is_new_at client made source (hearer_of client var held)) client stamp var held
-    ∙ ap (λ b. hearer_of client var (if b then with_stamp stamp var held else held)) (new held matched))
+pub due-alike : (names : List (List ℕ)) (client : ℕ) (post : Post) → AreAsOne client post.var (hears_due post.stamp (name_of names post.source)) (is_due names post)
+due-alike names client post = record {
+  matched = λ live is. ap (λ b. (b && matches live.reg.source (name_of names post.source)) && is_past (last_stamp post.var live.came) post.stamp live.reg.interval) (sym is);
+  unmatched = λ live is. ap (λ b. (b && matches live.reg.source (name_of names post.source)) && is_past (last_stamp post.var live.came) post.stamp live.reg.interval) is;
+}
+
+-- new registrations are one client's
+abbrev pub is_new_of : List (List ℕ) → ℕ → ℕ → Post → ℕ → Live → Bool
+is_new_of names client made post number live = number == client && is_new_for names made post live
+
+pub new-alike : (names : List (List ℕ)) (client made : ℕ) (post : Post) (number : ℕ) → AreAsOne number post.var (is_new_at client made (name_of names post.source)) (is_new_of names client made post number)
+new-alike names client made post number = record {
+  matched = λ live is. all (number == client) (live.made == made) (matches live.reg.source (name_of names post.source))
+      ∙ ap (λ b. number == client && (live.made == made && (b && matches live.reg.source (name_of names post.source)))) (sym is);
+  unmatched = λ live is. ap (λ b. number == client && (live.made == made && (b && matches live.reg.source (name_of names post.source)))) is ∙ none (number == client) (live.made == made);
+}
   where
-    own : client == client ≡ true
-    own = eq-eqb client client refl
+    all : (a b c : Bool) → ((a && b) && c) ≡ (a && (b && (true && c)))
+    all true b c = refl
+    all false b c = refl
 
-    new : (held : SubscriptionState) → matches held.reg.var var ≡ true → is_new_at client made source (hearer_of client var held) ≡ is_new_held made var source held
-    new held matched = ap (λ b. (b && held.made == made) && matches held.reg.source source) own ∙ ap (λ b. held.made == made && (b && matches held.reg.source source)) (sym matched)
+    none : (a b : Bool) → (a && (b && false)) ≡ false
+    none true true = refl
+    none true false = refl
+    none false b = refl
 
--- another variable is heard as before
-other-stamp : (client stamp : ℕ) (var other : List ℕ) (held : SubscriptionState) → bytes_eq var other ≡ false → hearer_of client other (with_stamp stamp var held) ≡ hearer_of client other held
-other-stamp client stamp var other held apart =
-    ap (λ last. record (hearer_of client other held) { last = last })
-    (number_of-with_row other var stamp held.lasts ∙ ap (λ b. if b then Some stamp else number_of other held.lasts) apart)
+-- a post of the variable comes through who hears it just as through the registrations
+pub hearers-passed : (client : ℕ) (heard : HearerState → Bool) (comes : Live → Bool) (post : Post) (lives : List Live) → AreAsOne client post.var heard comes →
+    map (stamped heard post.stamp) (hearers_of client post.var lives) ≡ hearers_of client post.var (map (passed comes post) lives)
+hearers-passed client heard comes post lives alike =
+    alike-changed client post.var (stamped heard post.stamp) (passed comes post) lives (λ live. ap (λ (one : Registration). one.reg) (passed-registration comes post live))
+    (λ live is. ap (λ b. if b then record (hearer_of client post.var live) { last = Some post.stamp } else hearer_of client post.var live) (alike.matched live is) ∙ own-passed (comes live) client post live)
 
-if-other : (b : Bool) (client stamp : ℕ) (var other : List ℕ) (held : SubscriptionState) → bytes_eq var other ≡ false →
-    hearer_of client other held ≡ hearer_of client other (if b then with_stamp stamp var held else held)
-if-other true client stamp var other held apart = sym (other-stamp client stamp var other held apart)
-if-other false client stamp var other held apart = refl
+-- and another variable is heard as before
+pub others-passed : (client : ℕ) (comes : Live → Bool) (post : Post) (var : List ℕ) (lives : List Live) → bytes_eq post.var var ≡ false → hearers_of client var (map (passed comes post) lives) ≡ hearers_of client var lives
+others-passed client comes post var lives apart =
+    sym (alike-changed client var (λ hearer. hearer) (passed comes post) lives (λ live. ap (λ (one : Registration). one.reg) (passed-registration comes post live))
+    (λ live is. other-passed (comes live) client var post live apart))
+    ∙ map_fixed (λ hearer. hearer) (hearers_of client var lives) (λ k d below. refl)
 
-map-same : {X : Type 0} (xs : List X) → map (λ x. x) xs ≡ xs
-map-same [] = refl
-map-same (x ∷ xs) = ap (λ rest. x ∷ rest) (map-same xs)
-
-pub others-passed : (client stamp : ℕ) (var other source : List ℕ) (lives : List SubscriptionState) → bytes_eq var other ≡ false → hearers_of client other (map (passed stamp var source) lives) ≡ hearers_of client other lives
-others-passed client stamp var other source lives apart =
-    sym (alike-changed client other (λ hearer. hearer) (passed stamp var source) lives (λ held. if-reg (is_due_held stamp var source held) stamp var held)
-    (λ held matched. if-other (is_due_held stamp var source held) client stamp var other held apart))
-    ∙ map-same (hearers_of client other lives)
-
-pub others-caught : (client made stamp : ℕ) (var other source : List ℕ) (lives : List SubscriptionState) → bytes_eq var other ≡ false → hearers_of client other (map (caught made stamp var source) lives) ≡ hearers_of client other lives
-others-caught client made stamp var other source lives apart =
-    sym (alike-changed client other (λ hearer. hearer) (caught made stamp var source) lives (λ held. if-reg (is_new_held made var source held) stamp var held)
-    (λ held matched. if-other (is_new_held made var source held) client stamp var other held apart))
-    ∙ map-same (hearers_of client other lives)
-
--- a post is due at one of those who hear its variable just where it is due at one of the registrations that are kept
-pub due-hearers : (client stamp : ℕ) (var source : List ℕ) (lives : List SubscriptionState) → list_any (hears_due stamp source) (hearers_of client var lives) ≡ list_any (is_due_held stamp var source) lives
-due-hearers client stamp var source [] = refl
-due-hearers client stamp var source (held ∷ lives) = through (matches held.reg.var var) (due-hearers client stamp var source lives)
+pub any-hearers : (client : ℕ) (var : List ℕ) (heard : HearerState → Bool) (comes : Live → Bool) (lives : List Live) → AreAsOne client var heard comes → list_any heard (hearers_of client var lives) ≡ list_any comes lives
+any-hearers client var heard comes [] alike = refl
+any-hearers client var heard comes (live ∷ lives) alike = through (matches live.reg.var var) refl (any-hearers client var heard comes lives alike)
   where
-    through : (b : Bool) → list_any (hears_due stamp source) (hearers_of client var lives) ≡ list_any (is_due_held stamp var source) lives →
-        list_any (hears_due stamp source) (map (hearer_of client var) (cond b (held ∷ filter (λ one. matches one.reg.var var) lives) (filter (λ one. matches one.reg.var var) lives)))
-        ≡ ((b && matches held.reg.source source) && is_past (number_of var held.lasts) stamp held.reg.interval || list_any (is_due_held stamp var source) lives)
-    through true rest = ap (λ more. (matches held.reg.source source && is_past (number_of var held.lasts) stamp held.reg.interval) || more) rest
-    through false rest = rest
+    through : (b : Bool) → matches live.reg.var var ≡ b → list_any heard (hearers_of client var lives) ≡ list_any comes lives →
+        list_any heard (map (hearer_of client var) (cond b (live ∷ filter (λ one. matches one.reg.var var) lives) (filter (λ one. matches one.reg.var var) lives))) ≡ (comes live || list_any comes lives)
+    through true is rest = λ i. alike.matched live is i || rest i
+    through false is rest = rest ∙ ap (λ b. b || list_any comes lives) (sym (alike.unmatched live is))
+
+-- some are left
 
 -- two tests of the same elements, one after the other
 filter-commute : {X : Type 0} (one other : X → Bool) (xs : List X) → filter one (filter other xs) ≡ filter other (filter one xs)
@@ -138,110 +152,79 @@ filter-commute one other (x ∷ xs) = through (one x) (other x) refl refl (filte
     through false true is so rest = ap (λ t. cond t (x ∷ filter one (filter other xs)) (filter one (filter other xs))) is ∙ rest
     through false false is so rest = rest
 
+-- a test that all pass which passed another leaves all of them
+filter-both : {X : Type 0} (one other : X → Bool) (xs : List X) → ((x : X) → other x ≡ true → one x ≡ true) → filter one (filter other xs) ≡ filter other xs
+filter-both one other xs all =
+    filter-alike one (λ x. true) (filter other xs) (All-weaker (λ x. other x ≡ true) (λ x. one x ≡ true) all (filter other xs) (filter_passes other xs))
+    ∙ filter-all (λ x. true) (filter other xs) (λ x. refl)
+
 -- those of a client, of which some are left
 pub of_client-filter : (client : ℕ) (test : HearerState → Bool) (hearers : List HearerState) → of_client client (filter test hearers) ≡ filter test (of_client client hearers)
 of_client-filter client test hearers = filter-commute (λ hearer. hearer.client == client) test hearers
 
 -- none of another client's is withdrawn
 pub others-stay : (client other : ℕ) (var source : List ℕ) (hearers : List HearerState) → other == client ≡ false → filter (λ hearer. not (is_registration client var source hearer)) (of_client other hearers) ≡ of_client other hearers
-others-stay client other var source [] apart = refl
-others-stay client other var source (hearer ∷ hearers) apart = through (hearer.client == other) refl (others-stay client other var source hearers apart)
-  where
-    through : (b : Bool) → (hearer.client == other) ≡ b → filter (λ one. not (is_registration client var source one)) (of_client other hearers) ≡ of_client other hearers →
-        filter (λ one. not (is_registration client var source one)) (cond b (hearer ∷ of_client other hearers) (of_client other hearers)) ≡ cond b (hearer ∷ of_client other hearers) (of_client other hearers)
-    through true is rest =
-        ap (λ b. cond (not ((b && bytes_eq hearer.reg.var var) && bytes_eq hearer.reg.source source)) (hearer ∷ filter (λ one. not (is_registration client var source one)) (of_client other hearers)) (filter (λ one. not (is_registration client var source one)) (of_client other hearers)))
-        (ap (λ n. n == client) (eqb-true hearer.client other is) ∙ apart)
-        ∙ ap (λ more. hearer ∷ more) rest
-    through false is rest = rest
+others-stay client other var source hearers apart =
+    filter-both (λ hearer. not (is_registration client var source hearer)) (λ hearer. hearer.client == other) hearers
+    (λ hearer own. ap (λ b. not ((b && bytes_eq hearer.reg.var var) && bytes_eq hearer.reg.source source)) (ap (λ n. n == client) (eqb-true hearer.client other own) ∙ apart))
 
 -- the client hears through those of its registrations that are left
-pub hearers-withdrawn : (client : ℕ) (pattern source var : List ℕ) (lives : List SubscriptionState) →
-    filter (λ hearer. not (is_registration client pattern source hearer)) (hearers_of client var lives) ≡ hearers_of client var (without_held pattern source lives)
+pub hearers-withdrawn : (client : ℕ) (pattern source var : List ℕ) (lives : List Live) →
+    filter (λ hearer. not (is_registration client pattern source hearer)) (hearers_of client var lives) ≡ hearers_of client var (without_patterns pattern source lives)
 hearers-withdrawn client pattern source var lives =
-    filter-map (λ hearer. not (is_registration client pattern source hearer)) (hearer_of client var) (filter (λ held. matches held.reg.var var) lives)
-    ∙ ap (λ (b : Bool). map (hearer_of client var) (filter (λ held. not ((b && bytes_eq held.reg.var pattern) && bytes_eq held.reg.source source)) (filter (λ held. matches held.reg.var var) lives))) (eq-eqb client client refl)
-    ∙ ap (map (hearer_of client var)) (filter-commute (λ held. not (has_patterns pattern source held)) (λ held. matches held.reg.var var) lives)
-
--- one registration more in front
-hearers-cons : (client : ℕ) (var : List ℕ) (held : SubscriptionState) (lives others : List SubscriptionState) → hearers_of client var lives ≡ hearers_of client var others → hearers_of client var (held ∷ lives) ≡ hearers_of client var (held ∷ others)
-hearers-cons client var held lives others same = by (matches held.reg.var var)
-  where
-    by : (b : Bool) → map (hearer_of client var) (cond b (held ∷ filter (λ one. matches one.reg.var var) lives) (filter (λ one. matches one.reg.var var) lives))
-        ≡ map (hearer_of client var) (cond b (held ∷ filter (λ one. matches one.reg.var var) others) (filter (λ one. matches one.reg.var var) others))
-    by true = ap (λ more. hearer_of client var held ∷ more) same
-    by false = same
-
-and-first : (a b : Bool) → a && b ≡ true → a ≡ true
-and-first true b is = refl
-and-first false b is = is
+    filter-map (λ hearer. not (is_registration client pattern source hearer)) (hearer_of client var) (filter (λ live. matches live.reg.var var) lives)
+    ∙ ap (λ (b : Bool). map (hearer_of client var) (filter (λ live. not ((b && bytes_eq live.reg.var pattern) && bytes_eq live.reg.source source)) (filter (λ live. matches live.reg.var var) lives))) (eq-eqb client client refl)
+    ∙ ap (map (hearer_of client var)) (filter-commute (λ live. not (is_with_patterns pattern source (registration_of live))) (λ live. matches live.reg.var var) lives)
 
 -- a variable that the pattern doesn't match is heard as before
-pub hearers-unmatched : (client : ℕ) (pattern source var : List ℕ) (lives : List SubscriptionState) → matches pattern var ≡ false → hearers_of client var (without_held pattern source lives) ≡ hearers_of client var lives
-hearers-unmatched client pattern source var [] none = refl
-hearers-unmatched client pattern source var (held ∷ lives) none =
-    through (has_patterns pattern source held) refl (hearers-unmatched client pattern source var lives none)
-  where
-    same : has_patterns pattern source held ≡ true → matches held.reg.var var ≡ false
-    same has = ap (λ p. matches p var) ((bytes_eq-Decides held.reg.var pattern).0 (and-first (bytes_eq held.reg.var pattern) (bytes_eq held.reg.source source) has)) ∙ none
+pub hearers-unmatched : (client : ℕ) (pattern source var : List ℕ) (lives : List Live) → matches pattern var ≡ false → hearers_of client var (without_patterns pattern source lives) ≡ hearers_of client var lives
+hearers-unmatched client pattern source var lives none =
+    let stays : Live → Bool = λ live. not (is_with_patterns pattern source (registration_of live)) in
+    ap (map (hearer_of client var)) (filter-commute (λ live. matches live.reg.var var) stays lives
+    ∙ filter-both stays (λ live. matches live.reg.var var) lives (λ live matched. not_from_false (is_with_patterns pattern source (registration_of live)) (false_from_ne_true (is_with_patterns pattern source (registration_of live)) (λ has.
+    both_ways (matches pattern var) none (ap (λ p. matches p var) (sym ((bytes_eq-Decides live.reg.var pattern).0 (and_parts (bytes_eq live.reg.var pattern) (bytes_eq live.reg.source source) has).0)) ∙ matched)))))
 
-    through : (has : Bool) → has_patterns pattern source held ≡ has → hearers_of client var (without_held pattern source lives) ≡ hearers_of client var lives →
-        hearers_of client var (cond (not has) (held ∷ without_held pattern source lives) (without_held pattern source lives)) ≡ hearers_of client var (held ∷ lives)
-    through true is rest = rest ∙ ap (λ b. map (hearer_of client var) (cond b (held ∷ filter (λ one. matches one.reg.var var) lives) (filter (λ one. matches one.reg.var var) lives))) (sym (same is))
-    through false is rest = hearers-cons client var held (without_held pattern source lives) lives rest
+-- one is made
 
 -- one registration more is heard through where it matches
-pub hearers-more : (client made : ℕ) (var : List ℕ) (lives : List SubscriptionState) (reg : Reg) →
-    hearers_of client var (lives ++ held_of_reg made reg ∷ []) ≡ hearers_of client var lives ++ fresh_hearers client var (record { reg = reg; made = made } ∷ [])
-hearers-more client made var [] reg = by (matches reg.var var)
+pub hearers-more : (client : ℕ) (var : List ℕ) (lives : List Live) (new : Registration) →
+    hearers_of client var (lives ++ record { reg = new.reg; made = new.made; came = [] } ∷ []) ≡ hearers_of client var lives ++ fresh_hearers client var (new ∷ [])
+hearers-more client var lives new =
+    let live : Live = record { reg = new.reg; made = new.made; came = [] } in
+    ap (map (hearer_of client var)) (filter-append (λ (one : Live). matches one.reg.var var) lives (live ∷ []))
+    ∙ map-append (hearer_of client var) (filter (λ one. matches one.reg.var var) lives) (filter (λ one. matches one.reg.var var) (live ∷ []))
+    ∙ ap (λ more. hearers_of client var lives ++ more) (by (matches new.reg.var var))
   where
-    by : (b : Bool) → map (hearer_of client var) (cond b (held_of_reg made reg ∷ []) []) ≡ map (fresh_hearer client) (cond b (record { reg = reg; made = made } ∷ []) [])
+    by : (b : Bool) → map (hearer_of client var) (cond b (record { reg = new.reg; made = new.made; came = [] } ∷ []) []) ≡ map (fresh_hearer client) (cond b (new ∷ []) [])
     by true = refl
     by false = refl
-hearers-more client made var (held ∷ lives) reg = through (matches held.reg.var var) (hearers-more client made var lives reg)
-  where
-    through : (b : Bool) → hearers_of client var (lives ++ held_of_reg made reg ∷ []) ≡ hearers_of client var lives ++ fresh_hearers client var (record { reg = reg; made = made } ∷ []) →
-        map (hearer_of client var) (cond b (held ∷ filter (λ one. matches one.reg.var var) (lives ++ held_of_reg made reg ∷ [])) (filter (λ one. matches one.reg.var var) (lives ++ held_of_reg made reg ∷ [])))
-        ≡ map (hearer_of client var) (cond b (held ∷ filter (λ one. matches one.reg.var var) lives) (filter (λ one. matches one.reg.var var) lives)) ++ fresh_hearers client var (record { reg = reg; made = made } ∷ [])
-    through true rest = ap (λ more. hearer_of client var held ∷ more) rest
-    through false rest = rest
 
 -- registrations through which nothing of the variable came
-pub hearers-fresh : (client : ℕ) (var : List ℕ) (lives : List SubscriptionState) → All (λ held. number_of var held.lasts ≡ None) lives → fresh_hearers client var (map registration_of lives) ≡ hearers_of client var lives
+pub hearers-fresh : (client : ℕ) (var : List ℕ) (lives : List Live) → All (λ live. last_stamp var live.came ≡ None) lives → fresh_hearers client var (map registration_of lives) ≡ hearers_of client var lives
 hearers-fresh client var [] none = refl
-hearers-fresh client var (held ∷ lives) none = through (matches held.reg.var var) (All-head (λ (one : SubscriptionState). number_of var one.lasts ≡ None) held lives none) (hearers-fresh client var lives (All-tail (λ (one : SubscriptionState). number_of var one.lasts ≡ None) held lives none))
+hearers-fresh client var (live ∷ lives) none = through (matches live.reg.var var) (All-head (λ (one : Live). last_stamp var one.came ≡ None) live lives none) (hearers-fresh client var lives (All-tail (λ (one : Live). last_stamp var one.came ≡ None) live lives none))
   where
-    through : (b : Bool) → number_of var held.lasts ≡ None → fresh_hearers client var (map registration_of lives) ≡ hearers_of client var lives →
-        map (fresh_hearer client) (cond b (registration_of held ∷ filter (λ live. matches live.reg.var var) (map registration_of lives)) (filter (λ live. matches live.reg.var var) (map registration_of lives)))
-        ≡ map (hearer_of client var) (cond b (held ∷ filter (λ one. matches one.reg.var var) lives) (filter (λ one. matches one.reg.var var) lives))
-    through true none rest =
-        ap (λ last. record (fresh_hearer client (registration_of held)) { last = last } ∷ fresh_hearers client var (map registration_of lives)) (sym none)
-        ∙ ap (λ more. hearer_of client var held ∷ more) rest
+    through : (b : Bool) → last_stamp var live.came ≡ None → fresh_hearers client var (map registration_of lives) ≡ hearers_of client var lives →
+        map (fresh_hearer client) (cond b (registration_of live ∷ filter (λ one. matches one.reg.var var) (map registration_of lives)) (filter (λ one. matches one.reg.var var) (map registration_of lives)))
+        ≡ map (hearer_of client var) (cond b (live ∷ filter (λ one. matches one.reg.var var) lives) (filter (λ one. matches one.reg.var var) lives))
+    through true none rest = λ i. record (fresh_hearer client (registration_of live)) { last = sym none i } ∷ rest i
     through false none rest = rest
-
--- those just made are their client's, and nobody else's
-fresh-own : (client : ℕ) (lives : List Registration) → of_client client (map (fresh_hearer client) lives) ≡ map (fresh_hearer client) lives
-fresh-own client [] = refl
-fresh-own client (live ∷ lives) =
-    ap (λ b. cond b (fresh_hearer client live ∷ of_client client (map (fresh_hearer client) lives)) (of_client client (map (fresh_hearer client) lives))) (eq-eqb client client refl)
-    ∙ ap (λ more. fresh_hearer client live ∷ more) (fresh-own client lives)
-
-fresh-others : (client other : ℕ) (lives : List Registration) → client == other ≡ false → of_client other (map (fresh_hearer client) lives) ≡ []
-fresh-others client other [] apart = refl
-fresh-others client other (live ∷ lives) apart =
-    ap (λ b. cond b (fresh_hearer client live ∷ of_client other (map (fresh_hearer client) lives)) (of_client other (map (fresh_hearer client) lives))) apart
-    ∙ fresh-others client other lives apart
 
 -- those of the client among these and its new ones
 pub own-more : (client : ℕ) (hearers : List HearerState) (lives : List Registration) → of_client client (hearers ++ map (fresh_hearer client) lives) ≡ of_client client hearers ++ map (fresh_hearer client) lives
-own-more client hearers lives = filter-append (λ (hearer : HearerState). hearer.client == client) hearers (map (fresh_hearer client) lives) ∙ ap (λ more. of_client client hearers ++ more) (fresh-own client lives)
+own-more client hearers lives =
+    filter-append (λ (hearer : HearerState). hearer.client == client) hearers (map (fresh_hearer client) lives)
+    ∙ ap (λ more. of_client client hearers ++ more)
+    (filter-map (λ (hearer : HearerState). hearer.client == client) (fresh_hearer client) lives ∙ ap (map (fresh_hearer client)) (filter-all (λ live. client == client) lives (λ live. eq-eqb client client refl)))
 
 -- those of another client stay
 pub others-more : (client other : ℕ) (hearers : List HearerState) (lives : List Registration) → client == other ≡ false → of_client other (hearers ++ map (fresh_hearer client) lives) ≡ of_client other hearers
 others-more client other hearers lives apart =
-    filter-append (λ (hearer : HearerState). hearer.client == other) hearers (map (fresh_hearer client) lives) ∙ ap (λ more. of_client other hearers ++ more) (fresh-others client other lives apart) ∙ append-nil (of_client other hearers)
+    filter-append (λ (hearer : HearerState). hearer.client == other) hearers (map (fresh_hearer client) lives)
+    ∙ ap (λ more. of_client other hearers ++ more)
+    (filter-map (λ (hearer : HearerState). hearer.client == other) (fresh_hearer client) lives ∙ ap (map (fresh_hearer client)) (filter-none (λ live. client == other) lives (λ k d below. apart)))
+    ∙ append-nil (of_client other hearers)
 
 -- each of those just made is the client's
 pub fresh-within : (client below : ℕ) (lives : List Registration) → client < below → All (λ (hearer : HearerState). hearer.client < below) (map (fresh_hearer client) lives)
-fresh-within client below [] lower = All-nil (λ (hearer : HearerState). hearer.client < below)
-fresh-within client below (live ∷ lives) lower = All-cons (λ (hearer : HearerState). hearer.client < below) (fresh_hearer client live) (map (fresh_hearer client) lives) lower (fresh-within client below lives lower)
+fresh-within client below lives lower = All-map (λ (hearer : HearerState). hearer.client < below) (fresh_hearer client) lives (λ k d within. lower)

@@ -1,34 +1,22 @@
 -- A post is mailed to the client of each hearer at which it is due, one hearer after the other.
-use Rattle.std.proofs.Common.{◌≡◌, ◌≢◌, ◌∙◌, ◌<◌, ◌≤◌, ◌+◌, ◌||◌, ◌&&◌, ℕ, zero, suc, Bool, true, false, cond, ◌==◌, List, [], ◌∷◌, ◌++◌, filter, get_or, length, set, slice_get, Some, refl, ap, sym, subst, inl, inr, if◌then◌else◌, arith}
+use Rattle.std.proofs.Common.{◌≡◌, ◌∙◌, ◌<◌, ◌≤◌, ◌+◌, ◌||◌, ◌&&◌, ℕ, Bool, true, false, cond, ◌==◌, List, [], ◌∷◌, ◌++◌, filter, get_or, length, set, slice_get, Some, refl, ap, sym, subst, inl, inr, if◌then◌else◌, arith}
 use Rattle.std.specs.List.{All, list_any}
-use Rattle.std.proofs.lemmas.Bool.{cases_Bool, eq-eqb, eqb-false, eqb-true, false≢true}
+use Rattle.std.proofs.Math.Bool.{or-false, or-true}
+use Rattle.std.proofs.lemmas.Bool.{eq-eqb, false≢true, ne_eqb}
 use Rattle.std.proofs.lemmas.List.{length-set}
-use Rattle.std.proofs.lemmas.List.Elements.{All-weaker, filter-append}
+use Rattle.std.proofs.lemmas.List.Elements.{filter-append}
 use Rattle.std.proofs.lemmas.List.Folds.{list_any-append}
-use Rattle.std.proofs.lemmas.Option.{none-some, same_Some, slice_get-get_or, slice_get_within}
+use Rattle.std.proofs.lemmas.Option.{slice_get-get_or, slice_get_within}
 use Rattle.moos_mail.specs.Mailboxes.{is_one_of, with_number}
 use Rattle.moos_mail.proofs.Appending.{any_with}
 use Rattle.moos_db.specs.Clients.{ClientState, mailed_once}
-use Rattle.moos_db.specs.Hearers.{AreMailed, AreNumbers, HasRoom, HearerState, VariableState, VariablesState, hears_due, mailed_if, name_at, of_client}
-use Rattle.moos_db.specs.Tables.{number_of}
+use Rattle.moos_db.specs.Hearers.{AreMailed, HasRoom, HearerState, hears_due, mailed_if, of_client}
+use Rattle.moos_db.proofs.Changes.{set-cases}
 
 -- so far, and a client to which it was not mailed yet is as it was
 pub record IsMailing (number stamp : ℕ) (source : List ℕ) (hearers : List HearerState) (before after : List ClientState) : Type 0 where
   pub mailed : AreMailed number stamp source hearers before after
   pub others : (client : ℕ) (one other : ClientState) → slice_get before client ≡ Some one → slice_get after client ≡ Some other → is_one_of number other.mailed ≡ false → other ≡ one
-
--- what stands in a list in which one element was replaced
-pub set-at : {X : Type 0} (xs : List X) (i : ℕ) (a : X) → i < length xs → slice_get (set xs i a) i ≡ Some a
-set-at [] i a within = absurd (omega (arith, within))
-set-at (x ∷ xs) zero a within = refl
-set-at (x ∷ xs) (suc i) a within = set-at xs i a (omega (arith, within))
-
-pub set-other : {X : Type 0} (xs : List X) (i k : ℕ) (a : X) → i ≢ k → slice_get (set xs i a) k ≡ slice_get xs k
-set-other [] i k a apart = refl
-set-other (x ∷ xs) zero zero a apart = absurd (apart refl)
-set-other (x ∷ xs) zero (suc k) a apart = refl
-set-other (x ∷ xs) (suc i) zero a apart = refl
-set-other (x ∷ xs) (suc i) (suc k) a apart = set-other xs i k a (λ same. apart (ap suc same))
 
 -- one hearer more
 any-more : (test : HearerState → Bool) (client : ℕ) (hearers : List HearerState) (hearer : HearerState) →
@@ -42,14 +30,6 @@ any-more test client hearers hearer =
     alone true true is = ap (λ b. b || false) is
     alone true false is = ap (λ b. b || false) is
     alone false passes is = refl
-
-or-true : (b : Bool) → b || true ≡ true
-or-true true = refl
-or-true false = refl
-
-or-false : (b : Bool) → b || false ≡ b
-or-false true = refl
-or-false false = refl
 
 -- after it was mailed it is one of those that were
 is-mailed : (number : ℕ) (one : ClientState) → is_one_of number (mailed_once number one).mailed ≡ true
@@ -110,35 +90,36 @@ pub mailing-due : (number stamp : ℕ) (source : List ℕ) (heard : List HearerS
 mailing-due number stamp source heard before after hearer one new state fresh due there once room again = record {
   mailed = record {
     each = length-set after hearer.client new ∙ state.mailed.each;
-    mail = λ client first last was is. elim (cases_Bool (hearer.client == client)) [
-      | inl same ↦ subst (λ (l : ClientState). l ≡ record (mailed_if (any client) number first) { spare = l.spare }) (sym (own client last is (eqb-true hearer.client client same)))
-          (once-more (list_any (hears_due stamp source) (of_client client heard)) number first one new
-          (state.mailed.mail client first one was (subst (λ n. slice_get after n ≡ Some one) (eqb-true hearer.client client same) there)) once
-          ∙ ap (λ b. record (mailed_if b number first) { spare = new.spare })
-          (sym (any-more (hears_due stamp source) client heard hearer ∙ ap (λ b. list_any (hears_due stamp source) (of_client client heard) || (b && hears_due stamp source hearer)) same
-          ∙ ap (λ b. list_any (hears_due stamp source) (of_client client heard) || b) due ∙ or-true (list_any (hears_due stamp source) (of_client client heard)))))
-      | inr apart ↦ state.mailed.mail client first last was (sym (set-other after hearer.client client new (eqb-false hearer.client client apart)) ∙ is)
-          ∙ ap (λ b. record (mailed_if b number first) { spare = last.spare })
-          (sym (any-more (hears_due stamp source) client heard hearer ∙ ap (λ b. list_any (hears_due stamp source) (of_client client heard) || (b && hears_due stamp source hearer)) apart
-          ∙ or-false (list_any (hears_due stamp source) (of_client client heard))))
+    mail = λ client first last was is. elim (set-cases after hearer.client client new last is) [
+      | inl own ↦ subst (λ (l : ClientState). l ≡ record (mailed_if (any client) number first) { spare = l.spare }) (sym own.1)
+          (once-more (so_far client) number first one new (state.mailed.mail client first one was (ap (slice_get after) own.0 ∙ there)) once
+          ∙ ap (λ b. record (mailed_if b number first) { spare = new.spare }) (sym (any-now client true (eq-eqb hearer.client client (sym own.0)) ∙ or-true (so_far client))))
+      | inr apart ↦ state.mailed.mail client first last was apart.1
+          ∙ ap (λ b. record (mailed_if b number first) { spare = last.spare }) (sym (any-now client false (ne_eqb hearer.client client (λ same. apart.0 (sym same))) ∙ or-false (so_far client)))
     ];
-    room = λ client first last was is. elim (cases_Bool (hearer.client == client)) [
-      | inl same ↦ subst (λ (l : ClientState). first.spare ≤ l.spare + 1) (sym (own client last is (eqb-true hearer.client client same)))
-          (own-room first (subst (λ n. slice_get before n ≡ Some first) (sym (eqb-true hearer.client client same)) was) (is_one_of number one.mailed) refl)
-      | inr apart ↦ state.mailed.room client first last was (sym (set-other after hearer.client client new (eqb-false hearer.client client apart)) ∙ is)
+    room = λ client first last was is. elim (set-cases after hearer.client client new last is) [
+      | inl own ↦ subst (λ (l : ClientState). first.spare ≤ l.spare + 1) (sym own.1) (own-room first (ap (slice_get before) (sym own.0) ∙ was) (is_one_of number one.mailed) refl)
+      | inr apart ↦ state.mailed.room client first last was apart.1
     ];
   };
-  others = λ client first last was is none. elim (cases_Bool (hearer.client == client)) [
-    | inl same ↦ absurd (false≢true (sym none ∙ ap (λ (c : ClientState). is_one_of number c.mailed) (own client last is (eqb-true hearer.client client same) ∙ once) ∙ is-mailed number one))
-    | inr apart ↦ state.others client first last was (sym (set-other after hearer.client client new (eqb-false hearer.client client apart)) ∙ is) none
+  others = λ client first last was is none. elim (set-cases after hearer.client client new last is) [
+    | inl own ↦ absurd (false≢true (sym none ∙ ap (λ (c : ClientState). is_one_of number c.mailed) (own.1 ∙ once) ∙ is-mailed number one))
+    | inr apart ↦ state.others client first last was apart.1 none
   ];
 }
   where
     any : ℕ → Bool
     any client = list_any (hears_due stamp source) (of_client client (heard ++ hearer ∷ []))
 
-    own : (client : ℕ) (last : ClientState) → slice_get (set after hearer.client new) client ≡ Some last → hearer.client ≡ client → last ≡ new
-    own client last is same = same_Some last new (sym (subst (λ n. slice_get (set after hearer.client new) n ≡ Some last) (sym same) is) ∙ set-at after hearer.client new (slice_get_within after hearer.client one there))
+    so_far : ℕ → Bool
+    so_far client = list_any (hears_due stamp source) (of_client client heard)
+
+    any-now : (client : ℕ) (own : Bool) → (hearer.client == client) ≡ own → any client ≡ (so_far client || own)
+    any-now client own is = any-more (hears_due stamp source) client heard hearer ∙ (λ i. so_far client || (is i && due i)) ∙ by own
+      where
+        by : (b : Bool) → (so_far client || (b && true)) ≡ (so_far client || b)
+        by true = refl
+        by false = refl
 
     own-room : (first : ClientState) → slice_get before hearer.client ≡ Some first → (mailed : Bool) → is_one_of number one.mailed ≡ mailed → first.spare ≤ new.spare + 1
     own-room first was true mailed =
@@ -147,25 +128,3 @@ mailing-due number stamp source heard before after hearer one new state fresh du
     own-room first was false mailed =
         let spare : one.spare ≡ first.spare = ap (λ (c : ClientState). c.spare) (state.others hearer.client first one was there mailed) in
         omega (arith, room)
-
--- a variable keeps its name where its hearers change
-pub name-set : (variables : List VariableState) (at k : ℕ) (old new : VariableState) → slice_get variables at ≡ Some old → new.name ≡ old.name → name_at (set variables at new) k ≡ name_at variables k
-name-set [] at k old new is name = absurd (none-some old is)
-name-set (one ∷ variables) zero zero old new is name = ap (λ var. Some var) (name ∙ ap (λ (variable : VariableState). variable.name) (sym (same_Some one old is)))
-name-set (one ∷ variables) zero (suc k) old new is name = refl
-name-set (one ∷ variables) (suc at) zero old new is name = refl
-name-set (one ∷ variables) (suc at) (suc k) old new is name = name-set variables at k old new is name
-
-pub numbers-posted : (variables : VariablesState) (at : ℕ) (old new : VariableState) → AreNumbers variables → slice_get variables.all at ≡ Some old → new.name ≡ old.name → AreNumbers (record variables { all = set variables.all at new })
-numbers-posted variables at old new are is name = record {
-  numbering = record {
-    each = λ number variable there. elim (cases_Bool (at == number)) [
-      | inl same ↦
-          let last : variable ≡ new = same_Some variable new (sym (subst (λ n. slice_get (set variables.all at new) n ≡ Some variable) (sym (eqb-true at number same)) there) ∙ set-at variables.all at new (slice_get_within variables.all at old is)) in
-          ap (λ var. number_of var variables.numbers) (ap (λ (one : VariableState). one.name) last ∙ name) ∙ are.numbering.each at old is ∙ ap (λ n. Some n) (eqb-true at number same)
-      | inr apart ↦ are.numbering.each number variable (sym (set-other variables.all at number new (eqb-false at number apart)) ∙ there)
-    ];
-    only = λ number var found. name-set variables.all at number old new is name ∙ are.numbering.only number var found;
-  };
-  noted = All-weaker (λ n. n < length variables.all) (λ n. n < length (set variables.all at new)) (λ n within. omega (arith, within, length-set variables.all at new)) variables.noted are.noted;
-}

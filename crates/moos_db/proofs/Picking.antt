@@ -1,20 +1,20 @@
 -- Which posts are the latest of their variables, and that the others needn't be looked at to catch up.
-use Rattle.std.proofs.Common.{◌≡◌, ◌≢◌, ◌∙◌, ◌<◌, ◌≤◌, ◌+◌, ◌==◌, ◌&&◌, ◌||◌, ◌⊎◌, ℕ, zero, suc, Bool, true, false, not, List, [], ◌∷◌, ◌++◌, length, map, fold, drop, Option, None, Some, bytes_eq, slice_get, append-nil, append_assoc, refl, ap, sym, subst, arith, inl, inr, if◌then◌else◌}
+use Rattle.std.proofs.Common.{◌≡◌, ◌≢◌, ◌∙◌, ◌≤◌, ◌+◌, ◌==◌, ◌&&◌, ◌||◌, ◌⊎◌, ℕ, zero, suc, Bool, true, false, not, List, [], ◌∷◌, length, fold, drop, Option, None, Some, bytes_eq, slice_get, refl, ap, sym, subst, arith, inl, inr, if◌then◌else◌}
 use Rattle.std.specs.List.{list_any}
-use Rattle.std.proofs.lemmas.Bool.{cases_Bool, eq-eqb, eqb-false, eqb-true, ne_eqb}
-use Rattle.std.proofs.lemmas.Option.{slice_get_within}
+use Rattle.std.proofs.lemmas.Bool.{and_left, and_right, cases_Bool, eq-eqb, eqb-false, eqb-true, false_from_ne_true, ne_eqb, not-true, or_left, or_right}
+use Rattle.std.proofs.lemmas.List.{length-drop}
+use Rattle.std.proofs.lemmas.Option.{same_Some, slice_get_within}
 use Rattle.std.proofs.lemmas.Slice.Eq.{bytes_eq-Decides}
 use Rattle.moos_mail.specs.Mailboxes.{is_one_of}
-use Rattle.moos_mail.proofs.Lists.{length-push}
+use Rattle.moos_mail.proofs.Lists.{list_any-alike, list_any-map}
 use Rattle.moos_post.specs.declared.value.Post.{Post}
-use Rattle.moos_post.specs.Delivery.{is_latest}
+use Rattle.moos_post.specs.Delivery.{after_catching_up, catches_up, Inbox, is_latest, is_new_for, Live, was_mailed, with_came, with_caught_up}
 use Rattle.moos_post.specs.History.{name_of}
 use Rattle.moos_post.specs.Patterns.{matches}
-use Rattle.moos_db.specs.Subscribers.{SubscriberState, SubscriptionState, catch_found, catch_number, catches_kept, caught, is_new_held, kept_catching, with_caught, with_stamp}
+use Rattle.moos_db.specs.Registering.{catch_number, catch_post}
 use Rattle.moos_db.specs.Tables.{Row, number_of, rows_from, rows_of, with_row}
-use Rattle.moos_db.proofs.AfterRegistering.{some-same}
-use Rattle.moos_db.proofs.Lasts.{number_of-with_row}
-use Rattle.moos_db.proofs.Standing.{slice_get-seam}
+use Rattle.moos_db.proofs.Hearing.{passed}
+use Rattle.moos_db.proofs.Latests.{number_of-with_row}
 
 -- the number of the latest of these posts that is of the variable, the first of which has this number
 abbrev latest_number : List ℕ → ℕ → Option ℕ → List Post → Option ℕ
@@ -74,10 +74,6 @@ found-latest number zero found (one ∷ posts) post there latest =
     ap (λ b. latest_number post.var (suc number) (if b then Some number else found) posts) ((bytes_eq-Decides one.var post.var).1 (ap (λ (p : Post). p.var) same))
     ∙ no-later post.var (suc number) (Some number) posts (not-true (list_any (λ (other : Post). bytes_eq other.var post.var) posts) latest)
     ∙ (let e : number ≡ number + 0 = omega arith in ap (λ n. Some n) e)
-  where
-    not-true : (b : Bool) → not b ≡ true → b ≡ false
-    not-true true is = absurd (let e : false ≡ true = is in cc)
-    not-true false is = refl
 found-latest number (suc place) found (one ∷ posts) post there latest =
     found-latest (suc number) place (if bytes_eq one.var post.var then Some number else found) posts post there latest ∙ (let e : suc number + place ≡ number + suc place = omega arith in ap (λ n. Some n) e)
 
@@ -99,137 +95,107 @@ above-member from number (one ∷ numbers) above is = through (one == number) re
     through false apart is rest = let h : from ≤ one = above.0 in let more : suc one ≤ number = rest is in omega arith
 
 -- a registration made now hears the variable
-abbrev pub has_new : List ℕ → SubscriberState → Bool
-has_new var kept = list_any (λ held. held.made == kept.seen && matches held.reg.var var) kept.lives
+abbrev pub is_made : ℕ → List ℕ → Live → Bool
+is_made entry var live = live.made == entry && matches live.reg.var var
 
-new-through : (b : Bool) (seen stamp : ℕ) (var sought : List ℕ) (held : SubscriptionState) →
-    ((if b then with_stamp stamp var held else held).made == seen && matches (if b then with_stamp stamp var held else held).reg.var sought) ≡ (held.made == seen && matches held.reg.var sought)
-new-through true seen stamp var sought held = refl
-new-through false seen stamp var sought held = refl
+abbrev pub has_new : List ℕ → Inbox → Bool
+has_new var inbox = list_any (is_made inbox.entries var) inbox.lives
 
-new-lives : (made seen stamp : ℕ) (var source sought : List ℕ) (lives : List SubscriptionState) →
-    list_any (λ held. held.made == seen && matches held.reg.var sought) (map (caught made stamp var source) lives) ≡ list_any (λ held. held.made == seen && matches held.reg.var sought) lives
-new-lives made seen stamp var source sought [] = refl
-new-lives made seen stamp var source sought (held ∷ lives) =
-    λ i. new-through (is_new_held made var source held) seen stamp var sought held i || new-lives made seen stamp var source sought lives i
-
-new-caught : (names : List (List ℕ)) (sought : List ℕ) (kept : SubscriberState) (number : ℕ) (post : Post) (b : Bool) → has_new sought (if b then with_caught names kept number post else kept) ≡ has_new sought kept
-new-caught names sought kept number post true = new-lives kept.seen kept.seen post.stamp post.var (name_of names post.source) sought kept.lives
-new-caught names sought kept number post false = refl
+new-caught : (names : List (List ℕ)) (sought : List ℕ) (inbox : Inbox) (number : ℕ) (post : Post) (b : Bool) → has_new sought (if b then with_caught_up names inbox number post else inbox) ≡ has_new sought inbox
+new-caught names sought inbox number post false = refl
+new-caught names sought inbox number post true =
+    list_any-map (is_made inbox.entries sought) (passed (is_new_for names inbox.entries post) post) inbox.lives
+    ∙ list_any-alike _ (is_made inbox.entries sought) inbox.lives (λ live. through live (is_new_for names inbox.entries post live))
+  where
+    through : (live : Live) (new : Bool) → is_made inbox.entries sought (if new then with_came post live else live) ≡ is_made inbox.entries sought live
+    through live true = refl
+    through live false = refl
 
 -- where no registration made now hears the variable, none is new for its post
-none-new : (made : ℕ) (var source : List ℕ) (lives : List SubscriptionState) → list_any (λ held. held.made == made && matches held.reg.var var) lives ≡ false → list_any (is_new_held made var source) lives ≡ false
-none-new made var source [] none = refl
-none-new made var source (held ∷ lives) none = through (held.made == made) (matches held.reg.var var) none (none-new made var source lives)
+none-new : (names : List (List ℕ)) (entry : ℕ) (post : Post) (lives : List Live) → list_any (is_made entry post.var) lives ≡ false → list_any (is_new_for names entry post) lives ≡ false
+none-new names entry post [] none = refl
+none-new names entry post (live ∷ lives) none = through (live.made == entry) (matches live.reg.var post.var) none (none-new names entry post lives)
   where
-    through : (a b : Bool) → (a && b || list_any (λ held. held.made == made && matches held.reg.var var) lives) ≡ false →
-        (list_any (λ held. held.made == made && matches held.reg.var var) lives ≡ false → list_any (is_new_held made var source) lives ≡ false) →
-        (a && (b && matches held.reg.source source) || list_any (is_new_held made var source) lives) ≡ false
+    through : (a b : Bool) → (a && b || list_any (is_made entry post.var) lives) ≡ false → (list_any (is_made entry post.var) lives ≡ false → list_any (is_new_for names entry post) lives ≡ false) →
+        (a && (b && matches live.reg.source (name_of names post.source)) || list_any (is_new_for names entry post) lives) ≡ false
     through true true is rest = absurd (let e : true ≡ false = is in cc)
     through true false is rest = rest is
-    through false true is rest = rest is
-    through false false is rest = rest is
+    through false b is rest = rest is
 
 -- these are numbers of latest posts, and of all that a registration made now hears
-pub record ArePicked (posts : List Post) (from : ℕ) (kept : SubscriberState) (numbers : List ℕ) : Type 0 where
+pub record ArePicked (posts : List Post) (from : ℕ) (inbox : Inbox) (numbers : List ℕ) : Type 0 where
   pub rising : IsAbove from numbers
   pub only : (number : ℕ) → is_one_of number numbers ≡ true → (post : Post) × (slice_get posts number ≡ Some post) × (is_latest post (drop (suc number) posts) ≡ true)
-  pub each : (number : ℕ) (post : Post) → from ≤ number → slice_get posts number ≡ Some post → is_latest post (drop (suc number) posts) ≡ true → has_new post.var kept ≡ true → is_one_of number numbers ≡ true
+  pub each : (number : ℕ) (post : Post) → from ≤ number → slice_get posts number ≡ Some post → is_latest post (drop (suc number) posts) ≡ true → has_new post.var inbox ≡ true → is_one_of number numbers ≡ true
 
-drop-seam : (front : List Post) (post : Post) (later : List Post) → drop (suc (length front)) (front ++ post ∷ later) ≡ later
-drop-seam [] post later = refl
-drop-seam (one ∷ front) post later = drop-seam front post later
+drop-first : (posts : List Post) (n : ℕ) (post : Post) (later : List Post) → drop n posts ≡ post ∷ later → (slice_get posts n ≡ Some post) × (drop (suc n) posts ≡ later)
+drop-first [] zero post later is = absurd (let e : [] ≡ post ∷ later = is in cc)
+drop-first [] (suc n) post later is = absurd (let e : [] ≡ post ∷ later = is in cc)
+drop-first (one ∷ posts) zero post later is =
+    let e : one ∷ posts ≡ post ∷ later = is in
+    let first : one ≡ post = cc in
+    let rest : posts ≡ later = cc in
+    (ap (λ p. Some p) first, rest)
+drop-first (one ∷ posts) (suc n) post later is = drop-first posts n post later is
 
 -- The posts that may catch up are found by these numbers alone.
-pub catching-picked : (names : List (List ℕ)) (all front : List Post) (kept : SubscriberState) (posts : List Post) (numbers : List ℕ) → all ≡ front ++ posts → ArePicked all (length front) kept numbers →
-    kept_catching names (length front) kept posts ≡ fold (catch_number names all) kept numbers
-catching-picked names all front kept [] [] is picked = refl
-catching-picked names all front kept [] (number ∷ numbers) is picked =
-    let found = picked.only number (ap (λ b. b || is_one_of number numbers) (eq-eqb number number refl)) in
-    let below : number < length all = slice_get_within all number found.0 found.1 in
-    let from : length front ≤ number = picked.rising.0 in
-    absurd (omega (arith, below, from, ap length is, ap length (append-nil front)))
-catching-picked names all front kept (post ∷ later) numbers is picked =
-    let again : (now : SubscriberState) (numbers : List ℕ) → ArePicked all (length (front ++ post ∷ [])) now numbers → kept_catching names (length (front ++ post ∷ [])) now later ≡ fold (catch_number names all) now numbers
-    = λ now numbers. catching-picked names all (front ++ post ∷ []) now later numbers (is ∙ sym (append_assoc front (post ∷ []) later)) in
-    elim (cases_Bool (is_one_of (length front) numbers)) [
-      | inl member ↦ with-it again numbers picked member
-      | inr other ↦ without again other
-    ]
+pub catching-picked : (names : List (List ℕ)) (all : List Post) (from : ℕ) (inbox : Inbox) (posts : List Post) (numbers : List ℕ) → drop from all ≡ posts → ArePicked all from inbox numbers →
+    after_catching_up names from inbox posts ≡ fold (catch_number names all) inbox numbers
+catching-picked names all from inbox [] [] is picked = refl
+catching-picked names all from inbox [] (number ∷ numbers) is picked =
+    let found = picked.only number (or_left (number == number) (is_one_of number numbers) (eq-eqb number number refl)) in
+    let above : from ≤ number = picked.rising.0 in
+    absurd (omega (arith, above, slice_get_within all number found.0 found.1, ap length is, length-drop from all))
+catching-picked names all from inbox (post ∷ later) numbers is picked = by (λ now numbers. catching-picked names all (suc from) now later numbers rest) numbers picked
   where
-    next : length (front ++ post ∷ []) ≡ suc (length front)
-    next = length-push front post
+    there : slice_get all from ≡ Some post
+    there = (drop-first all from post later is).0
 
-    there : slice_get all (length front) ≡ Some post
-    there = ap (λ posts. slice_get posts (length front)) is ∙ slice_get-seam front post later
-
-    rest : drop (suc (length front)) all ≡ later
-    rest = ap (drop (suc (length front))) is ∙ drop-seam front post later
+    rest : drop (suc from) all ≡ later
+    rest = (drop-first all from post later is).1
 
     Again : Type 0
-    Again = (now : SubscriberState) (numbers : List ℕ) → ArePicked all (length (front ++ post ∷ [])) now numbers → kept_catching names (length (front ++ post ∷ [])) now later ≡ fold (catch_number names all) now numbers
-
-    go : Again → (now : SubscriberState) (numbers : List ℕ) → ArePicked all (suc (length front)) now numbers → kept_catching names (suc (length front)) now later ≡ fold (catch_number names all) now numbers
-    go again now numbers picked =
-        subst (λ n. kept_catching names n now later ≡ fold (catch_number names all) now numbers) next
-        (again now numbers (subst (λ n. ArePicked all n now numbers) (sym next) picked))
+    Again = (now : Inbox) (numbers : List ℕ) → ArePicked all (suc from) now numbers → after_catching_up names (suc from) now later ≡ fold (catch_number names all) now numbers
 
     -- one that isn't picked doesn't catch up
-    without : Again → is_one_of (length front) numbers ≡ false → kept_catching names (length front) kept (post ∷ later) ≡ fold (catch_number names all) kept numbers
-    without again other =
-        ap (λ b. kept_catching names (suc (length front)) (if b then with_caught names kept (length front) post else kept) later) stays
-        ∙ go again kept numbers (record {
-          rising = above numbers picked.rising other;
-          only = picked.only;
-          each = λ number one from there latest new. picked.each number one (omega (arith, from)) there latest new;
-        })
+    without : Again → (numbers : List ℕ) → ArePicked all from inbox numbers → IsAbove (suc from) numbers → after_catching_up names from inbox (post ∷ later) ≡ fold (catch_number names all) inbox numbers
+    without again numbers picked above =
+        ap (λ b. after_catching_up names (suc from) (if b then with_caught_up names inbox from post else inbox) later) stays
+        ∙ again inbox numbers (record { rising = above; only = picked.only; each = λ number one higher at latest new. picked.each number one (omega (arith, higher)) at latest new })
       where
-        above : (numbers : List ℕ) → IsAbove (length front) numbers → is_one_of (length front) numbers ≡ false → IsAbove (suc (length front)) numbers
-        above [] rising none = tt
-        above (one ∷ numbers) rising none = elim (cases_Bool (one == length front)) [
-          | inl same ↦ absurd (let e : true ≡ false = ap (λ b. b || is_one_of (length front) numbers) (sym same) ∙ none in cc)
-          | inr apart ↦ ((let h : length front ≤ one = rising.0 in let d : one ≢ length front = eqb-false one (length front) apart in omega arith), rising.1)
-        ]
+        old : is_latest post later ≡ true → has_new post.var inbox ≡ false
+        old latest = false_from_ne_true (has_new post.var inbox) (λ new.
+            let low : suc from ≤ from = above-member (suc from) from numbers above (picked.each from post (omega arith) there (ap (is_latest post) rest ∙ latest) new) in
+            omega (arith, low))
 
-        stays : catches_kept names kept (length front) post later ≡ false
-        stays = elim (cases_Bool (is_latest post later)) [
-          | inl latest ↦ elim (cases_Bool (has_new post.var kept)) [
-            | inl new ↦ absurd (let e : true ≡ false = sym (picked.each (length front) post (omega arith) there (ap (is_latest post) rest ∙ latest) new) ∙ other in cc)
-            | inr old ↦
-                ap (λ b. b && list_any (is_new_held kept.seen post.var (name_of names post.source)) kept.lives && not (is_one_of (length front) kept.mailed)) latest
-                ∙ ap (λ b. b && not (is_one_of (length front) kept.mailed)) (none-new kept.seen post.var (name_of names post.source) kept.lives old)
-          ]
-          | inr older ↦ ap (λ b. b && list_any (is_new_held kept.seen post.var (name_of names post.source)) kept.lives && not (is_one_of (length front) kept.mailed)) older
-        ]
+        stays : catches_up names inbox from post later ≡ false
+        stays = and_left (is_latest post later && list_any (is_new_for names inbox.entries post) inbox.lives) (not (was_mailed from inbox.mailed)) (elim (cases_Bool (is_latest post later)) [
+          | inl latest ↦ and_right (is_latest post later) (list_any (is_new_for names inbox.entries post) inbox.lives) (none-new names inbox.entries post inbox.lives (old latest))
+          | inr older ↦ and_left (is_latest post later) (list_any (is_new_for names inbox.entries post) inbox.lives) older
+        ])
 
     -- one that is does as its number says
-    with-it : Again → (numbers : List ℕ) → ArePicked all (length front) kept numbers → is_one_of (length front) numbers ≡ true → kept_catching names (length front) kept (post ∷ later) ≡ fold (catch_number names all) kept numbers
-    with-it again [] picked member = absurd (let e : false ≡ true = member in cc)
-    with-it again (number ∷ numbers) picked member =
-        let first : number ≡ length front = (elim (cases_Bool (number == length front)) [
-          | inl same ↦ eqb-true number (length front) same
-          | inr apart ↦
-              let more : suc number ≤ length front = above-member (suc number) (length front) numbers picked.rising.1 (ap (λ b. b || is_one_of (length front) numbers) (sym apart) ∙ member) in
-              absurd (let h : length front ≤ number = picked.rising.0 in omega arith)
-        ]) in
-        let found = picked.only (length front) member in
-        let same : found.0 ≡ post = some-same found.0 post (slice_get all (length front)) found.1 there in
-        let latest : is_latest post later ≡ true = ap (is_latest post) (sym rest) ∙ ap (λ p. is_latest p (drop (suc (length front)) all)) (sym same) ∙ found.2 in
-        let new : Bool = list_any (is_new_held kept.seen post.var (name_of names post.source)) kept.lives && not (is_one_of (length front) kept.mailed) in
-        let now : SubscriberState = if new then with_caught names kept (length front) post else kept in
-        let step : catch_number names all kept number ≡ now = ap (catch_number names all kept) first ∙ ap (catch_found names (length front) kept) there in
-        ap (λ b. kept_catching names (suc (length front)) (if b && list_any (is_new_held kept.seen post.var (name_of names post.source)) kept.lives && not (is_one_of (length front) kept.mailed) then with_caught names kept (length front) post else kept) later) latest
-        ∙ go again now numbers (record {
+    with-it : Again → (number : ℕ) (numbers : List ℕ) → number ≡ from → ArePicked all from inbox (number ∷ numbers) → after_catching_up names from inbox (post ∷ later) ≡ fold (catch_number names all) inbox (number ∷ numbers)
+    with-it again number numbers first picked =
+        let found = picked.only from (or_left (number == from) (is_one_of from numbers) (eq-eqb number from first)) in
+        let same : found.0 ≡ post = same_Some found.0 post (sym found.1 ∙ there) in
+        let latest : is_latest post later ≡ true = (λ i. is_latest (sym same i) (sym rest i)) ∙ found.2 in
+        let new : Bool = list_any (is_new_for names inbox.entries post) inbox.lives && not (was_mailed from inbox.mailed) in
+        let now : Inbox = if new then with_caught_up names inbox from post else inbox in
+        let step : catch_number names all inbox number ≡ now = ap (catch_number names all inbox) first ∙ ap (catch_post names from inbox) there in
+        ap (λ b. after_catching_up names (suc from) (if (b && list_any (is_new_for names inbox.entries post) inbox.lives) && not (was_mailed from inbox.mailed) then with_caught_up names inbox from post else inbox) later) latest
+        ∙ again now numbers (record {
           rising = subst (λ n. IsAbove (suc n) numbers) first picked.rising.1;
-          only = λ k among. picked.only k (either k (number == k) among);
-          each = λ k one from there' latest' new'.
-              left k (omega (arith, from, first)) (picked.each k one (omega (arith, from)) there' latest' (sym (new-caught names one.var kept (length front) post new) ∙ new'));
+          only = λ k among. picked.only k (or_right (number == k) (is_one_of k numbers) among);
+          each = λ k one higher at latest' new'.
+              ap (λ b. b || is_one_of k numbers) (sym (ne_eqb number k (λ same. omega (arith, same, first, higher))))
+              ∙ picked.each k one (omega (arith, higher)) at latest' (sym (new-caught names one.var inbox from post new) ∙ new');
         })
-        ∙ ap (λ k. fold (catch_number names all) k numbers) (sym step)
-      where
-        either : (k : ℕ) (b : Bool) → is_one_of k numbers ≡ true → (b || is_one_of k numbers) ≡ true
-        either k true among = refl
-        either k false among = among
+        ∙ ap (λ inbox. fold (catch_number names all) inbox numbers) (sym step)
 
-        left : (k : ℕ) → number < k → is_one_of k (number ∷ numbers) ≡ true → is_one_of k numbers ≡ true
-        left k above among = ap (λ b. b || is_one_of k numbers) (sym (ne_eqb number k (λ same. omega (arith, same)))) ∙ among
+    by : Again → (numbers : List ℕ) → ArePicked all from inbox numbers → after_catching_up names from inbox (post ∷ later) ≡ fold (catch_number names all) inbox numbers
+    by again [] picked = without again [] picked tt
+    by again (number ∷ numbers) picked = elim (cases_Bool (number == from)) [
+      | inl same ↦ with-it again number numbers (eqb-true number from same) picked
+      | inr apart ↦ without again (number ∷ numbers) picked ((let low : from ≤ number = picked.rising.0 in let other : number ≢ from = eqb-false number from apart in omega arith), picked.rising.1)
+    ]

@@ -14,7 +14,7 @@ use Rattle.moos_db.specs.declared.db.Parts.{Parts}
 use Rattle.moos_db.specs.Clients.{ClientState, IsBlank}
 use Rattle.moos_db.specs.Hearers.{VariablesState}
 use Rattle.moos_db.specs.Places.{AreKept, IsDb, Journal}
-use Rattle.moos_db.proofs.AfterCalls.{AreKept-fetch, AreKept-mail, AreKept-spare}
+use Rattle.moos_db.proofs.AfterCalls.{AreKept-fetch, AreKept-mail, AreKept-room}
 use Rattle.moos_db.proofs.Standing.{slice_get-seam}
 
 -- Parts that equal those of a database are such parts too: a box has what it was made of, and lends what it has.
@@ -104,5 +104,5 @@ IsDb-spare names journal other variables clients client one new there same given
     IsDb-stays names journal other variables variables clients (set clients client new) same
     (subst (λ (log : Journal). AreKept names log.entries variables (set clients client new)) (sym same)
     (subst (λ state. AreKept names journal.entries variables (set clients client state)) (sym given)
-    (AreKept-spare names journal.entries client variables clients one new.spare there db.kept)))
+    (AreKept-room names journal.entries client variables clients one (record one { spare = new.spare }) there refl db.kept)))
     db

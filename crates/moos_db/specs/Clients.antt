@@ -2,8 +2,8 @@
 use Rattle.std.specs.Prelude.{◌≡◌, ℕ, Bool, ◌&&◌, not, if◌then◌else◌, List, ◌++◌, ◌∷◌, [], map, filter, bytes_eq, slice_get, Some}
 use Rattle.std.specs.List.{list_any}
 use Rattle.moos_db.specs.declared.registration.Registration.{Registration}
-use Rattle.moos_db.specs.Subscribers.{SubscriberState, SubscriptionState}
-use Rattle.moos_mail.specs.Mailboxes.{is_one_of, with_number}
+use Rattle.moos_post.specs.Delivery.{Inbox, Live, waiting}
+use Rattle.moos_mail.specs.Mailboxes.{in_rising_order, is_one_of, with_number}
 
 -- its live registrations in the order in which they were made, the numbers of all posts ever mailed to it in rising order, those that
 -- wait for its next fetch, how many more can be mailed without memory, and how many more registrations made
@@ -14,9 +14,9 @@ pub record ClientState : Type 0 where
   pub spare : ℕ
   pub room : ℕ
 
--- what a client registered for and when, of what is kept of a live registration
-abbrev pub registration_of : SubscriptionState → Registration
-registration_of held = record { reg = held.reg; made = held.made }
+-- what a client registered for and when, of a live registration
+abbrev pub registration_of : Live → Registration
+registration_of live = record { reg = live.reg; made = live.made }
 
 -- a registration has both these patterns
 abbrev pub is_with_patterns : List ℕ → List ℕ → Registration → Bool
@@ -35,15 +35,15 @@ abbrev pub mailed_once : ℕ → ClientState → ClientState
 mailed_once number client =
     if is_one_of number client.mailed then client else record client { mailed = with_number number client.mailed; waits = client.waits ++ number ∷ [] }
 
--- the client has just what is kept of it
-pub record IsClient (kept : SubscriberState) (client : ClientState) : Type 0 where
-  pub lives : client.lives ≡ map registration_of kept.lives
-  pub mailed : client.mailed ≡ kept.mailed
-  pub waits : client.waits ≡ kept.waits
+-- what is kept of the client is its inbox of the delivery rule, without the posts themselves
+pub record IsClient (inbox : Inbox) (client : ClientState) : Type 0 where
+  pub lives : client.lives ≡ map registration_of inbox.lives
+  pub mailed : client.mailed ≡ in_rising_order (map (λ one. one.number) inbox.mailed)
+  pub waits : client.waits ≡ waiting inbox
 
--- so has each client
-abbrev pub AreClients : (ℕ → SubscriberState) → List ClientState → Type 0
-AreClients kept clients = (number : ℕ) (client : ClientState) → slice_get clients number ≡ Some client → IsClient (kept number) client
+-- so it is of each client
+abbrev pub AreClients : (ℕ → Inbox) → List ClientState → Type 0
+AreClients inboxes clients = (number : ℕ) (client : ClientState) → slice_get clients number ≡ Some client → IsClient (inboxes number) client
 
 -- nothing happened for the client
 pub record IsBlank (client : ClientState) : Type 0 where

@@ -4,11 +4,10 @@ use Rattle.std.specs.Prelude.{◌≡◌, ◌<◌, ◌≤◌, ◌+◌, ◌⊎◌,
 use Rattle.std.specs.List.{All, list_any}
 use Rattle.moos_post.specs.declared.registration.Reg.{Reg}
 use Rattle.moos_post.specs.declared.value.Post.{Post}
-use Rattle.moos_post.specs.Delivery.{is_past}
+use Rattle.moos_post.specs.Delivery.{Inbox, is_past, last_stamp, Live}
 use Rattle.moos_post.specs.Patterns.{matches}
 use Rattle.moos_db.specs.declared.registration.Registration.{Registration}
 use Rattle.moos_db.specs.Clients.{AreClients, ClientState, mailed_once}
-use Rattle.moos_db.specs.Subscribers.{SubscriberState, SubscriptionState}
 use Rattle.moos_db.specs.Tables.{Row, number_of, rows_of, with_row}
 
 -- a live registration of a client that hears a variable, the entry that made it, and the stamp of the last post of the variable that
@@ -27,12 +26,12 @@ pub record VariableState : Type 0 where
   pub room : ℕ
 
 -- the client hears the variable through this registration
-abbrev pub hearer_of : ℕ → List ℕ → SubscriptionState → HearerState
-hearer_of client var held = record { client = client; reg = held.reg; made = held.made; last = number_of var held.lasts }
+abbrev pub hearer_of : ℕ → List ℕ → Live → HearerState
+hearer_of client var live = record { client = client; reg = live.reg; made = live.made; last = last_stamp var live.came }
 
 -- through which of these registrations the client hears the variable, in their order
-abbrev pub hearers_of : ℕ → List ℕ → List SubscriptionState → List HearerState
-hearers_of client var lives = map (hearer_of client var) (filter (λ held. matches held.reg.var var) lives)
+abbrev pub hearers_of : ℕ → List ℕ → List Live → List HearerState
+hearers_of client var lives = map (hearer_of client var) (filter (λ live. matches live.reg.var var) lives)
 
 -- those of these that are the client's, in their order
 abbrev pub of_client : ℕ → List HearerState → List HearerState
@@ -76,9 +75,9 @@ pub record VariablesState : Type 0 where
   pub numbers : List Row
   pub noted : List ℕ
 
--- the variable is heard by each client just as what is kept of it says, and by nobody else
-pub record IsHeardBy (clients : ℕ) (kept : ℕ → SubscriberState) (variable : VariableState) : Type 0 where
-  pub each : (client : ℕ) → client < clients → of_client client variable.hearers ≡ hearers_of client variable.name (kept client).lives
+-- the variable is heard by each client just as its inbox of the delivery rule says, and by nobody else
+pub record IsHeardBy (clients : ℕ) (inboxes : ℕ → Inbox) (variable : VariableState) : Type 0 where
+  pub each : (client : ℕ) → client < clients → of_client client variable.hearers ≡ hearers_of client variable.name (inboxes client).lives
   pub within : All (λ hearer. hearer.client < clients) variable.hearers
 
 -- each of these hears as one of so many clients
@@ -103,16 +102,23 @@ pub record AreNumbers (variables : VariablesState) : Type 0 where
 abbrev pub AreNoted : List (List ℕ) → VariablesState → Type 0
 AreNoted vars variables = map (name_at variables.all) variables.noted ≡ map (λ var. Some var) vars
 
--- of no variable without a number a post came through a registration
-abbrev pub AreKnown : ℕ → (ℕ → SubscriberState) → List Row → Type 0
-AreKnown clients kept numbers =
-    (client : ℕ) → client < clients → All (λ held. (var : List ℕ) → number_of var numbers ≡ None → number_of var held.lasts ≡ None) (kept client).lives
+-- of no variable without a number a post came through the registration
+abbrev pub HasKnown : List Row → Live → Type 0
+HasKnown numbers live = (var : List ℕ) → number_of var numbers ≡ None → last_stamp var live.came ≡ None
 
--- Each variable is heard as what is kept says, its latest post is that among these, and none came through but of these variables.
-pub record AreHeard (clients : ℕ) (kept : ℕ → SubscriberState) (posts : List Post) (variables : VariablesState) : Type 0 where
-  pub heard : All (IsHeardBy clients kept) variables.all
-  pub latest : All (λ variable. variable.latest ≡ number_of variable.name (rows_of posts)) variables.all
-  pub known : AreKnown clients kept variables.numbers
+-- nor through any registration of a client
+abbrev pub AreKnown : ℕ → (ℕ → Inbox) → List Row → Type 0
+AreKnown clients inboxes numbers = (client : ℕ) → client < clients → All (HasKnown numbers) (inboxes client).lives
+
+-- its latest post is that of the variable among these
+abbrev pub HasLatest : List Post → VariableState → Type 0
+HasLatest posts variable = variable.latest ≡ number_of variable.name (rows_of posts)
+
+-- Each variable is heard as the inboxes say, its latest post is that among these, and none came through but of these variables.
+pub record AreHeard (clients : ℕ) (inboxes : ℕ → Inbox) (posts : List Post) (variables : VariablesState) : Type 0 where
+  pub heard : All (IsHeardBy clients inboxes) variables.all
+  pub latest : All (HasLatest posts) variables.all
+  pub known : AreKnown clients inboxes variables.numbers
 
 -- the variables with this one more, which the clients hear by their registrations, through which nothing of it came
 pub record IsAdded (clients : List ClientState) (var : List ℕ) (before after : VariablesState) : Type 0 where
@@ -153,14 +159,18 @@ pub record AreMailed (number stamp : ℕ) (source : List ℕ) (hearers : List He
       other ≡ record (mailed_if (list_any (hears_due stamp source) (of_client client hearers)) number one) { spare = other.spare }
   pub room : (client : ℕ) (one other : ClientState) → slice_get before client ≡ Some one → slice_get after client ≡ Some other → one.spare ≤ other.spare + 1
 
--- the clients and who hears the variables are just what is kept says, where these are the posts so far
-pub record AreKeptAs (kept : ℕ → SubscriberState) (posts : List Post) (variables : VariablesState) (all : List ClientState) : Type 0 where
-  pub clients : AreClients kept all
-  pub heard : AreHeard (length all) kept posts variables
+-- the clients and who hears the variables are just what the inboxes say, where these are the posts so far
+pub record AreKeptAs (inboxes : ℕ → Inbox) (posts : List Post) (variables : VariablesState) (all : List ClientState) : Type 0 where
+  pub clients : AreClients inboxes all
+  pub heard : AreHeard (length all) inboxes posts variables
 
--- what is kept of the client where these are its live registrations, and of each other
-abbrev pub with_lives : ℕ → (List SubscriptionState → List SubscriptionState) → (ℕ → SubscriberState) → ℕ → SubscriberState
-with_lives client change kept number = if number == client then record (kept number) { lives = change (kept number).lives } else kept number
+-- the inboxes where the client's is changed so
+abbrev pub with_inbox : ℕ → (Inbox → Inbox) → (ℕ → Inbox) → ℕ → Inbox
+with_inbox client change inboxes number = if client == number then change (inboxes number) else inboxes number
+
+-- the inboxes where the client's live registrations are changed so
+abbrev pub with_lives : ℕ → (List Live → List Live) → (ℕ → Inbox) → ℕ → Inbox
+with_lives client change inboxes = with_inbox client (λ inbox. record inbox { lives = change inbox.lives }) inboxes
 
 -- posting: the post with this number, of the variable that is noted for it, came through those who hear it, and was mailed
 pub record IsPosted (number stamp : ℕ) (source : List ℕ) (before after : VariablesState) (clients others : List ClientState) : Type 0 where
@@ -175,7 +185,7 @@ pub record IsPosted (number stamp : ℕ) (source : List ℕ) (before after : Var
   pub noted : after.noted ≡ before.noted
   pub mailed : AreMailed number stamp source variable.hearers clients others
 
--- all is as kept says, where these are the posts so far, whose variables are noted first
-pub record AreReady (kept : ℕ → SubscriberState) (posts : List Post) (variables : VariablesState) (all : List ClientState) : Type 0 where
-  pub stand : AreKeptAs kept posts variables all
+-- all is as the inboxes say, where these are the posts so far, whose variables are noted first
+pub record AreReady (inboxes : ℕ → Inbox) (posts : List Post) (variables : VariablesState) (all : List ClientState) : Type 0 where
+  pub stand : AreKeptAs inboxes posts variables all
   pub noted : AreNoted (map (λ post. post.var) posts) (record variables { noted = take (length posts) variables.noted })

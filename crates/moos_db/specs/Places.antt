@@ -1,12 +1,13 @@
 -- How posts are found by number, and what is known of a database's parts.
-use Rattle.std.specs.Prelude.{◌≡◌, ℕ, ◌<◌, ◌^◌, List, [], map, length, Option, Some, option_and_then, slice_get, slice_index_or}
+use Rattle.std.specs.Prelude.{◌≡◌, ℕ, ◌<◌, ◌^◌, Bool, true, false, List, [], map, length, Option, Some, option_and_then, slice_get, slice_index_or}
+use Rattle.moos_post.specs.declared.entry.Call.{Call}
+use Rattle.moos_post.specs.declared.entry.Call.TheVariants.{Register, Unregister, Post as Posts, Fetch}
 use Rattle.moos_post.specs.declared.value.Post.{Post}
 use Rattle.moos_post.specs.History.{History, posts_of, posts_of_entry}
-use Rattle.moos_post.specs.Delivery.{inbox_of, mail_at}
+use Rattle.moos_post.specs.Delivery.{Inbox, inbox_of, mail_at}
 use Rattle.moos_db.specs.declared.log.Place.{Place}
 use Rattle.moos_db.specs.Clients.{ClientState}
 use Rattle.moos_db.specs.Hearers.{AreKeptAs, AreNoted, VariablesState}
-use Rattle.moos_db.specs.Subscribers.{SubscriberState, kept_of}
 
 -- the entries, and what each of them gave
 pub record Journal : Type 0 where
@@ -27,15 +28,22 @@ pub record IsLog (entries : History) (letters : List (List ℕ)) (places : List 
   pub each : length letters ≡ length entries
   pub placed : map (post_in entries) places ≡ map (λ post. Some post) (posts_of entries)
 
--- what is kept of the client after this history
-abbrev pub kept_after : List (List ℕ) → History → ℕ → SubscriberState
-kept_after names history client = kept_of (inbox_of names client history)
+-- the call posts
+abbrev pub makes_posts : Call → Bool
+makes_posts (Register regs) = false
+makes_posts (Unregister var source) = false
+makes_posts (Posts batch) = true
+makes_posts Fetch = false
+
+-- the clients' inboxes after this history
+abbrev pub inboxes_after : List (List ℕ) → History → ℕ → Inbox
+inboxes_after names history client = inbox_of names client history
 
 -- the clients, who hears the variables and the variables noted of posts are what this history says
 pub record AreKept (names : List (List ℕ)) (history : History) (variables : VariablesState) (clients : List ClientState) : Type 0 where
   pub few : length names < 2 ^ 32
   pub each : length clients ≡ length names
-  pub kept : AreKeptAs (kept_after names history) (posts_of history) variables clients
+  pub kept : AreKeptAs (inboxes_after names history) (posts_of history) variables clients
   pub noted : AreNoted (map (λ post. post.var) (posts_of history)) variables
 
 -- all of that holds, and each entry's letters are its mail

@@ -1,13 +1,13 @@
 -- What a registration prepares, and what stays the same while it is made.
-use Rattle.std.specs.Prelude.{◌≡◌, ℕ, suc, ◌+◌, ◌≤◌, Bool, true, ◌==◌, false, if◌then◌else◌, List, [], ◌∷◌, ◌++◌, length, map, filter, Option, Some, bytes_eq, option_and_then, option_to_list, slice_get}
+use Rattle.std.specs.Prelude.{◌≡◌, ℕ, suc, ◌+◌, ◌≤◌, Bool, true, ◌&&◌, ◌==◌, not, if◌then◌else◌, List, [], ◌∷◌, ◌++◌, length, map, filter, Option, None, Some, option_and_then, option_to_list, slice_get, slice_set}
 use Rattle.std.specs.List.{flat_map, list_any}
 use Rattle.moos_post.specs.declared.registration.Reg.{Reg}
+use Rattle.moos_post.specs.declared.value.Post.{Post}
+use Rattle.moos_post.specs.Delivery.{Inbox, is_new_for, Live, was_mailed, with_caught_up, with_reg}
 use Rattle.moos_post.specs.Patterns.{matches}
 use Rattle.moos_db.specs.declared.registration.Registration.{Registration}
 use Rattle.moos_db.specs.Clients.{ClientState}
-use Rattle.moos_db.specs.Hearers.{HearerState, VariableState, VariablesState, caught_at, fresh_hearer, is_new_at}
-use Rattle.moos_db.specs.Subscribers.{SubscriberState, SubscriptionState, with_held}
-use Rattle.moos_db.specs.Tables.{number_of}
+use Rattle.moos_db.specs.Hearers.{HearerState, IsNumbering, VariableState, VariablesState, caught_at, fresh_hearer, is_new_at}
 
 -- who is to hear a variable, with the variable's number
 abbrev pub Heard : Type 0
@@ -30,8 +30,7 @@ heard_where client live number name = if matches live.reg.var name then (number,
 -- this number
 abbrev pub heard_through : ℕ → Registration → ℕ → List (List ℕ) → List Heard
 heard_through client live number [] = []
-heard_through client live number (name ∷ names) =
-    if matches live.reg.var name then (number, fresh_hearer client live) ∷ heard_through client live (suc number) names else heard_through client live (suc number) names
+heard_through client live number (name ∷ names) = heard_where client live number name ++ heard_through client live (suc number) names
 
 -- the registration that is to be made for this at this entry
 abbrev pub prepared_of : ℕ → ℕ → List (List ℕ) → Reg → PreparedState
@@ -43,8 +42,8 @@ abbrev pub heard_at_number : ℕ → List Heard → List HearerState
 heard_at_number number all = map (λ one. one.1) (filter (λ one. one.0 == number) all)
 
 -- the live registrations after this one more, which withdraws one with the same patterns
-abbrev pub with_prepared : List SubscriptionState → PreparedState → List SubscriptionState
-with_prepared lives one = with_held one.live.made lives one.live.reg
+abbrev pub with_prepared : List Live → PreparedState → List Live
+with_prepared lives one = with_reg one.live.made lives one.live.reg
 
 -- the number of the latest post of the variable with this number
 abbrev pub latest_at : List VariableState → ℕ → Option ℕ
@@ -114,21 +113,28 @@ pub record IsPrepared (client more : ℕ) (variables : List VariableState) (one 
   pub hearers : one.hearers ≡ heard_through client one.live 0 (variable_names variables)
   pub room : HasRoomThrough more one.live.reg.var variables
 
--- what is kept of the client is changed so, and that of each other stays
-abbrev pub with_kept : ℕ → (SubscriberState → SubscriberState) → (ℕ → SubscriberState) → ℕ → SubscriberState
-with_kept client change kept number = if number == client then change (kept number) else kept number
+-- so many entries were before, and the client's last fetch was one of them, if it fetched
+abbrev pub StandsAt : ℕ → Inbox → Type 0
+StandsAt made inbox = (inbox.entries ≡ made) × (inbox.fetched ≤ made)
+
+-- after this post, which is the latest of its variable and has this number, caught up where it may
+abbrev pub catch_post : List (List ℕ) → ℕ → Inbox → Option Post → Inbox
+catch_post names number inbox None = inbox
+catch_post names number inbox (Some post) =
+    if list_any (is_new_for names inbox.entries post) inbox.lives && not (was_mailed number inbox.mailed) then with_caught_up names inbox number post else inbox
+
+-- after the post with this number, among these, caught up where it may
+abbrev pub catch_number : List (List ℕ) → List Post → Inbox → ℕ → Inbox
+catch_number names posts inbox number = catch_post names number inbox (slice_get posts number)
 
 -- the post of this stamp and from the source of the variable with this number caught up with the client's registrations made at this
 -- entry; this tells whether there was one
 pub record IsCaught (client made stamp : ℕ) (source : List ℕ) (place : ℕ) (answer : Bool) (before after : VariablesState) : Type 0 where
   pub variable : VariableState
-  pub room : ℕ
+  pub numbering : IsNumbering before.all before.numbers
   pub there : slice_get before.all place ≡ Some variable
-  pub numbered : number_of variable.name before.numbers ≡ Some place
-  pub apart : (number : ℕ) (other : VariableState) → slice_get before.all number ≡ Some other → (number == place) ≡ false → bytes_eq variable.name other.name ≡ false
   pub catches : answer ≡ list_any (is_new_at client made source) variable.hearers
-  pub each : length after.all ≡ length before.all
-  pub here : slice_get after.all place ≡ Some (record variable { hearers = map (caught_at client made stamp source) variable.hearers; room = room })
-  pub others : (number : ℕ) → (number == place) ≡ false → slice_get after.all number ≡ slice_get before.all number
+  pub room : ℕ
+  pub all : after.all ≡ slice_set before.all place (record variable { hearers = map (caught_at client made stamp source) variable.hearers; room = room })
   pub numbers : after.numbers ≡ before.numbers
   pub noted : after.noted ≡ before.noted

@@ -1,6 +1,5 @@
--- Tables with a number for each variable: the stamps of the last posts that came through a registration, and the
--- numbers of the latest posts.
-use Rattle.std.specs.Prelude.{ℕ, suc, Bool, if◌then◌else◌, List, [], ◌∷◌, fold, find, Option, option_map, bytes_eq}
+-- Tables with a number for each variable: its own, and that of its latest post.
+use Rattle.std.specs.Prelude.{ℕ, suc, Bool, if◌then◌else◌, List, [], ◌∷◌, find, Option, option_map, bytes_eq}
 use Rattle.moos_post.specs.declared.value.Post.{Post}
 
 -- a variable and its number
@@ -21,10 +20,6 @@ abbrev pub with_row : List ℕ → ℕ → List Row → List Row
 with_row var number [] = record { var = var; number = number } ∷ []
 with_row var number (row ∷ rows) =
     if is_of var row then record row { number = number } ∷ rows else row ∷ with_row var number rows
-
--- the last stamp of each variable among the posts that came
-abbrev pub lasts_of : List Post → List Row
-lasts_of came = fold (λ lasts post. with_row post.var post.stamp lasts) [] came
 
 -- the table after these posts too, the first of which has this number
 abbrev pub rows_from : ℕ → List Row → List Post → List Row

@@ -1,10 +1,10 @@
 // A post: who hears its variables gets it at once.
 ghost use Rattle.std.specs.Prelude.{◌≡◌, ◌<◌, ◌^◌, ◌∷◌, ◌++◌, [], ℕ, List, length, map, true, OnErr, OnOk};
 ghost use Rattle.moos_post.specs.declared.value.Post.{Post};
+ghost use Rattle.moos_post.specs.Delivery.{Inbox};
 ghost use Rattle.moos_post.specs.History.{name_of, posts_of, posts_of_entry};
 ghost use Rattle.moos_db.specs.Hearers.{HearBelow, AreNoted, AreReady, HaveLetterRoom};
-ghost use Rattle.moos_db.specs.Places.{AreKept};
-ghost use Rattle.moos_db.specs.Subscribers.{SubscriberState, makes_posts};
+ghost use Rattle.moos_db.specs.Places.{AreKept, makes_posts};
 
 use crate::client::Client;
 use crate::log::Log;
@@ -33,7 +33,7 @@ fn prepare(
     requires few { length clients.old.items < 2 ^ 32 }
     requires below { HearBelow (length clients.old.items) variables.old.all }
     ensures each { length clients.new.items ≡ length clients.old.items }
-    ensures ready { (kept : ℕ → SubscriberState) (posts : List Post) → AreReady kept posts variables.old clients.old.items → AreReady kept posts variables.new clients.new.items }
+    ensures ready { (inboxes : ℕ → Inbox) (posts : List Post) → AreReady inboxes posts variables.old clients.old.items → AreReady inboxes posts variables.new clients.new.items }
     ensures noted { (vars : List (List ℕ)) → AreNoted vars variables.old → OnOk result (AreNoted (vars ++ map (λ pair. pair.var) pairs.now) variables.new) }
     ensures room { OnOk result (HaveLetterRoom clients.new.items variables.new first (length pairs.now)) }
 {
@@ -54,7 +54,7 @@ fn prepare_entry(
     requires few { length clients.old.items < 2 ^ 32 }
     requires below { HearBelow (length clients.old.items) variables.old.all }
     ensures each { length clients.new.items ≡ length clients.old.items }
-    ensures ready { (kept : ℕ → SubscriberState) (posts : List Post) → AreReady kept posts variables.old clients.old.items → AreReady kept posts variables.new clients.new.items }
+    ensures ready { (inboxes : ℕ → Inbox) (posts : List Post) → AreReady inboxes posts variables.old clients.old.items → AreReady inboxes posts variables.new clients.new.items }
     ensures noted { (vars : List (List ℕ)) → AreNoted vars variables.old → OnOk result (AreNoted (vars ++ map (λ post. post.var) (posts_of_entry entry.now)) variables.new) }
     ensures room { OnOk result (HaveLetterRoom clients.new.items variables.new first (length (posts_of_entry entry.now))) }
 {
@@ -80,7 +80,7 @@ fn add_entry(
     }) }
     ensures same { OnErr result (log.new ≡ log.old) }
     ensures each { length clients.new.items ≡ length clients.old.items }
-    ensures ready { (kept : ℕ → SubscriberState) (posts : List Post) → AreReady kept posts variables.old clients.old.items → AreReady kept posts variables.new clients.new.items }
+    ensures ready { (inboxes : ℕ → Inbox) (posts : List Post) → AreReady inboxes posts variables.old clients.old.items → AreReady inboxes posts variables.new clients.new.items }
     ensures noted { (vars : List (List ℕ)) → AreNoted vars variables.old → OnOk result (AreNoted (vars ++ map (λ post. post.var) (posts_of_entry entry)) variables.new) }
     ensures room { OnOk result (HaveLetterRoom clients.new.items variables.new (length (posts_of log.old.entries)) (length (posts_of_entry entry))) }
 {

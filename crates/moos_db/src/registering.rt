@@ -3,12 +3,12 @@ ghost use Rattle.std.specs.Prelude.{◌≡◌, ◌<◌, ◌≤◌, ◌+◌, ◌�
 ghost use Rattle.std.specs.List.{All, Contains};
 ghost use Rattle.std.specs.List.Sorted.{IsStrictlyIncreasing};
 ghost use Rattle.moos_post.specs.declared.value.Post.{Post};
+ghost use Rattle.moos_post.specs.Delivery.{Inbox, without_patterns};
 ghost use Rattle.moos_post.specs.History.{posts_of};
 ghost use Rattle.moos_db.specs.Clients.{ClientState};
-ghost use Rattle.moos_db.specs.Hearers.{AreKeptAs, AreNoted, with_lives};
+ghost use Rattle.moos_db.specs.Hearers.{AreKeptAs, AreNoted, with_inbox, with_lives};
 ghost use Rattle.moos_db.specs.Places.{AreKept};
-ghost use Rattle.moos_db.specs.Registering.{AreRoomier, AreStill, HasRoomThrough, IsPrepared, latest_heard, latest_prepared, variable_names, prepared_of, with_kept, with_prepared};
-ghost use Rattle.moos_db.specs.Subscribers.{SubscriberState, catch_number, without_held};
+ghost use Rattle.moos_db.specs.Registering.{AreRoomier, AreStill, HasRoomThrough, IsPrepared, catch_number, latest_heard, latest_prepared, variable_names, prepared_of, StandsAt, with_prepared};
 
 use crate::client::Client;
 use crate::hearer::Hearer;
@@ -141,8 +141,8 @@ pub(crate) fn withdraw(
     source: &Pattern,
 )
     requires { client < length clients.old.items }
-    ensures kept { (kept : ℕ → SubscriberState) (posts : List Post) → AreKeptAs kept posts variables.old clients.old.items →
-        AreKeptAs (with_lives client (without_held var.now source.now) kept) posts variables.new clients.new.items }
+    ensures kept { (inboxes : ℕ → Inbox) (posts : List Post) → AreKeptAs inboxes posts variables.old clients.old.items →
+        AreKeptAs (with_lives client (without_patterns var.now source.now) inboxes) posts variables.new clients.new.items }
     ensures noted { variables.new.noted ≡ variables.old.noted }
     ensures still { AreStill 0 variables.old variables.new clients.old.items clients.new.items }
 {
@@ -158,8 +158,8 @@ fn make(variables: &mut Variables, clients: &mut Vec<Client>, client: u32, one: 
     requires within { client < length clients.old.items }
     requires ready { IsPrepared client 1 variables.old.all one }
     requires room { (kept : ClientState) → slice_get clients.old.items client ≡ Some kept → 1 ≤ kept.room }
-    ensures kept { (kept : ℕ → SubscriberState) (posts : List Post) → AreKeptAs kept posts variables.old clients.old.items →
-        AreKeptAs (with_lives client (λ lives. with_prepared lives one) kept) posts variables.new clients.new.items }
+    ensures kept { (inboxes : ℕ → Inbox) (posts : List Post) → AreKeptAs inboxes posts variables.old clients.old.items →
+        AreKeptAs (with_lives client (λ lives. with_prepared lives one) inboxes) posts variables.new clients.new.items }
     ensures still { AreStill 1 variables.old variables.new clients.old.items clients.new.items }
     ensures noted { variables.new.noted ≡ variables.old.noted }
 {
@@ -174,8 +174,8 @@ fn make_all(variables: &mut Variables, clients: &mut Vec<Client>, client: u32, a
     requires within { client < length clients.old.items }
     requires ready { All (IsPrepared client (length all.items) variables.old.all) all.items }
     requires room { (kept : ClientState) → slice_get clients.old.items client ≡ Some kept → length all.items ≤ kept.room }
-    ensures kept { (kept : ℕ → SubscriberState) (posts : List Post) → AreKeptAs kept posts variables.old clients.old.items →
-        AreKeptAs (with_lives client (λ lives. fold with_prepared lives all.items) kept) posts variables.new clients.new.items }
+    ensures kept { (inboxes : ℕ → Inbox) (posts : List Post) → AreKeptAs inboxes posts variables.old clients.old.items →
+        AreKeptAs (with_lives client (λ lives. fold with_prepared lives all.items) inboxes) posts variables.new clients.new.items }
     ensures still { AreStill (length all.items) variables.old variables.new clients.old.items clients.new.items }
     ensures noted { variables.new.noted ≡ variables.old.noted }
 {
@@ -199,8 +199,8 @@ fn catch_one(
     requires below { number < length (posts_of log.now.entries) }
     requires noted { AreNoted (map (λ post. post.var) (posts_of log.now.entries)) variables.old }
     requires room { (kept : ClientState) → slice_get clients.old.items client ≡ Some kept → 1 ≤ kept.spare }
-    ensures kept { (kept : ℕ → SubscriberState) → (kept client).seen ≡ made → AreKeptAs kept (posts_of log.now.entries) variables.old clients.old.items →
-        AreKeptAs (with_kept client (λ one. catch_number names.now (posts_of log.now.entries) one number) kept) (posts_of log.now.entries) variables.new clients.new.items }
+    ensures kept { (inboxes : ℕ → Inbox) → StandsAt made (inboxes client) → AreKeptAs inboxes (posts_of log.now.entries) variables.old clients.old.items →
+        AreKeptAs (with_inbox client (λ one. catch_number names.now (posts_of log.now.entries) one number) inboxes) (posts_of log.now.entries) variables.new clients.new.items }
     ensures noted { AreNoted (map (λ post. post.var) (posts_of log.now.entries)) variables.new }
     ensures each { length clients.new.items ≡ length clients.old.items }
     ensures room { (one other : ClientState) → slice_get clients.old.items client ≡ Some one → slice_get clients.new.items client ≡ Some other → one.spare ≤ other.spare + 1 }
@@ -229,8 +229,8 @@ fn catch_up(
     requires below { All (λ number. number < length (posts_of log.now.entries)) latest.now }
     requires noted { AreNoted (map (λ post. post.var) (posts_of log.now.entries)) variables.old }
     requires room { (kept : ClientState) → slice_get clients.old.items client ≡ Some kept → length latest.now ≤ kept.spare }
-    ensures kept { (kept : ℕ → SubscriberState) → (kept client).seen ≡ made → AreKeptAs kept (posts_of log.now.entries) variables.old clients.old.items →
-        AreKeptAs (with_kept client (λ one. fold (catch_number names.now (posts_of log.now.entries)) one latest.now) kept) (posts_of log.now.entries) variables.new clients.new.items }
+    ensures kept { (inboxes : ℕ → Inbox) → StandsAt made (inboxes client) → AreKeptAs inboxes (posts_of log.now.entries) variables.old clients.old.items →
+        AreKeptAs (with_inbox client (λ one. fold (catch_number names.now (posts_of log.now.entries)) one latest.now) inboxes) (posts_of log.now.entries) variables.new clients.new.items }
     ensures noted { AreNoted (map (λ post. post.var) (posts_of log.now.entries)) variables.new }
     ensures each { length clients.new.items ≡ length clients.old.items }
 {

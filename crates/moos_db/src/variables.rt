@@ -1,11 +1,11 @@
 // The variables that were posted, each with those that hear it.
 ghost use Rattle.std.specs.Prelude.{◌≡◌, ◌<◌, ◌≤◌, ◌+◌, ◌^◌, ◌++◌, ◌∷◌, [], ℕ, List, None, Some, false, true, length, map, slice_get, take, IfOk, OnErr, OnOk};
 ghost use Rattle.std.specs.List.{All, list_any};
+ghost use Rattle.moos_post.specs.Delivery.{Inbox};
 ghost use Rattle.moos_post.specs.Patterns.{matches};
 ghost use Rattle.moos_mail.specs.Mailboxes.{is_one_of};
 ghost use Rattle.moos_db.specs.Hearers.{AreAlike, HearBelow, AreNoted, AreReady, caught_at, HaveLetterRoom, IsAdded, is_new_at, IsNumbering, IsPosted, MayAdd, name_at};
 ghost use Rattle.moos_db.specs.Registering.{AreEach, AreEachAt, AreRoomier, HasRoomThrough, HaveRoomFor, heard_where, heard_through, IsAddedTo, IsCaught, IsRoomier, latest_at, variable_names};
-ghost use Rattle.moos_db.specs.Subscribers.{SubscriberState};
 ghost use Rattle.moos_db.specs.Tables.{number_of};
 ghost use Rattle.moos_post.specs.declared.value.Post.{Post};
 ghost use Rattle.moos_db.specs.Withdrawing.{AreWithdrawn, IsWithdrawn};
@@ -221,7 +221,7 @@ impl Variables {
         requires few { length clients.now < 2 ^ 32 }
         ensures noted { (vars : List (List ℕ)) → AreNoted vars self.old → OnOk result (AreNoted (vars ++ var.now ∷ []) self.new) }
         ensures below { HearBelow (length clients.now) self.old.all → HearBelow (length clients.now) self.new.all }
-        ensures ready { (kept : ℕ → SubscriberState) (posts : List Post) → AreReady kept posts self.old clients.now → AreReady kept posts self.new clients.now }
+        ensures ready { (inboxes : ℕ → Inbox) (posts : List Post) → AreReady inboxes posts self.old clients.now → AreReady inboxes posts self.new clients.now }
     {
         let number = self.number_for(alloc, clients, var)?;
         self.noted.push(number)?;

@@ -1,7 +1,13 @@
--- What a test finds among numbers that were put in order.
-use Rattle.std.proofs.Common.{◌≡◌, ℕ, Bool, true, false, cond, ◌||◌, nat_lt, List, [], ◌∷◌, fold, refl, ap, ◌∙◌}
+-- What a test finds among numbers that were put in order, and what one mailing more adds to them and to those that wait.
+use Rattle.std.proofs.Common.{◌≡◌, ℕ, ◌≤◌, Bool, true, false, cond, ◌||◌, ◌==◌, nat_le, nat_lt, List, [], ◌∷◌, ◌++◌, map, filter, fold, refl, ap, ◌∙◌}
 use Rattle.std.specs.List.{list_any}
-use Rattle.moos_mail.specs.Mailboxes.{in_rising_order, with_number}
+use Rattle.std.proofs.lemmas.Bool.{le-leb}
+use Rattle.std.proofs.lemmas.List.{map-append}
+use Rattle.std.proofs.lemmas.List.Elements.{filter-append}
+use Rattle.std.proofs.lemmas.List.Sums.{fold-append}
+use Rattle.moos_post.specs.Delivery.{Mailing, mailing, was_mailed}
+use Rattle.moos_mail.specs.Mailboxes.{in_rising_order, is_one_of, with_number}
+use Rattle.moos_mail.proofs.Lists.{list_any-map}
 
 or_swap : (a b c : Bool) → a || (b || c) ≡ b || (a || c)
 or_swap true true c = refl
@@ -36,3 +42,23 @@ any_onto p rising (number ∷ numbers) =
 -- what a test finds among numbers that were put in order
 pub any_in_order : (p : ℕ → Bool) (numbers : List ℕ) → list_any p (in_rising_order numbers) ≡ list_any p numbers
 any_in_order p numbers = any_onto p [] numbers
+
+abbrev pub numbers : List Mailing → List ℕ
+numbers mailed = map (λ (one : Mailing). one.number) mailed
+
+pub one_of-mailed : (number : ℕ) (mailed : List Mailing) → is_one_of number (in_rising_order (numbers mailed)) ≡ was_mailed number mailed
+one_of-mailed number mailed = any_in_order (λ one. one == number) (numbers mailed) ∙ list_any-map (λ one. one == number) (λ (one : Mailing). one.number) mailed
+
+-- one mailing more stands in order among the others
+pub ordered-more : (number entry : ℕ) (mailed : List Mailing) → in_rising_order (numbers (mailed ++ mailing number entry ∷ [])) ≡ with_number number (in_rising_order (numbers mailed))
+ordered-more number entry mailed =
+    ap in_rising_order (map-append (λ (one : Mailing). one.number) mailed (mailing number entry ∷ []))
+    ∙ fold-append (λ rising n. with_number n rising) [] (numbers mailed) (number ∷ [])
+
+-- it waits, where the last fetch was before
+pub waits-more : (fetched number entry : ℕ) (mailed : List Mailing) → fetched ≤ entry →
+    numbers (filter (λ one. nat_le fetched one.entry) (mailed ++ mailing number entry ∷ [])) ≡ numbers (filter (λ one. nat_le fetched one.entry) mailed) ++ number ∷ []
+waits-more fetched number entry mailed before =
+    ap numbers (filter-append (λ (one : Mailing). nat_le fetched one.entry) mailed (mailing number entry ∷ []))
+    ∙ map-append (λ (one : Mailing). one.number) (filter (λ one. nat_le fetched one.entry) mailed) (filter (λ one. nat_le fetched one.entry) (mailing number entry ∷ []))
+    ∙ ap (λ b. numbers (filter (λ one. nat_le fetched one.entry) mailed) ++ numbers (cond b (mailing number entry ∷ []) [])) (le-leb fetched entry before)

@@ -1,21 +1,19 @@
 -- What a client fetches along a history, joined, is in order a front of all that the history mails to it, and the rest waits.
 use Rattle.std.proofs.Common.{◌≡◌, ℕ, zero, suc, ◌<◌, ◌≤◌, Bool, true, false, cond, ◌==◌, ◌&&◌, nat_le, List, [], ◌∷◌, ◌++◌, append_assoc, append-nil, length, map, filter, take, slice_get, Some, refl, ap, sym, ◌∙◌, arith, subst, if◌then◌else◌}
 use Rattle.std.specs.List.{list_any}
-use Rattle.std.proofs.lemmas.Bool.{le-leb, and_parts, eqb-true}
+use Rattle.std.proofs.lemmas.Bool.{and_parts, eqb-true}
 use Rattle.std.proofs.lemmas.Bool.Decides.{nat_tests}
 use Rattle.std.proofs.lemmas.List.{map-append}
-use Rattle.std.proofs.lemmas.List.Elements.{All-weaker, filter-append}
+use Rattle.std.proofs.lemmas.List.Elements.{All-weaker}
 use Rattle.moos_post.specs.declared.entry.Entry.{Entry}
 use Rattle.moos_post.specs.Delivery.{Inbox, inbox_of, is_due, is_fetch, mail_after, mail_of_entry, Mailing, mailing, waiting, with_entry}
 use Rattle.moos_post.specs.History.{History, posts_of_entry}
 use Rattle.moos_mail.specs.Sentences.{given_before, is_fetch_of, numbers_mailed}
+use Rattle.moos_mail.proofs.Appending.{numbers, waits-more}
 use Rattle.moos_mail.proofs.Inboxes.{fetch-call, fetched_now, Keeps, keeps-call, over, with_entry-ended}
 use Rattle.moos_mail.proofs.Lists.{filter-none, found-below}
 use Rattle.moos_mail.proofs.Mailed.{inbox-next}
 use Rattle.moos_mail.proofs.Orderly.{IsSettled, settled-inbox_of}
-
-abbrev pub numbers : List Mailing → List ℕ
-numbers mailed = map (λ (one : Mailing). one.number) mailed
 
 -- the client got these numbers by its fetches so far, and the rest of what was mailed waits
 pub record HasGot (got : List ℕ) (inbox : Inbox) : Type 0 where
@@ -26,12 +24,7 @@ pub record HasGot (got : List ℕ) (inbox : Inbox) : Type 0 where
 got_mailed : (got : List ℕ) (inbox : Inbox) (number : ℕ) → HasGot got inbox → numbers (inbox.mailed ++ mailing number inbox.entries ∷ []) ≡ got ++ numbers (filter (λ one. nat_le inbox.fetched one.entry) (inbox.mailed ++ mailing number inbox.entries ∷ []))
 got_mailed got inbox number so =
     map-append (λ (one : Mailing). one.number) inbox.mailed (mailing number inbox.entries ∷ []) ∙ ap (λ front. front ++ number ∷ []) so.all ∙ append_assoc got (waiting inbox) (number ∷ [])
-    ∙ ap (λ more. got ++ more) (sym (map-append (λ (one : Mailing). one.number) (filter waits inbox.mailed) (mailing number inbox.entries ∷ [])))
-    ∙ ap (λ b. got ++ numbers (filter waits inbox.mailed ++ cond b (mailing number inbox.entries ∷ []) [])) (sym (le-leb inbox.fetched inbox.entries so.fetched))
-    ∙ ap (λ mailed. got ++ numbers mailed) (sym (filter-append waits inbox.mailed (mailing number inbox.entries ∷ [])))
-  where
-    waits : Mailing → Bool
-    waits one = nat_le inbox.fetched one.entry
+    ∙ ap (λ more. got ++ more) (sym (waits-more inbox.fetched number inbox.entries inbox.mailed so.fetched))
 
 got_keeps : (names : List (List ℕ)) (got : List ℕ) → Keeps names (HasGot got)
 got_keeps names got = record {

@@ -19,7 +19,7 @@ use Rattle.moos_post.specs.Delivery.{empty_inbox, Inbox, inbox_of, is_due, is_pa
 use Rattle.moos_post.specs.History.{History, posts_of, posts_of_entry}
 use Rattle.moos_mail.specs.Sentences.{HearsAll, is_selected, keeps_lives, leaves_lives, numbers_mailed, numbers_selected, StampsRise}
 use Rattle.moos_mail.proofs.Inboxes.{posts-inbox_of, with_entry-ended}
-use Rattle.moos_mail.proofs.Joined.{numbers}
+use Rattle.moos_mail.proofs.Appending.{numbers}
 
 -- the registration asks for no interval, and no post with a greater stamp than this one came through it
 record IsUnder (low : ℕ) (live : Live) : Type 0 where

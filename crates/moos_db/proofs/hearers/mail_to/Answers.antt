@@ -2,8 +2,8 @@ use Rattle.std.proofs.Common.{◌≡◌, ◌∙◌, ◌<◌, ◌+◌, ◌-◌, �
 use Rattle.std.proofs.lemmas.List.{get_or-append_right, get_or-drop, get_or-set_same, length-append, length-drop, length-map, length-take-le, take_more}
 use Rattle.std.proofs.lemmas.List.Edits.{map_over_more}
 use Rattle.std.proofs.lemmas.Option.{slice_get_read}
-use Rattle.moos_db.specs.Hearers.{HearerState, HasRoom, after_hearing}
-use Rattle.moos_db.proofs.Hearing.{heard-client}
+use Rattle.moos_db.specs.Hearers.{HearerState, HasRoom, after_hearing, hears_due}
+use Rattle.moos_db.proofs.Hearing.{stamped-client}
 use Rattle.moos_db.proofs.Mailing.{IsMailing, mailing-due, mailing-passed, mailing-room}
 use Rattle.moos_db.proofs.hearers.mail_to.Goals.{then-hear, else-hear}
 use Rattle.moos_db.proofs.hearers.mail_to.Goals as goal
@@ -22,7 +22,7 @@ same-length f xs ys i within are =
 -- the one that heard the post is its client's as before
 same-client : (stamp : ℕ) (source : List ℕ) (hearers : List HearerState) (k : ℕ) (hearer new at : HearerState) → k < length hearers → new ≡ after_hearing stamp source hearer → at ≡ get_or (set hearers k new) k at → at.client ≡ hearer.client
 same-client stamp source hearers k hearer new at within heard found =
-    ap (λ (one : HearerState). one.client) (found ∙ get_or-set_same hearers k new at within ∙ heard) ∙ heard-client stamp source hearer
+    ap (λ (one : HearerState). one.client) (found ∙ get_or-set_same hearers k new at within ∙ heard) ∙ stamped-client (hears_due stamp source) stamp hearer
 
 pub mail-requires : goal.mail-requires
 mail-requires c =

@@ -4,14 +4,14 @@ use Rattle.moos_post.specs.History.{name_of, posts_of, posts_of_entry}
 use Rattle.moos_mail.specs.Mailboxes.{is_one_of}
 use Rattle.moos_db.specs.Clients.{ClientState}
 use Rattle.moos_db.specs.Hearers.{IsPosted}
-use Rattle.moos_db.specs.Places.{AreKept, kept_after}
-use Rattle.moos_db.proofs.Batches.{IsPosting, after-counted, after-fresh, forgotten-kept, found-origin, kept-below, next-post, posting-end, posting-new, posting-next, posting-start, posts-next, ready-from}
+use Rattle.moos_db.specs.Places.{AreKept, inboxes_after}
+use Rattle.moos_db.proofs.Batches.{IsPosting, forgotten-kept, found-origin, kept-below, next-post, posting-end, posting-new, posting-next, posting-start, posts-next, ready-from}
 use Rattle.moos_db.proofs.posting.post.Goals as goal
 
 pub add_entry-requires-clause-below : goal.add_entry-requires-clause-below
 add_entry-requires-clause-below c =
     let kept = c.requires.kept in
-    kept-below (kept_after c.args.names.now c.args.log.now.entries) (posts_of c.args.log.now.entries) c.args.variables.now c.args.clients.now.items kept.kept
+    kept-below (inboxes_after c.args.names.now c.args.log.now.entries) (posts_of c.args.log.now.entries) c.args.variables.now c.args.clients.now.items kept.kept
 
 pub returns-in-Err-clause-same : goal.returns-in-Err-clause-same
 returns-in-Err-clause-same c = c.in-Err.ensures.same
@@ -21,7 +21,7 @@ returns-in-Err-clause-kept c =
     let names = c.args.names.now in
     let history = c.args.log.now.entries in
     let kept = c.requires.kept in
-    let ready = c.add_entry.ensures.ready (kept_after names history) (posts_of history) (ready-from names history c.args.variables.now c.args.clients.now.items kept) in
+    let ready = c.add_entry.ensures.ready (inboxes_after names history) (posts_of history) (ready-from names history c.args.variables.now c.args.clients.now.items kept) in
     subst (λ entries. AreKept names entries c.forget.new.self c.add_entry.new.clients.items) (ap (λ log. log.entries) (sym c.in-Err.ensures.same))
     (subst (λ variables. AreKept names history variables c.add_entry.new.clients.items)
     (sym (c.forget.ensures ∙ ap (λ n. record c.add_entry.new.variables { noted = take n c.add_entry.new.variables.noted }) c.posts-first.ensures))
@@ -32,10 +32,10 @@ loop-number-init c =
     let names = c.args.names.now in
     let history = c.args.log.now.entries in
     let kept = c.requires.kept in
-    let ready = c.add_entry.ensures.ready (kept_after names history) (posts_of history) (ready-from names history c.args.variables.now c.args.clients.now.items kept) in
-    subst (λ done. IsPosting names (kept_after names history) (posts_of history) (posts_of_entry c.args.entry) done c.add_entry.new.variables c.add_entry.new.clients.items)
+    let ready = c.add_entry.ensures.ready (inboxes_after names history) (posts_of history) (ready-from names history c.args.variables.now c.args.clients.now.items kept) in
+    subst (λ done. IsPosting names history (posts_of_entry c.args.entry) done c.add_entry.new.variables c.add_entry.new.clients.items)
     (let e : 0 ≡ c.posts-first.result - c.posts-first.result = omega arith in e)
-    (posting-start names (kept_after names history) (posts_of history) (posts_of_entry c.args.entry) c.add_entry.new.variables c.add_entry.new.clients.items (c.add_entry.ensures.each ∙ kept.each) ready
+    (posting-start names history (posts_of_entry c.args.entry) c.add_entry.new.variables c.add_entry.new.clients.items (c.add_entry.ensures.each ∙ kept.each) ready
     (c.in_default.ensures.noted _ kept.noted) c.in_default.ensures.room)
 
 pub mail-requires-clause-below : goal.mail-requires-clause-below
@@ -52,8 +52,7 @@ mail-requires-clause-new c =
     let done : number - c.posts-first.result < length (posts_of_entry c.args.entry) = omega (arith, count, c.posts-number-end.ensures, c.posts-first.ensures, c.loop-number-test.true) in
     subst (λ n. All (λ (client : ClientState). is_one_of n client.mailed ≡ false) c.loop-number.clients.items)
     (let e : length (posts_of history) + (number - c.posts-first.result) ≡ number = omega (arith, c.posts-first.ensures) in e)
-    (posting-new names (kept_after names history) (posts_of history) (posts_of_entry c.args.entry) (number - c.posts-first.result) c.loop-number.variables c.loop-number.clients.items c.loop-number.invariant done
-    (after-counted names history) (after-fresh names history))
+    (posting-new names history (posts_of_entry c.args.entry) (number - c.posts-first.result) c.loop-number.variables c.loop-number.clients.items c.loop-number.invariant done)
 
 pub loop-number-preserved : goal.loop-number-preserved
 loop-number-preserved c =
@@ -74,10 +73,10 @@ loop-number-preserved c =
     (subst (λ stamp. IsPosted number stamp (name_of names post.source) c.loop-number.variables c.mail.new.self c.loop-number.clients.items c.mail.new.clients.items) (sym found.2)
     (subst (λ source. IsPosted number c.origin-origin.result.stamp source c.loop-number.variables c.mail.new.self c.loop-number.clients.items c.mail.new.clients.items)
     (c.source_of-source.ensures ∙ ap (name_of names) (sym found.3)) c.mail.ensures)) in
-    subst (λ done. IsPosting names (kept_after names history) (posts_of history) (posts_of_entry entry) done c.mail.new.self c.mail.new.clients.items)
+    subst (λ done. IsPosting names history (posts_of_entry entry) done c.mail.new.self c.mail.new.clients.items)
     (let e : number - c.posts-first.result + 1 ≡ number + 1 - c.posts-first.result = omega arith in e)
-    (posting-next names (kept_after names history) (posts_of history) (posts_of_entry entry) (number - c.posts-first.result) c.loop-number.variables c.mail.new.self c.loop-number.clients.items c.mail.new.clients.items post
-    c.loop-number.invariant (after-counted names history) (after-fresh names history) next posted)
+    (posting-next names history (posts_of_entry entry) (number - c.posts-first.result) c.loop-number.variables c.mail.new.self c.loop-number.clients.items c.mail.new.clients.items post
+    c.loop-number.invariant next posted)
 
 pub returns-clause-ok : goal.returns-clause-ok
 returns-clause-ok c = c.in_default.ensures.ok

@@ -5,15 +5,15 @@ use Rattle.moos_db.proofs.Rooms.{alike-ready}
 use Rattle.moos_db.proofs.posting.prepare.Goals as goal
 
 pub returns-in_err-note-clause-ready : goal.returns-in_err-note-clause-ready
-returns-in_err-note-clause-ready c kept posts ready =
-    subst (AreReady kept posts c.note.new.self) c.as_slice.ensures.value
-    (c.note.ensures.ready kept posts (subst (AreReady kept posts c.loop-pair.variables) (sym c.as_slice.ensures.value) (c.loop-pair.invariant.ready kept posts ready)))
+returns-in_err-note-clause-ready c inboxes posts ready =
+    subst (AreReady inboxes posts c.note.new.self) c.as_slice.ensures.value
+    (c.note.ensures.ready inboxes posts (subst (AreReady inboxes posts c.loop-pair.variables) (sym c.as_slice.ensures.value) (c.loop-pair.invariant.ready inboxes posts ready)))
 
 pub loop-pair-preserved : goal.loop-pair-preserved
 loop-pair-preserved c = record {
-  ready = λ kept posts ready.
-      subst (AreReady kept posts c.note.new.self) c.as_slice.ensures.value
-      (c.note.ensures.ready kept posts (subst (AreReady kept posts c.loop-pair.variables) (sym c.as_slice.ensures.value) (c.loop-pair.invariant.ready kept posts ready)));
+  ready = λ inboxes posts ready.
+      subst (AreReady inboxes posts c.note.new.self) c.as_slice.ensures.value
+      (c.note.ensures.ready inboxes posts (subst (AreReady inboxes posts c.loop-pair.variables) (sym c.as_slice.ensures.value) (c.loop-pair.invariant.ready inboxes posts ready)));
   noted = λ vars noted.
       subst (λ more. AreNoted more c.note.new.self)
       (append_assoc vars (map (λ pair. pair.var) (take c.loop-pair.pair-index c.args.pairs.now)) (c.pair-item.result.var ∷ [])
@@ -27,4 +27,4 @@ loop-pair-preserved c = record {
 }
 
 pub returns-clause-ready : goal.returns-clause-ready
-returns-clause-ready c kept posts ready = alike-ready kept posts c.loop-pair.variables c.args.clients.now.items c.make_room.new.clients.items c.make_room.ensures.alike (c.loop-pair.invariant.ready kept posts ready)
+returns-clause-ready c inboxes posts ready = alike-ready inboxes posts c.loop-pair.variables c.args.clients.now.items c.make_room.new.clients.items c.make_room.ensures.alike (c.loop-pair.invariant.ready inboxes posts ready)

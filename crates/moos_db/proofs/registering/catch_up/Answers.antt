@@ -4,15 +4,15 @@ use Rattle.std.proofs.lemmas.Option.{slice_get-get_or}
 use Rattle.moos_mail.proofs.Lists.{found-below}
 use Rattle.moos_post.specs.History.{posts_of}
 use Rattle.moos_db.specs.Clients.{ClientState}
-use Rattle.moos_db.specs.Hearers.{AreKeptAs}
-use Rattle.moos_db.specs.Registering.{with_kept}
-use Rattle.moos_db.specs.Subscribers.{catch_number}
-use Rattle.moos_db.proofs.Caught.{catch-next, kept-same}
+use Rattle.moos_db.specs.Hearers.{AreKeptAs, with_inbox}
+use Rattle.moos_db.specs.Registering.{catch_number}
+use Rattle.moos_db.proofs.Caught.{catch-next}
+use Rattle.moos_db.proofs.Changes.{all-same}
 use Rattle.moos_db.proofs.registering.catch_up.Goals as goal
 
 pub loop-number-init : goal.loop-number-init
 loop-number-init c = record {
-  kept = λ kept seen are. subst (λ k. AreKeptAs k (posts_of c.args.log.now.entries) c.args.variables.now c.args.clients.now.items) (sym (kept-same c.args.client (λ k. k) kept refl)) are;
+  kept = λ inboxes at are. subst (λ now. AreKeptAs now (posts_of c.args.log.now.entries) c.args.variables.now c.args.clients.now.items) (sym (all-same c.args.client (λ inbox. inbox) inboxes inboxes refl (λ n apart. refl))) are;
   noted = c.requires.noted;
   each = refl;
   room = λ one there. let h : length c.args.latest.now ≤ one.spare = c.requires.room one there in omega arith;
@@ -28,9 +28,9 @@ loop-number-preserved c =
     let client = c.args.client in
     let inv = c.loop-number.invariant in
     record {
-      kept = λ kept seen are.
-          catch-next c.args.names.now (posts_of c.args.log.now.entries) client c.args.made number k latest c.loop-number.variables c.catch_one.new.variables c.loop-number.clients.items c.catch_one.new.clients.items kept there
-          c.catch_one.ensures.kept seen (inv.kept kept seen are);
+      kept = λ inboxes at are.
+          catch-next c.args.names.now (posts_of c.args.log.now.entries) client c.args.made number k latest c.loop-number.variables c.catch_one.new.variables c.loop-number.clients.items c.catch_one.new.clients.items inboxes there
+          c.catch_one.ensures.kept at (inv.kept inboxes at are);
       noted = c.catch_one.ensures.noted;
       each = c.catch_one.ensures.each ∙ inv.each;
       room = λ one is.
@@ -42,7 +42,7 @@ pub returns-clause-kept : goal.returns-clause-kept
 returns-clause-kept c =
     let latest : List ℕ = c.args.latest.now in
     let posts = posts_of c.args.log.now.entries in
-    λ kept seen are.
-    subst (λ list. AreKeptAs (with_kept c.args.client (λ one. fold (catch_number c.args.names.now posts) one list) kept) posts c.loop-number.variables c.loop-number.clients.items)
+    λ inboxes at are.
+    subst (λ list. AreKeptAs (with_inbox c.args.client (λ one. fold (catch_number c.args.names.now posts) one list) inboxes) posts c.loop-number.variables c.loop-number.clients.items)
     (take_all c.loop-number.number-index latest (omega (arith, c.loop-number-test.false)))
-    (c.loop-number.invariant.kept kept seen are)
+    (c.loop-number.invariant.kept inboxes at are)

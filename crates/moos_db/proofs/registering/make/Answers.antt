@@ -3,11 +3,12 @@ use Rattle.std.specs.List.{All}
 use Rattle.std.proofs.lemmas.List.{length-map}
 use Rattle.std.proofs.lemmas.Option.{slice_get-get_or}
 use Rattle.moos_mail.proofs.Lists.{found-below}
+use Rattle.moos_mail.proofs.Standing.{new_live}
+use Rattle.moos_post.specs.Delivery.{without_patterns}
 use Rattle.moos_db.specs.declared.registration.Registration.{Registration}
 use Rattle.moos_db.specs.Clients.{ClientState}
 use Rattle.moos_db.specs.Hearers.{AreKeptAs, VariableState, with_lives}
 use Rattle.moos_db.specs.Registering.{AreEachAt, HasRoomThrough, HaveRoomFor, Heard, IsAddedTo, PreparedState, heard_through, variable_names, with_prepared}
-use Rattle.moos_db.specs.Subscribers.{held_of_reg, without_held}
 use Rattle.moos_db.proofs.Making.{kept-made, lives-twice, room-through, still-made, still-names, through-within}
 use Rattle.moos_db.proofs.registering.make.Goals as goal
 
@@ -56,13 +57,13 @@ returns-clause-kept c =
     let added = subst (λ all. AreEachAt (IsAddedTo all) before.all after.all) hearers c.add_hearers.ensures.added in
     let below : client < length others = omega (arith, c.withdraw.ensures.still.clients.each, c.requires.within) in
     let here : slice_get others client ≡ Some one = slice_get-get_or others client one below ∙ ap (λ x. Some x) (sym c.index_mut.ensures.value) in
-    λ kept posts are.
-    let left : AreKeptAs (with_lives client (without_held live.reg.var live.reg.source) kept) posts before others
-    = subst (λ (r : Registration). AreKeptAs (with_lives client (without_held live.reg.var r.reg.source) kept) posts before others) c.deref-2.ensures
-    (subst (λ (r : Registration). AreKeptAs (with_lives client (without_held r.reg.var c.deref-2.result.now.reg.source) kept) posts before others) c.deref.ensures (c.withdraw.ensures.kept kept posts are)) in
-    subst (λ (one : PreparedState). AreKeptAs (with_lives client (λ lives. with_prepared lives one) kept) posts after (slice_set others client other)) c.one.view_is
-    (subst (λ k. AreKeptAs k posts after (slice_set others client other)) (lives-twice client (without_held live.reg.var live.reg.source) (λ lives. lives ++ held_of_reg live.made live.reg ∷ []) kept)
-    (kept-made client live (with_lives client (without_held live.reg.var live.reg.source) kept) posts before after others one other added c.add_hearers.ensures.numbers here c.add.ensures.same left))
+    λ inboxes posts are.
+    let left : AreKeptAs (with_lives client (without_patterns live.reg.var live.reg.source) inboxes) posts before others
+    = subst (λ (r : Registration). AreKeptAs (with_lives client (without_patterns live.reg.var r.reg.source) inboxes) posts before others) c.deref-2.ensures
+    (subst (λ (r : Registration). AreKeptAs (with_lives client (without_patterns r.reg.var c.deref-2.result.now.reg.source) inboxes) posts before others) c.deref.ensures (c.withdraw.ensures.kept inboxes posts are)) in
+    subst (λ (one : PreparedState). AreKeptAs (with_lives client (λ lives. with_prepared lives one) inboxes) posts after (slice_set others client other)) c.one.view_is
+    (subst (λ now. AreKeptAs now posts after (slice_set others client other)) (lives-twice client (without_patterns live.reg.var live.reg.source) (λ lives. lives ++ new_live live.made live.reg ∷ []) inboxes)
+    (kept-made client live (with_lives client (without_patterns live.reg.var live.reg.source) inboxes) posts before after others one other added c.add_hearers.ensures.numbers here c.add.ensures.same left))
 
 pub returns-clause-still : goal.returns-clause-still
 returns-clause-still c =

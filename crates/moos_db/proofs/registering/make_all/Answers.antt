@@ -5,7 +5,8 @@ use Rattle.moos_db.specs.Clients.{ClientState}
 use Rattle.moos_db.specs.Hearers.{AreKeptAs, with_lives}
 use Rattle.moos_db.specs.Registering.{AreStill, IsPrepared, PreparedState, with_prepared}
 use Rattle.moos_db.proofs.AfterRegistering.{all-middle}
-use Rattle.moos_db.proofs.Making.{kept-next, lives-same, ready-next, still-more, still-none}
+use Rattle.moos_db.proofs.Changes.{all-same}
+use Rattle.moos_db.proofs.Making.{kept-next, ready-next, still-more, still-none}
 use Rattle.moos_db.proofs.registering.make_all.Goals as goal
 
 pub loop-one-init : goal.loop-one-init
@@ -13,7 +14,7 @@ loop-one-init c = record {
   next = tt;
   finite = tt;
   rest = c.into_iter-one-iterator.ensures.into_iter_gives.0;
-  kept = λ kept posts are. subst (λ k. AreKeptAs k posts c.args.variables.now c.args.clients.now.items) (sym (lives-same c.args.client (λ lives. lives) kept (λ lives. refl))) are;
+  kept = λ inboxes posts are. subst (λ now. AreKeptAs now posts c.args.variables.now c.args.clients.now.items) (sym (all-same c.args.client (λ inbox. inbox) inboxes inboxes refl (λ n apart. refl))) are;
   still = still-none c.args.variables.now c.args.clients.now.items;
   noted = refl;
 }
@@ -56,8 +57,8 @@ loop-one-preserved c =
       next = tt;
       finite = tt;
       rest = append_assoc c.loop-one.yielded (one ∷ []) left ∙ split;
-      kept = λ kept posts are.
-          kept-next c.args.client c.loop-one.yielded one c.loop-one.variables c.make.new.variables c.loop-one.clients.items c.make.new.clients.items kept posts c.make.ensures.kept (c.loop-one.invariant.kept kept posts are);
+      kept = λ inboxes posts are.
+          kept-next c.args.client c.loop-one.yielded one c.loop-one.variables c.make.new.variables c.loop-one.clients.items c.make.new.clients.items inboxes posts c.make.ensures.kept (c.loop-one.invariant.kept inboxes posts are);
       still =
           subst (λ n. AreStill n c.args.variables.now c.make.new.variables c.args.clients.now.items c.make.new.clients.items) longer
           (still-more (length c.loop-one.yielded) c.args.variables.now c.loop-one.variables c.make.new.variables c.args.clients.now.items c.loop-one.clients.items c.make.new.clients.items c.loop-one.invariant.still c.make.ensures.still);
@@ -72,5 +73,5 @@ pub returns-clause-kept : goal.returns-clause-kept
 returns-clause-kept c =
     let none : length c.loop-one.one-iterator.rest.items ≡ 0 = omega (arith, c.in-None.ensures.steps.0) in
     let same : c.loop-one.yielded ≡ c.args.all.items = all-made c.loop-one.yielded c.loop-one.one-iterator.rest.items c.args.all.items c.loop-one.invariant.rest none in
-    λ kept posts are.
-    subst (λ all. AreKeptAs (with_lives c.args.client (λ lives. fold with_prepared lives all) kept) posts c.loop-one.variables c.loop-one.clients.items) same (c.loop-one.invariant.kept kept posts are)
+    λ inboxes posts are.
+    subst (λ all. AreKeptAs (with_lives c.args.client (λ lives. fold with_prepared lives all) inboxes) posts c.loop-one.variables c.loop-one.clients.items) same (c.loop-one.invariant.kept inboxes posts are)

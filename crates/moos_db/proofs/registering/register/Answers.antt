@@ -1,19 +1,19 @@
 use Rattle.std.proofs.Common.{◌≡◌, ◌∙◌, ◌<◌, ◌≤◌, ◌∷◌, ◌++◌, ℕ, List, [], ap, arith, fold, length, map, refl, rules, slice_get, slice_set, Some, subst, sym}
 use Rattle.std.specs.List.{All, Contains}
-use Rattle.std.proofs.lemmas.Option.{slice_get-get_or}
+use Rattle.std.proofs.lemmas.Option.{same_Some, slice_get-get_or}
 use Rattle.moos_post.specs.declared.entry.Call.TheVariants.{Register}
 use Rattle.moos_post.specs.declared.entry.Entry.{Entry}
 use Rattle.moos_post.specs.declared.value.Post.{Post}
+use Rattle.moos_post.specs.Delivery.{Inbox}
 use Rattle.moos_post.specs.History.{History, posts_of}
 use Rattle.moos_db.specs.Clients.{ClientState}
-use Rattle.moos_db.specs.Hearers.{AreKeptAs, AreNoted, VariableState, with_lives}
-use Rattle.moos_db.specs.Places.{AreKept, Journal, kept_after}
-use Rattle.moos_db.specs.Registering.{IsStill, PreparedState, latest_prepared, variable_names, prepared_of, with_kept, with_prepared}
-use Rattle.moos_db.specs.Subscribers.{catch_number}
-use Rattle.moos_db.proofs.AfterCalls.{no-posts}
-use Rattle.moos_db.proofs.AfterRegistering.{roomier-names, set-here, some-same}
-use Rattle.moos_db.proofs.Changes.{AreNoted-names, names-each}
-use Rattle.moos_db.proofs.Registered.{AreKept-register, AreKept-room, AreKept-roomier, all-ready, latest-below, seen-after, seen-lives}
+use Rattle.moos_db.specs.Hearers.{AreKeptAs, AreNoted, VariableState, with_inbox, with_lives}
+use Rattle.moos_db.specs.Places.{AreKept, inboxes_after, Journal}
+use Rattle.moos_db.specs.Registering.{IsStill, PreparedState, StandsAt, catch_number, latest_prepared, variable_names, prepared_of, with_prepared}
+use Rattle.moos_db.proofs.AfterCalls.{AreKept-room, no-posts}
+use Rattle.moos_db.proofs.AfterRegistering.{roomier-names}
+use Rattle.moos_db.proofs.Changes.{AreNoted-names, names-each, set-at}
+use Rattle.moos_db.proofs.Registered.{AreKept-register, AreKept-roomier, all-ready, latest-below, stands-next}
 use Rattle.moos_db.proofs.registering.register.Goals as goal
 
 pub returns-in_err-all-clause-kept : goal.returns-in_err-all-clause-kept
@@ -53,7 +53,7 @@ make_all-requires-clause-room c =
     let new : ClientState = c.make_room.new.kept in
     let below : c.args.client < length states = omega (arith, c.requires.within, c.requires.kept.each) in
     λ kept there.
-    subst (λ (state : ClientState). length c.in_ok-all.all.items ≤ state.room) (some-same new kept (slice_get (slice_set states c.args.client new) c.args.client) (set-here states c.args.client new below) there)
+    subst (λ (state : ClientState). length c.in_ok-all.all.items ≤ state.room) (same_Some new kept (sym (set-at states c.args.client new below) ∙ there))
     (omega (arith, c.in_ok-make_room.ensures.regs))
 
 pub catch_up-requires-clause-below : goal.catch_up-requires-clause-below
@@ -89,7 +89,7 @@ catch_up-requires-clause-room c =
     let new : ClientState = c.make_room.new.kept in
     let below : c.args.client < length states = omega (arith, c.requires.within, c.requires.kept.each) in
     λ kept there.
-    let h = (c.make_all.ensures.still.clients.same c.args.client new kept (set-here states c.args.client new below) there).spare in
+    let h = (c.make_all.ensures.still.clients.same c.args.client new kept (set-at states c.args.client new below) there).spare in
     omega (arith, c.in_ok-make_room.ensures.letters, h)
 
 pub returns-clause-kept : goal.returns-clause-kept
@@ -113,14 +113,13 @@ returns-clause-kept c =
     let latest : List ℕ = c.in_ok-latest.latest.items in
     let others = c.catch_up.new.clients.items in
     let more = c.catch_up.new.variables in
-    let kept = kept_after names entries in
-    let now = with_lives client (λ lives. fold with_prepared lives all) kept in
-    let made : (now client).seen ≡ c.len-made.result
-    = seen-lives client (λ lives. fold with_prepared lives all) kept ∙ seen-after names entries client ∙ sym c.len-made.ensures.value in
-    let held : AreKeptAs (with_kept client (λ one. fold (catch_number names (posts_of entries)) one latest) now) (posts_of entries) more others
-    = subst (λ list. AreKeptAs (with_kept client (λ one. fold (catch_number names (posts_of entries)) one list) now) (posts_of entries) more others) c.as_slice-2.ensures.value
-    (subst (λ list. AreKeptAs (with_kept client (λ one. fold (catch_number names list) one c.as_slice-2.result.now) now) list more others) posts
-    (c.catch_up.ensures.kept now made (c.make_all.ensures.kept kept (posts_of c.append.new.self.entries) (subst (λ list. AreKeptAs kept list variables roomy) (sym posts) ready.kept)))) in
+    let inboxes : ℕ → Inbox = inboxes_after names entries in
+    let now : ℕ → Inbox = with_lives client (λ lives. fold with_prepared lives all) inboxes in
+    let at : StandsAt c.len-made.result (now client) = subst (λ n. StandsAt n (now client)) (sym c.len-made.ensures.value) (stands-next names entries client (λ lives. fold with_prepared lives all)) in
+    let held : AreKeptAs (with_inbox client (λ one. fold (catch_number names (posts_of entries)) one latest) now) (posts_of entries) more others
+    = subst (λ list. AreKeptAs (with_inbox client (λ one. fold (catch_number names (posts_of entries)) one list) now) (posts_of entries) more others) c.as_slice-2.ensures.value
+    (subst (λ list. AreKeptAs (with_inbox client (λ one. fold (catch_number names list) one c.as_slice-2.result.now) now) list more others) posts
+    (c.catch_up.ensures.kept now at (c.make_all.ensures.kept inboxes (posts_of c.append.new.self.entries) (subst (λ list. AreKeptAs inboxes list variables roomy) (sym posts) ready.kept)))) in
     let prepared : all ≡ map (prepared_of client (length entries) (variable_names variables.all)) c.args.regs
     = c.in_ok-all.ensures.each
     ∙ ap (λ regs. map (prepared_of client c.len-made.result (variable_names c.args.variables.now.all)) regs) c.all.ensures

@@ -2,7 +2,7 @@ use Rattle.std.proofs.Common.{◌≡◌, ◌∙◌, ◌<◌, ℕ, ap, length, re
 use Rattle.std.proofs.lemmas.Option.{get_or_from_slice_get, slice_get-get_or}
 use Rattle.moos_db.specs.Hearers.{VariableState, VariablesState}
 use Rattle.moos_db.specs.Registering.{IsCaught}
-use Rattle.moos_db.proofs.AfterRegistering.{caught-set, noted-below, numbers-kept, set-names}
+use Rattle.moos_db.proofs.AfterRegistering.{noted-below, numbers-kept, set-names}
 use Rattle.moos_db.proofs.variables.Variables.catch_up.Goals as goal
 
 pub invariant_of-self : goal.invariant_of-self
@@ -24,7 +24,16 @@ returns c =
     let below : place < length before.all = noted-below before c.args.number place c.self.invariant number c.index-place.ensures in
     let there : slice_get before.all place ≡ Some one = slice_get-get_or before.all place one below ∙ ap (λ x. Some x) (sym c.index_mut.ensures.value) in
     let caught : IsCaught c.args.client c.args.made c.args.stamp c.args.source.now place c.catch_up.result before (record before { all = slice_set before.all place c.catch_up.new.self })
-    = caught-set c.args.client c.args.made c.args.stamp c.args.source.now place c.catch_up.result before one c.catch_up.new.self there c.self.invariant c.catch_up.ensures.catches c.catch_up.ensures.same in
+    = record {
+      variable = one;
+      numbering = c.self.invariant.numbering;
+      there = there;
+      catches = c.catch_up.ensures.catches;
+      room = c.catch_up.new.self.room;
+      all = ap (slice_set before.all place) c.catch_up.ensures.same;
+      numbers = refl;
+      noted = refl;
+    } in
     λ other at.
     let same : place ≡ other
     = c.index-place.ensures ∙ get_or_from_slice_get before.noted c.args.number other place (ap (λ (v : VariablesState). slice_get v.noted c.args.number) c.self.view_is ∙ at) in

@@ -2,7 +2,7 @@ use Rattle.std.proofs.Common.{◌≡◌, ◌∙◌, ◌<◌, Some, ap, length, r
 use Rattle.std.specs.List.{All}
 use Rattle.std.proofs.lemmas.Option.{slice_get_read}
 use Rattle.moos_db.specs.Hearers.{HasRoom, IsPosted, VariableState, VariablesState}
-use Rattle.moos_db.proofs.Mailing.{numbers-posted}
+use Rattle.moos_db.proofs.AfterRegistering.{numbers-kept, set-names}
 use Rattle.moos_db.proofs.variables.Variables.mail.Goals as goal
 
 pub mail_to-requires-clause-room : goal.mail_to-requires-clause-room
@@ -25,7 +25,7 @@ invariant_of-self c =
     let within : number < length inside.noted = subst (λ (variables : VariablesState). number < length variables.noted) (sym c.self.view_is) c.requires.noted in
     let numbered : c.index.result.now < length inside.all = subst (λ n. n < length inside.all) (sym c.index.ensures) (c.self.invariant.noted number c.index.result.now within) in
     let there : slice_get inside.all c.index.result.now ≡ Some c.index_mut-variable.result.now = slice_get_read inside.all (length inside.all) c.index.result.now c.index_mut-variable.result.now refl numbered c.index_mut-variable.ensures.value in
-    numbers-posted inside c.index.result.now c.index_mut-variable.result.now _ c.self.invariant there (ap (λ (variable : VariableState). variable.name) c.variable.view_is)
+    numbers-kept inside _ (set-names inside.all c.index.result.now c.index_mut-variable.result.now _ there (ap (λ (variable : VariableState). variable.name) c.variable.view_is)) refl refl c.self.invariant
 
 pub returns : goal.returns
 returns c =

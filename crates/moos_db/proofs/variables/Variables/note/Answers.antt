@@ -4,13 +4,13 @@ use Rattle.moos_db.proofs.Adding.{may-add-below, may-add-noted, may-add-ready, n
 use Rattle.moos_db.proofs.variables.Variables.note.Goals as goal
 
 pub returns-in_err-number-clause-ready : goal.returns-in_err-number-clause-ready
-returns-in_err-number-clause-ready c kept posts ready = may-add-ready kept posts c.args.clients.now c.args.self.now c.number_for.new.self c.args.var.now c.number_for.ensures.added c.number_for.ensures.numbering ready
+returns-in_err-number-clause-ready c inboxes posts ready = may-add-ready inboxes posts c.args.clients.now c.args.self.now c.number_for.new.self c.args.var.now c.number_for.ensures.added c.number_for.ensures.numbering ready
 
 pub returns-in_err-push-clause-ready : goal.returns-in_err-push-clause-ready
-returns-in_err-push-clause-ready c kept posts ready =
+returns-in_err-push-clause-ready c inboxes posts ready =
     let inside : VariablesState = record { all = c.self.inside.all.items; numbers = c.self.inside.numbers; noted = c.self.inside.noted.items } in
-    subst (λ variables. AreReady kept posts variables c.args.clients.now) (sym c.self.view_is ∙ ap (λ noted. record inside { noted = noted }) (sym c.in_err-push.ensures.items))
-    (may-add-ready kept posts c.args.clients.now c.args.self.now c.number_for.new.self c.args.var.now c.number_for.ensures.added c.number_for.ensures.numbering ready)
+    subst (λ variables. AreReady inboxes posts variables c.args.clients.now) (sym c.self.view_is ∙ ap (λ noted. record inside { noted = noted }) (sym c.in_err-push.ensures.items))
+    (may-add-ready inboxes posts c.args.clients.now c.args.self.now c.number_for.new.self c.args.var.now c.number_for.ensures.added c.number_for.ensures.numbering ready)
 
 pub returns-in_err-push-clause-below : goal.returns-in_err-push-clause-below
 returns-in_err-push-clause-below c below =
@@ -36,9 +36,9 @@ returns-clause-below c below =
     (may-add-below c.args.clients.now c.args.self.now c.number_for.new.self c.args.var.now c.number_for.ensures.added below)
 
 pub returns-clause-ready : goal.returns-clause-ready
-returns-clause-ready c kept posts ready =
+returns-clause-ready c inboxes posts ready =
     let inside : VariablesState = record { all = c.self.inside.all.items; numbers = c.self.inside.numbers; noted = c.self.inside.noted.items } in
-    subst (λ noted. AreReady kept posts (record inside { noted = noted }) c.args.clients.now) (sym c.in_ok-push.ensures.items)
-    (ready-noted kept posts c.args.clients.now inside c.in_ok-number.number
-    (subst (λ variables. AreReady kept posts variables c.args.clients.now) (sym c.self.view_is)
-    (may-add-ready kept posts c.args.clients.now c.args.self.now c.number_for.new.self c.args.var.now c.number_for.ensures.added c.number_for.ensures.numbering ready)))
+    subst (λ noted. AreReady inboxes posts (record inside { noted = noted }) c.args.clients.now) (sym c.in_ok-push.ensures.items)
+    (ready-noted inboxes posts c.args.clients.now inside c.in_ok-number.number
+    (subst (λ variables. AreReady inboxes posts variables c.args.clients.now) (sym c.self.view_is)
+    (may-add-ready inboxes posts c.args.clients.now c.args.self.now c.number_for.new.self c.args.var.now c.number_for.ensures.added c.number_for.ensures.numbering ready)))
