@@ -1,9 +1,9 @@
 -- Boxes axis by axis, and what a piece that fits a domain keeps.
-use Rattle.std.proofs.Common.{◌≡◌, ℕ, zero, suc, ◌+◌, ◌<◌, ◌≤◌, Bool, true, ◌&&◌, nat_le, nat_lt, Some, pos, length, get_or, subst, inl, inr, List, [], leb-true, ltb-true, arith}
+use Rattle.std.proofs.Common.{◌≡◌, ℕ, zero, suc, ◌+◌, ◌<◌, ◌≤◌, Bool, true, ◌&&◌, nat_le, nat_lt, Some, pos, length, get_or, refl, subst, inl, inr, List, [], leb-true, ltb-true, arith}
 use Rattle.std.specs.Prelude.{slice_get, slice_index}
 use Rattle.std.specs.List.{list_all}
 use Rattle.std.proofs.Math.Nat.{one-le-mul}
-use Rattle.std.proofs.lemmas.Bool.{and_from, and_parts, cases_eq}
+use Rattle.std.proofs.lemmas.Bool.{and_from, and_parts, cases_eq, lt-ltb}
 use Rattle.std.proofs.lemmas.List.Sums.{AllPass-from_list_all, list_all-from_AllPass}
 use Rattle.std.proofs.lemmas.Option.{get_or_from_slice_get, slice_get-get_or, slice_get_within}
 use Rattle.std.proofs.lemmas.Bool.Decides.{nat_tests}
@@ -89,6 +89,16 @@ box_parts axes area h =
       ltb-true (slice_index area.high 2) (size_on 2 axes) three.1,
       ltb-true (slice_index area.high 3) (size_on 3 axes) four.1,
     )
+
+pub box_high : (axes : List Axis) (area : BoxN) → is_box_of axes area ≡ true → (k : ℕ) → k < 4 → slice_index area.high k < size_on k axes
+box_high axes area fits zero p = (box_parts axes area fits).1
+box_high axes area fits (suc zero) p = (box_parts axes area fits).2
+box_high axes area fits (suc (suc zero)) p = (box_parts axes area fits).3
+box_high axes area fits (suc (suc (suc zero))) p = (box_parts axes area fits).4
+box_high axes area fits (suc (suc (suc (suc k)))) p = absurd (omega arith)
+
+pub box_of-from : (axes : List Axis) (area : BoxN) → is_box area ≡ true → slice_index area.high 0 < size_on 0 axes → slice_index area.high 1 < size_on 1 axes → slice_index area.high 2 < size_on 2 axes → slice_index area.high 3 < size_on 3 axes → is_box_of axes area ≡ true
+box_of-from axes area proper p q r s = rw (proper, lt-ltb _ _ p, lt-ltb _ _ q, lt-ltb _ _ r, lt-ltb _ _ s) refl
 
 -- a point of a box in the domain is one of the domain, and so is one of a piece
 pub area_point : (axes : List Axis) (area : BoxN) (p : Point) → is_box_of axes area ≡ true → has_point area p ≡ true → is_point axes p ≡ true

@@ -8,4 +8,5 @@ pub mod Tops
 pub mod PointTests
 pub mod Cutting
 pub mod Meetings
+pub mod Keeping
 pub mod Seeking

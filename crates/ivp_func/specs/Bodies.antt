@@ -1,5 +1,4 @@
 -- What a function has: its domain and pieces, and what is kept to find its greatest value and the pieces of an area.
-use Rattle.std.specs.Prelude.{◌≡◌}
 use Rattle.ivp_func.specs.declared.func.Body.{Body}
 use Rattle.ivp_func.specs.Cells.{IsGrid}
 use Rattle.ivp_func.specs.Functions.{Function, IsFunction, IsTop}
@@ -12,5 +11,4 @@ function_in body = record { axes = body.domain; pieces = body.pieces.items }
 pub record IsBody (body : Body) : Type 0 where
   pub function : IsFunction (function_in body)
   pub top : IsTop body.domain body.pieces.items body.top
-  pub grid : IsGrid body.pieces.items body.grid
-  pub cuts : body.grid.cuts ≡ body.domain
+  pub grid : IsGrid body.domain body.pieces.items body.grid

@@ -5,12 +5,14 @@ use Rattle.ivp_domain.specs.declared.axis.Axis.{Axis}
 use Rattle.ivp_domain.specs.declared.boxes.BoxN.{BoxN}
 use Rattle.ivp_domain.specs.declared.boxes.Point.{Point}
 use Rattle.ivp_domain.specs.Boxes.{has_point}
+use Rattle.ivp_domain.specs.Domains.{is_domain}
 use Rattle.ivp_func.specs.declared.grid.Cell.{Cell}
 use Rattle.ivp_func.specs.declared.grid.Grid.{Grid}
 use Rattle.ivp_func.specs.declared.grid.Near.{Near}
 use Rattle.ivp_func.specs.declared.piece.Piece.{Piece}
 use Rattle.ivp_func.specs.Grids.{cell_at, cell_box, cells_of, meeting, meets}
-use Rattle.ivp_func.specs.Pieces.{piece_has}
+use Rattle.ivp_func.specs.Kept.{kept_axes}
+use Rattle.ivp_func.specs.Pieces.{are_pieces_of, is_box_of, piece_has}
 
 -- a cell of this box has it, and its part of the numbers is that of the pieces that share a point with it
 pub record IsCell (pieces : List Piece) (numbers : List ℕ) (place : BoxN) (cell : Cell) : Type 0 where
@@ -19,10 +21,24 @@ pub record IsCell (pieces : List Piece) (numbers : List ℕ) (place : BoxN) (cel
   pub within : cell.to ≤ length numbers
   pub listed : slice_range numbers cell.from cell.to ≡ meeting pieces place
 
--- the grid has each cell of its domain, by its number
-pub record IsGrid (pieces : List Piece) (grid : Grid) : Type 0 where
+-- the grid has each cell of its axes, by its number
+pub record HasCells (pieces : List Piece) (grid : Grid) : Type 0 where
   pub count : length grid.cells.items ≡ cells_of grid.cuts
   pub each : (number : ℕ) (cell : Cell) → slice_get grid.cells.items number ≡ Some cell → IsCell pieces grid.numbers.items (cell_box grid.cuts number) cell
+
+-- its axes are those of the domain, with the places that are kept
+pub record IsGrid (axes : List Axis) (pieces : List Piece) (grid : Grid) : Type 0 where
+  pub domain : IsTrue (is_domain axes)
+  pub cuts : grid.cuts ≡ kept_axes axes pieces
+  pub cells : HasCells pieces grid
+
+-- the grid is that of these pieces over some domain, whose pieces they are
+abbrev pub HasPieces : List Piece → Grid → Type 0
+HasPieces pieces grid = (axes : List Axis) × IsGrid axes pieces grid × IsTrue (are_pieces_of axes pieces)
+
+-- the grid is that of these pieces over some domain, in which the area lies
+abbrev pub HasArea : List Piece → BoxN → Grid → Type 0
+HasArea pieces area grid = (axes : List Axis) × IsGrid axes pieces grid × IsTrue (is_box_of axes area)
 
 -- each place of the area on this axis is one of the other box
 abbrev pub lies_on : ℕ → BoxN → BoxN → Bool

@@ -4,5 +4,6 @@ pub mod Functions
 pub mod Making
 pub mod Grids
 pub mod Cuts
+pub mod Kept
 pub mod Cells
 pub mod Bodies

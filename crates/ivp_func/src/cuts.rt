@@ -1,17 +1,20 @@
 // The parts into which an axis is cut by a grid.
-ghost use Rattle.std.specs.Prelude.{◌≡◌, ◌+◌, ◌*◌, ◌^◌, ◌<◌, ◌≤◌, IsTrue};
-ghost use Rattle.ivp_domain.specs.Domains.{is_point};
-ghost use Rattle.ivp_func.specs.Cuts.{reciprocal_of};
+ghost use Rattle.std.specs.Prelude.{◌≡◌, ℕ, ◌+◌, ◌*◌, ◌^◌, ◌<◌, ◌≤◌, IsTrue};
+ghost use Rattle.ivp_domain.specs.Domains.{is_domain, is_point};
+ghost use Rattle.ivp_func.specs.Cuts.{CanBeCut, axes_to, reciprocal_of};
 ghost use Rattle.ivp_func.specs.Grids.{cell_at, cell_box, cells_of, most_runs, parts_to, run_at, run_high, run_low, runs_on};
+ghost use Rattle.ivp_func.specs.Kept.{clipped};
 
 use ivp_domain::{BoxN, Domain, Point};
 use std::marker::Model;
 
-/// A domain cut into cells: each axis from place 0 on into runs of as many places, of which the last may be shorter, and a
-/// cell is one run of each axis.
+/// Axes cut into cells: each from place 0 on into runs of as many places, of which the last may be shorter, and a cell is one
+/// run of each axis.
 #[derive(Debug, Drop)]
 pub(crate) struct Cuts {
-    domain: Domain,
+    axes: u32,
+    /// The last place on each axis, 0 past the last axis.
+    last: [u32; 4],
     /// How many places a run has on each axis.
     run: [usize; 4],
     /// How many runs there are on each axis.
@@ -26,13 +29,13 @@ const UNITS: u64 = 18_014_398_509_481_984;
 impl Model for Cuts {
     ghost use Rattle.std.specs.Prelude.{List};
     ghost use Rattle.ivp_domain.specs.declared.axis.Axis.{Axis};
-    ghost use Rattle.ivp_func.specs.Cuts.{AreCuts};
+    ghost use Rattle.ivp_func.specs.Cuts.{AreCuts, axes_to};
 
     ghost Value = { List Axis };
 
-    ghost view = { λ c. c.domain };
+    ghost view = { λ c. axes_to c.axes c.last };
 
-    ghost invariant = { λ c. AreCuts c.domain c.run c.runs c.reciprocals };
+    ghost invariant = { λ c. AreCuts (axes_to c.axes c.last) c.last c.run c.runs c.reciprocals };
 }
 
 /// How many runs an axis is cut into at most, by how many axes there are: at most 256 cells in all.
@@ -67,11 +70,20 @@ fn reciprocal_of(places: usize) -> u64
 
 impl Cuts {
     /// The cells of a domain.
-    pub(crate) fn of(domain: &Domain) -> Cuts
-        ensures { result ≡ domain.now }
+    pub(crate) fn of_domain(domain: &Domain) -> Cuts
+        ensures count { cells_of result ≡ cells_of domain.now }
+        ensures boxes { (cell : ℕ) → cell_box result cell ≡ cell_box domain.now cell }
+        ensures domain { IsTrue (is_domain domain.now) }
     {
-        let last = domain.whole().high;
-        let most = most_runs(domain.axes());
+        Cuts::of(domain.axes(), domain.whole().high)
+    }
+
+    /// The cells of so many axes up to these last places.
+    pub(crate) fn of(axes: u32, last: [u32; 4]) -> Cuts
+        requires { CanBeCut axes last }
+        ensures { result ≡ axes_to axes last }
+    {
+        let most = most_runs(axes);
         let run = [
             parts_to(last[0], most),
             parts_to(last[1], most),
@@ -91,7 +103,8 @@ impl Cuts {
             reciprocal_of(run[3]),
         ];
         Cuts {
-            domain: *domain,
+            axes,
+            last,
             run,
             runs,
             reciprocals,
@@ -132,7 +145,7 @@ impl Cuts {
         ensures { result ≡ run_high axis self.now run }
     {
         let end = run * self.run[axis] + (self.run[axis] - 1);
-        (end as u32).min(self.domain.whole().high[axis])
+        (end as u32).min(self.last[axis])
     }
 
     /// The box of a cell.
@@ -156,6 +169,26 @@ impl Cuts {
                 self.high(1, two),
                 self.high(2, three),
                 self.high(3, four),
+            ],
+        }
+    }
+
+    /// The area, where each place past the last one of its axis is that last one.
+    pub(crate) fn clip(&self, area: &BoxN) -> BoxN
+        ensures { result ≡ clipped self.now area.now }
+    {
+        BoxN {
+            low: [
+                area.low[0].min(self.last[0]),
+                area.low[1].min(self.last[1]),
+                area.low[2].min(self.last[2]),
+                area.low[3].min(self.last[3]),
+            ],
+            high: [
+                area.high[0].min(self.last[0]),
+                area.high[1].min(self.last[1]),
+                area.high[2].min(self.last[2]),
+                area.high[3].min(self.last[3]),
             ],
         }
     }

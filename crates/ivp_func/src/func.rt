@@ -7,6 +7,7 @@ ghost use Rattle.ivp_func.specs.Grids.{cell_box, cells_of, meeting, meets};
 ghost use Rattle.ivp_func.specs.Making.{MadeFunction};
 ghost use Rattle.ivp_func.specs.Pieces.{are_pieces_of, is_box_of, is_piece_of, is_value, value_at};
 
+use crate::cuts::Cuts;
 use crate::grid::{Grid, next_meet};
 use crate::partition::{count, misfit};
 use crate::piece::Piece;
@@ -173,7 +174,7 @@ impl Func {
     pub fn cells(&self) -> u32
         ensures { result ≡ cells_of self.now.axes }
     {
-        self.body().grid.cells.len() as u32
+        Cuts::of_domain(&self.body().domain).cells() as u32
     }
 
     /// The box of a cell by its number, from 0: the first axis counts most.
@@ -181,7 +182,7 @@ impl Func {
         requires { k < cells_of self.now.axes }
         ensures { result ≡ cell_box self.now.axes k }
     {
-        self.body().grid.cells[k as usize].area
+        Cuts::of_domain(&self.body().domain).cell_box(k as usize)
     }
 
     /// The numbers of the pieces whose boxes share a point with a cell, rising.
@@ -190,7 +191,8 @@ impl Func {
         ensures { result.now ≡ meeting self.now.pieces (cell_box self.now.axes k) }
     {
         let grid = &self.body().grid;
-        grid.numbers_of(&grid.cells[k as usize])
+        let number = grid.cell_of(&self.cell_box(k));
+        grid.numbers_of(&grid.cells[number])
     }
 
     /// The least number from `from` on of a piece whose box shares a point with the area. `None`

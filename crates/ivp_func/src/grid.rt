@@ -1,13 +1,15 @@
-// The grid of a function: for each cell the pieces that meet it.
+// The grid of a function: for each cell of the places that it keeps the pieces that meet it.
 ghost use Rattle.std.specs.Prelude.{◌≡◌, ℕ, ◌+◌, ◌++◌, ◌<◌, ◌≤◌, length, slice_index, IfOk, IfSome, IfNone, IsTrue, false};
 ghost use Rattle.std.specs.List.{All, filter, slice_range};
 ghost use Rattle.ivp_domain.specs.declared.boxes.Point.{Point};
 ghost use Rattle.ivp_domain.specs.Boxes.{has_point, numbers_from};
-ghost use Rattle.ivp_func.specs.Cells.{IsGrid, IsLeast, IsMeeting, IsNear, IsRising, NoneLess, NoneLessIn, lies_in};
+ghost use Rattle.ivp_func.specs.Cells.{HasArea, HasCells, IsGrid, IsLeast, IsMeeting, IsNear, IsRising, NoneLess, NoneLessIn, lies_in};
 ghost use Rattle.ivp_func.specs.Grids.{cell_at, cells_of, meets, share};
+ghost use Rattle.ivp_func.specs.Kept.{clipped};
 ghost use Rattle.ivp_func.specs.Pieces.{is_box_of};
 
 use crate::cuts::Cuts;
+use crate::kept::kept_cuts;
 use crate::piece::Piece;
 use ivp_domain::{BoxN, Domain, Point};
 use std::alloc::{AllocError, Global};
@@ -15,12 +17,12 @@ use std::alloc::{AllocError, Global};
 /// A cell: its box, and from where to where the numbers of its pieces stand in the grid.
 #[derive(Debug, Drop)]
 pub(crate) struct Cell {
-    pub(crate) area: BoxN,
+    area: BoxN,
     from: usize,
     to: usize,
 }
 
-/// The cells of a domain by their numbers, and the pieces of each.
+/// The cells of the places that are kept of a domain, by their numbers, and the pieces of each.
 #[derive(Debug, Drop)]
 pub(crate) struct Grid {
     cuts: Cuts,
@@ -34,6 +36,9 @@ const FEW_CELLS: usize = 128;
 
 /// So many pieces are looked at in order as fast as one cell.
 const PIECES_A_CELL: usize = 4;
+
+/// So few pieces are looked at in order as fast as the cells of an area are found.
+const FEW_PIECES: usize = 16;
 
 /// Whether the boxes share a point.
 fn share(a: &BoxN, b: &BoxN) -> bool
@@ -145,7 +150,8 @@ fn near_row(
     let count = cuts.cells();
     let last = (number + (cuts.cells_a_row() - 1)).min(count - 1);
     let around = hull(area, &cuts.cell_box(last));
-    let numbers = with_meeting(Vec::new(alloc), pieces, all, &around)?;
+    let room = Vec::with_capacity(alloc, all.len())?;
+    let numbers = with_meeting(room, pieces, all, &around)?;
     Ok(Near { around, numbers })
 }
 
@@ -177,10 +183,9 @@ impl Grid {
     /// The grid of these pieces over the domain.
     pub(crate) fn make(alloc: Global, domain: &Domain, pieces: &[Piece]) -> Result<Grid, AllocError>
         requires { length pieces.now ≤ 4096 }
-        ensures grid { IfOk result (IsGrid pieces.now) }
-        ensures domain { IfOk result (λ grid. grid.cuts ≡ domain.now) }
+        ensures { IfOk result (IsGrid domain.now pieces.now) }
     {
-        let cuts = Cuts::of(domain);
+        let cuts = kept_cuts(domain, pieces);
         let count = cuts.cells();
         let all = all_numbers(alloc, pieces)?;
         let mut cells = Vec::with_capacity(alloc, count)?;
@@ -208,6 +213,16 @@ impl Grid {
         ensures { result.now ≡ slice_range self.now.numbers.items cell.now.from cell.now.to }
     {
         &self.numbers[cell.from..cell.to]
+    }
+
+    /// In which cell the low corner of an area lies, once this is clipped to the places that are kept.
+    pub(crate) fn cell_of(&self, area: &BoxN) -> usize
+        requires { IsTrue (is_box_of self.now.cuts (clipped self.now.cuts area.now)) }
+        ensures cell { result ≡ cell_at self.now.cuts (record { at = (clipped self.now.cuts area.now).low }) }
+        ensures within { result < cells_of self.now.cuts }
+    {
+        let at = self.cuts.clip(area).low;
+        self.cuts.cell_at(&Point { at })
     }
 
     /// The first cell that may have points of an area: that of its low corner.
@@ -267,7 +282,7 @@ fn next_in_cells(
     area: &BoxN,
     from: u32,
 ) -> u32
-    requires grid { IsGrid pieces.now grid.now }
+    requires cells { HasCells pieces.now grid.now }
     requires few { length pieces.now ≤ 4096 }
     requires area { IsTrue (is_box_of grid.now.cuts area.now) }
     requires last { last < cells_of grid.now.cuts }
@@ -298,18 +313,21 @@ fn next_in_order(pieces: &[Piece], area: &BoxN, from: u32) -> u32
     pieces.len() as u32
 }
 
-/// The same by the cells of the area, where these are few.
+/// The same by the cells of the area, where these are few and the pieces many.
 fn next_of(grid: Option<&Grid>, pieces: &[Piece], area: &BoxN, from: u32) -> u32
-    requires grid { IfSome grid (λ grid. IsGrid pieces.now grid.now × IsTrue (is_box_of grid.now.cuts area.now)) }
+    requires grid { IfSome grid (λ grid. HasArea pieces.now area.now grid.now) }
     requires few { length pieces.now ≤ 4096 }
     ensures meeting { IsMeeting pieces.now area.now from (length pieces.now) result }
     ensures least { IsLeast pieces.now area.now from result }
 {
-    if let Some(grid) = grid {
-        let first = grid.first_cell(area);
-        let last = grid.last_cell(area);
+    if let Some(grid) = grid
+        && pieces.len() > FEW_PIECES
+    {
+        let kept = grid.cuts.clip(area);
+        let first = grid.first_cell(&kept);
+        let last = grid.last_cell(&kept);
         if last < first + FEW_CELLS.min(pieces.len() / PIECES_A_CELL) {
-            return next_in_cells(grid, first, last, pieces, area, from);
+            return next_in_cells(grid, first, last, pieces, &kept, from);
         }
     }
     next_in_order(pieces, area, from)
@@ -322,7 +340,7 @@ pub(crate) fn next_meet(
     area: &BoxN,
     from: u32,
 ) -> Option<u32>
-    requires grid { IfSome grid (λ grid. IsGrid pieces.now grid.now × IsTrue (is_box_of grid.now.cuts area.now)) }
+    requires grid { IfSome grid (λ grid. HasArea pieces.now area.now grid.now) }
     requires few { length pieces.now ≤ 4096 }
     ensures some { IfSome result (λ number. (from ≤ number) × (number < length pieces.now) × IsTrue (meets pieces.now area.now number)) }
     ensures least { IfSome result (λ number. (other : ℕ) → from ≤ other → other < number → meets pieces.now area.now other ≡ false) }

@@ -4,13 +4,14 @@
 //! partition the domain, with every value within 0 to 100,000; `value_at` is the value at a point
 //! and `top` the greatest one; `next_meet` finds the pieces that share a point with an area, one after the other; `Func::make` refuses every other list, with the point that shows why.
 //!
-//! Reading order: `piece`, `fit`, `cuts`, `grid`, `partition`, `values`, `func`, `law`.
+//! Reading order: `piece`, `fit`, `cuts`, `kept`, `grid`, `partition`, `values`, `func`, `law`.
 #![tactic(auto)]
 
 mod cuts;
 mod fit;
 mod func;
 mod grid;
+mod kept;
 mod law;
 mod partition;
 mod piece;

@@ -2,7 +2,7 @@
 ghost use Rattle.std.specs.Prelude.{◌≡◌, ◌≢◌, ℕ, ◌*◌, ◌^◌, ◌<◌, ◌≤◌, length, IsTrue, IfSome, IfNone, nat_lt, slice_index};
 ghost use Rattle.ivp_domain.specs.Boxes.{has_point, is_box, volume_of};
 ghost use Rattle.ivp_domain.specs.Domains.{is_domain, is_point};
-ghost use Rattle.ivp_func.specs.Cells.{IsGrid};
+ghost use Rattle.ivp_func.specs.Cells.{HasPieces, IsGrid};
 ghost use Rattle.ivp_func.specs.Covering.{covered_in, shared_with, CutOn, SameOn, Shorter};
 ghost use Rattle.ivp_func.specs.Functions.{IsPartition};
 ghost use Rattle.ivp_func.specs.Grids.{share};
@@ -47,7 +47,7 @@ fn shared_point(a: &Piece, b: &Piece) -> Point
 /// A point that several pieces hold: none, where no piece meets one behind it.
 fn overlap(pieces: &[Piece], grid: Option<&Grid>) -> Option<Point>
     requires few { length pieces.now ≤ 4096 }
-    requires grid { IfSome grid (λ grid. IsGrid pieces.now grid.now × IsTrue (are_pieces_of grid.now.cuts pieces.now)) }
+    requires grid { IfSome grid (λ grid. HasPieces pieces.now grid.now) }
     ensures some { IfSome result (λ p. 1 < count_at pieces.now p) }
     ensures none { IfNone result ((p : Point) → count_at pieces.now p ≤ 1) }
 {
@@ -158,7 +158,7 @@ fn gap(area: BoxN, pieces: &[Piece]) -> Point
 /// A point of the domain that no piece holds, or several.
 pub(crate) fn misfit(domain: &Domain, pieces: &[Piece], grid: Option<&Grid>) -> Option<Point>
     requires few { length pieces.now ≤ 4096 }
-    requires grid { IfSome grid (λ grid. IsGrid pieces.now grid.now × (grid.now.cuts ≡ domain.now)) }
+    requires grid { IfSome grid (λ grid. IsGrid domain.now pieces.now grid.now) }
     requires fit { IsTrue (are_pieces_of domain.now pieces.now) }
     ensures some { IfSome result (λ p. IsTrue (is_point domain.now p) × (count_at pieces.now p ≢ 1)) }
     ensures none { IfNone result (IsPartition domain.now pieces.now) }

@@ -214,3 +214,33 @@ fn pieces_of_an_area(rt: HostRuntime) {
     assert_eq!(rt; func.next_meet(&most, 3), Some(3));
     assert_eq!(rt; func.next_meet(&most, 8), None);
 }
+
+/// 24 pieces of 15 places of the first axis, each with all places of the second.
+fn hours(rt: &impl Abort, alloc: Global) -> Func {
+    let domain = domain_of(rt, &[axis(rt, b"a", 1000, 360), axis(rt, b"b", 1000, 4)]);
+    let mut pieces = Vec::new(alloc);
+    for number in 0..24 {
+        let mut hour = piece(number * 15, number * 15 + 14, 0, 0);
+        hour.area.high[1] = 3;
+        pieces.push(hour).expect(rt, "memory");
+    }
+    made(rt, alloc, &domain, pieces)
+}
+
+/// 16 runs of 23 places by 4 of one place: the sixth cell has the second place of the second axis.
+#[test]
+fn pieces_across_an_axis(rt: HostRuntime) {
+    let func = hours(&rt, rt.alloc());
+    assert_eq!(rt; func.cells(), 64);
+    assert!(rt; 5 < func.cells());
+    let area = func.cell_box(5);
+    let expected = BoxN {
+        low: [23, 1, 0, 0],
+        high: [45, 1, 0, 0],
+    };
+    assert_eq!(rt; area, expected);
+    assert!(rt; func.cell(5) == [1, 2, 3].as_slice());
+    assert!(rt; is_box_of(&func.domain(), &area));
+    assert_eq!(rt; func.next_meet(&area, 2), Some(2));
+    assert_eq!(rt; func.next_meet(&area, 4), None);
+}

@@ -12,8 +12,8 @@ next_in-next-requires c =
     let pieces = c.args.pieces.now in
     let cells = c.args.grid.now.cells.items in
     let number = c.loop-number.number in
-    let within : number < length cells = omega (arith, c.loop-number-test.true, c.requires.last, c.requires.grid.count) in
-    let is = c.requires.grid.each number c.index-cell.result.now (slice_get_read cells (length cells) number c.index-cell.result.now refl within c.index-cell.ensures) in
+    let within : number < length cells = omega (arith, c.loop-number-test.true, c.requires.last, c.requires.cells.count) in
+    let is = c.requires.cells.each number c.index-cell.result.now (slice_get_read cells (length cells) number c.index-cell.result.now refl within c.index-cell.ensures) in
     let numbers = c.args.grid.now.numbers.items in
     let place = cell_box c.args.grid.now.cuts number in
     record {
@@ -29,9 +29,9 @@ loop-number-preserved c =
     let cells = c.args.grid.now.cells.items in
     let number = c.loop-number.number in
     let cell = c.index-cell.result.now in
-    let within : number < length cells = omega (arith, c.loop-number-test.true, c.requires.last, c.requires.grid.count) in
+    let within : number < length cells = omega (arith, c.loop-number-test.true, c.requires.last, c.requires.cells.count) in
     let numbers = c.args.grid.now.numbers.items in
-    let is : IsCell pieces numbers (cell_box axes number) cell = c.requires.grid.each number cell (slice_get_read cells (length cells) number cell refl within c.index-cell.ensures) in
+    let is : IsCell pieces numbers (cell_box axes number) cell = c.requires.cells.each number cell (slice_get_read cells (length cells) number cell refl within c.index-cell.ensures) in
     elim c.if-share.branch [
       | then-share w ↦
           subst (SoFar axes pieces area c.args.from c.args.first (number + 1)) (sym w.next-is)
@@ -48,6 +48,6 @@ pub numbers_of-requires : goal.numbers_of-requires
 numbers_of-requires c =
     let cells = c.args.grid.now.cells.items in
     let number = c.loop-number.number in
-    let within : number < length cells = omega (arith, c.loop-number-test.true, c.requires.last, c.requires.grid.count) in
-    let is = c.requires.grid.each number c.index-cell.result.now (slice_get_read cells (length cells) number c.index-cell.result.now refl within c.index-cell.ensures) in
+    let within : number < length cells = omega (arith, c.loop-number-test.true, c.requires.last, c.requires.cells.count) in
+    let is = c.requires.cells.each number c.index-cell.result.now (slice_get_read cells (length cells) number c.index-cell.result.now refl within c.index-cell.ensures) in
     record { order = is.order; within = is.within }

@@ -1,11 +1,21 @@
 use Rattle.std.proofs.Common.{◌≡◌, ◌≤◌, ◌<◌, ap, arith}
+use Rattle.std.specs.Borrow.{Bor}
 use Rattle.ivp_domain.specs.Boxes.{volume_of}
 use Rattle.ivp_domain.specs.Domains.{whole}
+use Rattle.ivp_func.specs.declared.grid.Grid.{Grid}
+use Rattle.ivp_func.specs.Cells.{HasPieces, IsGrid}
 use Rattle.ivp_func.specs.Covering.{covered_in}
 use Rattle.ivp_func.specs.Pieces.{count_at}
 use Rattle.ivp_func.proofs.Bounds.{exactly_one}
 use Rattle.ivp_func.proofs.Counting.{held_point}
+use Rattle.ivp_func.proofs.Seeking.{some_more}
 use Rattle.ivp_func.proofs.partition.misfit.Goals as goal
+
+pub overlap-requires-clause-grid : goal.overlap-requires-clause-grid
+overlap-requires-clause-grid c =
+    let axes = c.args.domain.now in
+    let pieces = c.args.pieces.now in
+    some_more (λ (g : Bor Grid). IsGrid axes pieces g.now) (λ (g : Bor Grid). HasPieces pieces g.now) c.args.grid c.requires.grid (λ g is. (axes, is, c.requires.fit))
 
 pub returns-in-Some-clause-some : goal.returns-in-Some-clause-some
 returns-in-Some-clause-some c =

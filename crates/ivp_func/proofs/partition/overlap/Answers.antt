@@ -1,13 +1,12 @@
 use Rattle.std.proofs.Common.{◌≡◌, true, false, get_or, sym, subst, ◌∙◌, inl, inr, arith}
-use Rattle.std.specs.Prelude.{IsTrue}
 use Rattle.std.specs.Borrow.{Bor}
 use Rattle.std.proofs.lemmas.Bool.{cases_Bool, cases_lt}
 use Rattle.std.proofs.lemmas.Option.{get_or_from_slice_get, slice_get-get_or, slice_get_within}
 use Rattle.ivp_func.specs.declared.grid.Grid.{Grid}
 use Rattle.ivp_func.specs.declared.piece.Piece.{Piece}
-use Rattle.ivp_func.specs.Cells.{IsGrid}
+use Rattle.ivp_func.specs.Cells.{HasArea, HasPieces}
 use Rattle.ivp_func.specs.Grids.{meets}
-use Rattle.ivp_func.specs.Pieces.{are_pieces_of, piece_has, is_box_of}
+use Rattle.ivp_func.specs.Pieces.{piece_has}
 use Rattle.ivp_func.proofs.Counting.{no_two, two_hold}
 use Rattle.ivp_func.proofs.Facts.{blank, fits_at, piece_parts}
 use Rattle.ivp_func.proofs.Meetings.{meets_from, meets_piece_at}
@@ -19,10 +18,10 @@ next_meet-requires-clause-grid c =
     let pieces = c.args.pieces.now in
     let place = c.loop-place.place in
     some_more
-    (λ (g : Bor Grid). IsGrid pieces g.now × IsTrue (are_pieces_of g.now.cuts pieces))
-    (λ (g : Bor Grid). IsGrid pieces g.now × IsTrue (is_box_of g.now.cuts (get_or pieces place blank).area))
+    (λ (g : Bor Grid). HasPieces pieces g.now)
+    (λ (g : Bor Grid). HasArea pieces (get_or pieces place blank).area g.now)
     c.args.grid c.requires.grid
-    (λ g both. (both.0, (piece_parts g.now.cuts (get_or pieces place blank) (fits_at g.now.cuts pieces place both.1 c.loop-place-test.true)).0))
+    (λ g has. (has.0, has.1, (piece_parts has.0 (get_or pieces place blank) (fits_at has.0 pieces place has.2 c.loop-place-test.true)).0))
 
 pub shared_point-requires : goal.shared_point-requires
 shared_point-requires c =

@@ -1,25 +1,26 @@
-use Rattle.std.proofs.Common.{◌≡◌, ◌<◌, get_or, sym, subst, arith}
-use Rattle.ivp_func.specs.Grids.{run_on, runs_on}
+use Rattle.std.proofs.Common.{◌≡◌, get_or, subst, arith}
+use Rattle.ivp_func.specs.Cuts.{AreCuts}
+use Rattle.ivp_func.specs.Grids.{run_on}
 use Rattle.ivp_func.proofs.Cutting.{last_small, one_of_four, run_fits, run_short}
 use Rattle.ivp_func.proofs.cuts.Cuts.high.Goals as goal
 
 pub overflow_mul-end : goal.overflow_mul-end
 overflow_mul-end c =
-    let axes = c.self.inside.domain in
-    let at : get_or c.self.inside.run c.args.axis 0 ≡ run_on c.args.axis axes = rw c.self.invariant.places (one_of_four (λ k. run_on k axes) c.args.axis c.requires.axis) in
-    let within = subst (λ domain. c.args.run < runs_on c.args.axis domain) (sym c.self.view_is) c.requires.run in
-    rw at (omega (arith, run_fits axes c.args.axis c.args.run within, run_short axes c.args.axis, last_small axes c.args.axis c.self.invariant.domain c.requires.axis))
+    let axes = c.args.self.now in
+    let cuts = subst (λ axes. AreCuts axes c.self.inside.last c.self.inside.run c.self.inside.runs c.self.inside.reciprocals) c.self.view_is c.self.invariant in
+    let at : get_or c.self.inside.run c.args.axis 0 ≡ run_on c.args.axis axes = rw cuts.places (one_of_four (λ k. run_on k axes) c.args.axis c.requires.axis) in
+    rw at (omega (arith, run_fits axes c.args.axis c.args.run c.requires.run, run_short axes c.args.axis, last_small axes c.args.axis cuts.points c.requires.axis))
 
 pub overflow_add-end : goal.overflow_add-end
 overflow_add-end c =
-    let axes = c.self.inside.domain in
-    let at : get_or c.self.inside.run c.args.axis 0 ≡ run_on c.args.axis axes = rw c.self.invariant.places (one_of_four (λ k. run_on k axes) c.args.axis c.requires.axis) in
-    let within = subst (λ domain. c.args.run < runs_on c.args.axis domain) (sym c.self.view_is) c.requires.run in
-    rw at (omega (arith, run_fits axes c.args.axis c.args.run within, run_short axes c.args.axis, last_small axes c.args.axis c.self.invariant.domain c.requires.axis))
+    let axes = c.args.self.now in
+    let cuts = subst (λ axes. AreCuts axes c.self.inside.last c.self.inside.run c.self.inside.runs c.self.inside.reciprocals) c.self.view_is c.self.invariant in
+    let at : get_or c.self.inside.run c.args.axis 0 ≡ run_on c.args.axis axes = rw cuts.places (one_of_four (λ k. run_on k axes) c.args.axis c.requires.axis) in
+    rw at (omega (arith, run_fits axes c.args.axis c.args.run c.requires.run, run_short axes c.args.axis, last_small axes c.args.axis cuts.points c.requires.axis))
 
 pub overflow_cast-end : goal.overflow_cast-end
 overflow_cast-end c =
-    let axes = c.self.inside.domain in
-    let at : get_or c.self.inside.run c.args.axis 0 ≡ run_on c.args.axis axes = rw c.self.invariant.places (one_of_four (λ k. run_on k axes) c.args.axis c.requires.axis) in
-    let within = subst (λ domain. c.args.run < runs_on c.args.axis domain) (sym c.self.view_is) c.requires.run in
-    rw at (omega (arith, run_fits axes c.args.axis c.args.run within, run_short axes c.args.axis, last_small axes c.args.axis c.self.invariant.domain c.requires.axis))
+    let axes = c.args.self.now in
+    let cuts = subst (λ axes. AreCuts axes c.self.inside.last c.self.inside.run c.self.inside.runs c.self.inside.reciprocals) c.self.view_is c.self.invariant in
+    let at : get_or c.self.inside.run c.args.axis 0 ≡ run_on c.args.axis axes = rw cuts.places (one_of_four (λ k. run_on k axes) c.args.axis c.requires.axis) in
+    rw at (omega (arith, run_fits axes c.args.axis c.args.run c.requires.run, run_short axes c.args.axis, last_small axes c.args.axis cuts.points c.requires.axis))

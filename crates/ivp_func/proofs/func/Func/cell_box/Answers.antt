@@ -1,14 +1,10 @@
-use Rattle.std.proofs.Common.{◌≡◌, ◌<◌, refl, length, sym, ap, subst, ◌∙◌}
-use Rattle.std.proofs.lemmas.Option.{slice_get_read}
+use Rattle.std.proofs.Common.{◌<◌, sym, ap, subst, ◌∙◌}
 use Rattle.ivp_func.specs.Functions.{Function}
 use Rattle.ivp_func.specs.Grids.{cell_box, cells_of}
 use Rattle.ivp_func.proofs.func.Func.cell_box.Goals as goal
 
+pub cell_box-requires : goal.cell_box-requires
+cell_box-requires c = subst (λ n. c.args.k < n) (sym (c.of_domain.ensures.count ∙ ap (λ (f : Function). cells_of f.axes) c.body.ensures.function)) c.requires
+
 pub returns : goal.returns
-returns c =
-    let body = c.body.result.now in
-    let cells = body.grid.cells.items in
-    let axes : body.grid.cuts ≡ c.args.self.now.axes = c.body.ensures.kept.cuts ∙ ap (λ (f : Function). f.axes) c.body.ensures.function in
-    let within : c.args.k < length cells = subst (λ n. c.args.k < n) (sym (c.body.ensures.kept.grid.count ∙ ap cells_of axes)) c.requires in
-    let is = c.body.ensures.kept.grid.each c.args.k c.index.result.now (slice_get_read cells (length cells) c.args.k c.index.result.now refl within c.index.ensures) in
-    is.area ∙ ap (λ a. cell_box a c.args.k) axes
+returns c = c.cell_box.ensures ∙ (c.of_domain.ensures.boxes c.args.k ∙ ap (λ (f : Function). cell_box f.axes c.args.k) c.body.ensures.function)

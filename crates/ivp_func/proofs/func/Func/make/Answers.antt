@@ -1,6 +1,5 @@
 use Rattle.std.proofs.Common.{◌≡◌, List, false, ap, ◌∙◌, sym, subst, to_z, of_z, w64, arith, rules}
 use Rattle.std.proofs.lemmas.Int.{ints}
-use Rattle.ivp_func.specs.declared.grid.Grid.{Grid}
 use Rattle.ivp_func.specs.declared.piece.Piece.{Piece}
 use Rattle.ivp_func.specs.Cells.{IsGrid}
 use Rattle.ivp_func.specs.Functions.{HasValues, IsPartition, IsTop}
@@ -76,8 +75,7 @@ of-requires c =
             values = subst (λ xs. HasValues axes xs) c.deref-3.ensures.value c.in_default-point_out.ensures.none;
           };
       top = subst (λ v. IsTop axes c.args.pieces.items v) (sym kept) (subst (λ xs. IsTop axes xs c.top-top.result) c.deref-4.ensures.value c.top-top.ensures);
-      grid = subst (λ (xs : List Piece). IsGrid xs c.in-Some-grid.grid) c.deref.ensures.value (ok_some (IsGrid c.deref.result.now) c.make.result c.in-Some-grid.grid (sym c.ok-grid.ensures.value ∙ c.in-Some-grid.is) c.make.ensures.grid);
-      cuts = ok_some (λ (g : Grid). g.cuts ≡ axes) c.make.result c.in-Some-grid.grid (sym c.ok-grid.ensures.value ∙ c.in-Some-grid.is) c.make.ensures.domain;
+      grid = subst (λ (xs : List Piece). IsGrid axes xs c.in-Some-grid.grid) c.deref.ensures.value (ok_some (IsGrid axes c.deref.result.now) c.make.result c.in-Some-grid.grid (sym c.ok-grid.ensures.value ∙ c.in-Some-grid.is) c.make.ensures);
     }
 
 pub returns-in-Some-point_out : goal.returns-in-Some-point_out

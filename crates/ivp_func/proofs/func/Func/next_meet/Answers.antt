@@ -8,10 +8,10 @@ use Rattle.ivp_func.proofs.func.Func.next_meet.Goals as goal
 
 pub next_meet-requires-clause-grid : goal.next_meet-requires-clause-grid
 next_meet-requires-clause-grid c =
-    let body = c.body-body in
-    let axes = body.ensures.kept.cuts ∙ ap (λ (func : Function). func.axes) body.ensures.function in (
-      subst (λ (pieces : List Piece). IsGrid pieces body.result.now.grid) (sym c.deref.ensures.value) body.ensures.kept.grid,
-      ap (λ own. is_box_of own c.args.area.now) axes ∙ c.requires,
+    let body = c.body-body in (
+      body.result.now.domain,
+      subst (λ (pieces : List Piece). IsGrid body.result.now.domain pieces body.result.now.grid) (sym c.deref.ensures.value) body.ensures.kept.grid,
+      ap (λ (func : Function). is_box_of func.axes c.args.area.now) body.ensures.function ∙ c.requires,
     )
 
 pub next_meet-requires-clause-few : goal.next_meet-requires-clause-few

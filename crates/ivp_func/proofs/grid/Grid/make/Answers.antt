@@ -21,7 +21,7 @@ with_meeting-requires c =
 pub loop-number-preserved : goal.loop-number-preserved
 loop-number-preserved c =
     let pieces = c.args.pieces.now in
-    let axes = c.of-cuts.result in
+    let axes = c.kept_cuts-cuts.result in
     let near = c.in_ok-near-2.near in
     let area = c.cell_box-area.result in
     let cells = c.loop-number.cells.items in
@@ -47,7 +47,15 @@ loop-number-preserved c =
       each = subst (λ (all : List Cell). (n : ℕ) (one : Cell) → slice_get all n ≡ Some one → IsCell pieces after (cell_box axes n) one) (sym c.in_ok-push.ensures.items) (each_pushed (λ n one. IsCell pieces after (cell_box axes n) one) cells cell stay last);
     }
 
-pub returns-clause-grid : goal.returns-clause-grid
-returns-clause-grid c =
+pub returns : goal.returns
+returns c =
     let count = c.loop-number.invariant.count in
-    record { count = omega (arith, count, c.loop-number-test.false, c.cells-count.ensures.cells, c.loop-number.auto.number-end); each = c.loop-number.invariant.each }
+    record {
+      domain = c.kept_cuts-cuts.ensures.domain;
+      cuts = c.kept_cuts-cuts.ensures.cuts;
+      cells =
+          record {
+            count = omega (arith, count, c.loop-number-test.false, c.cells-count.ensures.cells, c.loop-number.auto.number-end);
+            each = c.loop-number.invariant.each;
+          };
+    }
